@@ -1,0 +1,12 @@
+pub mod RegionLaws
+pub mod ArrayLaws
+pub mod StoreLaws
+pub mod RunLaws
+pub mod SessionLaws
+pub mod BytesLaws
+pub mod GridLaws
+pub mod ChainLaws
+pub mod KeyLaws
+pub mod FailureLaws
+pub mod VlenLaws
+pub mod MendLaws

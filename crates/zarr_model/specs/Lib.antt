@@ -1,0 +1,16 @@
+pub mod Region
+pub mod Element
+pub mod ArrayBytes
+pub mod Array
+pub mod Grid
+pub mod Key
+pub mod Codec
+pub mod Store
+pub mod Command
+pub mod Cover
+pub mod Cost
+pub mod Failure
+pub mod Outside
+pub mod Session
+pub mod Causes
+pub mod Laws
