@@ -10,3 +10,5 @@ pub mod KeyLaws
 pub mod FailureLaws
 pub mod VlenLaws
 pub mod MendLaws
+pub mod MeetingLaws
+pub mod StepLaws

@@ -1,0 +1,16 @@
+pub mod EachLemmas
+pub mod MemberLemmas
+pub mod NarrowLemmas
+pub mod NarrowLaws
+pub mod DocumentLaws
+pub mod Documents
+pub mod OneByteLaws
+pub mod RegularLaws
+pub mod CopyLaws
+pub mod ChunkKeyLaws
+pub mod ReadLaws
+pub mod ChunkLaws
+pub mod ReadSteps
+pub mod ReadCommand
+pub mod SessionSteps
+pub mod OpenedLaws

@@ -1,0 +1,17 @@
+use Rattle.std.proofs.Common.{rules}
+use Rattle.std.proofs.lemmas.Result.{err_from_is_err_and}
+use Rattle.zarrs_array_subset.specs.ArraySubset.{region}
+use Rattle.zarr_array.proofs.ReadCommand.{read-replied, read-fails}
+use Rattle.zarr_array.proofs.open.OpenArray.run_read.Goals as goal
+
+pub returns-in_err-elements-clause-failed : goal.returns-in_err-elements-clause-failed
+returns-in_err-elements-clause-failed g c =
+    let p = err_from_is_err_and c.from_residual.result c.from_residual.ensures.1 in
+    rw (p.1, p.2) (read-fails c.args.self.now (region c.args.subset.now) (g.S.Store.content c.args.store.now) (g.S.Store.content c.read_elements.new.store)
+    (g.S.Store.ask_count c.args.store.now) (g.S.Store.ask_count c.read_elements.new.store) (g.S.Store.fault_count c.args.store.now) (g.S.Store.fault_count c.read_elements.new.store)
+    _ _ (search rules) c.read_elements.ensures.same c.in_err-elements.ensures.failed)
+
+pub returns-clause-serves : goal.returns-clause-serves
+returns-clause-serves g c =
+    read-replied c.args.self.now (region c.args.subset.now) (g.S.Store.content c.args.store.now) (g.S.Store.content c.read_elements.new.store) c.in_ok-elements.elements.items
+    (search rules) c.read_elements.ensures.same c.in_ok-elements.ensures.elements

@@ -1,0 +1,13 @@
+pub mod Document
+pub mod Opening
+pub mod Reading
+pub mod Narrow
+pub mod RegularGrid
+pub mod GridOf
+pub mod OpenArray
+pub mod Overlap
+pub mod Command
+pub mod Chunk
+pub mod Session
+pub mod Read
+pub mod CommandError

@@ -1,0 +1,128 @@
+//! The chunks of an opened array: which ones a region meets, where each lies, and what is stored of it.
+
+ghost use Rattle.std.specs.Prelude.{◌≡◌, ◌≤◌, ◌<◌, ◌^◌, ℕ, List, true, length, replicate, IfOk, IfErr, Some};
+ghost use Rattle.zarr_model.specs.Region.{count, count_of, tuples, tuple_at, ends_within};
+ghost use Rattle.zarr_model.specs.Grid.{IsChunk, chunks_meeting};
+ghost use Rattle.zarr_model.specs.Store.{box_content};
+ghost use Rattle.zarr_model.specs.Command.{layout};
+ghost use Rattle.zarr_model.specs.Cost.{counted};
+ghost use Rattle.zarrs_array_subset.specs.ArraySubset.{region};
+ghost use Rattle.zarr_array.specs.Session.{session_options};
+ghost use Rattle.zarr_array.specs.Chunk.{byte_elements, FailsToFetch};
+
+use crate::chunk_key::default_chunk_key;
+use crate::error::SessionErrorKind;
+use crate::open::OpenArray;
+use std::alloc::{AllocError, Global};
+use zarrs_array_subset::{ArrayIndicesTinyVec, ArraySubset, push_tuple};
+use zarrs_storage::store::{StorageError, Store};
+use zarrs_storage::store_key::StoreKey;
+
+/// The indices at a place of a subset's row-major list.
+#[tactic(auto, using(crate::proofs::ChunkLaws::of_subsets))]
+pub fn indices_at(
+    alloc: Global,
+    subset: &ArraySubset,
+    place: u64,
+    num_elements: u64,
+) -> Result<ArrayIndicesTinyVec, AllocError>
+    requires number { num_elements ≡ count (region subset.now) }
+    requires below { place < num_elements }
+    ensures { IfOk result (λ indices. indices.items ≡ tuple_at (region subset.now) place) }
+{
+    let mut indices = ArrayIndicesTinyVec::new(alloc);
+    push_tuple(
+        &mut indices,
+        subset.start(),
+        subset.shape(),
+        place,
+        num_elements,
+    )?;
+    Ok(indices)
+}
+
+/// So many bytes of one value.
+pub fn filled(alloc: Global, fill: u8, count: u64) -> Result<Vec<u8>, AllocError>
+    ensures { IfOk result (λ bytes. bytes.items ≡ replicate count fill) }
+{
+    let bytes = vec![in alloc; fill; count as usize]?;
+    Ok(bytes)
+}
+
+impl OpenArray {
+    ghost use Rattle.zarr_array.specs.OpenArray.{described};
+
+    /// The chunks that share an element with a region of the array.
+    #[tactic(auto, using(crate::proofs::NarrowLaws::narrow_region))]
+    pub(crate) fn chunks_meeting(
+        &self,
+        alloc: Global,
+        subset: &ArraySubset,
+    ) -> Result<ArraySubset, AllocError>
+        requires inside { ends_within (region subset.now) (described self.now).shape ≡ true }
+        ensures chunks { IfOk result (λ chunks. tuples (region chunks) ≡ chunks_meeting (described self.now).grid (region subset.now)) }
+        ensures few { IfOk result (λ chunks. count (region chunks) < 2 ^ 64) }
+    {
+        let chunks = self.grid.chunks_in_array_subset(alloc, subset)?;
+        Ok(chunks)
+    }
+
+    /// The box of a chunk.
+    #[tactic(auto, using(crate::proofs::NarrowLaws::narrow_fits, crate::proofs::NarrowLaws::narrow_chunk))]
+    pub(crate) fn chunk_subset(
+        &self,
+        alloc: Global,
+        chunk_indices: &[u64],
+    ) -> Result<ArraySubset, AllocError>
+        requires { IsChunk (described self.now).grid chunk_indices.now }
+        ensures whole { IfOk result (λ subset. region subset ≡ (described self.now).grid.chunk_box chunk_indices.now) }
+        ensures few { IfOk result (λ subset. count (region subset) < 2 ^ 64) }
+    {
+        let subset = self.grid.subset(alloc, chunk_indices)?;
+        Ok(subset)
+    }
+
+    /// The key of a chunk.
+    pub(crate) fn chunk_key(
+        &self,
+        alloc: Global,
+        chunk_indices: &[u64],
+    ) -> Result<StoreKey, AllocError>
+        ensures { IfOk result (λ key. key ≡ (described self.now).key chunk_indices.now) }
+    {
+        let key = default_chunk_key(alloc, chunk_indices)?;
+        Ok(key)
+    }
+
+    /// The elements of a chunk: those of its value, or the fill value where its key is absent.
+    #[tactic(auto, using(crate::proofs::ChunkLaws::of_fetched))]
+    pub(crate) fn fetch_chunk<S: Store>(
+        &self,
+        alloc: Global,
+        key: StoreKey,
+        subset: &ArraySubset,
+        store: &mut S,
+    ) -> Result<Vec<u8>, SessionErrorKind>
+        requires few { count (region subset.now) < 2 ^ 64 }
+        ensures elements { IfOk result (λ bytes. box_content (layout (described self.now) session_options) (region subset.now) (S.content store.old key) ≡ Some (byte_elements bytes.items)) }
+        ensures as_long { IfOk result (λ bytes. length bytes.items ≡ count (region subset.now)) }
+        ensures same { (other : List ℕ) → S.content store.new other ≡ S.content store.old other }
+        ensures asks { S.ask_count store.new ≡ counted (S.ask_count store.old) 1 }
+        ensures later { S.fault_count store.old ≤ S.fault_count store.new }
+        ensures failed { IfErr result (FailsToFetch (box_content (layout (described self.now) session_options) (region subset.now) (S.content store.old key)) key (S.fault_count store.old) (S.fault_count store.new)) }
+    {
+        let count = subset.num_elements();
+        match store.get(alloc, &key) {
+            Ok(Some(value)) => {
+                if value.len() as u64 == count {
+                    Ok(value)
+                } else {
+                    Err(SessionErrorKind::ChunkDecode { key })
+                }
+            }
+            Ok(None) => Ok(filled(alloc, self.fill, count)?),
+            Err(StorageError::Failed) => Err(SessionErrorKind::Store),
+            Err(StorageError::OutOfMemory) => Err(SessionErrorKind::OutOfMemory),
+        }
+    }
+}

@@ -1,0 +1,87 @@
+//! Why a session ends with an error, and where.
+
+ghost use Rattle.std.specs.Prelude.{◌≡◌, None};
+
+use crate::open::OpenError;
+use std::alloc::{AllocError, AllocFailed};
+use thiserror::Error;
+use zarrs_storage::store_key::StoreKey;
+
+/// Why a session ends with an error.
+#[derive(Debug, Drop, Error)]
+pub enum SessionErrorKind {
+    /// The document is not opened. Never for want of memory.
+    #[error("the document is not opened: {0}")]
+    NotOpened(OpenError),
+    /// A chunk's value does not decode.
+    #[error("the value of a chunk does not decode")]
+    ChunkDecode {
+        /// The key of the chunk.
+        key: StoreKey,
+    },
+    /// The store failed.
+    #[error("the store failed")]
+    Store,
+    /// Memory ran out.
+    #[error("out of memory")]
+    OutOfMemory,
+}
+
+impl From<AllocError> for SessionErrorKind {
+    ghost use Rattle.zarr_array.specs.declared.error.SessionErrorKind.TheVariants.{OutOfMemory};
+
+    ghost from_gives = { λ _ e. e ≡ OutOfMemory };
+
+    fn from(_error: AllocError) -> SessionErrorKind {
+        SessionErrorKind::OutOfMemory
+    }
+}
+
+impl<T: Drop> From<AllocFailed<T>> for SessionErrorKind {
+    ghost use Rattle.zarr_array.specs.declared.error.SessionErrorKind.TheVariants.{OutOfMemory};
+
+    ghost from_gives = { λ _ e. e ≡ OutOfMemory };
+
+    fn from(_error: AllocFailed<T>) -> SessionErrorKind {
+        SessionErrorKind::OutOfMemory
+    }
+}
+
+/// An error of a session.
+#[derive(Debug, Drop)]
+pub struct SessionError {
+    /// The number of the command that failed, from 0, and how many of its chunks were finished, in row-major order.
+    /// None where no command had begun.
+    pub at: Option<(usize, u64)>,
+    /// Why it failed.
+    pub kind: SessionErrorKind,
+}
+
+impl SessionError {
+    // An error before the first command.
+    pub(crate) fn before_commands(kind: SessionErrorKind) -> SessionError
+        ensures { result ≡ record { at = None; kind = kind } }
+    {
+        SessionError { at: None, kind }
+    }
+}
+
+/// Why one command failed, and how many of its chunks were finished before.
+#[derive(Debug, Drop)]
+pub(crate) struct CommandError {
+    pub(crate) chunks_done: u64,
+    pub(crate) kind: SessionErrorKind,
+}
+
+impl From<AllocError> for CommandError {
+    ghost use Rattle.zarr_array.specs.CommandError.{before_chunks};
+
+    ghost from_gives = { λ _ e. e ≡ before_chunks };
+
+    fn from(_error: AllocError) -> CommandError {
+        CommandError {
+            chunks_done: 0,
+            kind: SessionErrorKind::OutOfMemory,
+        }
+    }
+}

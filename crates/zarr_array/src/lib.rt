@@ -1,0 +1,17 @@
+//! Arrays over a store: a document is opened, and commands on regions run over the chunks in a store.
+#![tactic(auto)]
+
+mod chunk;
+mod chunk_key;
+pub mod command;
+pub mod error;
+mod json;
+pub mod open;
+mod overlap;
+mod read;
+pub mod refusal;
+mod regular_grid;
+pub mod session;
+mod step;
+#[cfg(test)]
+mod tests;

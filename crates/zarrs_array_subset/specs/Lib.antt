@@ -1,0 +1,4 @@
+pub mod Boxes
+pub mod ArraySubset
+pub mod Errors
+pub mod Ravel

@@ -1,0 +1,15 @@
+//! Array subsets: boxes of an array, their algebra, and the linear indices of a shape.
+#![tactic(auto)]
+
+mod array_subset;
+mod error;
+mod laws;
+mod ravel;
+
+pub use array_subset::{ArraySubset, shape_product};
+pub use error::{
+    ArrayIndices, ArrayShape, ArraySubsetError, ChunkShape, IncompatibleDimensionalityError,
+    IndexerError,
+};
+pub use laws::{offset_undoes, overlap_contains, ravel_inverse};
+pub use ravel::{ArrayIndicesTinyVec, push_tuple, ravel_indices, unravel_index};

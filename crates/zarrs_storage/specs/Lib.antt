@@ -1,0 +1,5 @@
+pub mod Store
+pub mod MemoryStore
+pub mod Calls
+pub mod Source
+pub mod Sink

@@ -1,0 +1,12 @@
+//! Stores of values under keys, sources of bytes and sinks for them: the traits, and one of each in memory.
+//!
+//! See <https://zarr-specs.readthedocs.io/en/latest/v3/core/index.html#stores>.
+#![tactic(auto)]
+
+pub mod memory_store;
+pub mod sink;
+pub mod source;
+pub mod store;
+pub mod store_key;
+#[cfg(test)]
+mod tests;

@@ -1,0 +1,107 @@
+//! A store in memory.
+ghost use Rattle.std.specs.Prelude.{◌≡◌, IfOk};
+ghost use Rattle.zarrs_storage.specs.Store.{ListsKeys};
+
+use crate::store::{StorageError, Store};
+use crate::store_key::StoreKey;
+use std::alloc::{AllocError, Global};
+use std::collections::BTreeMap;
+use std::marker::Model;
+
+/// A store in memory, which never fails: its count of faults is 0.
+#[derive(Drop)]
+pub struct MemoryStore {
+    map: BTreeMap<StoreKey, Vec<u8>>,
+    asks: u64,
+    taken: u64,
+}
+
+impl Model for MemoryStore {
+    ghost use Rattle.zarrs_storage.specs.MemoryStore.{MemoryState, memory_code, memory_of};
+
+    ghost Value = { MemoryState };
+
+    ghost coded = { memory_code };
+
+    ghost view = { λ s. memory_of s.map s.asks s.taken };
+}
+
+impl MemoryStore {
+    ghost use Rattle.zarrs_storage.specs.MemoryStore.{new_memory, content_of};
+
+    /// A store that holds no key.
+    pub fn new(alloc: Global) -> Self
+        ensures { result ≡ new_memory }
+    {
+        MemoryStore {
+            map: BTreeMap::new(alloc),
+            asks: 0,
+            taken: 0,
+        }
+    }
+
+    /// All keys, in the order of their bytes. No reading call; an error comes only for want of memory.
+    pub fn keys(&self, alloc: Global) -> Result<Vec<StoreKey>, AllocError>
+        ensures { IfOk result (λ keys. ListsKeys (content_of self.now) keys.items) }
+    {
+        let mut keys = Vec::with_capacity(alloc, self.map.len())?;
+        for key in self.map.keys() {
+            keys.push(key.try_clone(alloc)?)?;
+        }
+        Ok(keys)
+    }
+}
+
+impl Store for MemoryStore {
+    ghost use Rattle.zarrs_storage.specs.MemoryStore.{content_of};
+    ghost use Rattle.zarrs_storage.specs.Calls.{count_of, count_of-fits};
+
+    ghost content = { content_of };
+
+    ghost fault_count = { λ _. 0 };
+
+    ghost ask_count = { λ s. count_of s.asks };
+
+    ghost taken_count = { λ s. count_of s.taken };
+
+    fn get(&mut self, alloc: Global, key: &StoreKey) -> Result<Option<Vec<u8>>, StorageError> {
+        self.asks = self.asks.saturating_add(1);
+        let Some(value) = self.map.get(key) else {
+            return Ok(None);
+        };
+        let copy = Vec::from_slice(alloc, value)?;
+        self.taken = self.taken.saturating_add(copy.len() as u64);
+        Ok(Some(copy))
+    }
+
+    fn list(&mut self, alloc: Global) -> Result<Vec<StoreKey>, StorageError> {
+        self.asks = self.asks.saturating_add(1);
+        Ok(self.keys(alloc)?)
+    }
+
+    fn set(&mut self, alloc: Global, key: &StoreKey, value: &[u8]) -> Result<(), StorageError> {
+        let value = Vec::from_slice(alloc, value)?;
+        let key = key.try_clone(alloc)?;
+        self.map.insert(key, value)?;
+        Ok(())
+    }
+
+    fn erase(&mut self, key: &StoreKey) -> Result<(), StorageError> {
+        self.map.remove(key);
+        Ok(())
+    }
+
+    fn faults(&self) -> u64 {
+        0
+    }
+
+    fn asks(&self) -> u64 {
+        self.asks
+    }
+
+    fn taken(&self) -> u64 {
+        self.taken
+    }
+
+    ghost counts_fit = { λ s. (count_of-fits 0, count_of-fits s.asks, count_of-fits s.taken) };
+}
