@@ -12,5 +12,6 @@ pub mod ReadLaws
 pub mod ChunkLaws
 pub mod ReadSteps
 pub mod ReadCommand
+pub mod DecodeLaws
 pub mod SessionSteps
 pub mod OpenedLaws

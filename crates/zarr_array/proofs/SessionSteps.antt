@@ -10,10 +10,11 @@ use Rattle.zarr_model.specs.Store.{Content, IsHonest, WhollyMeans}
 use Rattle.zarr_model.specs.Command.{Command, Description, layout, refusal, Answer, array_after}
 use Rattle.zarr_model.specs.Cost.{asks_of, all_asks, counted}
 use Rattle.zarr_model.specs.Outside.{Rose}
-use Rattle.zarr_model.specs.Causes.{KeepsDamage}
+use Rattle.zarr_model.specs.Causes.{KeepsDamage, MeetsNoDamage}
 use Rattle.zarr_model.specs.Session.{LeavesKeys, ServesWhole, RefusesRight, AreRefused, IsUntouched, refusal_in}
 use Rattle.zarr_model.proofs.SessionLaws.{ServesWhole-none, ServesWhole-append, LeavesKeys-append, LeavesKeys-more}
 use Rattle.zarr_model.proofs.StepLaws.{KeepsDamage-none, KeepsDamage-append, place-lifts, asks-lift, undecoded-lifts, stopped-lifts, starved-lifts}
+use Rattle.zarr_model.proofs.DamageLaws.{MeetsNoDamage-none, MeetsNoDamage-append}
 use Rattle.zarr_model.proofs.FailureLaws.{listed_is_chunk}
 use Rattle.zarr_array.specs.declared.error.SessionErrorKind.{SessionErrorKind}
 use Rattle.zarr_array.specs.declared.error.SessionErrorKind.TheVariants.{NotOpened, ChunkDecode, Store, OutOfMemory}
@@ -26,6 +27,7 @@ pub record SoFar (description : Description) (options : Options) (commands : Lis
   pub refused : AreRefused description commands → IsUntouched old now asks_old asks_now taken_old taken_now
   pub asks : asks_now ≡ counted asks_old (all_asks description commands)
   pub damage : KeepsDamage description options commands old now
+  pub met : MeetsNoDamage description options commands old
   pub later : faults_old ≤ faults_now
 
 pub so_far-start : (description : Description) (options : Options) (store : Content) (asks taken faults : ℕ) → asks ≤ 2 ^ 64 - 1 →
@@ -36,6 +38,7 @@ so_far-start description options store asks taken faults fits = record {
   refused = λ all. record { content = λ key. refl; asks = refl; taken = refl };
   asks = omega arith;
   damage = KeepsDamage-none description options store;
+  met = MeetsNoDamage-none description options store;
   later = omega arith;
 }
 
@@ -49,12 +52,12 @@ all_refused-parts description (first ∷ commands) command all =
 all_asks-more : (description : Description) (commands : List Command) (command : Command) → all_asks description (commands ++ command ∷ []) ≡ all_asks description commands + all_asks description (command ∷ [])
 all_asks-more description commands command = sum_by-append (asks_of description) commands (command ∷ [])
 
-pub so_far-step : (description : Description) (options : Options) (commands : List Command) (command : Command) (old mid now : Content) (asks_old asks_mid asks_now taken_old taken_mid taken_now faults_old faults_mid faults_now : ℕ)
+pub so_far-step : (description : Description) (options : Options) → CoversShape description.shape description.grid → (commands : List Command) (command : Command) (old mid now : Content) (asks_old asks_mid asks_now taken_old taken_mid taken_now faults_old faults_mid faults_now : ℕ)
     (answers : List Answer) (answer : Answer) →
     SoFar description options commands old mid asks_old asks_mid taken_old taken_mid faults_old faults_mid answers →
     SoFar description options (command ∷ []) mid now asks_mid asks_now taken_mid taken_now faults_mid faults_now (answer ∷ []) →
     SoFar description options (commands ++ command ∷ []) old now asks_old asks_now taken_old taken_now faults_old faults_now (answers ++ answer ∷ [])
-so_far-step description options commands command old mid now asks_old asks_mid asks_now taken_old taken_mid taken_now faults_old faults_mid faults_now answers answer first second = record {
+so_far-step description options covers commands command old mid now asks_old asks_mid asks_now taken_old taken_mid taken_now faults_old faults_mid faults_now answers answer first second = record {
   serves = ServesWhole-append description options commands (command ∷ []) old mid now answers (answer ∷ []) first.serves second.serves;
   refusals = map-append refusal_in answers (answer ∷ []) ∙ (ap₂ (λ a b. a ++ b) first.refusals second.refusals ∙ sym (map-append (refusal description) commands (command ∷ [])));
   refused = λ all.
@@ -64,6 +67,7 @@ so_far-step description options commands command old mid now asks_old asks_mid a
       record { content = λ key. then.content key ∙ before.content key; asks = then.asks ∙ before.asks; taken = then.taken ∙ before.taken };
   asks = omega (arith, first.asks, second.asks, all_asks-more description commands command);
   damage = KeepsDamage-append description options commands (command ∷ []) old mid now first.damage second.damage;
+  met = MeetsNoDamage-append description options covers commands (command ∷ []) old mid first.damage first.met second.met;
   later = le_trans first.later second.later;
 }
 

@@ -1,6 +1,6 @@
 //! Reading a region, chunk by chunk.
 
-ghost use Rattle.std.specs.Prelude.{◌≡◌, ◌≤◌, ◌<◌, ◌^◌, ◌⊎◌, ℕ, List, true, None, Some, length, slice_get, IfOk, IfErr, OnOk, OnErr};
+ghost use Rattle.std.specs.Prelude.{◌≡◌, ◌≤◌, ◌<◌, ◌^◌, ◌⊎◌, ℕ, List, true, None, Some, length, slice_get, IsSome, IfOk, IfErr, OnOk, OnErr};
 ghost use Rattle.zarr_model.specs.Region.{count, tuples, tuple_at, ends_within};
 ghost use Rattle.zarr_model.specs.Element.{Element};
 ghost use Rattle.zarr_model.specs.Array.{Array, elements_in};
@@ -40,6 +40,7 @@ impl OpenArray {
         requires as_long { length elements.old ≡ count (region subset.now) }
         ensures copied { OnOk result ((array : Array Element) → ChunkHas (layout (described self.now) session_options) (S.content store.old) array chunk_indices.now →
             Copied (region subset.now) ((described self.now).grid.chunk_box chunk_indices.now) (elements_in ((described self.now).grid.chunk_box chunk_indices.now) array) (byte_elements elements.old) (byte_elements elements.new)) }
+        ensures decodes { OnOk result (IsSome (chunk_content (layout (described self.now) session_options) (S.content store.old) chunk_indices.now)) }
         ensures kept_length { length elements.new ≡ length elements.old }
         ensures same { (key : List ℕ) → S.content store.new key ≡ S.content store.old key }
         ensures asks { OnOk result (S.ask_count store.new ≡ counted (S.ask_count store.old) 1) }
@@ -72,6 +73,7 @@ impl OpenArray {
         requires as_long { length elements.old ≡ count (region subset.now) }
         ensures copied { OnOk result ((array : Array Element) → ChunkHas (layout (described self.now) session_options) (S.content store.old) array (tuple_at (region chunks.now) number) →
             Copied (region subset.now) ((described self.now).grid.chunk_box (tuple_at (region chunks.now) number)) (elements_in ((described self.now).grid.chunk_box (tuple_at (region chunks.now) number)) array) (byte_elements elements.old) (byte_elements elements.new)) }
+        ensures decodes { OnOk result (IsSome (chunk_content (layout (described self.now) session_options) (S.content store.old) (tuple_at (region chunks.now) number))) }
         ensures kept_length { length elements.new ≡ length elements.old }
         ensures same { (key : List ℕ) → S.content store.new key ≡ S.content store.old key }
         ensures asks { OnOk result (S.ask_count store.new ≡ counted (S.ask_count store.old) 1) }
@@ -99,6 +101,8 @@ impl OpenArray {
         requires as_long { length elements.old ≡ count (region subset.now) }
         ensures elements { OnOk result ((array : Array Element) → WhollyMeans (layout (described self.now) session_options) (S.content store.old) array →
             byte_elements elements.new ≡ elements_in (region subset.now) array) }
+        ensures decodes { OnOk result ((k : ℕ) (chunk : List ℕ) → slice_get (chunks_meeting (described self.now).grid (region subset.now)) k ≡ Some chunk →
+            IsSome (chunk_content (layout (described self.now) session_options) (S.content store.old) chunk)) }
         ensures kept_length { length elements.new ≡ length elements.old }
         ensures same { (key : List ℕ) → S.content store.new key ≡ S.content store.old key }
         ensures asks { OnOk result (S.ask_count store.new ≡ counted (S.ask_count store.old) (length (chunks_meeting (described self.now).grid (region subset.now)))) }
@@ -130,6 +134,8 @@ impl OpenArray {
         requires inside { ends_within (region subset.now) (described self.now).shape ≡ true }
         ensures elements { IfOk result (λ elements. (array : Array Element) → WhollyMeans (layout (described self.now) session_options) (S.content store.old) array →
             byte_elements elements.items ≡ elements_in (region subset.now) array) }
+        ensures decodes { OnOk result ((k : ℕ) (chunk : List ℕ) → slice_get (chunks_meeting (described self.now).grid (region subset.now)) k ≡ Some chunk →
+            IsSome (chunk_content (layout (described self.now) session_options) (S.content store.old) chunk)) }
         ensures as_long { IfOk result (λ elements. length elements.items ≡ count (region subset.now)) }
         ensures same { (key : List ℕ) → S.content store.new key ≡ S.content store.old key }
         ensures asks { OnOk result (S.ask_count store.new ≡ counted (S.ask_count store.old) (length (chunks_meeting (described self.now).grid (region subset.now)))) }

@@ -5,6 +5,7 @@ ghost use Rattle.zarr_model.specs.Command.{layout, read};
 ghost use Rattle.zarr_model.specs.Store.{IsHonest};
 ghost use Rattle.zarr_model.specs.Outside.{Rose};
 ghost use Rattle.zarr_model.specs.Cost.{all_asks, counted};
+ghost use Rattle.zarr_model.specs.Causes.{MeetsNoDamage};
 ghost use Rattle.zarr_model.specs.Session.{LeavesKeys, ServesArray, RefusesRight, AreRefused, IsUntouched};
 ghost use Rattle.zarrs_array_subset.specs.ArraySubset.{region as region_of_subset};
 ghost use Rattle.zarr_array.specs.Document.{ArrayDocument, describe};
@@ -40,11 +41,12 @@ impl OpenArray {
         ensures complete { IsHonest (layout (described self.now) session_options) (S.content store.old) → ¬ Rose (S.fault_count store.old) (S.fault_count store.new) →
             IfErr result (λ error. error.kind ≡ SessionErrorKind.OutOfMemory) }
 
-        // Over any store: the refusal, the reading calls, and that a read changes nothing.
+        // Over any store: the refusal, the reading calls, that each chunk met decodes, and that a read changes nothing.
         ensures refusals { IfOk result (λ reply. RefusesRight (described self.now) (read (region_of_subset region.now) ∷ []) (answer_of reply ∷ [])) }
         ensures refused { AreRefused (described self.now) (read (region_of_subset region.now) ∷ []) →
             IsUntouched (S.content store.old) (S.content store.new) (S.ask_count store.old) (S.ask_count store.new) (S.taken_count store.old) (S.taken_count store.new) × IsOk result }
         ensures asks { OnOk result (S.ask_count store.new ≡ counted (S.ask_count store.old) (all_asks (described self.now) (read (region_of_subset region.now) ∷ []))) }
+        ensures undamaged { OnOk result (MeetsNoDamage (described self.now) session_options (read (region_of_subset region.now) ∷ []) (S.content store.old)) }
         ensures same { (key : List ℕ) → S.content store.new key ≡ S.content store.old key }
         ensures later { S.fault_count store.old ≤ S.fault_count store.new }
 
@@ -76,11 +78,12 @@ impl OpenArray {
         ensures complete { IsHonest (layout (described self.now) session_options) (S.content store.old) → ¬ Rose (S.fault_count store.old) (S.fault_count store.new) →
             IfErr result (λ error. error.kind ≡ SessionErrorKind.OutOfMemory) }
 
-        // Over any store: the refusals, the reading calls, and the keys that stay after every end.
+        // Over any store: the refusals, the reading calls, that each chunk met decodes, and the keys that stay after every end.
         ensures refusals { IfOk result (λ replies. RefusesRight (described self.now) (map command_of commands.now) (map answer_of replies.items)) }
         ensures refused { AreRefused (described self.now) (map command_of commands.now) →
             IsUntouched (S.content store.old) (S.content store.new) (S.ask_count store.old) (S.ask_count store.new) (S.taken_count store.old) (S.taken_count store.new) }
         ensures asks { OnOk result (S.ask_count store.new ≡ counted (S.ask_count store.old) (all_asks (described self.now) (map command_of commands.now))) }
+        ensures undamaged { OnOk result (MeetsNoDamage (described self.now) session_options (map command_of commands.now) (S.content store.old)) }
         ensures keys { LeavesKeys (described self.now) session_options (map command_of commands.now) (S.content store.old) (S.content store.new) }
         ensures later { S.fault_count store.old ≤ S.fault_count store.new }
 
@@ -117,7 +120,8 @@ pub fn run_session<S: Store>(
     store: &mut S,
 ) -> Result<Vec<Reply>, SessionError>
     // It is not opened exactly where opening refuses the text, and then nothing is touched.
-    ensures not_opened { (why : OpenRefusal) → open_narrow metadata.now ≡ not_opened why → IfErr result (λ error. IsNotOpenedBy error.kind why) × IsErr result }
+    ensures not_opened { (why : OpenRefusal) → open_narrow metadata.now ≡ not_opened why → IfErr result (λ error. IsNotOpenedBy error.kind why × (error.at ≡ None)) × (IsErr result
+        × IsUntouched (S.content store.old) (S.content store.new) (S.ask_count store.old) (S.ask_count store.new) (S.taken_count store.old) (S.taken_count store.new)) }
     ensures refusal { IfErr result (λ error. (e : OpenError) → error.kind ≡ SessionErrorKind.NotOpened e → (error.at ≡ None)
         × IsRefused e (open_narrow metadata.now)
         × IsUntouched (S.content store.old) (S.content store.new) (S.ask_count store.old) (S.ask_count store.new) (S.taken_count store.old) (S.taken_count store.new)) }
@@ -133,8 +137,11 @@ pub fn run_session<S: Store>(
         IsUntouched (S.content store.old) (S.content store.new) (S.ask_count store.old) (S.ask_count store.new) (S.taken_count store.old) (S.taken_count store.new) }
     ensures asks { (document : ArrayDocument) → open_narrow metadata.now ≡ opened document →
         OnOk result (S.ask_count store.new ≡ counted (S.ask_count store.old) (all_asks (describe document) (map command_of commands.now))) }
+    ensures undamaged { (document : ArrayDocument) → open_narrow metadata.now ≡ opened document →
+        OnOk result (MeetsNoDamage (describe document) session_options (map command_of commands.now) (S.content store.old)) }
     ensures keys { (document : ArrayDocument) → open_narrow metadata.now ≡ opened document →
         LeavesKeys (describe document) session_options (map command_of commands.now) (S.content store.old) (S.content store.new) }
+    ensures later { S.fault_count store.old ≤ S.fault_count store.new }
     ensures failed { (document : ArrayDocument) → open_narrow metadata.now ≡ opened document → IfErr result (λ error. FailsAt (describe document) session_options (map command_of commands.now)
         (S.content store.old) (S.content store.new) (S.ask_count store.old) (S.ask_count store.new) (S.fault_count store.old) (S.fault_count store.new) error.at error.kind) }
 {

@@ -4,7 +4,7 @@ ghost use Rattle.std.specs.Prelude.{◌≡◌, ◌≤◌, ℕ, List, [], ◌∷�
 ghost use Rattle.zarr_model.specs.Command.{read};
 ghost use Rattle.zarr_model.specs.Cost.{all_asks, counted};
 ghost use Rattle.zarr_model.specs.Session.{LeavesKeys, ServesWhole, RefusesRight, AreRefused, IsUntouched};
-ghost use Rattle.zarr_model.specs.Causes.{KeepsDamage};
+ghost use Rattle.zarr_model.specs.Causes.{KeepsDamage, MeetsNoDamage};
 ghost use Rattle.zarrs_array_subset.specs.ArraySubset.{region};
 ghost use Rattle.zarr_array.specs.Command.{command_of, answer_of};
 ghost use Rattle.zarr_array.specs.Session.{session_options, FailsAt};
@@ -33,6 +33,7 @@ impl OpenArray {
         ensures asks { OnOk result (S.ask_count store.new ≡ counted (S.ask_count store.old) (all_asks (described self.now) (read (region subset.now) ∷ []))) }
         ensures keys { LeavesKeys (described self.now) session_options (read (region subset.now) ∷ []) (S.content store.old) (S.content store.new) }
         ensures same { (key : List ℕ) → S.content store.new key ≡ S.content store.old key }
+        ensures met { OnOk result (MeetsNoDamage (described self.now) session_options (read (region subset.now) ∷ []) (S.content store.old)) }
         ensures damage { KeepsDamage (described self.now) session_options (read (region subset.now) ∷ []) (S.content store.old) (S.content store.new) }
         ensures later { S.fault_count store.old ≤ S.fault_count store.new }
         ensures failed { IfErr result (λ error. FailsAt (described self.now) session_options (read (region subset.now) ∷ []) (S.content store.old) (S.content store.new)
@@ -58,6 +59,7 @@ impl OpenArray {
             IsUntouched (S.content store.old) (S.content store.new) (S.ask_count store.old) (S.ask_count store.new) (S.taken_count store.old) (S.taken_count store.new) × IsOk result }
         ensures asks { OnOk result (S.ask_count store.new ≡ counted (S.ask_count store.old) (all_asks (described self.now) (command_of command.now ∷ []))) }
         ensures keys { LeavesKeys (described self.now) session_options (command_of command.now ∷ []) (S.content store.old) (S.content store.new) }
+        ensures met { OnOk result (MeetsNoDamage (described self.now) session_options (command_of command.now ∷ []) (S.content store.old)) }
         ensures damage { KeepsDamage (described self.now) session_options (command_of command.now ∷ []) (S.content store.old) (S.content store.new) }
         ensures later { S.fault_count store.old ≤ S.fault_count store.new }
         ensures failed { IfErr result (λ error. FailsAt (described self.now) session_options (command_of command.now ∷ []) (S.content store.old) (S.content store.new)

@@ -12,3 +12,4 @@ pub mod VlenLaws
 pub mod MendLaws
 pub mod MeetingLaws
 pub mod StepLaws
+pub mod DamageLaws

@@ -1,9 +1,8 @@
 -- The chunks that a region meets, where they are a box of chunks.
 use Rattle.std.proofs.Common.{◌≡◌, ℕ, zero, suc, max, min, ◌⊎◌, ⊎_elim, inl, inr, nat_lt, ◌*◌, ◌+◌, ◌-◌, ◌<◌, ◌≤◌, ◌&&◌, Bool, true, false, cond, nat_le, List, [], ◌∷◌, ◌++◌, length, map, filter, flat_map, get_or, refl, sym, ap, ap₂, ◌∙◌, subst, arith}
 use Rattle.std.specs.List.{range_with_len}
-use Rattle.std.proofs.lemmas.Bool.{and_parts, leb-true, ltb-true, cases_lt, cond-true, cond-false, false_from_ne_true}
+use Rattle.std.proofs.lemmas.Bool.{and_parts, leb-true, ltb-true, cases_lt, false_from_ne_true}
 use Rattle.std.proofs.lemmas.List.Elements.{filter-append}
-use Rattle.std.proofs.lemmas.List.Concat.{flat_map-cons}
 use Rattle.zarr_model.specs.Region.{Span, Region, count, whole, contains, is_in, ends_within, share_tuple, tuples}
 use Rattle.zarr_model.specs.Grid.{Grid, chunks, chunks_meeting}
 use Rattle.zarr_model.proofs.RegionLaws.{length-tuples, get_or-tuples, contains-tuple_at, in_span, span_in}

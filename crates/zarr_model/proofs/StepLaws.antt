@@ -1,19 +1,19 @@
 -- One command of a session: refused, or a read; and how a command's failure is one of the whole list.
-use Rattle.std.proofs.Common.{◌≡◌, ℕ, zero, suc, ◌+◌, ◌-◌, ◌^◌, ◌<◌, ◌≤◌, ◌⊎◌, ◌||◌, min, Bool, true, false, IsTrue, List, [], ◌∷◌, ◌++◌, length, take, map, get_or, slice_get, Option, Some, None, IsSome, is_some, if◌then◌else◌, refl, sym, ap, ap₂, ◌∙◌, subst, arith, inl, inr, ⊎_elim}
+use Rattle.std.proofs.Common.{◌≡◌, ℕ, zero, suc, ◌+◌, ◌≤◌, Bool, true, false, List, [], ◌∷◌, ◌++◌, length, take, slice_get, Option, Some, None, IsSome, is_some, if◌then◌else◌, refl, sym, ap, ◌∙◌, subst, arith, inl, inr, ⊎_elim}
 use Rattle.std.specs.List.{list_any}
+use Rattle.std.proofs.lemmas.List.Folds.{list_any-append}
 use Rattle.std.proofs.lemmas.Bool.{or_parts, or_from, true≢false}
 use Rattle.zarr_model.specs.Region.{Region}
 use Rattle.zarr_model.specs.Element.{Element}
 use Rattle.zarr_model.specs.Array.{Array, elements_in}
-use Rattle.zarr_model.specs.Grid.{IsChunk, chunks_meeting, CoversShape}
+use Rattle.zarr_model.specs.Grid.{IsChunk, CoversShape}
 use Rattle.zarr_model.specs.Codec.{Options}
 use Rattle.zarr_model.specs.Store.{Content, Layout, IsHonest, WhollyMeans, box_content, chunk_content}
-use Rattle.zarr_model.specs.Command.{Command, read, write, erase, Refusal, Description, kind, layout, refusal, reply_of, array_of, after, Answer, answered_refused, Matches, elements, replies, array_after}
-use Rattle.zarr_model.specs.Cost.{command_chunks, chunks_under, asks_store, all_asks, counted, present_in, present_after, present_under, changes_chunk, is_among}
+use Rattle.zarr_model.specs.Command.{Command, read, Refusal, Description, kind, layout, refusal, reply_of, array_of, after, Answer, answered_refused, Matches, elements, array_after}
+use Rattle.zarr_model.specs.Cost.{command_chunks, asks_store, all_asks, counted, present_in, present_under}
 use Rattle.zarr_model.specs.Failure.{ChunkHas, IsCutShort, FailedAt}
 use Rattle.zarr_model.specs.Causes.{IsPlace, AsksUpTo, IsLeftAt, erases_chunk, IsUndecoded, IsStopped, IsStarved, KeepsDamage}
 use Rattle.zarr_model.specs.Session.{LeavesKeys, ServesWhole}
-use Rattle.zarr_model.specs.Outside.{Rose}
 use Rattle.zarr_model.proofs.RunLaws.{array_after-append}
 use Rattle.zarr_model.proofs.FailureLaws.{listed_is_chunk}
 
@@ -72,10 +72,10 @@ read-serves description options region old new answer accepted same right =
 
 -- damage stays where nothing is changed
 pub KeepsDamage-none : (description : Description) (options : Options) (store : Content) → KeepsDamage description options [] store store
-KeepsDamage-none description options store = record { each = λ chunk is_chunk. inr (refl, refl) }
+KeepsDamage-none description options store = record { each = λ chunk is_chunk. inr (refl, refl); stands = λ chunk is_chunk damaged none. refl }
 
 pub KeepsDamage-read : (description : Description) (options : Options) (region : Region) (old new : Content) → ((key : List ℕ) → new key ≡ old key) → KeepsDamage description options (read region ∷ []) old new
-KeepsDamage-read description options region old new same = record { each = λ chunk is_chunk. inr (same (description.key chunk), refl) }
+KeepsDamage-read description options region old new same = record { each = λ chunk is_chunk. inr (same (description.key chunk), refl); stands = λ chunk is_chunk damaged none. same (description.key chunk) }
 
 none_erased : (description : Description) (commands more : List Command) (chunk : List ℕ) → list_any (erases_chunk description chunk) commands ≡ false → list_any (erases_chunk description chunk) more ≡ false →
     list_any (erases_chunk description chunk) (commands ++ more) ≡ false
@@ -83,6 +83,11 @@ none_erased description [] more chunk first second = second
 none_erased description (command ∷ commands) more chunk first second =
     let parts = or_parts (erases_chunk description chunk command) (list_any (erases_chunk description chunk) commands) first in
     or_from (erases_chunk description chunk command) (list_any (erases_chunk description chunk) (commands ++ more)) parts.0 (none_erased description commands more chunk parts.1 second)
+
+pub both_none : (description : Description) (commands more : List Command) (chunk : List ℕ) → list_any (erases_chunk description chunk) (commands ++ more) ≡ false →
+    (list_any (erases_chunk description chunk) commands ≡ false) × (list_any (erases_chunk description chunk) more ≡ false)
+both_none description commands more chunk none =
+    or_parts (list_any (erases_chunk description chunk) commands) (list_any (erases_chunk description chunk) more) (sym (list_any-append (erases_chunk description chunk) commands more) ∙ none)
 
 pub KeepsDamage-append : (description : Description) (options : Options) (commands more : List Command) (old mid new : Content) →
     KeepsDamage description options commands old mid → KeepsDamage description options more mid new → KeepsDamage description options (commands ++ more) old new
@@ -96,6 +101,10 @@ KeepsDamage-append description options commands more old mid new first second = 
       inr (later.0 ∙ before.0, none_erased description commands more chunk before.1 later.1))
       (first.each chunk is_chunk))
       (second.each chunk is_chunk);
+  stands = λ chunk is_chunk damaged none.
+      let parts = both_none description commands more chunk none in
+      let before = first.stands chunk is_chunk damaged parts.0 in
+      second.stands chunk is_chunk (ap (box_content (layout description options) (description.grid.chunk_box chunk)) before ∙ damaged) parts.1 ∙ before;
 }
 
 -- the failure of command number m, of which the single command tells, is one of the whole list

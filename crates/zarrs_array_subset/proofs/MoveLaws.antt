@@ -1,7 +1,7 @@
 -- Overlaps, offsets, and linear indices and back.
-use Rattle.std.proofs.Common.{◌≡◌, ℕ, suc, ◌+◌, ◌-◌, ◌*◌, ◌<◌, ◌≤◌, ◌^◌, ◌&&◌, Bool, true, false, nat_le, nat_lt, min, max, List, [], ◌∷◌, length, map, Some, None, cond, refl, sym, ap, ap₂, ◌∙◌, arith}
+use Rattle.std.proofs.Common.{◌≡◌, ℕ, ◌+◌, ◌-◌, ◌*◌, ◌<◌, ◌≤◌, ◌^◌, ◌&&◌, Bool, true, false, nat_le, nat_lt, min, max, List, [], ◌∷◌, length, Some, None, refl, sym, ap, ap₂, ◌∙◌, arith}
 use Rattle.std.proofs.lemmas.Bool.{and_parts, and_from, leb-true, ltb-true, lt-ltb, cond-true}
-use Rattle.zarr_model.specs.Region.{Span, Region, count, count_of, whole, contains, is_in, linear_index, tuple_at, shared_span, sizes, starts}
+use Rattle.zarr_model.specs.Region.{Span, Region, count, whole, contains, is_in, linear_index, tuple_at, shared_span, sizes, starts}
 use Rattle.zarr_model.proofs.RegionLaws.{span_in, tuple_at-place, place-tuple_at, contains-tuple_at}
 use Rattle.zarrs_array_subset.specs.Boxes.{ends_fit, is_box, moved, moved_back, overlap_of, starts_past}
 use Rattle.zarrs_array_subset.specs.Ravel.{count_front, place_front, is_below, raveled}
@@ -19,11 +19,11 @@ ends_of_span i span h = let parts = and_parts (nat_le span.start i) (nat_lt i (s
 shared_is_both : (i : ℕ) (a b : Span) → is_in i (shared_span a b) ≡ (is_in i a && is_in i b)
 shared_is_both i a b = same_test (is_in i (shared_span a b)) (is_in i a && is_in i b)
     (λ h. let e : (max a.start b.start ≤ i) × (i < max a.start b.start + (min (a.start + a.size) (b.start + b.size) - max a.start b.start)) = ends_of_span i (shared_span a b) h in
-        and_from _ _ (span_in i a (omega arith) (omega arith)) (span_in i b (omega arith) (omega arith)))
+    and_from _ _ (span_in i a (omega arith) (omega arith)) (span_in i b (omega arith) (omega arith)))
     (λ h. let p = and_parts (is_in i a) (is_in i b) h in
-        let x : (a.start ≤ i) × (i < a.start + a.size) = ends_of_span i a p.0 in
-        let y : (b.start ≤ i) × (i < b.start + b.size) = ends_of_span i b p.1 in
-        span_in i (shared_span a b) (omega arith) (omega arith))
+    let x : (a.start ≤ i) × (i < a.start + a.size) = ends_of_span i a p.0 in
+    let y : (b.start ≤ i) × (i < b.start + b.size) = ends_of_span i b p.1 in
+    span_in i (shared_span a b) (omega arith) (omega arith))
 
 swap_tests : (a b c d : Bool) → ((a && b) && (c && d)) ≡ ((a && c) && (b && d))
 swap_tests true true c d = refl

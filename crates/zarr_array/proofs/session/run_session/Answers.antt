@@ -3,6 +3,7 @@ use Rattle.zarr_model.specs.Command.{layout}
 use Rattle.zarr_model.specs.Store.{IsHonest}
 use Rattle.zarr_model.specs.Outside.{Rose}
 use Rattle.zarr_model.specs.Cost.{all_asks, counted}
+use Rattle.zarr_model.specs.Causes.{MeetsNoDamage}
 use Rattle.zarr_model.specs.Session.{LeavesKeys, ServesArray, RefusesRight, AreRefused, IsUntouched}
 use Rattle.zarr_array.specs.Document.{describe}
 use Rattle.zarr_array.specs.Command.{command_of, answer_of}
@@ -39,3 +40,7 @@ returns-in-Ok-clause-keys g c = λ document opens. subst (λ d. LeavesKeys (desc
 pub returns-in-Ok-clause-failed : goal.returns-in-Ok-clause-failed
 returns-in-Ok-clause-failed g c = λ document opens. subst (λ d. IfErr c.run_commands.result (λ error. FailsAt (describe d) session_options (map command_of c.args.commands.now) (g.S.Store.content c.args.store.now) (g.S.Store.content c.run_commands.new.store) (g.S.Store.ask_count c.args.store.now) (g.S.Store.ask_count c.run_commands.new.store) (g.S.Store.fault_count c.args.store.now) (g.S.Store.fault_count c.run_commands.new.store) error.at error.kind))
     (one_document (documented c.in-Ok.array) document _ c.in-Ok.ensures opens) c.run_commands.ensures.failed
+
+pub returns-in-Ok-clause-undamaged : goal.returns-in-Ok-clause-undamaged
+returns-in-Ok-clause-undamaged g c = λ document opens. subst (λ d. OnOk c.run_commands.result (MeetsNoDamage (describe d) session_options (map command_of c.args.commands.now) (g.S.Store.content c.args.store.now)))
+    (one_document (documented c.in-Ok.array) document _ c.in-Ok.ensures opens) c.run_commands.ensures.undamaged

@@ -1,5 +1,6 @@
 use Rattle.std.proofs.Common.{◌≡◌, ◌<◌, length, arith, ap, ◌∙◌, le_trans, slice_get, subst}
 use Rattle.zarr_model.specs.Region.{count, tuples, tuple_at}
+use Rattle.zarr_model.specs.Grid.{chunks_meeting}
 use Rattle.zarr_model.specs.Store.{box_content}
 use Rattle.zarr_model.specs.Command.{layout}
 use Rattle.zarr_model.proofs.RegionLaws.{length-tuples}
@@ -8,6 +9,7 @@ use Rattle.zarr_array.specs.Chunk.{byte_elements}
 use Rattle.zarr_array.specs.OpenArray.{described}
 use Rattle.zarr_array.specs.Session.{session_options}
 use Rattle.zarr_array.proofs.ReadLaws.{read-step, read-end, HasRead}
+use Rattle.zarr_array.proofs.DecodeLaws.{decode-step, decode-all}
 use Rattle.zarr_array.proofs.ReadSteps.{met_at, met_rank, described_covers, stops_reading, count_met, counted_more}
 use Rattle.zarr_array.proofs.open.OpenArray.read_chunks.Goals as goal
 
@@ -41,6 +43,12 @@ loop-number-preserved g c = record {
   asks = counted_more (g.S.Store.ask_count c.args.store.now) (g.S.Store.ask_count c.loop-number.store) (g.S.Store.ask_count c.read_numbered.new.store) c.loop-number.number 1
       c.loop-number.invariant.asks c.in_default.ensures.asks;
   later = le_trans c.loop-number.invariant.later c.read_numbered.ensures.later;
+  decode =
+      let below : c.loop-number.number < count (region c.args.chunks.now) = omega arith in
+      let here = met_at (described c.args.self.now).grid (region c.args.subset.now) (region c.args.chunks.now) c.loop-number.number c.requires.listed below in
+      decode-step (layout (described c.args.self.now) session_options) (chunks_meeting (described c.args.self.now).grid (region c.args.subset.now))
+      (g.S.Store.content c.args.store.now) (g.S.Store.content c.loop-number.store) c.loop-number.number (tuple_at (region c.args.chunks.now) c.loop-number.number) here.0
+      c.loop-number.invariant.same c.loop-number.invariant.decode c.in_default.ensures.decodes;
   read = λ array meant.
       let below : c.loop-number.number < count (region c.args.chunks.now) = omega arith in
       let grid = (described c.args.self.now).grid in
@@ -64,3 +72,9 @@ pub returns-clause-asks : goal.returns-clause-asks
 returns-clause-asks g c =
     let met = count_met (described c.args.self.now).grid (region c.args.subset.now) (region c.args.chunks.now) c.requires.listed in
     omega (arith, met, c.loop-number.invariant.asks)
+
+pub returns-clause-decodes : goal.returns-clause-decodes
+returns-clause-decodes g c =
+    let met = count_met (described c.args.self.now).grid (region c.args.subset.now) (region c.args.chunks.now) c.requires.listed in
+    decode-all (layout (described c.args.self.now) session_options) (chunks_meeting (described c.args.self.now).grid (region c.args.subset.now))
+    (g.S.Store.content c.args.store.now) c.loop-number.number (omega (arith, met)) c.loop-number.invariant.decode

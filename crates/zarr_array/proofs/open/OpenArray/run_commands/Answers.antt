@@ -1,6 +1,7 @@
 use Rattle.std.proofs.Common.{◌≡◌, ◌+◌, ◌∷◌, ◌++◌, [], take, map, Some, arith, ap, ◌∙◌, sym, subst, subst₂, vec_len, le_trans, if◌then◌else◌, is_ok}
 use Rattle.std.proofs.lemmas.List.{map-append}
 use Rattle.std.proofs.lemmas.Bool.{true≢false}
+use Rattle.zarr_model.specs.Causes.{MeetsNoDamage}
 use Rattle.zarr_model.specs.Session.{ServesWhole}
 use Rattle.zarr_model.proofs.SessionLaws.{serves_from_whole}
 use Rattle.zarr_array.specs.Command.{command_of, answer_of}
@@ -52,7 +53,7 @@ loop-number-preserved g c = record {
       subst₂ (λ commands answers. SoFar place session_options commands (g.S.Store.content c.args.store.now) (g.S.Store.content c.run_command.new.store)
       (g.S.Store.ask_count c.args.store.now) (g.S.Store.ask_count c.run_command.new.store) (g.S.Store.taken_count c.args.store.now) (g.S.Store.taken_count c.run_command.new.store)
       (g.S.Store.fault_count c.args.store.now) (g.S.Store.fault_count c.run_command.new.store) answers) (sym more) (sym answered)
-      (so_far-step place session_options front command (g.S.Store.content c.args.store.now) (g.S.Store.content c.loop-number.store) (g.S.Store.content c.run_command.new.store)
+      (so_far-step place session_options (described_covers c.args.self.now) front command (g.S.Store.content c.args.store.now) (g.S.Store.content c.loop-number.store) (g.S.Store.content c.run_command.new.store)
       (g.S.Store.ask_count c.args.store.now) (g.S.Store.ask_count c.loop-number.store) (g.S.Store.ask_count c.run_command.new.store)
       (g.S.Store.taken_count c.args.store.now) (g.S.Store.taken_count c.loop-number.store) (g.S.Store.taken_count c.run_command.new.store)
       (g.S.Store.fault_count c.args.store.now) (g.S.Store.fault_count c.loop-number.store) (g.S.Store.fault_count c.run_command.new.store)
@@ -63,6 +64,7 @@ loop-number-preserved g c = record {
         refused = λ all. (c.run_command.ensures.refused all).0;
         asks = c.in-Ok-run_command.ensures.asks;
         damage = c.run_command.ensures.damage;
+        met = c.in-Ok-run_command.ensures.met;
         later = c.run_command.ensures.later;
       }));
   long = c.push.ensures.len ∙ (ap (λ r. if is_ok r then vec_len c.loop-number.replies + 1 else vec_len c.loop-number.replies) c.unwrap.ensures ∙ ap (λ n. n + 1) c.loop-number.invariant.long);
@@ -75,3 +77,7 @@ returns-clause-serves g c = λ honest.
     (map answer_of c.loop-number.replies.items) (described_covers c.args.self.now) (described_sound c.args.self.now session_options) honest
     (subst (λ commands. ServesWhole (described c.args.self.now) session_options commands (g.S.Store.content c.args.store.now) (g.S.Store.content c.loop-number.store) (map answer_of c.loop-number.replies.items))
     (all_ran command_of c.args.commands.now c.loop-number.number (omega arith)) c.loop-number.invariant.so_far.serves)
+
+pub returns-clause-undamaged : goal.returns-clause-undamaged
+returns-clause-undamaged g c = subst (λ commands. MeetsNoDamage (described c.args.self.now) session_options commands (g.S.Store.content c.args.store.now))
+    (all_ran command_of c.args.commands.now c.loop-number.number (omega arith)) c.loop-number.invariant.so_far.met

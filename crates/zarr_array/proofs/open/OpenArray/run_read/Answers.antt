@@ -2,6 +2,9 @@ use Rattle.std.proofs.Common.{rules}
 use Rattle.std.proofs.lemmas.Result.{err_from_is_err_and}
 use Rattle.zarrs_array_subset.specs.ArraySubset.{region}
 use Rattle.zarr_array.proofs.ReadCommand.{read-replied, read-fails}
+use Rattle.zarr_array.proofs.DecodeLaws.{read-undamaged}
+use Rattle.zarr_array.specs.OpenArray.{described}
+use Rattle.zarr_array.specs.Session.{session_options}
 use Rattle.zarr_array.proofs.open.OpenArray.run_read.Goals as goal
 
 pub returns-in_err-elements-clause-failed : goal.returns-in_err-elements-clause-failed
@@ -15,3 +18,7 @@ pub returns-clause-serves : goal.returns-clause-serves
 returns-clause-serves g c =
     read-replied c.args.self.now (region c.args.subset.now) (g.S.Store.content c.args.store.now) (g.S.Store.content c.read_elements.new.store) c.in_ok-elements.elements.items
     (search rules) c.read_elements.ensures.same c.in_ok-elements.ensures.elements
+
+pub returns-clause-met : goal.returns-clause-met
+returns-clause-met g c = read-undamaged (described c.args.self.now) session_options (region c.args.subset.now) (g.S.Store.content c.args.store.now)
+    (search rules) c.in_ok-elements.ensures.decodes

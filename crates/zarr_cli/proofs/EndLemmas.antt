@@ -1,0 +1,193 @@
+-- From the run of an input to the clauses of the program.
+use Rattle.std.proofs.Common.{◌≡◌, ℕ, ◌+◌, ◌<◌, ◌≤◌, false, List, [], ◌∷◌, length, map, Option, Some, None, Result, Ok, Err, IfOk, IfErr, OnOk, MatchResult, ◌⊎◌, inl, inr, refl, sym, ap, ◌∙◌, subst, arith, Vec, String, add-zero}
+use Rattle.std.specs.declared.alloc.Global.{Global}
+use Rattle.zarr_model.specs.Store.{Content, with_keys}
+use Rattle.zarr_model.specs.Session.{AreRefused, IsUntouched}
+use Rattle.zarr_model.specs.Cost.{all_asks, counted}
+use Rattle.zarr_array.specs.Document.{describe}
+use Rattle.zarr_array.specs.Opening.{OpenRefusal, not_opened}
+use Rattle.zarr_array.specs.OpenArray.{described, open_refusal_of}
+use Rattle.zarr_array.specs.Command.{command_of}
+use Rattle.zarr_cli_lines.specs.Parts.{entry_view}
+use Rattle.zarr_cli.specs.Program.{Settings, first_settings, settings_of, Run, input_limit, store_after_keys, IsDumpAsks}
+use Rattle.zarr_cli.specs.Ending.{Ending, bad_input, refused_document, damaged_chunk, IsReading, IsOrMemory, HasBadLine, HasRefusedDocument, HasDamage, HasLongInput, WentThrough}
+use Rattle.zarr_cli.specs.Endings.{known_forms, words_of, ending_of, refused_by}
+use Rattle.zarr_cli.specs.Steps.{SaysInput, RunsCommands, DidRun, IsRunFault, IsReadFault, IsRefusedBy, IsToldFault}
+use Rattle.zarr_cli.proofs.ProgramLaws.{one_run}
+use Rattle.zarr_cli.proofs.OutcomeLemmas.{did_run, run_told, run_not_bad, run_not_refused, refused_not_bad, one_bad_line}
+use Rattle.zarr_cli.specs.declared.input.ParsedInput.{ParsedInput}
+use Rattle.zarr_cli.specs.declared.status.Status.{Status}
+use Rattle.zarr_cli.specs.declared.status.Status.TheVariants.{Done, BadWords, BadInput, Document, Chunk, Store, Read, Write, TooLong, OutOfMemory}
+
+-- what a parsed input came to, whatever the result
+pub bytes_ran : (input : List ℕ) (parsed : ParsedInput) (old new : Content) (asks_before asks_now taken_before taken_now : ℕ) (result : Result (Vec ℕ Global) Status) → length input ≤ input_limit → SaysInput input parsed →
+    IfOk result (λ text. RunsCommands (described parsed.array) (map command_of parsed.commands.items) (with_keys (map entry_view parsed.entries.items) old) new asks_before asks_now text.items) →
+    OnOk result (AreRefused (described parsed.array) (map command_of parsed.commands.items) → IsUntouched (with_keys (map entry_view parsed.entries.items) old) new asks_before asks_now taken_before taken_now) →
+    IfOk result (λ text. DidRun [] input old new asks_before asks_now taken_before taken_now text.items)
+bytes_ran input parsed old new asks_before asks_now taken_before taken_now (Ok text) within says ran refused = did_run input parsed old new asks_before asks_now taken_before taken_now text.items within says ran refused
+bytes_ran input parsed old new asks_before asks_now taken_before taken_now (Err status) within says ran refused = tt
+
+pub bytes_fault : (input : List ℕ) (parsed : ParsedInput) (old : Content) (before now : ℕ) (result : Result (Vec ℕ Global) Status) → length input ≤ input_limit → SaysInput input parsed →
+    IfErr result (λ status. IsRunFault (described parsed.array) (map command_of parsed.commands.items) (with_keys (map entry_view parsed.entries.items) old) before now status) →
+    IfErr result (λ status. IsToldFault [] input old ⊥ before now status)
+bytes_fault input parsed old before now (Ok text) within says fault = tt
+bytes_fault input parsed old before now (Err status) within says fault = run_told input parsed old before now within says status fault
+
+-- without words
+pub no_words : {Z : Type 0} (words : List (String Z)) → length words ≡ 0 → words_of words ≡ []
+no_words [] e = refl
+no_words (word ∷ words) e = absurd (omega arith)
+
+weaker_told : (words : List (List ℕ)) (input : List ℕ) (old : Content) (rose : Type 0) (before now : ℕ) (status : Status) → IsToldFault words input old ⊥ before now status → IsToldFault words input old rose before now status
+weaker_told words input old rose before now BadWords told = told
+weaker_told words input old rose before now (BadInput line) told = told
+weaker_told words input old rose before now (Document error) told = told
+weaker_told words input old rose before now (Chunk key) told = told
+weaker_told words input old rose before now Store told = told
+weaker_told words input old rose before now Read told = absurd told
+weaker_told words input old rose before now TooLong told = told
+weaker_told words input old rose before now OutOfMemory told = told
+weaker_told words input old rose before now Done told = told
+weaker_told words input old rose before now Write told = told
+
+-- the bytes that were read are those that the source had left
+pub told_bytes : (words : List (List ℕ)) (input bytes : List ℕ) (old new : Content) (asks_before asks_now taken_before taken_now : ℕ) (rose : Type 0) (before now : ℕ) (result : Result (Vec ℕ Global) Status) →
+    words ≡ [] → input ≡ bytes →
+    IfOk result (λ text. DidRun [] input old new asks_before asks_now taken_before taken_now text.items) → IfErr result (λ status. IsToldFault [] input old ⊥ before now status) →
+    MatchResult result (λ text. DidRun words bytes old new asks_before asks_now taken_before taken_now text.items) (λ status. IsToldFault words bytes old rose before now status)
+told_bytes words input bytes old new asks_before asks_now taken_before taken_now rose before now (Ok text) none same ran fault =
+    subst (λ w. DidRun w bytes old new asks_before asks_now taken_before taken_now text.items) (sym none) (subst (λ b. DidRun [] b old new asks_before asks_now taken_before taken_now text.items) same ran)
+told_bytes words input bytes old new asks_before asks_now taken_before taken_now rose before now (Err status) none same ran fault =
+    weaker_told words bytes old rose before now status
+    (subst (λ w. IsToldFault w bytes old ⊥ before now status) (sym none) (subst (λ b. IsToldFault [] b old ⊥ before now status) same fault))
+
+pub told_read : (words : List (List ℕ)) (left : Option (List ℕ)) (bytes : List ℕ) (old : Content) (rose : Type 0) (source_before source_now before now : ℕ) (status : Status) → words ≡ [] → left ≡ Some bytes →
+    (IsReadFault left source_before source_now Read → rose) → IsReadFault left source_before source_now status → IsToldFault words bytes old rose before now status
+told_read words left bytes old rose source_before source_now before now TooLong none e up fault = (subst (IsReading known_forms) (sym none) (first_settings, (refl, refl)), fault bytes e)
+told_read words left bytes old rose source_before source_now before now Read none e up fault = up fault
+told_read words left bytes old rose source_before source_now before now OutOfMemory none e up fault = tt
+told_read words left bytes old rose source_before source_now before now Done none e up fault = absurd fault
+told_read words left bytes old rose source_before source_now before now BadWords none e up fault = absurd fault
+told_read words left bytes old rose source_before source_now before now (BadInput line) none e up fault = absurd fault
+told_read words left bytes old rose source_before source_now before now (Document error) none e up fault = absurd fault
+told_read words left bytes old rose source_before source_now before now (Chunk key) none e up fault = absurd fault
+told_read words left bytes old rose source_before source_now before now Store none e up fault = absurd fault
+told_read words left bytes old rose source_before source_now before now Write none e up fault = absurd fault
+
+-- a run that was written whole or in part
+pub went : (words : List (List ℕ)) (input : List ℕ) (old new : Content) (asks_before asks_now taken_before taken_now : ℕ) (text : List ℕ) (wrote : List ℕ → Type 0) →
+    DidRun words input old new asks_before asks_now taken_before taken_now text → wrote text → WentThrough known_forms words input old new wrote
+went words input old new asks_before asks_now taken_before taken_now text wrote did given = (did.run, text, did.runs, given)
+
+-- no word is known, so there is no dump
+no_dump : (words : List (List ℕ)) (settings : Settings) → settings_of known_forms words ≡ Some settings → settings.dump ≡ false
+no_dump [] settings e = let same : settings ≡ first_settings = cc in ap (λ s. s.dump) same
+no_dump (word ∷ words) settings e = absurd (cc)
+
+pub did_asks : (words : List (List ℕ)) (input : List ℕ) (old new : Content) (asks_before asks_now taken_before taken_now : ℕ) (text : List ℕ) → DidRun words input old new asks_before asks_now taken_before taken_now text →
+    (run : Run known_forms words input) → (more : ℕ) × IsDumpAsks run.settings.dump new more × (asks_now ≡ counted asks_before (all_asks (describe run.document) run.commands + more))
+did_asks words input old new asks_before asks_now taken_before taken_now text did run =
+    let same = one_run known_forms words input did.run.settings did.run.document did.run.commands did.run.are_words.0 did.run.is_opened did.run.are_commands run in (
+      0,
+      subst (λ dump. IsDumpAsks dump new 0) (sym (no_dump words run.settings run.are_words.0)) refl,
+      subst (λ commands. asks_now ≡ counted asks_before (all_asks (describe run.document) commands + 0)) (sym same.2)
+          (subst (λ document. asks_now ≡ counted asks_before (all_asks (describe document) did.run.commands + 0)) (sym same.1)
+          (did.asks ∙ ap (counted asks_before) (sym (add-zero (all_asks (describe did.run.document) did.run.commands))))),
+    )
+
+pub did_refused : (words : List (List ℕ)) (input : List ℕ) (old new : Content) (asks_before asks_now taken_before taken_now : ℕ) (text : List ℕ) → DidRun words input old new asks_before asks_now taken_before taken_now text →
+    (run : Run known_forms words input) → AreRefused (describe run.document) run.commands → IsUntouched (store_after_keys input old) new asks_before asks_now taken_before taken_now
+did_refused words input old new asks_before asks_now taken_before taken_now text did run all =
+    let same = one_run known_forms words input did.run.settings did.run.document did.run.commands did.run.are_words.0 did.run.is_opened did.run.are_commands run in
+    did.refused (subst (λ commands. AreRefused (describe did.run.document) commands) same.2 (subst (λ document. AreRefused (describe document) run.commands) same.1 all))
+
+-- a run excludes the causes that lie in the input
+pub not_long : (words : List (List ℕ)) (input : List ℕ) → Run known_forms words input → HasLongInput known_forms words input → ⊥
+not_long words input run long = let within : length input ≤ input_limit = run.within in let above : input_limit < length input = long.1 in omega arith
+
+pub not_bad : (words : List (List ℕ)) (input : List ℕ) (line : ℕ) → Run known_forms words input → HasBadLine known_forms words input line → ⊥
+not_bad words input line run bad = run_not_bad known_forms words input line run bad.2
+
+pub not_refused : (words : List (List ℕ)) (input : List ℕ) (why : OpenRefusal) → Run known_forms words input → HasRefusedDocument known_forms words input why → ⊥
+not_refused words input why run refused = run_not_refused known_forms words input why run refused.3
+
+-- a damaged chunk is told as one only with its cause
+same_chunk : (a b : List ℕ) → damaged_chunk a ≡ damaged_chunk b → a ≡ b
+same_chunk a b e = cc
+
+refused_not_chunk : (why : Option OpenRefusal) (key : List ℕ) → refused_by why ≡ damaged_chunk key → ⊥
+refused_not_chunk None key e = cc
+refused_not_chunk (Some why) key e = cc
+
+told_damage : (words : List (List ℕ)) (input : List ℕ) (old : Content) (rose : Type 0) (before now : ℕ) (status : Status) (key : List ℕ) → IsToldFault words input old rose before now status →
+    ending_of status ≡ damaged_chunk key → HasDamage known_forms words input old key
+told_damage words input old rose before now (Chunk other) key told e = subst (HasDamage known_forms words input old) (same_chunk other key e) told
+told_damage words input old rose before now (Document error) key told e = absurd (refused_not_chunk (open_refusal_of error) key e)
+told_damage words input old rose before now BadWords key told e = absurd (cc)
+told_damage words input old rose before now (BadInput line) key told e = absurd (cc)
+told_damage words input old rose before now Store key told e = absurd (cc)
+told_damage words input old rose before now Read key told e = absurd (cc)
+told_damage words input old rose before now TooLong key told e = absurd (cc)
+told_damage words input old rose before now OutOfMemory key told e = absurd (cc)
+told_damage words input old rose before now Done key told e = absurd told
+told_damage words input old rose before now Write key told e = absurd told
+
+pub told_chunk : (words : List (List ℕ)) (input : List ℕ) (old : Content) (rose : Type 0) (before now : ℕ) (status end : Status) (key : List ℕ) → (end ≡ status) ⊎ (end ≡ OutOfMemory) →
+    IsToldFault words input old rose before now status → ending_of end ≡ damaged_chunk key → HasDamage known_forms words input old key
+told_chunk words input old rose before now status end key (inl same) told e = told_damage words input old rose before now status key told (sym (ap ending_of same) ∙ e)
+told_chunk words input old rose before now status end key (inr memory) told e = absurd (let none : ending_of OutOfMemory ≡ damaged_chunk key = sym (ap ending_of memory) ∙ e in cc)
+
+-- each cause in the input gives its answer
+not_reading : (words : List (List ℕ)) → settings_of known_forms words ≡ None → IsReading known_forms words → ⊥
+not_reading words none (settings, reads) = let both : None ≡ Some settings = sym none ∙ reads.0 in cc
+
+refused_for : (words : List (List ℕ)) (input : List ℕ) (line : ℕ) (why : Option OpenRefusal) → IsRefusedBy words input why → HasBadLine known_forms words input line → ⊥
+refused_for words input line None refused bad = refused
+refused_for words input line (Some why) refused bad = refused_not_bad known_forms input line why refused.2 refused.3 bad.2
+
+told_bad : (words : List (List ℕ)) (input : List ℕ) (old : Content) (rose : Type 0) (before now : ℕ) (status : Status) (line : ℕ) → IsToldFault words input old rose before now status → ¬ rose →
+    HasBadLine known_forms words input line → IsOrMemory (ending_of status) (bad_input line)
+told_bad words input old rose before now BadWords line told calm bad = absurd (not_reading words told bad.0)
+told_bad words input old rose before now (BadInput other) line told calm bad = inl (ap bad_input (one_bad_line known_forms input other line told.2 bad.2))
+told_bad words input old rose before now (Document error) line told calm bad = absurd (refused_for words input line (open_refusal_of error) told bad)
+told_bad words input old rose before now (Chunk key) line told calm bad = absurd (not_bad words input line told.0 bad)
+told_bad words input old rose before now Store line told calm bad = absurd (not_bad words input line told.0 bad)
+told_bad words input old rose before now Read line told calm bad = absurd (calm told)
+told_bad words input old rose before now TooLong line told calm bad = absurd (let above : input_limit < length input = told.1 in let within : length input ≤ input_limit = bad.1 in omega arith)
+told_bad words input old rose before now OutOfMemory line told calm bad = inr refl
+told_bad words input old rose before now Done line told calm bad = absurd told
+told_bad words input old rose before now Write line told calm bad = absurd told
+
+or_memory : (status end : Status) (called_for : Ending) → (end ≡ status) ⊎ (end ≡ OutOfMemory) → IsOrMemory (ending_of status) called_for → IsOrMemory (ending_of end) called_for
+or_memory status end called_for (inl same) h = subst (λ s. IsOrMemory (ending_of s) called_for) (sym same) h
+or_memory status end called_for (inr memory) h = inr (ap ending_of memory)
+
+pub told_input : (words : List (List ℕ)) (input : List ℕ) (old : Content) (rose : Type 0) (before now : ℕ) (status end : Status) (line : ℕ) → (end ≡ status) ⊎ (end ≡ OutOfMemory) →
+    IsToldFault words input old rose before now status → ¬ rose → HasBadLine known_forms words input line → IsOrMemory (ending_of end) (bad_input line)
+told_input words input old rose before now status end line which told calm bad =
+    or_memory status end (bad_input line) which (told_bad words input old rose before now status line told calm bad)
+
+same_refusal : (a b : OpenRefusal) → not_opened a ≡ not_opened b → a ≡ b
+same_refusal a b e = cc
+
+one_refusal : (words : List (List ℕ)) (input : List ℕ) (other : Option OpenRefusal) (why : OpenRefusal) → IsRefusedBy words input other → HasRefusedDocument known_forms words input why → IsOrMemory (refused_by other) (refused_document why)
+one_refusal words input None why told refused = absurd told
+one_refusal words input (Some other) why told refused = inl (ap refused_document (same_refusal other why (sym told.3 ∙ refused.3)))
+
+told_refused : (words : List (List ℕ)) (input : List ℕ) (old : Content) (rose : Type 0) (before now : ℕ) (status : Status) (why : OpenRefusal) → IsToldFault words input old rose before now status → ¬ rose →
+    HasRefusedDocument known_forms words input why → IsOrMemory (ending_of status) (refused_document why)
+told_refused words input old rose before now BadWords why told calm refused = absurd (not_reading words told refused.0)
+told_refused words input old rose before now (BadInput line) why told calm refused = absurd (refused_not_bad known_forms input line why refused.2 refused.3 told.2)
+told_refused words input old rose before now (Document error) why told calm refused = one_refusal words input (open_refusal_of error) why told refused
+told_refused words input old rose before now (Chunk key) why told calm refused = absurd (not_refused words input why told.0 refused)
+told_refused words input old rose before now Store why told calm refused = absurd (not_refused words input why told.0 refused)
+told_refused words input old rose before now Read why told calm refused = absurd (calm told)
+told_refused words input old rose before now TooLong why told calm refused = absurd (let above : input_limit < length input = told.1 in let within : length input ≤ input_limit = refused.1 in omega arith)
+told_refused words input old rose before now OutOfMemory why told calm refused = inr refl
+told_refused words input old rose before now Done why told calm refused = absurd told
+told_refused words input old rose before now Write why told calm refused = absurd told
+
+pub told_document : (words : List (List ℕ)) (input : List ℕ) (old : Content) (rose : Type 0) (before now : ℕ) (status end : Status) (why : OpenRefusal) → (end ≡ status) ⊎ (end ≡ OutOfMemory) →
+    IsToldFault words input old rose before now status → ¬ rose → HasRefusedDocument known_forms words input why → IsOrMemory (ending_of end) (refused_document why)
+told_document words input old rose before now status end why which told calm refused =
+    or_memory status end (refused_document why) which (told_refused words input old rose before now status why told calm refused)

@@ -1,0 +1,9 @@
+pub mod ProgramLaws
+pub mod Worked
+mod Examples
+mod Refuted
+mod Shards
+mod StepLemmas
+mod RunLemmas
+mod OutcomeLemmas
+mod EndLemmas

@@ -1,0 +1,157 @@
+-- What an input in form comes to, and that the causes of the statuses exclude one another.
+use Rattle.std.proofs.Common.{◌≡◌, ℕ, ◌+◌, ◌<◌, ◌≤◌, List, [], length, map, Option, Some, None, is_some, IsUtf8, inl, inr, refl, sym, ap, ◌∙◌, subst, arith, append-nil}
+use Rattle.std.specs.Str.{IsValidUpTo}
+use Rattle.std.proofs.lemmas.Str.{utf8_valid_len-IsUtf8, utf8_valid_len-IsValidUpTo}
+use Rattle.zarr_model.specs.Store.{Content, IsHonest, IsChunkKey, with_keys}
+use Rattle.zarr_model.specs.Command.{layout}
+use Rattle.zarr_model.specs.Session.{AreRefused, IsUntouched}
+use Rattle.zarr_array.specs.Document.{ArrayDocument, describe}
+use Rattle.zarr_array.specs.Opening.{OpenRefusal, opened, not_opened}
+use Rattle.zarr_array.specs.OpenArray.{documented, described, open_refusal_of}
+use Rattle.zarr_array.specs.Command.{command_of}
+use Rattle.zarr_array.specs.Session.{session_options}
+use Rattle.zarr_cli_lines.specs.Text.{good_lines, line_at, replies_text}
+use Rattle.zarr_cli_lines.specs.Parts.{entry_view}
+use Rattle.zarr_cli_lines.proofs.TextLaws.{good_lines_all}
+use Rattle.zarr_cli.specs.Program.{Forms, first_settings, Run, input_limit, command_grammar, document_line, lines_after_document, store_after_keys}
+use Rattle.zarr_cli.specs.Ending.{IsBadLine, SameKeysElsewhere, IsRunnable}
+use Rattle.zarr_cli.specs.Endings.{known_forms}
+use Rattle.zarr_cli.specs.Steps.{SaysInput, RunsCommands, DidRun, IsRunFault, IsInputFault, IsRefusal, IsRefusedBy, IsToldFault, IsKeyOf}
+use Rattle.zarr_cli.proofs.ProgramLaws.{one_run}
+use Rattle.zarr_cli.specs.declared.input.ParsedInput.{ParsedInput}
+use Rattle.zarr_cli.specs.declared.status.Status.{Status}
+use Rattle.zarr_cli.specs.declared.status.Status.TheVariants.{Done, BadWords, BadInput, Document, Chunk, Store, Read, Write, TooLong, OutOfMemory}
+
+-- the run of an input in form, without words
+abbrev pub its_run : (input : List ℕ) (parsed : ParsedInput) → length input ≤ input_limit → SaysInput input parsed → Run known_forms [] input
+its_run input parsed within says = record {
+  settings = first_settings;
+  document = documented parsed.array;
+  commands = map command_of parsed.commands.items;
+  are_words = (refl, refl);
+  within = within;
+  is_text = says.is_text;
+  is_opened = says.is_opened;
+  are_commands = says.commands_are;
+}
+
+pub did_run : (input : List ℕ) (parsed : ParsedInput) (old new : Content) (asks_before asks_now taken_before taken_now : ℕ) (text : List ℕ) → length input ≤ input_limit → SaysInput input parsed →
+    RunsCommands (described parsed.array) (map command_of parsed.commands.items) (with_keys (map entry_view parsed.entries.items) old) new asks_before asks_now text →
+    (AreRefused (described parsed.array) (map command_of parsed.commands.items) → IsUntouched (with_keys (map entry_view parsed.entries.items) old) new asks_before asks_now taken_before taken_now) →
+    DidRun [] input old new asks_before asks_now taken_before taken_now text
+did_run input parsed old new asks_before asks_now taken_before taken_now text within says ran refused =
+    let runs = subst (λ entries. RunsCommands (described parsed.array) (map command_of parsed.commands.items) (with_keys entries old) new asks_before asks_now text) says.entries_are ran in
+    record {
+      run = its_run input parsed within says;
+      runs = record {
+        replied = λ array means. ([], refl, runs.replied array means ∙ sym (append-nil (replies_text _)));
+        left = runs.left;
+        undamaged = runs.undamaged;
+      };
+      asks = runs.asks;
+      refused = λ all. subst (λ entries. IsUntouched (with_keys entries old) new asks_before asks_now taken_before taken_now) says.entries_are (refused all);
+    }
+
+pub run_told : (input : List ℕ) (parsed : ParsedInput) (old : Content) (before now : ℕ) → length input ≤ input_limit → SaysInput input parsed → (status : Status) →
+    IsRunFault (described parsed.array) (map command_of parsed.commands.items) (with_keys (map entry_view parsed.entries.items) old) before now status → IsToldFault [] input old ⊥ before now status
+run_told input parsed old before now within says (Chunk key) fault = (
+  its_run input parsed within says,
+  subst (λ entries. IsRunFault (described parsed.array) (map command_of parsed.commands.items) (with_keys entries old) before now (Chunk key)) says.entries_are fault,
+)
+run_told input parsed old before now within says Store fault = (its_run input parsed within says, fault)
+run_told input parsed old before now within says OutOfMemory fault = tt
+run_told input parsed old before now within says Done fault = absurd fault
+run_told input parsed old before now within says BadWords fault = absurd fault
+run_told input parsed old before now within says (BadInput line) fault = absurd fault
+run_told input parsed old before now within says (Document error) fault = absurd fault
+run_told input parsed old before now within says Read fault = absurd fault
+run_told input parsed old before now within says Write fault = absurd fault
+run_told input parsed old before now within says TooLong fault = absurd fault
+
+pub kept_elsewhere : (input : List ℕ) (parsed : ParsedInput) (old new : Content) → length input ≤ input_limit → SaysInput input parsed →
+    ((key : List ℕ) → ¬ IsKeyOf (map entry_view parsed.entries.items) key → ¬ IsChunkKey (layout (described parsed.array) session_options) key → new key ≡ old key) →
+    SameKeysElsewhere known_forms [] input old new
+kept_elsewhere input parsed old new within says kept key free =
+    let none = free (its_run input parsed within says) in
+    kept key (subst (λ entries. ¬ IsKeyOf entries key) (sym says.entries_are) none.0) none.1
+
+-- a run in form is that of the parsed input
+pub runnable : (input : List ℕ) (parsed : ParsedInput) (old : Content) → SaysInput input parsed → IsRunnable known_forms [] input old →
+    IsHonest (layout (described parsed.array) session_options) (with_keys (map entry_view parsed.entries.items) old)
+runnable input parsed old says (run, honest) =
+    let same = one_run known_forms [] input first_settings (documented parsed.array) (map command_of parsed.commands.items) refl says.is_opened says.commands_are run in
+    subst (λ entries. IsHonest (layout (described parsed.array) session_options) (with_keys entries old)) (sym says.entries_are)
+    (subst (λ document. IsHonest (layout (describe document) session_options) (store_after_keys input old)) same.1
+    (subst (λ settings. IsHonest (layout (describe run.document) settings.options) (store_after_keys input old)) same.0 honest))
+
+-- UTF-8 has no first bad byte
+valid_up_to-not : (input : List ℕ) (n : ℕ) → IsUtf8 input → IsValidUpTo input n → ⊥
+valid_up_to-not input n utf8 upto =
+    let short : n < length input = upto.short in
+    omega (arith, utf8_valid_len-IsUtf8 input utf8, utf8_valid_len-IsValidUpTo input n upto)
+
+one_opened : (a b : ArrayDocument) → opened a ≡ opened b → a ≡ b
+one_opened a b e = cc
+
+-- a run in form has no line out of form
+pub run_not_bad : (forms : Forms) (words : List (List ℕ)) (input : List ℕ) (line : ℕ) → Run forms words input → IsBadLine forms input line → ⊥
+run_not_bad forms words input line run (inl (n, upto, e)) = valid_up_to-not input n run.is_text upto
+run_not_bad forms words input line run (inr (utf8, document, opens, below, e)) =
+    let same : document ≡ run.document = one_opened document run.document (sym opens ∙ run.is_opened) in
+    let full : good_lines (command_grammar forms run.document) (lines_after_document input) ≡ length (lines_after_document input) =
+    (good_lines_all (command_grammar forms run.document) (lines_after_document input)).0 (ap is_some run.are_commands) in
+    let few : good_lines (command_grammar forms run.document) (lines_after_document input) < length (lines_after_document input) =
+    subst (λ d. good_lines (command_grammar forms d) (lines_after_document input) < length (lines_after_document input)) same below in
+    omega arith
+
+-- nor a refused document
+pub run_not_refused : (forms : Forms) (words : List (List ℕ)) (input : List ℕ) (why : OpenRefusal) → Run forms words input → forms.opens (document_line input) ≡ not_opened why → ⊥
+run_not_refused forms words input why run refused = let both : opened run.document ≡ not_opened why = sym run.is_opened ∙ refused in cc
+
+-- an input with a refused document has no line out of form
+pub refused_not_bad : (forms : Forms) (input : List ℕ) (line : ℕ) (why : OpenRefusal) → IsUtf8 input → forms.opens (document_line input) ≡ not_opened why → IsBadLine forms input line → ⊥
+refused_not_bad forms input line why utf8 refused (inl (n, upto, e)) = valid_up_to-not input n utf8 upto
+refused_not_bad forms input line why utf8 refused (inr (again, document, opens, below, e)) = let both : opened document ≡ not_opened why = sym opens ∙ refused in cc
+
+-- there is one first line out of form
+pub one_bad_line : (forms : Forms) (input : List ℕ) (a b : ℕ) → IsBadLine forms input a → IsBadLine forms input b → a ≡ b
+one_bad_line forms input a b (inl (n, first, e)) (inl (m, second, k)) =
+    e ∙ (ap (line_at input) (sym (utf8_valid_len-IsValidUpTo input n first) ∙ utf8_valid_len-IsValidUpTo input m second) ∙ sym k)
+one_bad_line forms input a b (inl (n, first, e)) (inr (utf8, document, opens, below, k)) = absurd (valid_up_to-not input n utf8 first)
+one_bad_line forms input a b (inr (utf8, document, opens, below, e)) (inl (m, second, k)) = absurd (valid_up_to-not input m utf8 second)
+one_bad_line forms input a b (inr (utf8, document, opens, below, e)) (inr (again, other, opens_other, below_other, k)) =
+    let same : document ≡ other = one_opened document other (sym opens ∙ opens_other) in
+    e ∙ (ap (λ d. good_lines (command_grammar forms d) (lines_after_document input) + 2) same ∙ sym k)
+
+-- an input out of form: its cause, and that it cannot be run
+refused_by : (input : List ℕ) (why : Option OpenRefusal) → length input ≤ input_limit → IsUtf8 input → IsRefusal why (known_forms.opens (document_line input)) → IsRefusedBy [] input why
+refused_by input None within utf8 refused = refused
+refused_by input (Some why) within utf8 refused = ((first_settings, (refl, refl)), within, utf8, refused)
+
+pub input_told : (input : List ℕ) (old : Content) (before now : ℕ) → length input ≤ input_limit → (status : Status) → IsInputFault input status → IsToldFault [] input old ⊥ before now status
+input_told input old before now within (BadInput line) fault = ((first_settings, (refl, refl)), within, fault)
+input_told input old before now within (Document error) fault = refused_by input (open_refusal_of error) within fault.0 fault.1
+input_told input old before now within OutOfMemory fault = tt
+input_told input old before now within Done fault = absurd fault
+input_told input old before now within BadWords fault = absurd fault
+input_told input old before now within (Chunk key) fault = absurd fault
+input_told input old before now within Store fault = absurd fault
+input_told input old before now within Read fault = absurd fault
+input_told input old before now within Write fault = absurd fault
+input_told input old before now within TooLong fault = absurd fault
+
+never_refused : (words : List (List ℕ)) (input : List ℕ) (why : Option OpenRefusal) → Run known_forms words input → IsRefusal why (known_forms.opens (document_line input)) → ⊥
+never_refused words input None run refused = refused
+never_refused words input (Some why) run refused = run_not_refused known_forms words input why run refused
+
+pub only_memory : (words : List (List ℕ)) (input : List ℕ) (status : Status) → Run known_forms words input → IsInputFault input status → status ≡ OutOfMemory
+only_memory words input (BadInput line) run fault = absurd (run_not_bad known_forms words input line run fault)
+only_memory words input (Document error) run fault = absurd (never_refused words input (open_refusal_of error) run fault.1)
+only_memory words input OutOfMemory run fault = refl
+only_memory words input Done run fault = absurd fault
+only_memory words input BadWords run fault = absurd fault
+only_memory words input (Chunk key) run fault = absurd fault
+only_memory words input Store run fault = absurd fault
+only_memory words input Read run fault = absurd fault
+only_memory words input Write run fault = absurd fault
+only_memory words input TooLong run fault = absurd fault

@@ -1,0 +1,244 @@
+-- Answers of wrong programs, each refused by its definition.
+use Rattle.std.proofs.lemmas.List.{take_all}
+use Rattle.std.proofs.Common.{◌≡◌, ℕ, zero, suc, take, inl, inr, get_or, slice_get, lit<, lit≤, ◌+◌, ◌^◌, ◌<◌, ◌≤◌, Bool, List, [], ◌∷◌, ◌++◌, refl, codes, true, false, Some, None, Option, subst, ap, sym, ◌∙◌, IsUtf8, length, ⊎_elim, arith, slice_index, unwrap_or, is_some}
+use Rattle.std.specs.List.{list_any}
+use Rattle.std.specs.Fmt.{digits}
+use Rattle.std.specs.Str.{IsValidUpTo, is_utf8, chars}
+use lib.Utf8.{encode}
+use Rattle.std.specs.Str.Lossy.{utf8_valid_len}
+use Rattle.std.proofs.lemmas.Str.{utf8_valid_len-IsValidUpTo, is_utf8-from_IsUtf8, IsUtf8-from_is_utf8}
+use Rattle.hex.specs.Hex.{encode_with, decode_pairs}
+use Rattle.zarr_model.specs.Element.{of_bytes}
+use Rattle.zarr_model.specs.ArrayBytes.{fixed_bytes}
+use Rattle.zarr_model.specs.Codec.{Options}
+use Rattle.zarr_model.specs.Store.{Content, with_key, WhollyMeans, stored_array}
+use Rattle.zarr_model.specs.Command.{Command, elements, read, write, erase, Description, layout}
+use Rattle.zarr_model.specs.Session.{LeavesArray}
+use Rattle.zarr_array.specs.Document.{ArrayDocument, byte_document, describe}
+use Rattle.zarr_array.specs.Opening.{opened}
+use Rattle.zarr_model.specs.Cost.{command_chunks, asks_store}
+use Rattle.zarr_model.specs.Outside.{Rose}
+use Rattle.zarr_model.specs.Causes.{IsPlace, AsksUpTo, IsUndecoded, IsStopped, erases_chunk, IsDamageMet}
+use Rattle.zarr_cli.specs.Program.{input_limit, IsDumpAsks, first_settings, Forms, reading_forms, document_line, lines_after_document, store_after_keys, command_grammar}
+use Rattle.zarr_cli.specs.Ending.{bad_words, ending_line, IsGivenFront, IsGivenLine, IsBadLine, WentThrough}
+use Rattle.zarr_cli_lines.specs.Text.{line_at, good_lines, replies_text}
+use Rattle.zarr_array.proofs.DocumentLaws.{byte_document-means}
+use Rattle.zarr_model.proofs.StoreLaws.{Means-from_whole}
+use Rattle.zarr_model.proofs.GridLaws.{regular_grid-covers}
+use Rattle.zarr_cli.proofs.ProgramLaws.{went_through}
+use Rattle.zarr_array.proofs.Documents.{document_text, square_opens, line_opens}
+
+abbrev nothing : Content
+nothing = λ key. None
+
+one_value : {A : Type 0} {a b : A} → Some a ≡ Some b → a ≡ b
+one_value e = cc
+
+abbrev options_with : Bool → Options
+options_with keep = record { store_empty_chunks = keep; validate_checksums = true }
+
+-- two values that differ at a place
+abbrev at : ℕ → Option (List ℕ) → ℕ
+at place value = slice_index (unwrap_or value []) place
+
+-- a read changes a stored element past the shape, by the keys that have to stay
+abbrev line_array : Description
+line_array = describe (byte_document (5 ∷ []) (2 ∷ []) 0)
+
+abbrev before : Content
+before = with_key (codes "c/2") (7 ∷ 9 ∷ []) nothing
+
+abbrev changed : Content
+changed = with_key (codes "c/2") (7 ∷ 0 ∷ []) nothing
+
+past_the_shape : ¬ LeavesArray line_array (options_with false) (read (record { start = 4; size = 1 } ∷ []) ∷ []) before changed
+unfolding digits
+past_the_shape left = let e : ◌≡◌ {A = ℕ} 0 9 = ap (at 1) (left.keys.same_chunks (2 ∷ []) refl refl) in omega arith
+
+-- and no run of the program on such an input ends so
+abbrev line_input : List ℕ
+line_input = document_text (codes "[5]") (codes "[2]") (codes "0") ++ codes "\nkey c/2 h0709\nread 4..5\n"
+
+past_the_shape_run : ¬ WentThrough reading_forms [] line_input nothing changed (λ text. text ≡ codes "ok h07\n")
+unfolding digits encode_with decode_pairs
+past_the_shape_run went =
+    let (output, runs, given) = went_through reading_forms [] line_input nothing changed (λ text. text ≡ codes "ok h07\n")
+    first_settings (byte_document (5 ∷ []) (2 ∷ []) 0) (read (record { start = 4; size = 1 } ∷ []) ∷ []) refl line_opens refl went in
+    past_the_shape runs.left
+
+-- a chunk of fill is left out though empty chunks are to be stored
+abbrev small_array : Description
+small_array = describe (byte_document (2 ∷ []) (2 ∷ []) 7)
+
+nothing_meant : (options : Options) → WhollyMeans (layout small_array options) nothing (stored_array (layout small_array options) nothing)
+nothing_meant options = byte_document-means (2 ∷ []) (2 ∷ []) 7 options nothing (omega arith, tt) (omega arith, tt) (λ chunk h. refl)
+
+blank_left_out : ¬ LeavesArray small_array (options_with true) (write (record { start = 0; size = 2 } ∷ []) (fixed_bytes (7 ∷ 7 ∷ [])) ∷ []) nothing nothing
+unfolding digits
+blank_left_out left = let e : false ≡ true = left.presence (stored_array (layout small_array (options_with true)) nothing) (0 ∷ []) (nothing_meant (options_with true)) refl in cc
+
+-- an erase that stops at a value that does not decode
+abbrev damaged : Content
+damaged = λ key. Some (1 ∷ [])
+
+erase_stops : (new : Content) (key : List ℕ) → ¬ IsUndecoded small_array (options_with false) (erase (0 ∷ []) ∷ []) damaged new key (Some (0, 0))
+erase_stops new key (command, which, asks, chunk, here, its_key, same_value, unerased, damage) =
+    let same : erase (0 ∷ []) ≡ command = one_value which in
+    let e : false ≡ true = subst (λ c. asks_store c ≡ true) (sym same) asks in cc
+
+-- a read meets that value, but not behind an erase of its chunk
+abbrev small_read : Command
+small_read = read (record { start = 0; size = 2 } ∷ [])
+
+damage_met : IsDamageMet small_array (options_with false) (small_read ∷ []) damaged (codes "c/0")
+unfolding digits
+damage_met = (0, small_read, refl, refl, 0 ∷ [], (0, lit< tt, refl), refl, refl, refl)
+
+erased_first : (m : ℕ) (command : Command) (chunk : List ℕ) (k : ℕ) → slice_get (erase (0 ∷ []) ∷ small_read ∷ []) m ≡ Some command → asks_store command ≡ true →
+    k < length (command_chunks small_array command) → get_or (command_chunks small_array command) k chunk ≡ chunk →
+    list_any (erases_chunk small_array chunk) (take m (erase (0 ∷ []) ∷ small_read ∷ [])) ≡ false → ⊥
+erased_first zero command chunk k which asks below here unerased =
+    let same : erase (0 ∷ []) ≡ command = one_value which in
+    let e : false ≡ true = subst (λ c. asks_store c ≡ true) (sym same) asks in cc
+erased_first (suc zero) command chunk k which asks below here unerased =
+    let same : small_read ≡ command = one_value which in
+    let first : k ≡ 0 = let n : k < 1 = subst (λ c. k < length (command_chunks small_array c)) (sym same) below in omega arith in
+    let it : 0 ∷ [] ≡ chunk = subst (λ i. get_or ((0 ∷ []) ∷ []) i chunk ≡ chunk) first (subst (λ c. get_or (command_chunks small_array c) k chunk ≡ chunk) (sym same) here) in
+    let e : true ≡ false = subst (λ c. list_any (erases_chunk small_array c) (erase (0 ∷ []) ∷ []) ≡ false) (sym it) unerased in cc
+erased_first (suc (suc m)) command chunk k which asks below here unerased = let e : None ≡ Some command = which in cc
+
+damage_erased : ¬ IsDamageMet small_array (options_with false) (erase (0 ∷ []) ∷ small_read ∷ []) damaged (codes "c/0")
+damage_erased (m, command, which, asks, chunk, (k, below, here), its_key, unerased, damage) = erased_first m command chunk k which asks below here unerased
+
+-- a fault of the store at no command
+fault_nowhere : (commands : List Command) (old new : Content) → ¬ IsStopped small_array (options_with false) commands old new 0 1 None
+fault_nowhere commands old new (rose, there, left) = let e : false ≡ true = there in cc
+
+-- the asks of a run that failed in its second write after one chunk, and a place at its end
+abbrev two_writes : List Command
+two_writes = write (record { start = 0; size = 1 } ∷ record { start = 0; size = 1 } ∷ []) (fixed_bytes (1 ∷ []))
+    ∷ write (record { start = 1; size = 2 } ∷ record { start = 1; size = 2 } ∷ []) (fixed_bytes (11 ∷ 12 ∷ 14 ∷ 15 ∷ [])) ∷ []
+
+abbrev square_array : Description
+square_array = describe (byte_document (4 ∷ 4 ∷ []) (2 ∷ 2 ∷ []) 0)
+
+asks_counted : AsksUpTo square_array two_writes 0 3 (Some (1, 1)) × IsPlace square_array two_writes (Some (1, 4))
+asks_counted = ((_, refl, inr refl), (_, refl, lit≤ tt))
+
+-- the program names the line of a command out of form, though a later byte is no UTF-8
+abbrev bad_byte : List ℕ
+bad_byte = codes "doc\nbogus\n" ++ 255 ∷ []
+
+first_bad_byte : utf8_valid_len bad_byte ≡ 10
+unfolding utf8_valid_len is_utf8 chars encode
+first_bad_byte = refl
+
+not_text : is_utf8 bad_byte ≡ false
+unfolding is_utf8 chars encode
+not_text = refl
+
+line_of_byte : (forms : Forms) (line : ℕ) → IsBadLine forms bad_byte line → line ≡ 3
+line_of_byte forms line bad = ⊎_elim
+    (λ (byte : (n : ℕ) × IsValidUpTo bad_byte n × (line ≡ line_at bad_byte n)).
+    byte.2 ∙ ap (line_at bad_byte) (sym (utf8_valid_len-IsValidUpTo bad_byte byte.0 byte.1) ∙ first_bad_byte))
+    (λ (form : IsUtf8 bad_byte × (document : ArrayDocument) × (forms.opens (document_line bad_byte) ≡ opened document)
+    × (good_lines (command_grammar forms document) (lines_after_document bad_byte) < length (lines_after_document bad_byte))
+    × (line ≡ good_lines (command_grammar forms document) (lines_after_document bad_byte) + 2)).
+    let e : false ≡ true = sym not_text ∙ is_utf8-from_IsUtf8 bad_byte form.0 in cc)
+    bad
+
+earlier_line : (forms : Forms) → ¬ IsBadLine forms bad_byte 2
+earlier_line forms bad = let e : ◌≡◌ {A = ℕ} 2 3 = line_of_byte forms 2 bad in omega arith
+
+-- a run by another document than the one in line 1
+abbrev square_input : List ℕ
+square_input = document_text (codes "[4,4]") (codes "[2,2]") (codes "0") ++ codes "\nread 3..4,3..4\n"
+
+square_meant : WhollyMeans (layout (describe (byte_document (4 ∷ 4 ∷ []) (2 ∷ 2 ∷ []) 0)) first_settings.options) nothing
+    (stored_array (layout (describe (byte_document (4 ∷ 4 ∷ []) (2 ∷ 2 ∷ []) 0)) first_settings.options) nothing)
+square_meant = byte_document-means (4 ∷ 4 ∷ []) (2 ∷ 2 ∷ []) 0 first_settings.options nothing (omega arith, (omega arith, tt)) (omega arith, (omega arith, tt)) (λ chunk h. refl)
+
+other_document : ¬ WentThrough reading_forms [] square_input nothing nothing (λ text. text ≡ codes "refused IncompatibleDimensionality\n")
+unfolding digits encode_with decode_pairs
+other_document went =
+    let (output, runs, given) = went_through reading_forms [] square_input nothing nothing (λ text. text ≡ codes "refused IncompatibleDimensionality\n")
+    first_settings (byte_document (4 ∷ 4 ∷ []) (2 ∷ 2 ∷ []) 0) (read (record { start = 3; size = 1 } ∷ record { start = 3; size = 1 } ∷ []) ∷ []) refl square_opens refl went in
+    let (keys, dump, text) = runs.replied (stored_array (layout (describe (byte_document (4 ∷ 4 ∷ []) (2 ∷ 2 ∷ []) 0)) first_settings.options) nothing)
+    (Means-from_whole (layout (describe (byte_document (4 ∷ 4 ∷ []) (2 ∷ 2 ∷ []) 0)) first_settings.options)
+    (regular_grid-covers (4 ∷ 4 ∷ []) (2 ∷ 2 ∷ []) (omega arith, (omega arith, tt))) nothing
+    (stored_array (layout (describe (byte_document (4 ∷ 4 ∷ []) (2 ∷ 2 ∷ []) 0)) first_settings.options) nothing) square_meant) in
+    let e : ◌≡◌ {A = ℕ} 114 111 = ap (λ line. slice_index line 0) (sym given ∙ (text ∙ ap (λ more. codes "ok h00\n" ++ more) dump)) in omega arith
+
+-- what is right is not refused: the line of that byte, and a run that reads the fill
+later_line : (forms : Forms) → IsBadLine forms bad_byte 3
+unfolding is_utf8 chars encode
+later_line forms = inl (
+  10,
+  record {
+    short = lit< tt;
+    front = IsUtf8-from_is_utf8 (take 10 bad_byte) refl;
+    longest = λ m above text.
+        let long : length bad_byte ≤ m = above in
+        let e : false ≡ true = sym not_text ∙ is_utf8-from_IsUtf8 bad_byte (subst IsUtf8 (take_all m bad_byte long) text) in cc;
+  },
+  refl,
+)
+
+right_unmet : (key : List ℕ) → IsDamageMet (describe (byte_document (4 ∷ 4 ∷ []) (2 ∷ 2 ∷ []) 0)) first_settings.options
+    (read (record { start = 3; size = 1 } ∷ record { start = 3; size = 1 } ∷ []) ∷ []) (store_after_keys square_input nothing) key → ⊥
+unfolding digits encode_with decode_pairs is_utf8 chars encode
+right_unmet key (m, command, is, asks, chunk, met, its_key, none, damaged) = let gone : true ≡ false = ap is_some damaged in cc
+
+right_run : WentThrough reading_forms [] square_input nothing nothing (λ text. text ≡ codes "ok h00\n")
+unfolding digits encode_with decode_pairs is_utf8 chars encode
+right_run = (
+  record {
+    settings = first_settings;
+    document = byte_document (4 ∷ 4 ∷ []) (2 ∷ 2 ∷ []) 0;
+    commands = read (record { start = 3; size = 1 } ∷ record { start = 3; size = 1 } ∷ []) ∷ [];
+    are_words = (refl, refl);
+    within = lit≤ tt;
+    is_text = IsUtf8-from_is_utf8 square_input refl;
+    is_opened = square_opens;
+    are_commands = refl;
+  },
+  codes "ok h00\n",
+  record {
+    replied = λ array meant. (
+      [],
+      refl,
+      ap (λ e. replies_text (elements (e ∷ []) ∷ []) ++ [])
+          (meant.inside (1 ∷ 1 ∷ []) (of_bytes (0 ∷ []) ∷ of_bytes (0 ∷ []) ∷ of_bytes (0 ∷ []) ∷ of_bytes (0 ∷ []) ∷ []) (3 ∷ 3 ∷ []) refl refl refl refl),
+    );
+    left = record {
+      array_left = λ array meant. meant;
+      whole_chunks = λ array meant. meant;
+      presence = λ array chunk meant is_chunk. refl;
+      keys = record { same_chunks = λ chunk is_chunk e. refl; other_keys = λ key apart. refl };
+    };
+    undamaged = record { no_key = right_unmet };
+  },
+  refl,
+)
+
+-- the line of a command out of form
+bogus_line : IsBadLine reading_forms (document_text (codes "[4,4]") (codes "[2,2]") (codes "0") ++ codes "\nbogus\n") 2
+unfolding digits encode_with decode_pairs is_utf8 chars encode
+bogus_line = inr (
+  IsUtf8-from_is_utf8 (document_text (codes "[4,4]") (codes "[2,2]") (codes "0") ++ codes "\nbogus\n") refl,
+  byte_document (4 ∷ 4 ∷ []) (2 ∷ 2 ∷ []) 0,
+  square_opens,
+  lit< tt,
+  refl,
+)
+
+-- a line, a front of it, the calls of a dump and the limit
+lines_given : (IsGivenLine (ending_line bad_words) 0 0 (Some (codes "x")) (Some (codes "xwords\n")))
+    × (IsGivenLine (ending_line bad_words) 0 1 (Some (codes "x")) (Some (codes "xwor"))) × (IsDumpAsks true nothing 1) × (input_limit ≡ 2 ^ 26)
+lines_given = (inl refl, inr (lit≤ tt, (3, refl)), ([], record { in_order = refl; held = λ key. refl }, refl), refl)
+
+front_unexplained : ¬ IsGivenLine (ending_line bad_words) 0 0 (Some (codes "x")) (Some (codes "xwor"))
+front_unexplained given = ⊎_elim
+    (λ (all : Some (codes "xwor") ≡ Some (codes "xwords\n")). let e : ◌≡◌ {A = ℕ} 4 7 = ap length (one_value all) in omega arith)
+    (λ (front : Rose 0 0 × IsGivenFront (codes "words\n") (Some (codes "x")) (Some (codes "xwor"))). let e : 1 ≤ 0 = front.0 in omega arith)
+    given

@@ -1,0 +1,122 @@
+-- The steps of the program: what was taken from a source, what key lines set, and the first line out of form.
+use Rattle.std.proofs.Common.{◌≡◌, ℕ, ◌+◌, ◌^◌, ◌<◌, ◌≤◌, Bool, true, false, List, [], ◌∷◌, ◌++◌, length, take, drop, map, get_or, Option, Some, None, IsSome, IsUtf8, ◌↔◌, inr, rules, if◌then◌else◌, bytes_eq, refl, sym, ap, ap₂, add-one, ◌∙◌, subst, arith, append_assoc, append-nil, length-append, true≢false}
+use Rattle.std.proofs.Math.Path.{fun_ext}
+use Rattle.std.proofs.Math.Seq.{drop-cons}
+use Rattle.std.proofs.lemmas.List.{get_or-map, length-map}
+use Rattle.zarr_model.specs.Store.{Content, with_key, with_keys}
+use Rattle.zarr_model.specs.Outside.{ReadsNext, PutsKey}
+use Rattle.zarr_model.proofs.FailureLaws.{same_bytes, bytes_eq-refl}
+use Rattle.zarr_array.specs.Opening.{opened}
+use Rattle.zarr_array.specs.Narrow.{open_narrow}
+use Rattle.zarr_array.specs.OpenArray.{documented}
+use Rattle.zarr_array.specs.declared.open.OpenArray.{OpenArray}
+use Rattle.zarr_cli_lines.specs.Text.{input_lines, good_lines}
+use Rattle.zarr_cli_lines.specs.Parts.{read_line, IsLineFault}
+use Rattle.zarr_cli_lines.specs.declared.parse.LineError.{LineError}
+use Rattle.zarr_cli_lines.specs.declared.parse.LineError.TheVariants.{OutOfForm}
+use Rattle.zarr_cli_lines.proofs.SplitLemmas.{few_lines}
+use Rattle.zarr_cli.specs.Program.{input_limit, first_line}
+use Rattle.zarr_cli.specs.Ending.{IsBadLine}
+use Rattle.zarr_cli.specs.Endings.{known_forms}
+use Rattle.zarr_cli.specs.Steps.{HasTaken, IsKeyOf}
+
+-- nothing was taken yet
+pub taken_none : (left : Option (List ℕ)) → HasTaken left [] left
+taken_none None = tt
+taken_none (Some left) = refl
+
+abbrev none_left : Option (List ℕ)
+none_left = None
+
+some_is : (bytes : List ℕ) → IsSome (Some bytes)
+some_is bytes = search rules
+
+gone : IsSome none_left → ⊥
+gone h = cc
+
+-- a read takes the next bytes
+pub taken_more : (before mid now : Option (List ℕ)) (taken buffer : List ℕ) (got : ℕ) → HasTaken before taken mid → (IsSome now ↔ IsSome mid) →
+    ((b n : List ℕ) → mid ≡ Some b → now ≡ Some n → ReadsNext b n got buffer) → HasTaken before (taken ++ take got buffer) now
+taken_more None mid now taken buffer got h tells next = tt
+taken_more (Some left) None now taken buffer got h tells next = absurd h
+taken_more (Some left) (Some m) None taken buffer got h tells next = absurd (gone (tells.1 (some_is m)))
+taken_more (Some left) (Some m) (Some n) taken buffer got h tells next =
+    h ∙ (ap (λ rest. taken ++ rest) (next m n refl refl).bytes ∙ sym (append_assoc taken (take got buffer) n))
+
+-- a read that takes nothing is at the end
+pub taken_all : (before mid now : Option (List ℕ)) (taken buffer : List ℕ) (got : ℕ) → HasTaken before taken mid → (IsSome now ↔ IsSome mid) →
+    ((b n : List ℕ) → mid ≡ Some b → now ≡ Some n → ReadsNext b n got buffer) → got ≡ 0 → 0 < length buffer →
+    (left : List ℕ) → before ≡ Some left → (taken ≡ left) × (now ≡ Some [])
+taken_all None mid now taken buffer got h tells next none room left e = absurd (cc)
+taken_all (Some all) None now taken buffer got h tells next none room left e = absurd h
+taken_all (Some all) (Some m) None taken buffer got h tells next none room left e = absurd (gone (tells.1 (some_is m)))
+taken_all (Some all) (Some m) (Some n) taken buffer got h tells next none room left e =
+    let step : ReadsNext m n got buffer = next m n refl refl in
+    let ended : m ≡ [] = step.end none room in
+    let same : all ≡ left = cc in
+    let empty : take got buffer ++ n ≡ [] = sym step.bytes ∙ ended in
+    (sym (append-nil taken) ∙ (ap (λ rest. taken ++ rest) (sym ended) ∙ (sym h ∙ same)), ap Some (last (take got buffer) n empty))
+  where
+    last : (a b : List ℕ) → a ++ b ≡ [] → b ≡ []
+    last [] b e = e
+    last (x ∷ a) b e = cc
+
+-- an empty read appends nothing
+pub nothing_read : (new old buffer left : List ℕ) (got : ℕ) → new ≡ old ++ take got buffer → got ≡ 0 → old ≡ left → new ≡ left
+nothing_read new old buffer left got appended none same = appended ∙ (ap (λ n. old ++ take n buffer) none ∙ (append-nil old ∙ same))
+
+-- what was taken was there
+pub taken_length : (before now : Option (List ℕ)) (taken : List ℕ) → HasTaken before taken now → (left : List ℕ) → before ≡ Some left → length taken ≤ length left
+taken_length None now taken h left e = absurd (cc)
+taken_length (Some all) None taken h left e = absurd h
+taken_length (Some all) (Some rest) taken h left e =
+    let same : left ≡ all = cc in
+    let parts : left ≡ taken ++ rest = same ∙ h in
+    omega (arith, ap length parts, length-append taken rest)
+
+-- a key that was put is the content with this key
+pub put_is : (old new : Content) (key value : List ℕ) → PutsKey old new key (Some value) → new ≡ with_key key value old
+put_is old new key value put = fun_ext (λ other. go other (bytes_eq other key) refl)
+  where
+    go : (other : List ℕ) (b : Bool) → bytes_eq other key ≡ b → new other ≡ (if b then Some value else old other)
+    go other true e = ap new (same_bytes other key e) ∙ put.here
+    go other false e = put.others other (λ same. true≢false (sym (bytes_eq-refl key) ∙ (ap (λ k. bytes_eq k key) (sym same) ∙ e)))
+
+-- one key line more
+pub set_step : {E : Type 0} (view : E → List ℕ × List ℕ) (entries : List E) (i : ℕ) (entry : E) (mid new all : Content) → i < length entries → get_or entries i entry ≡ entry →
+    new ≡ with_key (view entry).0 (view entry).1 mid → with_keys (map view (drop i entries)) mid ≡ all → with_keys (map view (drop (i + 1) entries)) new ≡ all
+set_step {E} view entries i entry mid new all within here put so_far =
+    let dropped : drop i entries ≡ entry ∷ drop (i + 1) entries = drop-cons entries i entry within ∙ ap₂ (λ e n. e ∷ drop n entries) here (sym (add-one i)) in
+    ap (with_keys (map view (drop (i + 1) entries))) put ∙ (sym (ap (λ l. with_keys (map view l) mid) dropped) ∙ so_far)
+
+-- an entry of a list is among its keys
+pub listed_key : {E : Type 0} (view : E → List ℕ × List ℕ) (entries : List E) (i : ℕ) (entry : E) → i < length entries → get_or entries i entry ≡ entry → (key : List ℕ) →
+    key ≡ (view entry).0 → IsKeyOf (map view entries) key
+listed_key {E} view entries i entry within here key same = (
+  (view entry).1,
+  (
+    i,
+    subst (λ n. i < n) (sym (length-map entries view)) within,
+    get_or-map view entries i entry (key, (view entry).1) within ∙ (ap view here ∙ ap (λ k. (k, (view entry).1)) (sym same)),
+  ),
+)
+
+-- a fault of this form says where
+pub form_fault : (error : LineError) (good : ℕ) (lines : List (List ℕ)) → error ≡ OutOfForm good → IsLineFault error lines → (good ≡ good_lines read_line lines) × (good < length lines)
+form_fault error good lines is fault = subst (λ e. IsLineFault e lines) is fault
+
+-- the first line out of form, of an input whose first line opens
+pub bad_line : (text line : List ℕ) (rest : List (List ℕ)) (array : OpenArray) (good : ℕ) → IsUtf8 text → input_lines text ≡ line ∷ rest → open_narrow line ≡ opened (documented array) →
+    good ≡ good_lines read_line rest → good < length rest → IsBadLine known_forms text (good + 2)
+bad_line text line rest array good utf8 lines opens count below =
+    inr (
+      utf8,
+      documented array,
+      subst (λ all. open_narrow (first_line all) ≡ opened (documented array)) (sym lines) opens,
+      subst (λ all. good_lines read_line (drop 1 all) < length (drop 1 all)) (sym lines) (subst (λ n. n < length rest) count below),
+      subst (λ all. good + 2 ≡ good_lines read_line (drop 1 all) + 2) (sym lines) (ap (λ n. n + 2) count),
+    )
+
+-- the number of a line fits
+pub line_fits : (text line : List ℕ) (rest : List (List ℕ)) (good : ℕ) → length text ≤ input_limit → input_lines text ≡ line ∷ rest → good < length rest → good + 2 < 2 ^ 64
+line_fits text line rest good within lines below = omega (arith, few_lines text, ap length lines)

@@ -1,0 +1,30 @@
+use Rattle.std.proofs.Common.{◌≡◌, ℕ, ◌-◌, ◌≤◌, le_trans, List, ◌++◌, length, take, drop, Option, Some, None, option_map, refl, sym, subst, ap, ◌∙◌, append_assoc, arith, length-drop}
+use Rattle.std.proofs.lemmas.List.{take_all}
+use Rattle.std.proofs.Math.Seq.{take-add}
+use Rattle.zarr_cli.specs.Ending.{IsGiven}
+use Rattle.zarr_cli.proofs.write.write_text.Goals as goal
+
+-- a sink that was given two texts was given both as one
+given_more : (a b : List ℕ) (before mid now : Option (List ℕ)) → IsGiven a before mid → now ≡ option_map (λ bytes. bytes ++ b) mid → IsGiven (a ++ b) before now
+given_more a b before mid now first second = second ∙ (ap (option_map (λ bytes. bytes ++ b)) first ∙ joined before)
+  where
+    joined : (o : Option (List ℕ)) → option_map (λ bytes. bytes ++ b) (option_map (λ bytes. bytes ++ a) o) ≡ option_map (λ bytes. bytes ++ (a ++ b)) o
+    joined None = refl
+    joined (Some bytes) = ap Some (append_assoc bytes a b)
+
+pub pieces-preserved : goal.pieces-preserved
+pieces-preserved g c =
+    let text : List ℕ = c.args.text.now in
+    let done : ℕ = c.pieces.done in
+    let taken : ℕ = c.in-Ok.taken in
+    let rest : take (length text - done) (drop done text) ≡ drop done text = take_all (length text - done) (drop done text) (omega (arith, length-drop done text)) in
+    let next : g.W.Sink.given c.write.new.self ≡ option_map (λ bytes. bytes ++ take taken (take (length text - done) (drop done text))) (g.W.Sink.given c.pieces.sink) = c.in-Ok.ensures.next in
+    let few : taken ≤ length (drop done text) = subst (λ piece. taken ≤ length piece) rest c.in-Ok.ensures.within in
+    let later : g.W.Sink.fault_count c.pieces.sink ≤ g.W.Sink.fault_count c.write.new.self = c.write.ensures.cause.later in
+    record {
+      within = omega (arith, length-drop done text);
+      given = subst (λ bytes. IsGiven bytes (g.W.Sink.given c.args.sink.now) (g.W.Sink.given c.write.new.self)) (sym (take-add done taken text))
+          (given_more (take done text) (take taken (drop done text)) (g.W.Sink.given c.args.sink.now) (g.W.Sink.given c.pieces.sink) (g.W.Sink.given c.write.new.self) c.pieces.invariant.given
+          (subst (λ piece. g.W.Sink.given c.write.new.self ≡ option_map (λ bytes. bytes ++ take taken piece) (g.W.Sink.given c.pieces.sink)) rest next));
+      later = le_trans c.pieces.invariant.later later;
+    }

@@ -1,0 +1,4 @@
+pub mod Program
+pub mod Ending
+pub mod Endings
+pub mod Steps

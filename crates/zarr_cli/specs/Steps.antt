@@ -1,0 +1,176 @@
+-- What each step of the program promises to the next one.
+use Rattle.std.specs.Prelude.{◌≡◌, ℕ, ◌<◌, List, ◌++◌, length, map, flat_map, IsUtf8, Contains, Option, Some, None, Result, Ok, Err}
+use Rattle.zarr_model.specs.Element.{Element}
+use Rattle.zarr_model.specs.Array.{Array}
+use Rattle.zarr_model.specs.Store.{Content, Means}
+use Rattle.zarr_model.specs.Command.{Command, Description, layout, replies}
+use Rattle.zarr_model.specs.Session.{LeavesArray, AreRefused, IsUntouched}
+use Rattle.zarr_model.specs.Cost.{all_asks, counted}
+use Rattle.zarr_model.specs.Outside.{Rose}
+use Rattle.zarr_model.specs.Causes.{IsDamageMet, MeetsNoDamage}
+use Rattle.zarr_array.specs.Document.{describe}
+use Rattle.zarr_array.specs.Opening.{OpenRefusal, OpenAnswer, opened, not_opened}
+use Rattle.zarr_array.specs.Narrow.{open_narrow}
+use Rattle.zarr_array.specs.OpenArray.{documented, open_refusal_of}
+use Rattle.zarr_array.specs.Command.{command_of}
+use Rattle.zarr_array.specs.Session.{session_options}
+use Rattle.zarr_array.specs.declared.open.OpenArray.{OpenArray}
+use Rattle.zarr_array.specs.declared.command.Reply.{Reply}
+use Rattle.zarr_array.specs.declared.error.SessionErrorKind.{SessionErrorKind}
+use Rattle.zarr_array.specs.declared.error.SessionErrorKind.TheVariants.{NotOpened, ChunkDecode}
+use Rattle.zarr_array.specs.declared.error.SessionErrorKind.TheVariants as Kind
+use Rattle.zarr_cli_lines.specs.Text.{line_of, first_entries, commands_of, replies_text}
+use Rattle.zarr_cli_lines.specs.Parts.{entry_view, read_line, answer_text}
+use Rattle.zarr_cli.specs.Program.{Run, RunsInput, input_limit, document_line, lines_after_document, store_after_keys}
+use Rattle.zarr_cli.specs.Ending.{IsBadLine, HasBadWords, HasLongInput, HasBadLine, HasRefusedDocument, HasDamage}
+use Rattle.zarr_cli.specs.Endings.{known_forms}
+use Rattle.zarr_cli.specs.declared.status.Status.{Status}
+use Rattle.zarr_cli.specs.declared.status.Status.TheVariants.{Done, BadWords, BadInput, Document, Chunk, Store, Read, Write, TooLong, OutOfMemory}
+use Rattle.zarr_cli.specs.declared.input.ParsedInput.{ParsedInput}
+
+-- these bytes were taken from what a source had left, where it tells that
+abbrev pub HasTaken : Option (List ℕ) → List ℕ → Option (List ℕ) → Type 0
+HasTaken None taken now = Unit {0}
+HasTaken (Some left) taken None = ⊥
+HasTaken (Some left) taken (Some rest) = left ≡ taken ++ rest
+
+-- one read ended by a fault of the source, or for want of memory
+abbrev pub IsPieceFault : ℕ → ℕ → Status → Type 0
+IsPieceFault before now Read = Rose before now
+IsPieceFault before now OutOfMemory = Unit {0}
+IsPieceFault before now Done = ⊥
+IsPieceFault before now BadWords = ⊥
+IsPieceFault before now (BadInput line) = ⊥
+IsPieceFault before now (Document error) = ⊥
+IsPieceFault before now (Chunk key) = ⊥
+IsPieceFault before now Store = ⊥
+IsPieceFault before now Write = ⊥
+IsPieceFault before now TooLong = ⊥
+
+-- reading ended so, or because the source had too many bytes left
+abbrev pub IsReadFault : Option (List ℕ) → ℕ → ℕ → Status → Type 0
+IsReadFault left before now TooLong = (input : List ℕ) → left ≡ Some input → input_limit < length input
+IsReadFault left before now Read = Rose before now
+IsReadFault left before now OutOfMemory = Unit {0}
+IsReadFault left before now Done = ⊥
+IsReadFault left before now BadWords = ⊥
+IsReadFault left before now (BadInput line) = ⊥
+IsReadFault left before now (Document error) = ⊥
+IsReadFault left before now (Chunk key) = ⊥
+IsReadFault left before now Store = ⊥
+IsReadFault left before now Write = ⊥
+
+-- the input is in form, and says what was parsed
+pub record SaysInput (input : List ℕ) (parsed : ParsedInput) : Type 0 where
+  pub is_text : IsUtf8 input
+  pub is_opened : open_narrow (document_line input) ≡ opened (documented parsed.array)
+  pub entries_are : map entry_view parsed.entries.items ≡ first_entries (lines_after_document input)
+  pub commands_are : commands_of read_line (lines_after_document input) ≡ Some (map command_of parsed.commands.items)
+
+-- opening refused for a reason other than memory
+abbrev pub IsRefusal : Option OpenRefusal → OpenAnswer → Type 0
+IsRefusal None answer = ⊥
+IsRefusal (Some why) answer = answer ≡ not_opened why
+
+-- a first line was opened as the array of its document, or refused, or memory ran out
+abbrev pub IsOpenFault : Status → OpenAnswer → Type 0
+IsOpenFault (Document error) answer = IsRefusal (open_refusal_of error) answer
+IsOpenFault OutOfMemory answer = Unit {0}
+IsOpenFault Done answer = ⊥
+IsOpenFault BadWords answer = ⊥
+IsOpenFault (BadInput line) answer = ⊥
+IsOpenFault (Chunk key) answer = ⊥
+IsOpenFault Store answer = ⊥
+IsOpenFault Read answer = ⊥
+IsOpenFault Write answer = ⊥
+IsOpenFault TooLong answer = ⊥
+
+abbrev pub OpensLine : Result OpenArray Status → OpenAnswer → Type 0
+OpensLine (Ok array) answer = answer ≡ opened (documented array)
+OpensLine (Err status) answer = IsOpenFault status answer
+
+-- the input is out of form
+abbrev pub IsInputFault : List ℕ → Status → Type 0
+IsInputFault input (BadInput line) = IsBadLine known_forms input line
+IsInputFault input (Document error) = IsUtf8 input × IsRefusal (open_refusal_of error) (open_narrow (document_line input))
+IsInputFault input OutOfMemory = Unit {0}
+IsInputFault input Done = ⊥
+IsInputFault input BadWords = ⊥
+IsInputFault input (Chunk key) = ⊥
+IsInputFault input Store = ⊥
+IsInputFault input Read = ⊥
+IsInputFault input Write = ⊥
+IsInputFault input TooLong = ⊥
+
+-- the lines of replies as the program holds them
+abbrev pub answers_text : List Reply → List ℕ
+answers_text held = flat_map (λ reply. line_of (answer_text reply)) held
+
+-- commands ran over a store, and the text is that of their replies
+pub record RunsCommands (description : Description) (commands : List Command) (old new : Content) (asks_before asks_now : ℕ) (text : List ℕ) : Type 0 where
+  pub replied : (array : Array Element) → Means (layout description session_options) old array → text ≡ replies_text (replies description commands array)
+  pub left : LeavesArray description session_options commands old new
+  pub undamaged : MeetsNoDamage description session_options commands old
+  pub asks : asks_now ≡ counted asks_before (all_asks description commands)
+
+-- commands ended early
+abbrev pub IsRunFault : Description → List Command → Content → ℕ → ℕ → Status → Type 0
+IsRunFault description commands old faults_before faults_now (Chunk key) = IsDamageMet description session_options commands old key
+IsRunFault description commands old faults_before faults_now Store = Rose faults_before faults_now
+IsRunFault description commands old faults_before faults_now OutOfMemory = Unit {0}
+IsRunFault description commands old faults_before faults_now Done = ⊥
+IsRunFault description commands old faults_before faults_now BadWords = ⊥
+IsRunFault description commands old faults_before faults_now (BadInput line) = ⊥
+IsRunFault description commands old faults_before faults_now (Document error) = ⊥
+IsRunFault description commands old faults_before faults_now Read = ⊥
+IsRunFault description commands old faults_before faults_now Write = ⊥
+IsRunFault description commands old faults_before faults_now TooLong = ⊥
+
+-- the status of a session that ended early
+abbrev pub status_of : SessionErrorKind → Status
+status_of (NotOpened error) = Document error
+status_of (ChunkDecode key) = Chunk key
+status_of Kind.Store = Store
+status_of Kind.OutOfMemory = OutOfMemory
+
+-- a key is one of some entries
+abbrev pub IsKeyOf : List (List ℕ × List ℕ) → List ℕ → Type 0
+IsKeyOf entries key = (value : List ℕ) × Contains entries (key, value)
+
+-- the words and the input are in form, and this is what their run wrote and left
+pub record DidRun (words : List (List ℕ)) (input : List ℕ) (old new : Content) (asks_before asks_now taken_before taken_now : ℕ) (text : List ℕ) : Type 0 where
+  pub run : Run known_forms words input
+  pub runs : RunsInput run.document run.settings run.commands input old new text
+  pub asks : asks_now ≡ counted asks_before (all_asks (describe run.document) run.commands)
+  pub refused : AreRefused (describe run.document) run.commands → IsUntouched (store_after_keys input old) new asks_before asks_now taken_before taken_now
+
+-- a refused document, by the refusal that an error stands for
+abbrev pub IsRefusedBy : List (List ℕ) → List ℕ → Option OpenRefusal → Type 0
+IsRefusedBy words input None = ⊥
+IsRefusedBy words input (Some why) = HasRefusedDocument known_forms words input why
+
+-- the cause of each status but those after the commands, for an input that is known; a type says whether the source failed
+abbrev pub IsToldFault : List (List ℕ) → List ℕ → Content → Type 0 → ℕ → ℕ → Status → Type 0
+IsToldFault words input old source_rose before now BadWords = HasBadWords known_forms words
+IsToldFault words input old source_rose before now (BadInput line) = HasBadLine known_forms words input line
+IsToldFault words input old source_rose before now (Document error) = IsRefusedBy words input (open_refusal_of error)
+IsToldFault words input old source_rose before now (Chunk key) = HasDamage known_forms words input old key
+IsToldFault words input old source_rose before now Store = Run known_forms words input × Rose before now
+IsToldFault words input old source_rose before now Read = source_rose
+IsToldFault words input old source_rose before now TooLong = HasLongInput known_forms words input
+IsToldFault words input old source_rose before now OutOfMemory = Unit {0}
+IsToldFault words input old source_rose before now Done = ⊥
+IsToldFault words input old source_rose before now Write = ⊥
+
+-- what holds of each status where the input is not known
+abbrev pub IsPlainFault : List (List ℕ) → Type 0 → Type 0 → Status → Type 0
+IsPlainFault words source_rose store_rose BadWords = HasBadWords known_forms words
+IsPlainFault words source_rose store_rose (BadInput line) = Unit {0}
+IsPlainFault words source_rose store_rose (Document error) = ¬ (open_refusal_of error ≡ None)
+IsPlainFault words source_rose store_rose (Chunk key) = Unit {0}
+IsPlainFault words source_rose store_rose Store = store_rose
+IsPlainFault words source_rose store_rose Read = source_rose
+IsPlainFault words source_rose store_rose TooLong = Unit {0}
+IsPlainFault words source_rose store_rose OutOfMemory = Unit {0}
+IsPlainFault words source_rose store_rose Done = ⊥
+IsPlainFault words source_rose store_rose Write = ⊥

@@ -1,0 +1,76 @@
+//! What an input says.
+
+ghost use Rattle.std.specs.Prelude.{◌≡◌, ◌==◌, ◌+◌, ◌≤◌, IsUtf8, length, count_by, IfOk, IfErr};
+ghost use Rattle.zarr_array.specs.Narrow.{open_narrow};
+ghost use Rattle.zarr_cli.specs.Program.{input_limit};
+ghost use Rattle.zarr_cli.specs.Steps.{SaysInput, OpensLine, IsInputFault};
+
+use crate::status::Status;
+use std::alloc::Global;
+use zarr_array::command::Command;
+use zarr_array::open::{OpenArray, OpenError};
+use zarr_cli_lines::entry::Entry;
+use zarr_cli_lines::lines::Lines;
+use zarr_cli_lines::parse::{LineError, ParsedLines, parse_lines};
+
+/// An input in form: the array of its first line, its key lines and its commands.
+#[derive(Drop)]
+pub(crate) struct ParsedInput {
+    pub(crate) array: OpenArray,
+    pub(crate) entries: Vec<Entry>,
+    pub(crate) commands: Vec<Command>,
+}
+
+// The number of the line after these bytes, from 1.
+fn line_after(bytes: &[u8]) -> u64
+    requires { length bytes.now ≤ input_limit }
+    ensures { result ≡ count_by (λ b. b == 10) bytes.now + 1 }
+{
+    bytes.iter().filter(|b| **b == b'\n').count() as u64 + 1
+}
+
+// The array of a first line.
+fn open_line(alloc: Global, line: &str) -> Result<OpenArray, Status>
+    ensures { OpensLine result (open_narrow line.now) }
+{
+    match OpenArray::open(alloc, line) {
+        Ok(array) => Ok(array),
+        Err(OpenError::OutOfMemory) => Err(Status::OutOfMemory),
+        Err(error) => Err(Status::Document(error)),
+    }
+}
+
+// What a text says.
+fn parse_text(alloc: Global, text: &str) -> Result<ParsedInput, Status>
+    requires { length text.now ≤ input_limit }
+    ensures says { IfOk result (λ parsed. SaysInput text.now parsed) }
+    ensures fault { IfErr result (λ status. IsInputFault text.now status) }
+{
+    let (line, rest) = Lines::split_text(text);
+    let array = open_line(alloc, line)?;
+    match parse_lines(alloc, rest) {
+        Ok(ParsedLines { entries, commands }) => Ok(ParsedInput {
+            array,
+            entries,
+            commands,
+        }),
+        Err(LineError::OutOfForm { good_lines }) => Err(Status::BadInput {
+            line: good_lines as u64 + 2,
+        }),
+        Err(LineError::OutOfMemory) => Err(Status::OutOfMemory),
+    }
+}
+
+/// What an input says: first it has to be UTF-8, then its first line to be opened, then all others to be in form.
+pub(crate) fn parse_input(alloc: Global, input: &[u8]) -> Result<ParsedInput, Status>
+    requires { length input.now ≤ input_limit }
+    ensures says { IfOk result (λ parsed. SaysInput input.now parsed) }
+    ensures fault { IfErr result (λ status. IsInputFault input.now status) }
+{
+    match str::from_utf8(input) {
+        Ok(text) => parse_text(alloc, text),
+        Err(error) => Err(Status::BadInput {
+            line: line_after(&input[..error.valid_up_to()]),
+        }),
+    }
+}

@@ -1,0 +1,11 @@
+//! The program over a source of input, a sink for output and a store.
+#![tactic(auto)]
+
+mod input;
+pub mod program;
+mod read;
+mod run;
+pub mod status;
+#[cfg(test)]
+mod tests;
+mod write;

@@ -1,0 +1,55 @@
+//! Reading the input.
+
+ghost use Rattle.std.specs.Prelude.{◌≡◌, ◌≤◌, ◌↔◌, ◌++◌, List, ℕ, [], length, take, Some, IsSome, IfOk, IfErr, OnOk};
+ghost use Rattle.zarr_model.specs.Outside.{ReadsNext};
+ghost use Rattle.zarr_cli.specs.Program.{input_limit};
+ghost use Rattle.zarr_cli.specs.Steps.{IsPieceFault, IsReadFault};
+
+use crate::status::Status;
+use std::alloc::Global;
+use zarrs_storage::source::{IoFailed, Source};
+
+/// The greatest number of bytes that an input may have.
+pub const INPUT_LIMIT: usize = 67_108_864;
+
+const PIECE_SIZE: usize = 4096;
+
+// Reads once into a buffer, and appends what came. 0 is the end.
+fn read_piece<R: Source>(
+    source: &mut R,
+    buffer: &mut [u8],
+    input: &mut Vec<u8>,
+) -> Result<usize, Status>
+    ensures room { length buffer.new ≡ length buffer.old }
+    ensures within { IfOk result (λ got. got ≤ length buffer.new) }
+    ensures appended { IfOk result (λ got. input.new.items ≡ input.old.items ++ take got buffer.new) }
+    ensures tells { OnOk result (IsSome (R.left source.new) ↔ IsSome (R.left source.old)) }
+    ensures next { IfOk result (λ got. (before now : List ℕ) → R.left source.old ≡ Some before → R.left source.new ≡ Some now → ReadsNext before now got buffer.new) }
+    ensures later { R.fault_count source.old ≤ R.fault_count source.new }
+    ensures fault { IfErr result (λ status. IsPieceFault (R.fault_count source.old) (R.fault_count source.new) status) }
+{
+    match source.read(buffer) {
+        Ok(got) => {
+            input.extend_from_slice(&buffer[..got])?;
+            Ok(got)
+        }
+        Err(IoFailed) => Err(Status::Read),
+    }
+}
+
+/// Reads a source to its end. No byte is taken beyond the first that makes the input too long.
+pub(crate) fn read_input<R: Source>(alloc: Global, source: &mut R) -> Result<Vec<u8>, Status>
+    ensures whole { (left : List ℕ) → R.left source.old ≡ Some left → IfOk result (λ input. (input.items ≡ left) × (R.left source.new ≡ Some [])) }
+    ensures within { IfOk result (λ input. length input.items ≤ input_limit) }
+    ensures fault { IfErr result (λ status. IsReadFault (R.left source.old) (R.fault_count source.old) (R.fault_count source.new) status) }
+{
+    let mut input = Vec::new(alloc);
+    let mut buffer = [0; PIECE_SIZE];
+    'pieces: while input.len() <= INPUT_LIMIT {
+        let room = (INPUT_LIMIT + 1 - input.len()).min(PIECE_SIZE);
+        if read_piece(source, &mut buffer[..room], &mut input)? == 0 {
+            return Ok(input);
+        }
+    }
+    Err(Status::TooLong)
+}

@@ -1,0 +1,111 @@
+//! Running the commands of an input over a store.
+
+ghost use Rattle.std.specs.Prelude.{◌≡◌, ◌≤◌, map, List, ℕ, IfOk, IfErr, OnOk};
+ghost use Rattle.zarr_model.specs.Outside.{Rose, HasCause};
+ghost use Rattle.zarr_model.specs.Store.{IsHonest, IsChunkKey, SameOtherKeys, with_keys};
+ghost use Rattle.zarr_model.specs.Command.{layout};
+ghost use Rattle.zarr_model.specs.Session.{AreRefused, IsUntouched};
+ghost use Rattle.zarrs_storage.specs.Store.{IsFault as IsStoreFault};
+ghost use Rattle.zarr_array.specs.OpenArray.{described};
+ghost use Rattle.zarr_array.specs.Command.{command_of};
+ghost use Rattle.zarr_array.specs.Session.{session_options};
+ghost use Rattle.zarr_cli_lines.specs.Parts.{entry_view};
+ghost use Rattle.zarr_cli.specs.Steps.{answers_text, RunsCommands, IsRunFault, IsKeyOf, status_of};
+
+use crate::input::ParsedInput;
+use crate::status::Status;
+use std::alloc::{AllocError, Global};
+use zarr_array::command::{Command, Reply};
+use zarr_array::error::SessionErrorKind;
+use zarr_array::open::OpenArray;
+use zarr_cli_lines::entry::Entry;
+use zarr_cli_lines::reply_text::push_reply;
+use zarrs_storage::store::{StorageError, Store};
+
+// Sets the key lines, the first one first.
+fn set_entries<S: Store>(
+    alloc: Global,
+    entries: &[Entry],
+    store: &mut S,
+) -> Result<(), StorageError>
+    ensures set { OnOk result (S.content store.new ≡ with_keys (map entry_view entries.now) (S.content store.old)) }
+    ensures elsewhere { (key : List ℕ) → ¬ IsKeyOf (map entry_view entries.now) key → S.content store.new key ≡ S.content store.old key }
+    ensures asks { S.ask_count store.new ≡ S.ask_count store.old }
+    ensures taken { S.taken_count store.new ≡ S.taken_count store.old }
+    ensures cause { HasCause IsStoreFault (S.fault_count store.old) (S.fault_count store.new) result }
+{
+    for entry in entries {
+        store.set(alloc, &entry.key, &entry.value)?;
+    }
+    Ok(())
+}
+
+// The lines of replies.
+fn replies_text(alloc: Global, replies: &[Reply]) -> Result<Vec<u8>, AllocError>
+    ensures { IfOk result (λ text. text.items ≡ answers_text replies.now) }
+{
+    let mut text = Vec::new(alloc);
+    for reply in replies {
+        push_reply(&mut text, reply)?;
+    }
+    Ok(text)
+}
+
+// The status of a session that ended early.
+fn status_of(kind: SessionErrorKind) -> Status
+    ensures { result ≡ status_of kind }
+{
+    match kind {
+        SessionErrorKind::NotOpened(error) => Status::Document(error),
+        SessionErrorKind::ChunkDecode { key } => Status::Chunk { key },
+        SessionErrorKind::Store => Status::Store,
+        SessionErrorKind::OutOfMemory => Status::OutOfMemory,
+    }
+}
+
+// Runs commands over a store, and gives the text of their replies.
+fn run_commands<S: Store>(
+    alloc: Global,
+    array: &OpenArray,
+    commands: &[Command],
+    store: &mut S,
+) -> Result<Vec<u8>, Status>
+    ensures ran { IfOk result (λ text. RunsCommands (described array.now) (map command_of commands.now) (S.content store.old) (S.content store.new) (S.ask_count store.old) (S.ask_count store.new) text.items) }
+    ensures refused { AreRefused (described array.now) (map command_of commands.now) →
+        IsUntouched (S.content store.old) (S.content store.new) (S.ask_count store.old) (S.ask_count store.new) (S.taken_count store.old) (S.taken_count store.new) }
+    ensures keys { SameOtherKeys (layout (described array.now) session_options) (S.content store.old) (S.content store.new) }
+    ensures later { S.fault_count store.old ≤ S.fault_count store.new }
+    ensures fault { IfErr result (λ status. IsRunFault (described array.now) (map command_of commands.now) (S.content store.old) (S.fault_count store.old) (S.fault_count store.new) status) }
+    ensures complete { IsHonest (layout (described array.now) session_options) (S.content store.old) → ¬ Rose (S.fault_count store.old) (S.fault_count store.new) →
+        IfErr result (λ status. status ≡ Status.OutOfMemory) }
+{
+    match array.run_commands(alloc, commands, store) {
+        Ok(replies) => Ok(replies_text(alloc, &replies)?),
+        Err(error) => Err(status_of(error.kind)),
+    }
+}
+
+/// Sets the key lines of an input, runs its commands, and gives the text of their replies.
+pub(crate) fn run_input<S: Store>(
+    alloc: Global,
+    parsed: &ParsedInput,
+    store: &mut S,
+) -> Result<Vec<u8>, Status>
+    ensures ran { IfOk result (λ text. RunsCommands (described parsed.now.array) (map command_of parsed.now.commands.items)
+        (with_keys (map entry_view parsed.now.entries.items) (S.content store.old)) (S.content store.new) (S.ask_count store.old) (S.ask_count store.new) text.items) }
+    ensures refused { OnOk result (AreRefused (described parsed.now.array) (map command_of parsed.now.commands.items) →
+        IsUntouched (with_keys (map entry_view parsed.now.entries.items) (S.content store.old)) (S.content store.new)
+        (S.ask_count store.old) (S.ask_count store.new) (S.taken_count store.old) (S.taken_count store.new)) }
+    ensures elsewhere { (key : List ℕ) → ¬ IsKeyOf (map entry_view parsed.now.entries.items) key → ¬ IsChunkKey (layout (described parsed.now.array) session_options) key →
+        S.content store.new key ≡ S.content store.old key }
+    ensures fault { IfErr result (λ status. IsRunFault (described parsed.now.array) (map command_of parsed.now.commands.items)
+        (with_keys (map entry_view parsed.now.entries.items) (S.content store.old)) (S.fault_count store.old) (S.fault_count store.new) status) }
+    ensures complete { IsHonest (layout (described parsed.now.array) session_options) (with_keys (map entry_view parsed.now.entries.items) (S.content store.old)) →
+        ¬ Rose (S.fault_count store.old) (S.fault_count store.new) → IfErr result (λ status. status ≡ Status.OutOfMemory) }
+{
+    match set_entries(alloc, &parsed.entries, store) {
+        Ok(()) => run_commands(alloc, &parsed.array, &parsed.commands, store),
+        Err(StorageError::Failed) => Err(Status::Store),
+        Err(StorageError::OutOfMemory) => Err(Status::OutOfMemory),
+    }
+}

@@ -1,0 +1,64 @@
+//! Writing the output.
+
+ghost use Rattle.std.specs.Prelude.{◌≡◌, ◌⊎◌, true, false, Some, IfOk, IfSome, string_bytes};
+ghost use Rattle.zarr_model.specs.Outside.{Rose};
+ghost use Rattle.zarr_cli.specs.Ending.{IsGiven, IsGivenFront, IsGivenLine, ending_line};
+ghost use Rattle.zarr_cli.specs.Endings.{ending_of};
+
+use crate::status::Status;
+use std::alloc::{AllocError, Global};
+use zarr_array::open::OpenError;
+use zarrs_storage::sink::Sink;
+
+/// Writes a text piece by piece. False says that the sink failed.
+pub(crate) fn write_text<W: Sink>(sink: &mut W, text: &[u8]) -> bool
+    ensures whole { result ≡ true → IsGiven text.now (W.given sink.old) (W.given sink.new) }
+    ensures front { result ≡ false → Rose (W.fault_count sink.old) (W.fault_count sink.new) × IsGivenFront text.now (W.given sink.old) (W.given sink.new) }
+{
+    let mut done = 0;
+    'pieces: while done < text.len() {
+        match sink.write(&text[done..]) {
+            Ok(taken) => {
+                done += taken;
+            }
+            Err(_) => return false,
+        }
+    }
+    true
+}
+
+// The line that stands in place of the replies.
+fn status_line(alloc: Global, status: &Status) -> Result<String, AllocError>
+    ensures { IfOk result (λ line. IfSome (ending_line (ending_of status.now)) (λ text. string_bytes line ≡ text)) }
+{
+    match status {
+        Status::Done | Status::Write | Status::OutOfMemory => Ok(String::new(alloc)),
+        Status::Document(OpenError::OutOfMemory) => Ok(String::new(alloc)),
+        Status::BadWords => String::from_str(alloc, "words\n"),
+        Status::BadInput { line } => format!(in alloc; "input {line}\n"),
+        Status::Document(error) => format!(in alloc; "document {}\n", error.name()),
+        Status::Chunk { key } => format!(in alloc; "chunk {}\n", key.as_str()),
+        Status::Store => String::from_str(alloc, "store\n"),
+        Status::Read => String::from_str(alloc, "read\n"),
+        Status::TooLong => String::from_str(alloc, "too long\n"),
+    }
+}
+
+// Writes a line, whether the sink takes all of it or not.
+fn write_line<W: Sink>(sink: &mut W, line: &str)
+    ensures { IsGivenLine (Some line.now) (W.fault_count sink.old) (W.fault_count sink.new) (W.given sink.old) (W.given sink.new) }
+{
+    let _ = write_text(sink, line.as_bytes());
+}
+
+/// Writes the line of a status in place of replies, and answers the status, or want of memory where the line found none.
+pub(crate) fn end_with<W: Sink>(alloc: Global, status: Status, sink: &mut W) -> Status
+    ensures status { (result ≡ status) ⊎ (result ≡ Status.OutOfMemory) }
+    ensures line { IsGivenLine (ending_line (ending_of result)) (W.fault_count sink.old) (W.fault_count sink.new) (W.given sink.old) (W.given sink.new) }
+{
+    let Ok(line) = status_line(alloc, &status) else {
+        return Status::OutOfMemory;
+    };
+    write_line(sink, line.as_str());
+    status
+}

@@ -1,0 +1,5 @@
+pub mod TextLaws
+pub mod SplitLemmas
+mod NumberLemmas
+mod LineLemmas
+pub mod ReplyLemmas

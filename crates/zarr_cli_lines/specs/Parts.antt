@@ -1,0 +1,60 @@
+-- The parts of a line, and what the parsed lines of an input stand for.
+use Rattle.std.specs.Prelude.{◌≡◌, ℕ, ◌-◌, ◌<◌, List, [], ◌∷◌, ◌++◌, length, flat_map, codes, Option, Some, None}
+use Rattle.std.specs.Option.{option_map_or}
+use Rattle.std.specs.declared.ops.Range.{Range}
+use Rattle.zarr_model.specs.Region.{Span}
+use Rattle.zarr_model.specs.Element.{fixed}
+use Rattle.zarr_model.specs.Command.{Command, Matches, refusal_name}
+use Rattle.zarr_model.specs.Command as Model
+use Rattle.zarr_array.specs.declared.command.Reply.{Reply}
+use Rattle.zarr_array.specs.declared.command.Reply.TheVariants.{Elements, Refused}
+use Rattle.zarr_array.specs.Command.{answer_of, refusal_of}
+use Rattle.zarr_cli_lines.specs.Text.{split_at, read_of, good_lines, hex_text, line_of, reply_text}
+use Rattle.zarr_cli_lines.specs.declared.lines.Lines.{Lines}
+use Rattle.zarr_cli_lines.specs.declared.entry.Entry.{Entry}
+use Rattle.zarr_cli_lines.specs.declared.parse.LineError.{LineError}
+use Rattle.zarr_cli_lines.specs.declared.parse.LineError.TheVariants.{OutOfForm, OutOfMemory}
+
+-- three texts, if they are three
+abbrev pub three_of : List (List ℕ) → Option (List ℕ × List ℕ × List ℕ)
+three_of (a ∷ b ∷ c ∷ []) = Some (a, b, c)
+three_of _ = None
+
+-- two texts, if they are two
+abbrev pub two_of : List (List ℕ) → Option (List ℕ × List ℕ)
+two_of (a ∷ b ∷ []) = Some (a, b)
+two_of _ = None
+
+-- a range as a span, of length 0 where its end is below its start
+abbrev pub span_of_range : Range ℕ → Span
+span_of_range range = record { start = range.start; size = range.end - range.start }
+
+-- the lines that are left
+abbrev pub lines_left : Lines → List (List ℕ)
+lines_left lines = option_map_or (λ rest. split_at 10 rest.now) lines.rest []
+
+-- the key of an entry, and its value
+abbrev pub entry_view : Entry → List ℕ × List ℕ
+entry_view entry = (entry.key, entry.value.items)
+
+-- the commands that a program knows which only reads elements of one byte
+abbrev pub read_line : List ℕ → Option Command
+read_line line = read_of (fixed 1) line
+
+-- lines are out of form after so many good ones, or memory ran out
+abbrev pub IsLineFault : LineError → List (List ℕ) → Type 0
+IsLineFault (OutOfForm good) lines = (good ≡ good_lines read_line lines) × (good < length lines)
+IsLineFault OutOfMemory lines = Unit {0}
+
+-- the text of bytes that are an element each: a space before each one
+abbrev pub bytes_text : List ℕ → List ℕ
+bytes_text value = flat_map (λ b. 32 ∷ hex_text (b ∷ [])) value
+
+-- the text of a reply as the program holds it
+abbrev pub answer_text : Reply → List ℕ
+answer_text (Elements value) = codes "ok" ++ bytes_text value.items
+answer_text (Refused why) = codes "refused " ++ refusal_name (refusal_of why)
+
+-- the line of a reply was appended to a text, for each reply of the model that this one is
+abbrev pub AppendsReply : Reply → List ℕ → List ℕ → Type 0
+AppendsReply reply before now = (answer : Model.Reply) → Matches (fixed 1) (answer_of reply) answer → now ≡ before ++ line_of (reply_text answer)

@@ -1,0 +1,167 @@
+-- The program's lines: the grammar of its input, and the text of its replies.
+use Rattle.std.specs.Prelude.{ℕ, ◌+◌, ◌-◌, ◌^◌, ◌==◌, ◌&&◌, nat_lt, if◌then◌else◌, List, [], ◌∷◌, ◌++◌, length, map, flat_map, take, drop, codes, decimal, bytes_eq, count_by, Option, Some, None, is_some, option_map, option_and_then}
+use Rattle.std.specs.List.{slice_split, prefix_len}
+use Rattle.std.specs.Result.{result_ok}
+use Rattle.std.specs.Str.Parse.{digits_value}
+use Rattle.hex.specs.Hex.{encode_lower, decode_of}
+use Rattle.zarr_model.specs.Region.{Region, Span}
+use Rattle.zarr_model.specs.Element.{Element, of_bytes, null, some, Kind, fixed, variable, optional}
+use Rattle.zarr_model.specs.ArrayBytes.{array_bytes}
+use Rattle.zarr_model.specs.Key.{is_store_key}
+use Rattle.zarr_model.specs.Command.{Command, read, write, erase, Reply, elements, done, refused, refusal_name}
+
+-- the parts of a text between the bytes that are this one
+abbrev pub split_at : ℕ → List ℕ → List (List ℕ)
+split_at separator line = slice_split (λ b. b == separator) line
+
+-- the values, if each is there
+abbrev pub all_some : {A : Type 0} → List (Option A) → Option (List A)
+all_some [] = Some []
+all_some (None ∷ options) = None
+all_some (Some x ∷ options) = option_map (λ xs. x ∷ xs) (all_some options)
+
+-- a number below 2 ^ 64 in decimal, without sign or leading zero
+abbrev pub number_of : List ℕ → Option ℕ
+number_of line = let number = digits_value 10 line in
+    if bytes_eq (decimal number) line && nat_lt number (2 ^ 64) then Some number else None
+
+-- the span of `a..b`, which is empty at a where b is below a; the text is split at its dots
+abbrev pub span_between : ℕ → Option ℕ → Option Span
+span_between from None = None
+span_between from (Some to) = Some (record { start = from; size = to - from })
+
+abbrev pub span_of : List (List ℕ) → Option Span
+span_of (from ∷ [] ∷ to ∷ []) = option_and_then (λ number. span_between number (number_of to)) (number_of from)
+span_of _ = None
+
+-- a box: `.` at rank 0, else ranges joined by commas
+abbrev pub box_of : List ℕ → Option Region
+box_of line = if bytes_eq line (codes ".") then Some [] else all_some (map (λ range. span_of (split_at 46 range)) (split_at 44 line))
+
+-- the indices of a chunk: `.` at rank 0, else numbers joined by commas
+abbrev pub indices_of : List ℕ → Option (List ℕ)
+indices_of line = if bytes_eq line (codes ".") then Some [] else all_some (map number_of (split_at 44 line))
+
+-- bytes: `h` and hexadecimal, in either case
+abbrev pub hex_of : List ℕ → Option (List ℕ)
+hex_of [] = None
+hex_of (b ∷ digits) = if b == 104 then result_ok (decode_of digits) else None
+
+-- bytes of a fixed length as an element
+abbrev pub fixed_element : ℕ → List ℕ → Option Element
+fixed_element n value = if length value == n then Some (of_bytes value) else None
+
+-- an element: its bytes in hexadecimal; of an optional kind `-` for null, or `+` and an element
+abbrev pub element_of : Kind → List ℕ → Option Element
+element_of (fixed n) line = option_and_then (fixed_element n) (hex_of line)
+element_of variable line = option_map of_bytes (hex_of line)
+element_of (optional kind) [] = None
+element_of (optional kind) (b ∷ []) = if b == 45 then Some null else None
+element_of (optional kind) (b ∷ c ∷ line) = if b == 43 then option_map some (element_of kind (c ∷ line)) else None
+
+-- the write command of a region and some elements, if all are there
+abbrev pub write_of : Kind → Option Region → Option (List Element) → Option Command
+write_of kind (Some region) (Some list) = Some (write region (array_bytes kind list))
+write_of kind _ _ = None
+
+-- a command, by its words: `read` and a box, `write` with a box and elements, or `erase` and indices
+abbrev pub command_of_words : Kind → List (List ℕ) → Option Command
+command_of_words kind [] = None
+command_of_words kind (word ∷ []) = None
+command_of_words kind (word ∷ box ∷ []) =
+    if bytes_eq word (codes "read") then option_map read (box_of box)
+    else if bytes_eq word (codes "write") then write_of kind (box_of box) (Some [])
+    else if bytes_eq word (codes "erase") then option_map erase (indices_of box)
+    else None
+command_of_words kind (word ∷ box ∷ first ∷ rest) =
+    if bytes_eq word (codes "write") then write_of kind (box_of box) (all_some (map (element_of kind) (first ∷ rest))) else None
+
+-- a command line; one space separates its words
+abbrev pub command_of : Kind → List ℕ → Option Command
+command_of kind line = command_of_words kind (split_at 32 line)
+
+-- a key with its value, if the key is a store key
+abbrev pub entry_of : List ℕ → Option (List ℕ) → Option (List ℕ × List ℕ)
+entry_of key None = None
+entry_of key (Some value) = if is_store_key key then Some (key, value) else None
+
+-- a key line: `key`, a key, and its value in hexadecimal
+abbrev pub entry_of_words : List (List ℕ) → Option (List ℕ × List ℕ)
+entry_of_words (word ∷ key ∷ value ∷ []) = if bytes_eq word (codes "key") then entry_of key (hex_of value) else None
+entry_of_words _ = None
+
+abbrev pub entry_of_line : List ℕ → Option (List ℕ × List ℕ)
+entry_of_line line = entry_of_words (split_at 32 line)
+
+-- the lines of the input: each ends with a newline, which the last one may lack; empty input is one empty line
+abbrev pub without_last_empty : List (List ℕ) → List (List ℕ)
+without_last_empty [] = []
+without_last_empty (line ∷ []) = line ∷ []
+without_last_empty (line ∷ [] ∷ []) = line ∷ []
+without_last_empty (line ∷ next ∷ lines) = line ∷ without_last_empty (next ∷ lines)
+
+abbrev pub input_lines : List ℕ → List (List ℕ)
+input_lines input = without_last_empty (split_at 10 input)
+
+-- the entries of the key lines that stand first
+abbrev pub entries_onto : Option (List ℕ × List ℕ) → List (List ℕ × List ℕ) → List (List ℕ × List ℕ)
+entries_onto None entries = []
+entries_onto (Some entry) entries = entry ∷ entries
+
+abbrev pub first_entries : List (List ℕ) → List (List ℕ × List ℕ)
+first_entries [] = []
+first_entries (line ∷ lines) = entries_onto (entry_of_line line) (first_entries lines)
+
+-- the lines from the first one on that is no key line
+abbrev pub lines_after_entries : List (List ℕ) → List (List ℕ)
+lines_after_entries lines = drop (length (first_entries lines)) lines
+
+-- a command line that reads, where no other one is known
+abbrev pub only_read : Option Command → Option Command
+only_read (Some (read region)) = Some (read region)
+only_read _ = None
+
+abbrev pub read_of : Kind → List ℕ → Option Command
+read_of kind line = only_read (command_of kind line)
+
+-- the commands of the lines after the key lines, if each is a command by a grammar of command lines
+abbrev pub commands_of : (List ℕ → Option Command) → List (List ℕ) → Option (List Command)
+commands_of grammar lines = all_some (map grammar (lines_after_entries lines))
+
+-- how many lines come before the first one that is neither a key line at the front nor a command
+abbrev pub good_lines : (List ℕ → Option Command) → List (List ℕ) → ℕ
+good_lines grammar lines = length (first_entries lines) + prefix_len (λ line. is_some (grammar line)) (lines_after_entries lines)
+
+-- the number of the line that has the byte at a place, from 1 on
+abbrev pub line_at : List ℕ → ℕ → ℕ
+line_at input n = count_by (λ b. b == 10) (take n input) + 1
+
+-- the text of bytes and of an element
+abbrev pub hex_text : List ℕ → List ℕ
+hex_text value = 104 ∷ encode_lower value
+
+abbrev pub element_text : Element → List ℕ
+element_text (of_bytes value) = hex_text value
+element_text null = codes "-"
+element_text (some element) = 43 ∷ element_text element
+
+-- the text of a reply: `ok` and the elements, `done`, or `refused` and the refusal's name
+abbrev pub reply_text : Reply → List ℕ
+reply_text (elements list) = codes "ok" ++ flat_map (λ element. 32 ∷ element_text element) list
+reply_text done = codes "done"
+reply_text (refused why) = codes "refused " ++ refusal_name why
+
+-- a text and its newline
+abbrev pub line_of : List ℕ → List ℕ
+line_of line = line ++ 10 ∷ []
+
+-- the key line of a key and its value
+abbrev pub entry_text : List ℕ × List ℕ → List ℕ
+entry_text entry = codes "key " ++ entry.0 ++ (32 ∷ hex_text entry.1)
+
+-- the lines of some replies, and of some keys
+abbrev pub replies_text : List Reply → List ℕ
+replies_text list = flat_map (λ answer. line_of (reply_text answer)) list
+
+abbrev pub entries_text : List (List ℕ × List ℕ) → List ℕ
+entries_text entries = flat_map (λ entry. line_of (entry_text entry)) entries

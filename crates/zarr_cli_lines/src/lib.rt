@@ -1,0 +1,12 @@
+//! The lines of the program's input, and the text of its replies.
+#![tactic(auto)]
+
+mod boxes;
+pub mod entry;
+pub mod lines;
+mod number;
+pub mod parse;
+mod parts;
+pub mod reply_text;
+#[cfg(test)]
+mod tests;

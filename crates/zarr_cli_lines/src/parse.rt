@@ -1,0 +1,128 @@
+//! The lines after the document: key lines, and then commands.
+
+ghost use Rattle.std.specs.Prelude.{◌≡◌, ◌<◌, ◌^◌, ℕ, map, length, Some, is_some, IfOk, IfErr, option_map};
+ghost use Rattle.std.specs.List.{prefix_len};
+ghost use Rattle.zarr_array.specs.Command.{command_of};
+ghost use Rattle.zarr_cli_lines.specs.Text.{first_entries, lines_after_entries, commands_of, all_some};
+ghost use Rattle.zarr_cli_lines.specs.Parts.{lines_left, entry_view, read_line, IsLineFault};
+
+use crate::boxes::parse_box;
+use crate::entry::{Entry, parse_key_line};
+use crate::lines::Lines;
+use crate::parts::two_parts;
+use std::alloc::{AllocError, AllocFailed, Global};
+use thiserror::Error;
+use zarr_array::command::Command;
+
+/// The key lines and the commands of an input.
+#[derive(Drop)]
+pub struct ParsedLines {
+    /// The entries of the key lines.
+    pub entries: Vec<Entry>,
+    /// The commands after them.
+    pub commands: Vec<Command>,
+}
+
+/// Why lines are not parsed.
+#[derive(Clone, Copy, Debug, PartialEq, Eq, Error)]
+pub enum LineError {
+    /// A line is neither a key line before all commands nor a command.
+    #[error("the line after {good_lines} good ones is out of form")]
+    OutOfForm {
+        /// How many lines come before it.
+        good_lines: usize,
+    },
+    /// Memory ran out.
+    #[error("out of memory")]
+    OutOfMemory,
+}
+
+impl From<AllocError> for LineError {
+    ghost use Rattle.zarr_cli_lines.specs.declared.parse.LineError.TheVariants.{OutOfMemory};
+
+    ghost from_gives = { λ _ e. e ≡ OutOfMemory };
+
+    fn from(_error: AllocError) -> LineError {
+        LineError::OutOfMemory
+    }
+}
+
+impl<T: Drop> From<AllocFailed<T>> for LineError {
+    ghost use Rattle.zarr_cli_lines.specs.declared.parse.LineError.TheVariants.{OutOfMemory};
+
+    ghost from_gives = { λ _ e. e ≡ OutOfMemory };
+
+    fn from(_error: AllocFailed<T>) -> LineError {
+        LineError::OutOfMemory
+    }
+}
+
+/// The command of a line, if the line is one. An error comes only for want of memory.
+pub fn parse_command_line(alloc: Global, line: &str) -> Result<Option<Command>, AllocError>
+    ensures { IfOk result (λ command. option_map command_of command ≡ read_line line.now) }
+{
+    let Some((word, region)) = two_parts(line, ' ') else {
+        return Ok(None);
+    };
+    if word != "read" {
+        return Ok(None);
+    }
+    let Some(region) = parse_box(alloc, region)? else {
+        return Ok(None);
+    };
+    Ok(Some(Command::Read(region)))
+}
+
+// Takes the key lines off the front.
+fn take_entries(alloc: Global, lines: &mut Lines) -> Result<Vec<Entry>, AllocError>
+    ensures entries { IfOk result (λ entries. map entry_view entries.items ≡ first_entries (lines_left lines.old)) }
+    ensures rest { IfOk result (λ entries. lines_left lines.new ≡ lines_after_entries (lines_left lines.old)) }
+{
+    let mut entries = Vec::new(alloc);
+    'entries: while let Some((line, rest)) = lines.split_first() {
+        let Some(entry) = parse_key_line(alloc, line)? else {
+            return Ok(entries);
+        };
+        entries.push(entry)?;
+        *lines = rest;
+    }
+    Ok(entries)
+}
+
+// The commands of lines, or how many come before the first that is none.
+fn parse_commands(alloc: Global, lines: Lines) -> Result<Vec<Command>, LineError>
+    ensures ok { IfOk result (λ commands. all_some (map read_line (lines_left lines.entry)) ≡ Some (map command_of commands.items)) }
+    ensures fault { IfErr result (λ error. (good : ℕ) → error ≡ LineError.OutOfForm good →
+        (good ≡ prefix_len (λ line. is_some (read_line line)) (lines_left lines.entry)) × (good < length (lines_left lines.entry))) }
+    ensures small { IfErr result (λ error. (good : ℕ) → error ≡ LineError.OutOfForm good → good < 2 ^ 63) }
+{
+    let mut commands = Vec::new(alloc);
+    let mut left = lines;
+    'commands: while let Some((line, rest)) = left.split_first() {
+        let Some(command) = parse_command_line(alloc, line)? else {
+            return Err(LineError::OutOfForm {
+                good_lines: commands.len(),
+            });
+        };
+        commands.push(command)?;
+        left = rest;
+    }
+    Ok(commands)
+}
+
+/// Parses the lines after the document, each once, or says how many come before the first that is out of form.
+pub fn parse_lines(alloc: Global, lines: Lines) -> Result<ParsedLines, LineError>
+    ensures entries { IfOk result (λ parsed. map entry_view parsed.entries.items ≡ first_entries (lines_left lines.entry)) }
+    ensures commands { IfOk result (λ parsed. commands_of read_line (lines_left lines.entry) ≡ Some (map command_of parsed.commands.items)) }
+    ensures fault { IfErr result (λ error. IsLineFault error (lines_left lines.entry)) }
+{
+    let mut left = lines;
+    let entries = take_entries(alloc, &mut left)?;
+    match parse_commands(alloc, left) {
+        Ok(commands) => Ok(ParsedLines { entries, commands }),
+        Err(LineError::OutOfForm { good_lines }) => Err(LineError::OutOfForm {
+            good_lines: entries.len() + good_lines,
+        }),
+        Err(LineError::OutOfMemory) => Err(LineError::OutOfMemory),
+    }
+}
