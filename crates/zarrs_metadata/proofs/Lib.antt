@@ -1,0 +1,4 @@
+pub mod AdditionalFieldLemmas
+pub mod FieldsBack
+pub mod ArrayBack
+pub mod ReadFields

@@ -1,0 +1,163 @@
+-- A version 3 array document: what it says, how it is read and how it is written.
+use Rattle.std.specs.Prelude.{ℕ, ⊤, true, List, [], map, Option, Some, None, option_map, codes, String, string_bytes}
+use Rattle.std.specs.declared.alloc.Global.{Global}
+use Rattle.serde_json.specs.Data.{unsigned, Data, null, boolean, number, string, array, object, Members, no_members, member, put}
+use Rattle.serde_json.specs.Find.{get_member, as_object}
+use Rattle.serde_json.specs.View.{items_of, members_view}
+use Rattle.zarrs_metadata_ext.specs.Reading.{◌>>=◌, each, is_number, is_text, whole_numbers, object_or_empty}
+use Rattle.zarrs_metadata_ext.specs.Writing.{numbers_data, put_object, put_list}
+use Rattle.zarrs_metadata_ext.specs.MetadataV3.{Extension, extension_of, extensions_of, extension_seen, extensions_seen, extension_data, normal_form}
+use Rattle.zarrs_metadata_ext.specs.AdditionalField.{AdditionalField}
+use Rattle.zarrs_metadata_ext.specs.FillValueMetadata.{fill_view}
+use Rattle.zarrs_metadata.specs.AdditionalFields.{additional_fields_seen, additional_fields_of, put_fields, normal_fields}
+use Rattle.zarrs_metadata.specs.declared.v3.additional_fields.NodeKind.TheVariants.{Array}
+use Rattle.zarrs_metadata.specs.declared.v3.array.ArrayMetadataV3.{ArrayMetadataV3}
+
+pub record ArrayFields : Type 0 where
+  pub shape : List ℕ
+  pub data_type : Extension
+  pub chunk_grid : Extension
+  pub chunk_key_encoding : Extension
+  pub fill_value : Data
+  pub codecs : List Extension
+  pub attributes : Members
+  pub storage_transformers : List Extension
+  pub dimension_names : Option (List (Option (List ℕ)))
+  pub additional_fields : List (List ℕ × AdditionalField)
+
+abbrev pub dimension_names_seen : List (Option (String Global)) → List (Option (List ℕ))
+dimension_names_seen ns = map (option_map string_bytes) ns
+
+abbrev pub array_seen : ArrayMetadataV3 → ArrayFields
+array_seen a = record {
+  shape = a.shape.items;
+  data_type = extension_seen a.data_type;
+  chunk_grid = extension_seen a.chunk_grid;
+  chunk_key_encoding = extension_seen a.chunk_key_encoding;
+  fill_value = fill_view a.fill_value;
+  codecs = extensions_seen a.codecs.items;
+  attributes = members_view a.attributes.entries;
+  storage_transformers = extensions_seen a.storage_transformers.items;
+  dimension_names = option_map (λ v. dimension_names_seen v.items) a.dimension_names;
+  additional_fields = additional_fields_seen a.additional_fields.entries;
+}
+
+-- the keys that a new array has: `default` with a slash
+abbrev pub default_keys : Extension
+default_keys = record {
+  name = codes "default";
+  configuration = Some (member (codes "separator") (string (codes "/")) no_members);
+  must_understand = true;
+}
+
+-- null or a text
+abbrev pub dimension_name : Data → Option (Option (List ℕ))
+dimension_name null = Some None
+dimension_name (boolean b) = None
+dimension_name (number n) = None
+dimension_name (string s) = Some (Some s)
+dimension_name (array ds) = None
+dimension_name (object ms) = None
+
+-- nothing, null, or a list of nulls and texts
+unfoldable pub dimension_names : Option Data → Option (Option (List (Option (List ℕ))))
+dimension_names None = Some None
+dimension_names (Some null) = Some None
+dimension_names (Some (boolean b)) = None
+dimension_names (Some (number n)) = None
+dimension_names (Some (string s)) = None
+dimension_names (Some (array ds)) = each dimension_name ds >>= λ names. Some (Some names)
+dimension_names (Some (object ms)) = None
+
+-- a list of extensions, or none where there is no value
+unfoldable pub extensions_or_none : Option Data → Option (List Extension)
+extensions_or_none None = Some []
+extensions_or_none (Some d) = extensions_of d
+
+-- `zarr_format` is 3 and `node_type` is `array`
+unfoldable pub is_array : Members → Option ⊤
+is_array ms = do
+  _ ← get_member (codes "zarr_format") ms >>= is_number 3
+  get_member (codes "node_type") ms >>= is_text (codes "array")
+
+-- the fields that must be there, with the others empty
+unfoldable pub required_fields : Members → Option ArrayFields
+required_fields ms = do
+  shape ← get_member (codes "shape") ms >>= whole_numbers
+  data_type ← get_member (codes "data_type") ms >>= extension_of
+  chunk_grid ← get_member (codes "chunk_grid") ms >>= extension_of
+  chunk_key_encoding ← get_member (codes "chunk_key_encoding") ms >>= extension_of
+  fill_value ← get_member (codes "fill_value") ms
+  codecs ← get_member (codes "codecs") ms >>= extensions_of
+  Some (record {
+    shape = shape;
+    data_type = data_type;
+    chunk_grid = chunk_grid;
+    chunk_key_encoding = chunk_key_encoding;
+    fill_value = fill_value;
+    codecs = codecs;
+    attributes = no_members;
+    storage_transformers = [];
+    dimension_names = None;
+    additional_fields = [];
+  })
+
+-- and those that may be there
+unfoldable pub with_optional_fields : Members → ArrayFields → Option ArrayFields
+with_optional_fields ms fields = do
+  attributes ← object_or_empty (get_member (codes "attributes") ms)
+  storage_transformers ← extensions_or_none (get_member (codes "storage_transformers") ms)
+  names ← dimension_names (get_member (codes "dimension_names") ms)
+  Some (record fields { attributes = attributes; storage_transformers = storage_transformers; dimension_names = names; additional_fields = additional_fields_of Array ms })
+
+unfoldable pub array_members : Members → Option ArrayFields
+array_members ms = do
+  _ ← is_array ms
+  fields ← required_fields ms
+  with_optional_fields ms fields
+
+abbrev pub array_of : Data → Option ArrayFields
+array_of d = as_object d >>= array_members
+
+abbrev pub dimension_name_data : Option (List ℕ) → Data
+dimension_name_data None = null
+dimension_name_data (Some s) = string s
+
+-- only where it is a list
+abbrev pub put_names : Option (List (Option (List ℕ))) → Members → Members
+put_names None ms = ms
+put_names (Some names) ms = put (codes "dimension_names") (array (items_of (map dimension_name_data names))) ms
+
+unfoldable pub optional_data : ArrayFields → Members → Members
+optional_data f ms =
+    put_object (codes "attributes") f.attributes
+    (put_list (codes "storage_transformers") (items_of (map extension_data f.storage_transformers))
+    (put_names f.dimension_names ms))
+
+unfoldable pub parts_data : ArrayFields → Members → Members
+parts_data f ms =
+    put (codes "data_type") (extension_data f.data_type)
+    (put (codes "chunk_grid") (extension_data f.chunk_grid)
+    (put (codes "chunk_key_encoding") (extension_data f.chunk_key_encoding)
+    (put (codes "codecs") (array (items_of (map extension_data f.codecs))) ms)))
+
+unfoldable pub required_data : ArrayFields → Members → Members
+required_data f ms =
+    put (codes "zarr_format") (number (unsigned 3))
+    (put (codes "node_type") (string (codes "array"))
+    (put (codes "shape") (numbers_data f.shape)
+    (put (codes "fill_value") f.fill_value (parts_data f ms))))
+
+abbrev pub array_data : ArrayFields → Data
+array_data f = object (required_data f (optional_data f (put_fields Array f.additional_fields no_members)))
+
+-- What a document reads back as, once it is written: with each extension and each additional field in its normal form.
+abbrev pub normal_array : ArrayFields → ArrayFields
+normal_array f = record f {
+  data_type = normal_form f.data_type;
+  chunk_grid = normal_form f.chunk_grid;
+  chunk_key_encoding = normal_form f.chunk_key_encoding;
+  codecs = map normal_form f.codecs;
+  storage_transformers = map normal_form f.storage_transformers;
+  additional_fields = normal_fields Array f.additional_fields;
+}

@@ -1,0 +1,4 @@
+pub mod AdditionalFields
+pub mod ArrayMetadata
+pub mod GroupMetadata
+pub mod Node

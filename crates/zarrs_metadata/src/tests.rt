@@ -1,0 +1,6 @@
+//! Worked examples.
+
+mod arrays;
+mod caller;
+mod foreign;
+mod groups;

@@ -1,0 +1,207 @@
+//! Version 3 array documents.
+//!
+//! See <https://zarr-specs.readthedocs.io/en/latest/v3/core/index.html#array-metadata>.
+
+ghost use Rattle.std.specs.Prelude.{◌≡◌, ◌≤◌, Some, None, [], IfOk, option_map, string_bytes};
+ghost use Rattle.serde_json.specs.Data.{no_members, depth};
+ghost use Rattle.serde_json.specs.Read.{read, max_depth};
+ghost use Rattle.serde_json.specs.View.{view, members_view};
+ghost use Rattle.zarrs_metadata_ext.specs.Reading.{Gives, from_data, from_json};
+ghost use Rattle.zarrs_metadata_ext.specs.MetadataV3.{extension_seen, extensions_seen};
+ghost use Rattle.zarrs_metadata_ext.specs.FillValueMetadata.{fill_view};
+ghost use Rattle.zarrs_metadata.specs.AdditionalFields.{additional_fields_seen};
+ghost use Rattle.zarrs_metadata.specs.ArrayMetadata.{array_seen, array_of, array_data, dimension_names_seen, default_keys};
+
+use crate::v3::additional_fields::copy_additional_fields;
+use crate::v3::reading::read_array;
+use crate::v3::writing::{array_to_value, copy_dimension_names, copy_extensions};
+use serde_json::{Map, Value};
+use std::alloc::{AllocError, Global};
+use std::collections::BTreeMap;
+use zarrs_metadata_ext::json::copy_members;
+use zarrs_metadata_ext::reading::{read_value, refuse_floats};
+use zarrs_metadata_ext::{
+    AdditionalFieldsV3, ArrayShape, Configuration, DimensionName, FillValueMetadataV3,
+    MetadataError, MetadataV3,
+};
+
+/// A version 3 array document.
+#[derive(Debug, PartialEq, Drop)]
+pub struct ArrayMetadataV3 {
+    /// The length of each dimension.
+    pub shape: ArrayShape,
+    /// The data type of the elements.
+    pub data_type: MetadataV3,
+    /// How the array is parted into chunks.
+    pub chunk_grid: MetadataV3,
+    /// Under which key a chunk is stored.
+    pub chunk_key_encoding: MetadataV3,
+    /// The value of each element that is not stored.
+    pub fill_value: FillValueMetadataV3,
+    /// How a chunk is encoded.
+    pub codecs: Vec<MetadataV3>,
+    /// What users say about the array.
+    pub attributes: Map<String, Value>,
+    /// What stands between the array and its store.
+    pub storage_transformers: Vec<MetadataV3>,
+    /// The names of the dimensions, as many as the document lists.
+    pub dimension_names: Option<Vec<DimensionName>>,
+    /// All other fields of the document.
+    pub additional_fields: AdditionalFieldsV3,
+}
+
+impl ArrayMetadataV3 {
+    /// The document with these parts, and `default` chunk keys with the separator `/`. It has no attributes, no storage
+    /// transformers, no dimension names and no additional fields.
+    pub fn new(
+        alloc: Global,
+        shape: ArrayShape,
+        chunk_grid: MetadataV3,
+        data_type: MetadataV3,
+        fill_value: FillValueMetadataV3,
+        codecs: Vec<MetadataV3>,
+    ) -> Result<Self, AllocError>
+        ensures { IfOk result (λ a. array_seen a ≡ record {
+          shape = shape.items;
+          data_type = extension_seen data_type;
+          chunk_grid = extension_seen chunk_grid;
+          chunk_key_encoding = default_keys;
+          fill_value = fill_view fill_value;
+          codecs = extensions_seen codecs.items;
+          attributes = no_members;
+          storage_transformers = [];
+          dimension_names = None;
+          additional_fields = [];
+        }) }
+    {
+        let chunk_key_encoding = default_keys(alloc)?;
+        Ok(ArrayMetadataV3 {
+            shape,
+            data_type,
+            chunk_grid,
+            chunk_key_encoding,
+            fill_value,
+            codecs,
+            attributes: Map::new(alloc),
+            storage_transformers: Vec::new(alloc),
+            dimension_names: None,
+            additional_fields: BTreeMap::new(alloc),
+        })
+    }
+
+    /// The same document with these attributes.
+    pub fn with_attributes(self, attributes: Map<String, Value>) -> Self
+        ensures { array_seen result ≡ record (array_seen self) { attributes = members_view attributes.entries } }
+    {
+        ArrayMetadataV3 { attributes, ..self }
+    }
+
+    /// The same document with these additional fields. One under a key that the document names is not written.
+    pub fn with_additional_fields(self, additional_fields: AdditionalFieldsV3) -> Self
+        ensures { array_seen result ≡ record (array_seen self) { additional_fields = additional_fields_seen additional_fields.entries } }
+    {
+        ArrayMetadataV3 {
+            additional_fields,
+            ..self
+        }
+    }
+
+    /// The same document with this chunk key encoding.
+    pub fn with_chunk_key_encoding(self, chunk_key_encoding: MetadataV3) -> Self
+        ensures { array_seen result ≡ record (array_seen self) { chunk_key_encoding = extension_seen chunk_key_encoding } }
+    {
+        ArrayMetadataV3 {
+            chunk_key_encoding,
+            ..self
+        }
+    }
+
+    /// The same document with these dimension names.
+    pub fn with_dimension_names(self, dimension_names: Option<Vec<DimensionName>>) -> Self
+        ensures { array_seen result ≡ record (array_seen self) { dimension_names = option_map (λ v. dimension_names_seen v.items) dimension_names } }
+    {
+        ArrayMetadataV3 {
+            dimension_names,
+            ..self
+        }
+    }
+
+    /// The same document with these storage transformers.
+    pub fn with_storage_transformers(self, storage_transformers: Vec<MetadataV3>) -> Self
+        ensures { array_seen result ≡ record (array_seen self) { storage_transformers = extensions_seen storage_transformers.items } }
+    {
+        ArrayMetadataV3 {
+            storage_transformers,
+            ..self
+        }
+    }
+
+    /// The document that a value is.
+    ///
+    /// # Errors
+    /// `FloatNumber` exactly where the value holds a float, attributes included, else `InvalidMetadata` exactly where it
+    /// is no version 3 array document.
+    pub fn from_value(alloc: Global, value: &Value) -> Result<Self, MetadataError>
+        ensures { Gives array_seen result (from_data array_of (view value.now)) }
+    {
+        refuse_floats(value)?;
+        read_array(alloc, value)
+    }
+
+    /// The value that is the document: with `attributes` and `storage_transformers` only where they are not empty, with
+    /// `dimension_names` only where there are some, and with each additional field under its key.
+    pub fn to_value(&self, alloc: Global) -> Result<Value, AllocError>
+        ensures { IfOk result (λ v. view v ≡ array_data (array_seen self.now)) }
+    {
+        array_to_value(alloc, self)
+    }
+
+    /// The document that a text is, as [`ArrayMetadataV3::from_value`].
+    ///
+    /// # Errors
+    /// `InvalidJson` exactly where the text is not JSON, else as for the value.
+    pub fn try_from_text(alloc: Global, text: &str) -> Result<Self, MetadataError>
+        ensures { Gives array_seen result (from_json array_of (read text.now)) }
+    {
+        let value = read_value(alloc, text)?;
+        read_array(alloc, &value)
+    }
+
+    /// The document as text, a line for each member.
+    pub fn to_string_pretty(&self, alloc: Global) -> Result<String, AllocError>
+        ensures { IfOk result (λ text. depth (array_data (array_seen self.now)) ≤ max_depth → read (string_bytes text) ≡ Some (array_data (array_seen self.now))) }
+    {
+        let value = self.to_value(alloc)?;
+        let text = value.to_string_pretty(alloc)?;
+        Ok(text)
+    }
+
+    /// A copy.
+    pub fn try_clone(&self, alloc: Global) -> Result<Self, AllocError>
+        ensures { IfOk result (λ copy. array_seen copy ≡ array_seen self.now) }
+    {
+        Ok(ArrayMetadataV3 {
+            shape: self.shape.as_slice().to_vec(alloc)?,
+            data_type: self.data_type.try_clone(alloc)?,
+            chunk_grid: self.chunk_grid.try_clone(alloc)?,
+            chunk_key_encoding: self.chunk_key_encoding.try_clone(alloc)?,
+            fill_value: self.fill_value.try_clone(alloc)?,
+            codecs: copy_extensions(alloc, &self.codecs)?,
+            attributes: copy_members(&self.attributes)?,
+            storage_transformers: copy_extensions(alloc, &self.storage_transformers)?,
+            dimension_names: copy_dimension_names(alloc, &self.dimension_names)?,
+            additional_fields: copy_additional_fields(alloc, &self.additional_fields)?,
+        })
+    }
+}
+
+// `default` chunk keys with the separator `/`.
+fn default_keys(alloc: Global) -> Result<MetadataV3, AllocError>
+    ensures { IfOk result (λ m. extension_seen m ≡ default_keys) }
+{
+    let name = String::from_str(alloc, "default")?;
+    let mut members = Map::new(alloc);
+    let separator = Value::try_from_str(alloc, "/")?;
+    serde_json::put(&mut members, alloc, "separator", separator)?;
+    Ok(MetadataV3::new_with_configuration(name, Configuration::new(members)))
+}

@@ -1,0 +1,10 @@
+pub mod Reading
+pub mod Writing
+pub mod Configuration
+pub mod MetadataV3
+pub mod AdditionalField
+pub mod FillValueMetadata
+pub mod MetadataV2
+pub mod DataTypeV2
+pub mod Names
+pub mod Rising

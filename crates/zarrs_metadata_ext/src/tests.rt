@@ -1,0 +1,9 @@
+//! Worked examples.
+
+mod caller;
+mod configurations;
+mod extensions;
+mod fields;
+mod fills;
+mod names;
+mod version_2;

@@ -1,0 +1,87 @@
+//! Configurations, and types that stand for them.
+
+ghost use Rattle.std.specs.Prelude.{◌≡◌, true};
+ghost use Rattle.zarrs_metadata_ext.specs.Configuration.{configuration_seen};
+
+use crate::{
+    Configuration, ConfigurationError, EmptyConfiguration, FromConfiguration,
+    FromConfigurationError, MetadataV3, ToConfiguration, ToConfigurationFault,
+};
+use serde_json::{Map, Value};
+use std::alloc::{AllocError, Global};
+use std::test::Fail;
+
+// Stands for every configuration.
+#[derive(Drop)]
+struct Any(Configuration);
+
+impl FromConfiguration for Any {
+    ghost accepts = { λ _. true };
+
+    ghost Denotes = { λ members any. configuration_seen any.0 ≡ members };
+
+    fn from_configuration(
+        alloc: Global,
+        configuration: &Configuration,
+    ) -> Result<Self, FromConfigurationError> {
+        Ok(Any(configuration.try_clone(alloc)?))
+    }
+}
+
+impl ToConfiguration for Any {
+    ghost configured = { λ any. configuration_seen any.0 };
+
+    fn to_configuration(&self, alloc: Global) -> Result<Configuration, AllocError> {
+        self.0.try_clone(alloc)
+    }
+}
+
+fn level(alloc: Global) -> Result<Configuration, AllocError> {
+    let mut members = Map::new(alloc);
+    serde_json::put(&mut members, alloc, "level", Value::from(5u64))?;
+    Ok(Configuration::new(members))
+}
+
+#[test]
+fn a_type_takes_the_configurations_that_it_accepts(rt: HostRuntime) -> Result<(), Fail> {
+    let alloc = rt.alloc();
+    let configuration = level(alloc)?;
+    let any: Any = configuration.to_typed(alloc)?;
+    assert!(rt; any.to_configuration(alloc)? == configuration);
+    let empty: Result<EmptyConfiguration, FromConfigurationError> = configuration.to_typed(alloc);
+    assert_eq!(rt; empty, Err(FromConfigurationError::Mismatch));
+    let none = EmptyConfiguration.to_configuration(alloc)?;
+    assert_eq!(rt; none.to_typed(alloc), Ok(EmptyConfiguration));
+    assert_eq!(rt; configuration.into_map().len(), 1);
+    Ok(())
+}
+
+#[test]
+fn an_extension_has_the_empty_configuration_where_it_has_none(rt: HostRuntime) -> Result<(), Fail> {
+    let alloc = rt.alloc();
+    let plain = MetadataV3::new(String::from_str(alloc, "crc32c")?);
+    assert_eq!(rt; plain.to_typed_configuration(alloc), Ok(EmptyConfiguration));
+    let any: Any = plain.to_typed_configuration(alloc)?;
+    assert!(rt; any.0.as_map().is_empty());
+    let empty: Option<EmptyConfiguration> = plain.to_configuration(alloc).ok();
+    assert_eq!(rt; empty, Some(EmptyConfiguration));
+    let gzip = MetadataV3::new_with_configuration(String::from_str(alloc, "gzip")?, level(alloc)?);
+    let empty: Result<EmptyConfiguration, ToConfigurationFault> = gzip.to_configuration(alloc);
+    match empty {
+        Err(ToConfigurationFault::Mismatch(error)) => {
+            assert_eq!(rt; error.name(), "gzip");
+            assert!(rt; error.configuration().is_some());
+            assert!(rt; error.try_clone(alloc)? == error);
+        }
+        _ => assert!(rt; false, "it has a member"),
+    }
+    let named = MetadataV3::new_with_serializable_configuration(
+        alloc,
+        String::from_str(alloc, "any")?,
+        &Any(level(alloc)?),
+    )?;
+    assert_eq!(rt; named.to_display(alloc)?.as_str(), "any {\"level\":5}");
+    let error = ConfigurationError::new(String::from_str(alloc, "a")?, None);
+    assert!(rt; error.configuration().is_none());
+    Ok(())
+}

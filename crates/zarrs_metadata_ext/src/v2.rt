@@ -1,0 +1,4 @@
+//! Version 2 metadata.
+
+pub mod data_type;
+pub mod metadata;

@@ -1,0 +1,3 @@
+pub mod NamePattern
+pub mod Registry
+pub mod Error

@@ -1,0 +1,4 @@
+//! Worked examples.
+
+mod names;
+mod registries;
