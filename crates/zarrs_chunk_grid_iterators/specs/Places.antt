@@ -1,0 +1,47 @@
+-- What iterators give, place by place.
+use Rattle.std.specs.Prelude.{◌≡◌, ℕ, ◌-◌, ◌+◌, ◌≤◌, ◌^◌, min, List, [], ◌∷◌, ◌++◌, length, Option, Result, IfOk, IsOk, MatchOption}
+use Rattle.std.specs.List.{range_with_len}
+use Rattle.std.specs.declared.alloc.AllocError.{AllocError}
+use Rattle.std.specs.declared.ops.Bound.{Bound}
+use Rattle.std.specs.declared.ops.Bound.TheVariants.{Included, Excluded, Unbounded}
+use Rattle.smallvec.specs.SmallVec.{SmallVec}
+use Rattle.zarr_model.specs.Region.{Region, tuple_at, linear_index}
+
+-- the places from a up to b
+abbrev pub places : ℕ → ℕ → List ℕ
+places a b = range_with_len a (b - a)
+
+-- the linear index of the tuple at a place
+abbrev pub linear_at : List ℕ → Region → ℕ → ℕ
+linear_at shape region place = linear_index shape (tuple_at region place)
+
+-- the next number, at most the greatest
+abbrev pub after : ℕ → ℕ
+after n = min (n + 1) (2 ^ 64 - 1)
+
+-- the first place of a range, which isn't clamped
+abbrev pub first_place : Bound ℕ → ℕ
+first_place (Included n) = n
+first_place (Excluded n) = after n
+first_place Unbounded = 0
+
+-- the place past the last one of a range, which is clamped to the number of places
+abbrev pub end_place : Bound ℕ → ℕ → ℕ
+end_place (Included n) total = min (after n) total
+end_place (Excluded n) total = min n total
+end_place Unbounded total = total
+
+-- an item is this tuple or want of memory; up to rank 4 it wants none
+abbrev pub IsTuple : List ℕ → Result (SmallVec ℕ) AllocError → Type 0
+IsTuple tuple item = IfOk item (λ v. v.items ≡ tuple) × (length tuple ≤ 4 → IsOk item)
+
+-- the same of a tuple at which a run begins, and the run's length
+abbrev pub IsRun : List ℕ × ℕ → Result (SmallVec ℕ × ℕ) AllocError → Type 0
+IsRun run item = IfOk item (λ p. (p.0.items ≡ run.0) × (p.1 ≡ run.1)) × (length run.0 ≤ 4 → IsOk item)
+
+-- an item that R relates to the first that was left, or to the last
+abbrev pub YieldsOne : {S A B : Type 0} → (B → A → Type 0) → (S → List B) → (S → B) → S → Option A → S → Type 0
+YieldsOne R left first s r t = MatchOption r ((left s ≡ []) × (left t ≡ [])) (λ x. (left s ≡ first s ∷ left t) × R (first s) x)
+
+abbrev pub YieldsOneBack : {S A B : Type 0} → (B → A → Type 0) → (S → List B) → (S → B) → S → Option A → S → Type 0
+YieldsOneBack R left last s r t = MatchOption r ((left s ≡ []) × (left t ≡ [])) (λ x. (left s ≡ left t ++ last s ∷ []) × R (last s) x)

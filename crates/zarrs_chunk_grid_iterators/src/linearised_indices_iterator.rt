@@ -1,0 +1,274 @@
+//! The linear indices of an array subset inside an array's shape.
+
+ghost use Rattle.std.specs.Prelude.{◌≡◌, ◌<◌, ◌≤◌, ◌-◌, ◌^◌, true, length, Some, IfOk, IfErr, IfSome, IsTrue, nat_eq};
+ghost use Rattle.std.specs.Iterator.{YieldsFirst, YieldsLast, item_count, UpTo};
+ghost use Rattle.std.specs.Iterator.SizeHint.{IsWithinCount};
+ghost use Rattle.zarr_model.specs.Region.{count, count_of, ends_within, linear_index, tuple_at};
+ghost use Rattle.zarr_model.specs.Cover.{linear_indices};
+ghost use Rattle.zarrs_array_subset.specs.Boxes.{is_box, region_of};
+ghost use Rattle.zarrs_array_subset.specs.ArraySubset.{region};
+ghost use Rattle.zarrs_array_subset.specs.Errors.{RefusesShape};
+ghost use Rattle.zarrs_chunk_grid_iterators.specs.Places.{linear_at};
+
+use std::alloc::Global;
+use zarrs_array_subset::{ArrayShape, ArraySubset, IndexerError};
+
+/// The linear indices of an array subset, the last dimension fastest.
+///
+/// In a 4x3 array with the linear indices
+/// ```text
+/// 0   1   2
+/// 3   4   5
+/// 6   7   8
+/// 9  10  11
+/// ```
+/// the lower right 2x2 subset has 7, 8, 10, 11.
+#[derive(Debug, Drop)]
+pub struct LinearisedIndices {
+    subset: ArraySubset,
+    array_shape: ArrayShape,
+    total: u64,
+    ghost inside: { IsTrue (ends_within (region subset) array_shape.items) },
+    ghost small: { count_of array_shape.items < 2 ^ 64 },
+    ghost whole: { total ≡ count (region subset) },
+}
+
+#[tactic(auto, using(crate::proofs::Linears::of_new))]
+impl LinearisedIndices {
+    ghost use Rattle.zarrs_chunk_grid_iterators.specs.Iterators.{linear_of, linear_lent, linear_left};
+
+    /// The linear indices of a subset that lies in the shape.
+    pub fn new(
+        alloc: Global,
+        subset: ArraySubset,
+        array_shape: ArrayShape,
+    ) -> Result<Self, IndexerError>
+        requires { count_of array_shape.items < 2 ^ 64 }
+        ensures inside { IfOk result (λ it. ends_within (region subset) array_shape.items ≡ true) }
+        ensures lists { IfOk result (λ it. linear_of it ≡ linear_indices array_shape.items (region subset)) }
+        ensures refused { IfErr result (RefusesShape (region subset) array_shape.items) }
+    {
+        let (got, expected) = (subset.dimensionality(), array_shape.len());
+        if got != expected {
+            return Err(IndexerError::new_incompatible_dimensionality(got, expected));
+        }
+        if !subset.inbounds_shape(&array_shape) {
+            return Err(IndexerError::OutOfBounds(subset.end_exc(alloc)?, array_shape));
+        }
+        Ok(Self::new_unchecked(subset, array_shape))
+    }
+
+    /// The linear indices of a subset that is known to lie in the shape.
+    pub fn new_unchecked(subset: ArraySubset, array_shape: ArrayShape) -> Self
+        requires small { count_of array_shape.items < 2 ^ 64 }
+        requires inside { ends_within (region subset) array_shape.items ≡ true }
+        ensures { linear_of result ≡ linear_indices array_shape.items (region subset) }
+    {
+        let total = subset.num_elements();
+        LinearisedIndices {
+            subset,
+            array_shape,
+            total,
+        }
+    }
+
+    /// The number of indices.
+    #[tactic(auto, using(crate::proofs::Lefts::of_places))]
+    pub fn len(&self) -> usize
+        ensures { result ≡ length (linear_of self.now) }
+    {
+        self.total as usize
+    }
+
+    /// Whether there is no index.
+    pub fn is_empty(&self) -> bool
+        ensures { result ≡ nat_eq (length (linear_of self.now)) 0 }
+    {
+        self.len() == 0
+    }
+
+    /// The linear indices, from both ends.
+    pub fn iter(&self) -> LinearisedIndicesIterator<'_>
+        ensures { linear_lent result ≡ linear_of self.now }
+    {
+        LinearisedIndicesIterator {
+            indices: self,
+            start: 0,
+            end: self.total,
+        }
+    }
+
+    /// The linear indices, from both ends.
+    pub fn into_iter(self) -> LinearisedIndicesIntoIterator
+        ensures { linear_left result ≡ linear_of self }
+    {
+        let end = self.total;
+        LinearisedIndicesIntoIterator {
+            indices: self,
+            start: 0,
+            end,
+        }
+    }
+
+    // The linear index at a place.
+    #[tactic(auto, using(crate::proofs::Lefts::of_parts))]
+    fn at(&self, place: u64) -> u64
+        requires { place < self.now.total }
+        ensures { result ≡ linear_at self.now.array_shape.items (region self.now.subset) place }
+    {
+        let (start, shape) = (self.subset.start(), self.subset.shape());
+        let (index, _) = linear_of_place(start, shape, &self.array_shape, place, self.total);
+        index
+    }
+}
+
+// The linear index of the tuple at a place, and the number of indices of the array's shape.
+#[tactic(auto, using(crate::proofs::Linears::of_linear))]
+fn linear_of_place(
+    start: &[u64],
+    shape: &[u64],
+    array_shape: &[u64],
+    place: u64,
+    total: u64,
+) -> (u64, u64)
+    requires fits { is_box start.now shape.now ≡ true }
+    requires inside { ends_within (region_of start.now shape.now) array_shape.now ≡ true }
+    requires whole { total ≡ count_of shape.now }
+    requires below { place < total }
+    requires small { count_of array_shape.now < 2 ^ 64 }
+    ensures index { result.0 ≡ linear_index array_shape.now (tuple_at (region_of start.now shape.now) place) }
+    ensures stride { result.1 ≡ count_of array_shape.now }
+{
+    match shape {
+        [] => (0, 1),
+        [n, shape @ ..] => match start {
+            [] => (0, 1),
+            [first, start @ ..] => match array_shape {
+                [] => (0, 1),
+                [m, array_shape @ ..] => {
+                    let total = total / *n;
+                    let (rest, stride) = linear_of_place(
+                        start,
+                        shape,
+                        array_shape,
+                        place % total,
+                        total,
+                    );
+                    ((*first + place / total) * stride + rest, *m * stride)
+                }
+            },
+        },
+    }
+}
+
+/// The linear indices of a subset that are left.
+#[derive(Debug, Drop)]
+pub struct LinearisedIndicesIterator<'a> {
+    indices: &'a LinearisedIndices,
+    start: u64,
+    end: u64,
+    ghost within: { end ≤ indices.now.total },
+}
+
+#[tactic(auto, using(crate::proofs::Lefts::of_places))]
+impl Iterator for LinearisedIndicesIterator<'_> {
+    ghost use Rattle.zarrs_chunk_grid_iterators.specs.Iterators.{linear_lent};
+
+    type Item = u64;
+
+    ghost next_gives = { YieldsFirst linear_lent };
+
+    ghost remaining = { item_count linear_lent };
+
+    fn next(&mut self) -> Option<u64> {
+        if self.start < self.end {
+            let index = self.indices.at(self.start);
+            self.start += 1;
+            Some(index)
+        } else {
+            None
+        }
+    }
+
+    fn size_hint(&self) -> (usize, Option<usize>)
+        ensures lower { IsWithinCount result.0 (item_count linear_lent self.now) }
+        ensures upper { IfSome result.1 (UpTo (item_count linear_lent self.now)) }
+        ensures exact { result.0 ≡ length (linear_lent self.now) }
+        ensures told { result.1 ≡ Some (length (linear_lent self.now)) }
+    {
+        let left = self.end.saturating_sub(self.start) as usize;
+        (left, Some(left))
+    }
+}
+
+#[tactic(auto, using(crate::proofs::Lefts::of_places))]
+impl DoubleEndedIterator for LinearisedIndicesIterator<'_> {
+    ghost use Rattle.zarrs_chunk_grid_iterators.specs.Iterators.{linear_lent};
+
+    ghost next_back_gives = { YieldsLast linear_lent };
+
+    fn next_back(&mut self) -> Option<u64> {
+        if self.start < self.end {
+            self.end -= 1;
+            Some(self.indices.at(self.end))
+        } else {
+            None
+        }
+    }
+}
+
+/// The linear indices of a subset that are left, with the subset.
+#[derive(Debug, Drop)]
+pub struct LinearisedIndicesIntoIterator {
+    indices: LinearisedIndices,
+    start: u64,
+    end: u64,
+    ghost within: { end ≤ indices.total },
+}
+
+#[tactic(auto, using(crate::proofs::Lefts::of_places))]
+impl Iterator for LinearisedIndicesIntoIterator {
+    ghost use Rattle.zarrs_chunk_grid_iterators.specs.Iterators.{linear_left};
+
+    type Item = u64;
+
+    ghost next_gives = { YieldsFirst linear_left };
+
+    ghost remaining = { item_count linear_left };
+
+    fn next(&mut self) -> Option<u64> {
+        if self.start < self.end {
+            let index = self.indices.at(self.start);
+            self.start += 1;
+            Some(index)
+        } else {
+            None
+        }
+    }
+
+    fn size_hint(&self) -> (usize, Option<usize>)
+        ensures lower { IsWithinCount result.0 (item_count linear_left self.now) }
+        ensures upper { IfSome result.1 (UpTo (item_count linear_left self.now)) }
+        ensures exact { result.0 ≡ length (linear_left self.now) }
+        ensures told { result.1 ≡ Some (length (linear_left self.now)) }
+    {
+        let left = self.end.saturating_sub(self.start) as usize;
+        (left, Some(left))
+    }
+}
+
+#[tactic(auto, using(crate::proofs::Lefts::of_places))]
+impl DoubleEndedIterator for LinearisedIndicesIntoIterator {
+    ghost use Rattle.zarrs_chunk_grid_iterators.specs.Iterators.{linear_left};
+
+    ghost next_back_gives = { YieldsLast linear_left };
+
+    fn next_back(&mut self) -> Option<u64> {
+        if self.start < self.end {
+            self.end -= 1;
+            Some(self.indices.at(self.end))
+        } else {
+            None
+        }
+    }
+}
