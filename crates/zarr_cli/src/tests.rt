@@ -61,7 +61,7 @@ fn input_of(alloc: Global, document: &str, lines: &[u8]) -> Result<Vec<u8>, Fail
 
 #[test]
 fn lines_are_answered(rt: HostRuntime) -> Result<(), Fail> {
-    let table: [(&str, &[u8], u8, &str); 13] = [
+    let table: [(&str, &[u8], u8, &str); 14] = [
         (
             SQUARE,
             b"key c/0/0 h0000000b\nread 0..2,0..2\n",
@@ -86,6 +86,7 @@ fn lines_are_answered(rt: HostRuntime) -> Result<(), Fail> {
         (POINT, b"read .\n", 0, "ok h00\n"),
         (SQUARE, b"bogus\n", 3, "input 2\n"),
         (SQUARE, b"read 0..4,0..4\nkey c/0/0 h00\n", 3, "input 3\n"),
+        (SQUARE, b"\xff\n", 3, "input 2\n"),
         (SQUARE, b"read 0..1,0..1\n\xff\n", 3, "input 3\n"),
         (SQUARE, b"read 0..1,0..1\r\n", 3, "input 2\n"),
         (SQUARE, b"read 0..1,0..1\n\n", 3, "input 3\n"),
