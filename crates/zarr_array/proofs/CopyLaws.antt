@@ -1,13 +1,13 @@
 -- A copy between two boxes, row by row.
-use Rattle.std.proofs.Common.{◌≡◌, ℕ, zero, suc, ◌+◌, ◌-◌, ◌*◌, ◌/◌, ◌%◌, ◌<◌, ◌≤◌, max, min, nat_lt, ◌&&◌, Bool, true, false, if◌then◌else◌, List, [], ◌∷◌, ◌++◌, length, get_or, take, drop, refl, sym, ap, ap₂, ◌∙◌, subst, subst₂, arith, ⊎_elim}
-use Rattle.std.proofs.lemmas.Bool.{and_parts, lt-ltb, ltb-true, cases_lt, cond-false, false_from_ne_true}
+use Rattle.std.proofs.Common.{◌≡◌, ℕ, zero, suc, ◌+◌, ◌-◌, ◌*◌, ◌/◌, ◌%◌, ◌<◌, ◌≤◌, max, min, nat_lt, nat_le, ◌&&◌, Bool, true, false, if◌then◌else◌, List, [], ◌∷◌, ◌++◌, length, get_or, take, drop, refl, sym, ap, ap₂, ◌∙◌, subst, subst₂, arith, ⊎_elim}
+use Rattle.std.proofs.lemmas.Bool.{and_parts, lt-ltb, ltb-true, cases_lt, cond-true, cond-false, false_from_ne_true}
 use Rattle.std.proofs.lemmas.Bool.Decides.{nat_tests}
 use Rattle.std.proofs.lemmas.Nat.{div-mul-add, mod-mul-add, div_below}
-use Rattle.std.proofs.lemmas.List.{get_or_append_left, get_or-append_right, get_or-drop, get_or-take, length-drop, length-take-le, length-append}
+use Rattle.std.proofs.lemmas.List.{get_or_append_left, get_or-append_right, get_or-drop, get_or-take, length-drop, length-take-le, length-append, drop_all}
 use Rattle.std.proofs.Math.Nat.{div-add-mod', mod-lt, mul_comm, suc-mul, mul-le-mul_right}
 use Rattle.zarr_model.specs.Region.{Span, Region, count, contains, is_in, place, tuple_at}
 use Rattle.zarr_model.proofs.RegionLaws.{span_in, in_span, positive_factor, place_below}
-use Rattle.zarr_array.specs.Overlap.{span_at, shared_from, shared_size, Copied}
+use Rattle.zarr_array.specs.Overlap.{span_at, shared_from, shared_size, with_run, Copied}
 
 -- whether a tuple's first index is below a limit
 abbrev pub is_before : ℕ → List ℕ → Bool
@@ -253,3 +253,76 @@ row_part t box rest list at row to box_is long row_is within to_is =
 
     room : to + row ≤ length list
     room = subst₂ (λ a b. a + b ≤ length list) (sym (to_is ∙ ap (λ n. at * n) row_is)) (sym row_is) (row_within at t.size (length list) within)
+
+-- a run in its place: the length stays, and each element is the run's or the old one
+module _ {A : Type 0} (old source : List A) (at from len : ℕ) (room : at + len ≤ length old) (enough : from + len ≤ length source) where
+  front_long : length (take at old) ≡ at
+  front_long = length-take-le at old (omega (arith, room))
+
+  run_long : length (take len (drop from source)) ≡ len
+  run_long = length-take-le len (drop from source) (omega (arith, enough, length-drop from source))
+
+  pub length-with_run : length (with_run old at source from len) ≡ length old
+  length-with_run = length-append (take at old) (take len (drop from source) ++ drop (at + len) old)
+      ∙ (ap₂ (λ a b. a + b) front_long (length-append (take len (drop from source)) (drop (at + len) old) ∙ ap₂ (λ a b. a + b) run_long (length-drop (at + len) old))
+      ∙ (let same : at + (len + (length old - (at + len))) ≡ length old = omega (arith, room) in same))
+
+  pub get_or-with_run : (k : ℕ) (d : A) → get_or (with_run old at source from len) k d
+      ≡ (if nat_le at k && nat_lt k (at + len) then get_or source (from + (k - at)) d else get_or old k d)
+  get_or-with_run k d = ⊎_elim
+      (λ (low : k < at). get_or_append_left (take at old) (take len (drop from source) ++ drop (at + len) old) d k (subst (λ n. k < n) (sym front_long) low)
+      ∙ (get_or-take at old k d low ∙ sym (cond-false (nat_le at k && nat_lt k (at + len)) _ _ (low_test low))))
+      (λ (high : at ≤ k). get_or-append_right (take at old) (take len (drop from source) ++ drop (at + len) old) at k d front_long high
+      ∙ ⊎_elim
+      (λ (within : k < at + len). get_or_append_left (take len (drop from source)) (drop (at + len) old) d (k - at) (subst (λ n. k - at < n) (sym run_long) (omega arith))
+      ∙ (get_or-take len (drop from source) (k - at) d (omega arith) ∙ (get_or-drop from source (k - at) d ∙ sym (cond-true (nat_le at k && nat_lt k (at + len)) _ _ (run_test high within)))))
+      (λ (past : at + len ≤ k). get_or-append_right (take len (drop from source)) (drop (at + len) old) len (k - at) d run_long (omega arith)
+      ∙ (get_or-drop (at + len) old (k - at - len) d ∙ (ap (λ n. get_or old n d) (let same : at + len + (k - at - len) ≡ k = omega arith in same)
+      ∙ sym (cond-false (nat_le at k && nat_lt k (at + len)) _ _ (past_test past)))))
+      (cases_lt k (at + len)))
+      (cases_lt k at)
+    where
+      low_test : k < at → (nat_le at k && nat_lt k (at + len)) ≡ false
+      low_test low = grind (arith, nat_tests)
+
+      run_test : at ≤ k → k < at + len → (nat_le at k && nat_lt k (at + len)) ≡ true
+      run_test high within = grind (arith, nat_tests)
+
+      past_test : at + len ≤ k → (nat_le at k && nat_lt k (at + len)) ≡ false
+      past_test past = grind (arith, nat_tests)
+
+-- what two boxes share in their last dimension, as one run
+module _ {A : Type 0} (target_region source_region : Region) (axis : ℕ) (target_last : axis + 1 ≡ length target_region) (source_last : axis + 1 ≡ length source_region)
+    (source old : List A) (at from len : ℕ) (at_is : at ≡ shared_from (span_at target_region axis) (span_at source_region axis)) (from_is : from ≡ shared_from (span_at source_region axis) (span_at target_region axis))
+    (len_is : len ≡ shared_size (span_at target_region axis) (span_at source_region axis)) (some : len ≡ 0 → ⊥)
+    (long : length old ≡ count (drop axis target_region)) (source_long : length source ≡ count (drop axis source_region)) where
+  abbrev t : Span
+  t = span_at target_region axis
+
+  abbrev s : Span
+  s = span_at source_region axis
+
+  last_span : (region : Region) → axis + 1 ≡ length region → drop axis region ≡ span_at region axis ∷ []
+  last_span region h = drop-span region axis (omega arith) ∙ ap (λ rest. span_at region axis ∷ rest) (drop_all (axis + 1) region (omega arith))
+
+  pub run_room : at + len ≤ length old
+  run_room = omega (arith, at_is, len_is, some, long ∙ ap count (last_span target_region target_last))
+
+  pub run_enough : from + len ≤ length source
+  run_enough = omega (arith, from_is, len_is, some, source_long ∙ ap count (last_span source_region source_last))
+
+  pub run_copied : Copied (drop axis target_region) (drop axis source_region) source old (with_run old at source from len)
+  run_copied = subst₂ (λ a b. Copied a b source old (with_run old at source from len)) (sym (last_span target_region target_last)) (sym (last_span source_region source_last)) (record {
+    as_long = length-with_run old source at from len run_room run_enough;
+    each = λ k d h. get_or-with_run old source at from len run_room run_enough k d
+        ∙ ap₂ (λ b n. if b then get_or source n d else get_or old k d) (in_run k (omega (arith, h))) (place_is k);
+  })
+    where
+      whole : (k : ℕ) → k / 1 ≡ k
+      whole k = omega arith
+
+      in_run : (k : ℕ) → k < t.size → (nat_le at k && nat_lt k (at + len)) ≡ (is_in (t.start + k / 1) s && true)
+      in_run k h = grind (arith, nat_tests)
+
+      place_is : (k : ℕ) → from + (k - at) ≡ (t.start + k / 1 - s.start) * 1 + 0
+      place_is k = omega (arith, at_is, from_is, whole k)

@@ -1,5 +1,6 @@
 -- The steps of reading a region.
 use Rattle.std.proofs.Common.{◌≡◌, ℕ, zero, suc, ◌+◌, ◌<◌, ◌≤◌, ◌⊎◌, true, List, [], ◌∷◌, length, get_or, slice_get, Some, sym, ap, ◌∙◌, subst, arith, inl, inr, ⊎_elim}
+use Rattle.std.proofs.lemmas.Option.{slice_get_within}
 use Rattle.zarr_model.specs.Region.{Region, count, tuples, tuple_at, ends_within}
 use Rattle.zarr_model.specs.Grid.{Grid, IsChunk, chunks_meeting, CoversShape}
 use Rattle.zarr_model.specs.Codec.{Options}
@@ -63,7 +64,7 @@ pub stops_reading : (description : Description) (options : Options) (region : Re
     FailsToRead description options region old asks_old asks_new faults_old faults_new k kind
 stops_reading description options region old mid asks_old asks_mid asks_new faults_old faults_mid faults_new k chunk kind here few same asked more later fails = record {
   few = few;
-  asks = ⊎_elim (λ (none : asks_new ≡ asks_mid). inl (none ∙ asked)) (λ (one : asks_new ≡ counted asks_mid 1). inr (counted_more asks_old asks_mid asks_new k 1 asked one)) more;
+  asks = ⊎_elim (λ (none : asks_new ≡ asks_mid). inl (none ∙ asked)) (λ (one : asks_new ≡ counted asks_mid 1). inr (slice_get_within (chunks_meeting description.grid region) k chunk here, counted_more asks_old asks_mid asks_new k 1 asked one)) more;
   cause = by_kind kind fails;
 }
   where

@@ -10,8 +10,8 @@ use Rattle.zarr_model.specs.Store.{Content, IsHonest, WhollyMeans}
 use Rattle.zarr_model.specs.Command.{Command, Description, layout, refusal, Answer, array_after}
 use Rattle.zarr_model.specs.Cost.{asks_of, all_asks, counted}
 use Rattle.zarr_model.specs.Outside.{Rose}
-use Rattle.zarr_model.specs.Causes.{KeepsDamage, MeetsNoDamage}
-use Rattle.zarr_model.specs.Session.{LeavesKeys, ServesWhole, RefusesRight, AreRefused, IsUntouched, refusal_in}
+use Rattle.zarr_model.specs.Causes.{KeepsDamage}
+use Rattle.zarr_model.specs.Session.{LeavesKeys, AreRefused, refusal_in}
 use Rattle.zarr_model.proofs.SessionLaws.{ServesWhole-none, ServesWhole-append, LeavesKeys-append, LeavesKeys-more}
 use Rattle.zarr_model.proofs.StepLaws.{KeepsDamage-none, KeepsDamage-append, place-lifts, asks-lift, undecoded-lifts, stopped-lifts, starved-lifts}
 use Rattle.zarr_model.proofs.DamageLaws.{MeetsNoDamage-none, MeetsNoDamage-append}
@@ -19,19 +19,10 @@ use Rattle.zarr_model.proofs.FailureLaws.{listed_is_chunk}
 use Rattle.zarr_array.specs.declared.error.SessionErrorKind.{SessionErrorKind}
 use Rattle.zarr_array.specs.declared.error.SessionErrorKind.TheVariants.{NotOpened, ChunkDecode, Store, OutOfMemory}
 use Rattle.zarr_array.specs.Session.{HasSessionCause, FailsAt}
-
--- what holds of a store once some commands ran: its content, its counts of asks, of bytes taken and of faults
-pub record SoFar (description : Description) (options : Options) (commands : List Command) (old now : Content) (asks_old asks_now taken_old taken_now faults_old faults_now : ℕ) (answers : List Answer) : Type 0 where
-  pub serves : ServesWhole description options commands old now answers
-  pub refusals : RefusesRight description commands answers
-  pub refused : AreRefused description commands → IsUntouched old now asks_old asks_now taken_old taken_now
-  pub asks : asks_now ≡ counted asks_old (all_asks description commands)
-  pub damage : KeepsDamage description options commands old now
-  pub met : MeetsNoDamage description options commands old
-  pub later : faults_old ≤ faults_now
+use Rattle.zarr_array.specs.Ran.{HasRun}
 
 pub so_far-start : (description : Description) (options : Options) (store : Content) (asks taken faults : ℕ) → asks ≤ 2 ^ 64 - 1 →
-    SoFar description options [] store store asks asks taken taken faults faults []
+    HasRun description options [] store store asks asks taken taken faults faults []
 so_far-start description options store asks taken faults fits = record {
   serves = ServesWhole-none description options store;
   refusals = refl;
@@ -54,9 +45,9 @@ all_asks-more description commands command = sum_by-append (asks_of description)
 
 pub so_far-step : (description : Description) (options : Options) → CoversShape description.shape description.grid → (commands : List Command) (command : Command) (old mid now : Content) (asks_old asks_mid asks_now taken_old taken_mid taken_now faults_old faults_mid faults_now : ℕ)
     (answers : List Answer) (answer : Answer) →
-    SoFar description options commands old mid asks_old asks_mid taken_old taken_mid faults_old faults_mid answers →
-    SoFar description options (command ∷ []) mid now asks_mid asks_now taken_mid taken_now faults_mid faults_now (answer ∷ []) →
-    SoFar description options (commands ++ command ∷ []) old now asks_old asks_now taken_old taken_now faults_old faults_now (answers ++ answer ∷ [])
+    HasRun description options commands old mid asks_old asks_mid taken_old taken_mid faults_old faults_mid answers →
+    HasRun description options (command ∷ []) mid now asks_mid asks_now taken_mid taken_now faults_mid faults_now (answer ∷ []) →
+    HasRun description options (commands ++ command ∷ []) old now asks_old asks_now taken_old taken_now faults_old faults_now (answers ++ answer ∷ [])
 so_far-step description options covers commands command old mid now asks_old asks_mid asks_now taken_old taken_mid taken_now faults_old faults_mid faults_now answers answer first second = record {
   serves = ServesWhole-append description options commands (command ∷ []) old mid now answers (answer ∷ []) first.serves second.serves;
   refusals = map-append refusal_in answers (answer ∷ []) ∙ (ap₂ (λ a b. a ++ b) first.refusals second.refusals ∙ sym (map-append (refusal description) commands (command ∷ [])));
@@ -90,7 +81,7 @@ take-map f (x ∷ xs) (suc i) = ap (λ l. f x ∷ l) (take-map f xs i)
 -- a command that failed after some that ran
 module _ {A : Type 0} (f : A → Command) (description : Description) (options : Options) (covers : CoversShape description.shape description.grid) (xs : List A) (i : ℕ) (x : A) (within : i < length xs) (is : x ≡ get_or xs i x)
     (old mid now : Content) (asks_old asks_mid asks_now taken_old taken_mid faults_old faults_mid faults_now : ℕ) (answers : List Answer)
-    (so_far : SoFar description options (map f (take i xs)) old mid asks_old asks_mid taken_old taken_mid faults_old faults_mid answers) where
+    (so_far : HasRun description options (map f (take i xs)) old mid asks_old asks_mid taken_old taken_mid faults_old faults_mid answers) where
   pub keys-left : LeavesKeys description options (f x ∷ []) mid now → LeavesKeys description options (map f xs) old now
   keys-left keys =
       subst (λ commands. LeavesKeys description options commands old now)

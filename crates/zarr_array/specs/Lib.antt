@@ -7,7 +7,11 @@ pub mod GridOf
 pub mod OpenArray
 pub mod Overlap
 pub mod Command
+pub mod Options
 pub mod Chunk
 pub mod Session
 pub mod Read
+pub mod Write
+pub mod PartWay
+pub mod Ran
 pub mod CommandError

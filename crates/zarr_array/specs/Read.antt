@@ -1,5 +1,5 @@
 -- How reading a region fails.
-use Rattle.std.specs.Prelude.{◌≡◌, ◌≤◌, ◌+◌, ◌⊎◌, ℕ, List, length, slice_get, Some, None}
+use Rattle.std.specs.Prelude.{◌≡◌, ◌<◌, ◌≤◌, ◌+◌, ◌⊎◌, ℕ, List, length, slice_get, Some, None}
 use Rattle.zarr_model.specs.Region.{Region}
 use Rattle.zarr_model.specs.Grid.{chunks_meeting}
 use Rattle.zarr_model.specs.Store.{Content, chunk_content}
@@ -21,5 +21,5 @@ HasReadCause description options region store k faults_before faults_now (NotOpe
 -- a read of a region that failed with k of its chunks done
 pub record FailsToRead (description : Description) (options : Options) (region : Region) (store : Content) (asks_before asks_now faults_before faults_now k : ℕ) (kind : SessionErrorKind) : Type 0 where
   pub few : k ≤ length (chunks_meeting description.grid region)
-  pub asks : (asks_now ≡ counted asks_before k) ⊎ (asks_now ≡ counted asks_before (k + 1))
+  pub asks : (asks_now ≡ counted asks_before k) ⊎ ((k < length (chunks_meeting description.grid region)) × (asks_now ≡ counted asks_before (k + 1)))
   pub cause : HasReadCause description options region store k faults_before faults_now kind

@@ -1,5 +1,5 @@
 -- When a session ends with an error, and what it then leaves.
-use Rattle.std.specs.Prelude.{◌≡◌, ℕ, false, true, List, Option, Some}
+use Rattle.std.specs.Prelude.{◌≡◌, ℕ, List, Option, Some}
 use Rattle.zarr_model.specs.Codec.{Options}
 use Rattle.zarr_model.specs.Store.{Content}
 use Rattle.zarr_model.specs.Command.{Command, Description}
@@ -9,10 +9,6 @@ use Rattle.zarr_array.specs.declared.open.OpenError.{OpenError}
 use Rattle.zarr_array.specs.OpenArray.{open_refusal_of}
 use Rattle.zarr_array.specs.declared.error.SessionErrorKind.{SessionErrorKind}
 use Rattle.zarr_array.specs.declared.error.SessionErrorKind.TheVariants.{NotOpened, ChunkDecode, Store, OutOfMemory}
-
--- the options of a session: chunks that are all fill are not stored, and checksums are tested
-abbrev pub session_options : Options
-session_options = record { store_empty_chunks = false; validate_checksums = true }
 
 -- each error comes only with its cause, and says what it leaves; want of memory is free
 abbrev pub HasSessionCause : Description → Options → List Command → Content → Content → ℕ → ℕ → Option (ℕ × ℕ) → SessionErrorKind → Type 0

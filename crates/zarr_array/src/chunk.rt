@@ -1,18 +1,21 @@
 //! The chunks of an opened array: which ones a region meets, where each lies, and what is stored of it.
 
-ghost use Rattle.std.specs.Prelude.{◌≡◌, ◌≤◌, ◌<◌, ◌^◌, ℕ, List, true, length, replicate, IfOk, IfErr, Some};
-ghost use Rattle.zarr_model.specs.Region.{count, count_of, tuples, tuple_at, ends_within};
+ghost use Rattle.std.specs.Prelude.{◌≡◌, ◌<◌, ◌^◌, ◌==◌, ℕ, List, true, length, replicate, IfOk, IfSome, OnOk, OnErr, IsErrOf, Some, option_map};
+ghost use Rattle.std.specs.List.{list_all};
+ghost use Rattle.zarr_model.specs.Region.{count, sizes, tuples, tuple_at, ends_within};
 ghost use Rattle.zarr_model.specs.Grid.{IsChunk, chunks_meeting};
 ghost use Rattle.zarr_model.specs.Store.{box_content};
 ghost use Rattle.zarr_model.specs.Command.{layout};
 ghost use Rattle.zarr_model.specs.Cost.{counted};
+ghost use Rattle.zarr_model.specs.Outside.{HasCause, PutsKey, MayPutKey};
 ghost use Rattle.zarrs_array_subset.specs.ArraySubset.{region};
-ghost use Rattle.zarr_array.specs.Session.{session_options};
-ghost use Rattle.zarr_array.specs.Chunk.{byte_elements, FailsToFetch};
+ghost use Rattle.zarr_array.specs.Options.{options_of};
+ghost use Rattle.zarrs_storage.specs.Store.{IsFault};
+ghost use Rattle.zarr_array.specs.Chunk.{byte_elements, stored_value};
 
 use crate::chunk_key::default_chunk_key;
-use crate::error::SessionErrorKind;
 use crate::open::OpenArray;
+use crate::options::CodecOptions;
 use std::alloc::{AllocError, Global};
 use zarrs_array_subset::{ArrayIndicesTinyVec, ArraySubset, push_tuple};
 use zarrs_storage::store::{StorageError, Store};
@@ -94,35 +97,76 @@ impl OpenArray {
         Ok(key)
     }
 
-    /// The elements of a chunk: those of its value, or the fill value where its key is absent.
+    // The elements that a value decodes to in the box of a chunk, if it does. The codec `bytes` alone has no options.
+    #[tactic(auto, using(crate::proofs::ChunkLaws::of_decoded))]
+    fn decode_chunk(
+        &self,
+        value: Vec<u8>,
+        subset: &ArraySubset,
+        _options: &CodecOptions,
+    ) -> Option<Vec<u8>>
+        requires few { count (region subset.now) < 2 ^ 64 }
+        ensures elements { option_map (λ v. byte_elements v.items) result ≡ (layout (described self.now) (options_of _options.now)).decode (sizes (region subset.now)) value.items }
+        ensures as_long { IfSome result (λ v. length v.items ≡ count (region subset.now)) }
+    {
+        if value.len() as u64 == subset.num_elements() {
+            Some(value)
+        } else {
+            None
+        }
+    }
+
+    /// The elements of a chunk: those of its value, or the fill value where its key is absent. None where the value
+    /// does not decode.
     #[tactic(auto, using(crate::proofs::ChunkLaws::of_fetched))]
     pub(crate) fn fetch_chunk<S: Store>(
         &self,
         alloc: Global,
-        key: StoreKey,
+        key: &StoreKey,
         subset: &ArraySubset,
         store: &mut S,
-    ) -> Result<Vec<u8>, SessionErrorKind>
+        options: &CodecOptions,
+    ) -> Result<Option<Vec<u8>>, StorageError>
         requires few { count (region subset.now) < 2 ^ 64 }
-        ensures elements { IfOk result (λ bytes. box_content (layout (described self.now) session_options) (region subset.now) (S.content store.old key) ≡ Some (byte_elements bytes.items)) }
-        ensures as_long { IfOk result (λ bytes. length bytes.items ≡ count (region subset.now)) }
+        ensures elements { IfOk result (λ elements. option_map (λ v. byte_elements v.items) elements ≡ box_content (layout (described self.now) (options_of options.now)) (region subset.now) (S.content store.old key.now)) }
+        ensures as_long { IfOk result (λ elements. IfSome elements (λ v. length v.items ≡ count (region subset.now))) }
         ensures same { (other : List ℕ) → S.content store.new other ≡ S.content store.old other }
         ensures asks { S.ask_count store.new ≡ counted (S.ask_count store.old) 1 }
-        ensures later { S.fault_count store.old ≤ S.fault_count store.new }
-        ensures failed { IfErr result (FailsToFetch (box_content (layout (described self.now) session_options) (region subset.now) (S.content store.old key)) key (S.fault_count store.old) (S.fault_count store.new)) }
+        ensures cause { HasCause IsFault (S.fault_count store.old) (S.fault_count store.new) result }
     {
-        let count = subset.num_elements();
-        match store.get(alloc, &key) {
-            Ok(Some(value)) => {
-                if value.len() as u64 == count {
-                    Ok(value)
-                } else {
-                    Err(SessionErrorKind::ChunkDecode { key })
-                }
-            }
-            Ok(None) => Ok(filled(alloc, self.fill, count)?),
-            Err(StorageError::Failed) => Err(SessionErrorKind::Store),
-            Err(StorageError::OutOfMemory) => Err(SessionErrorKind::OutOfMemory),
+        match store.get(alloc, key) {
+            Ok(Some(value)) => Ok(self.decode_chunk(value, subset, options)),
+            Ok(None) => Ok(Some(filled(alloc, self.fill, subset.num_elements())?)),
+            Err(error) => Err(error),
+        }
+    }
+
+    // Whether all elements are the fill value.
+    fn is_fill(&self, elements: &[u8]) -> bool
+        ensures { result ≡ list_all (λ b. b == self.now.fill) elements.now }
+    {
+        elements.iter().all(|byte| *byte == self.fill)
+    }
+
+    /// Stores the elements of a chunk, or erases its key where all are the fill value and such chunks are not stored.
+    pub(crate) fn store_chunk<S: Store>(
+        &self,
+        alloc: Global,
+        key: &StoreKey,
+        elements: &[u8],
+        store: &mut S,
+        options: &CodecOptions,
+    ) -> Result<(), StorageError>
+        ensures ok { OnOk result (PutsKey (S.content store.old) (S.content store.new) key.now (stored_value (options_of options.now) self.now.fill elements.now)) }
+        ensures failed { OnErr result (MayPutKey (S.content store.old) (S.content store.new) key.now (stored_value (options_of options.now) self.now.fill elements.now)) }
+        ensures memory { IsErrOf result StorageError.OutOfMemory → (other : List ℕ) → S.content store.new other ≡ S.content store.old other }
+        ensures asks { S.ask_count store.new ≡ S.ask_count store.old }
+        ensures cause { HasCause IsFault (S.fault_count store.old) (S.fault_count store.new) result }
+    {
+        if !options.store_empty_chunks() && self.is_fill(elements) {
+            store.erase(key)
+        } else {
+            store.set(alloc, key, elements)
         }
     }
 }

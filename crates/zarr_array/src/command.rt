@@ -1,13 +1,18 @@
 //! Commands on an array, and their replies.
 
 use crate::refusal::Refusal;
-use zarrs_array_subset::ArraySubset;
+use zarrs_array_subset::{ArrayIndices, ArraySubset};
 
 /// A command on an array.
 #[derive(Drop)]
 pub enum Command {
     /// Reads the elements of a region.
     Read(ArraySubset),
+    /// Writes elements to a region, in its row-major order; each is one byte. Where it fails, the chunks that are
+    /// finished stay written.
+    Write(ArraySubset, Vec<u8>),
+    /// Erases the chunk of these indices: all its elements are the fill value then.
+    Erase(ArrayIndices),
 }
 
 /// The reply to a command.
@@ -15,6 +20,8 @@ pub enum Command {
 pub enum Reply {
     /// The elements that were read, in row-major order of the region; each is one byte.
     Elements(Vec<u8>),
+    /// The write or the erase is done.
+    Done,
     /// The command is refused.
     Refused(Refusal),
 }

@@ -5,6 +5,7 @@ ghost use Rattle.std.specs.Prelude.{◌≡◌, None};
 use crate::open::OpenError;
 use std::alloc::{AllocError, AllocFailed};
 use thiserror::Error;
+use zarrs_storage::store::StorageError;
 use zarrs_storage::store_key::StoreKey;
 
 /// Why a session ends with an error.
@@ -44,6 +45,19 @@ impl<T: Drop> From<AllocFailed<T>> for SessionErrorKind {
 
     fn from(_error: AllocFailed<T>) -> SessionErrorKind {
         SessionErrorKind::OutOfMemory
+    }
+}
+
+impl From<StorageError> for SessionErrorKind {
+    ghost use Rattle.zarr_array.specs.Chunk.{storage_kind};
+
+    ghost from_gives = { λ e kind. kind ≡ storage_kind e };
+
+    fn from(error: StorageError) -> SessionErrorKind {
+        match error {
+            StorageError::Failed => SessionErrorKind::Store,
+            StorageError::OutOfMemory => SessionErrorKind::OutOfMemory,
+        }
     }
 }
 

@@ -2,7 +2,7 @@
 
 ghost use Rattle.std.specs.Prelude.{◌≡◌, ◌≤◌, ◌<◌, ◌+◌, ◌/◌, ◌^◌, drop, length};
 ghost use Rattle.zarr_model.specs.Region.{count};
-ghost use Rattle.zarr_array.specs.Overlap.{span_at, shared_from, shared_size, Copied};
+ghost use Rattle.zarr_array.specs.Overlap.{span_at, shared_from, shared_size, with_run, Copied};
 ghost use Rattle.zarrs_array_subset.specs.ArraySubset.{region};
 
 use zarrs_array_subset::ArraySubset;
@@ -46,6 +46,16 @@ fn row_len(elements: &[u8], subset: &ArraySubset, axis: usize) -> usize
     elements.len() / subset.shape()[axis] as usize
 }
 
+// Copies what two boxes share in their last dimension: a run of neighbouring elements of both slices.
+fn copy_run(target: &mut [u8], source: &[u8], shared: SharedSpan)
+    requires target_within { shared.target_at + shared.len ≤ length target.old }
+    requires source_within { shared.source_at + shared.len ≤ length source.now }
+    ensures { target.new ≡ with_run target.old shared.target_at source.now shared.source_at shared.len }
+{
+    let run = &source[shared.source_at..shared.source_at + shared.len];
+    target[shared.target_at..shared.target_at + shared.len].copy_from_slice(run);
+}
+
 #[tactic(auto, using(crate::proofs::CopyLaws::row_within))]
 /// Copies the elements at the indices that two boxes share, from the source to the target. Both slices have their
 /// boxes' elements in row-major order, from dimension `axis` on.
@@ -62,12 +72,17 @@ pub fn copy_shared(
     requires source_count { length source.now ≡ count (drop axis (region source_subset.now)) }
     ensures { Copied (drop axis (region target_subset.now)) (drop axis (region source_subset.now)) source.now target.old target.new }
 {
-    if axis == target_subset.dimensionality() {
+    let rank = target_subset.dimensionality();
+    if axis == rank {
         target[0] = source[0];
         return;
     }
     let shared = shared_span(target_subset, source_subset, axis);
     if shared.len == 0 {
+        return;
+    }
+    if axis + 1 == rank {
+        copy_run(target, source, shared);
         return;
     }
     let target_row = row_len(target, target_subset, axis);

@@ -10,7 +10,7 @@ ghost use Rattle.zarr_model.specs.Command.{layout};
 ghost use Rattle.zarr_model.specs.Failure.{ChunkHas};
 ghost use Rattle.zarr_model.specs.Cost.{counted};
 ghost use Rattle.zarrs_array_subset.specs.ArraySubset.{region};
-ghost use Rattle.zarr_array.specs.Session.{session_options};
+ghost use Rattle.zarr_array.specs.Options.{options_of};
 ghost use Rattle.zarr_array.specs.Overlap.{Copied};
 ghost use Rattle.zarr_array.specs.Chunk.{byte_elements, FailsToFetch};
 ghost use Rattle.zarr_array.specs.Read.{FailsToRead};
@@ -18,6 +18,7 @@ ghost use Rattle.zarr_array.specs.Read.{FailsToRead};
 use crate::chunk::{filled, indices_at};
 use crate::error::{CommandError, SessionErrorKind};
 use crate::open::OpenArray;
+use crate::options::CodecOptions;
 use crate::overlap::copy_shared;
 use std::alloc::Global;
 use zarrs_array_subset::ArraySubset;
@@ -34,24 +35,27 @@ impl OpenArray {
         subset: &ArraySubset,
         elements: &mut [u8],
         store: &mut S,
+        options: &CodecOptions,
     ) -> Result<(), SessionErrorKind>
         requires chunk { IsChunk (described self.now).grid chunk_indices.now }
         requires rank { length (region subset.now) ≡ length ((described self.now).grid.chunk_box chunk_indices.now) }
         requires as_long { length elements.old ≡ count (region subset.now) }
-        ensures copied { OnOk result ((array : Array Element) → ChunkHas (layout (described self.now) session_options) (S.content store.old) array chunk_indices.now →
+        ensures copied { OnOk result ((array : Array Element) → ChunkHas (layout (described self.now) (options_of options.now)) (S.content store.old) array chunk_indices.now →
             Copied (region subset.now) ((described self.now).grid.chunk_box chunk_indices.now) (elements_in ((described self.now).grid.chunk_box chunk_indices.now) array) (byte_elements elements.old) (byte_elements elements.new)) }
-        ensures decodes { OnOk result (IsSome (chunk_content (layout (described self.now) session_options) (S.content store.old) chunk_indices.now)) }
+        ensures decodes { OnOk result (IsSome (chunk_content (layout (described self.now) (options_of options.now)) (S.content store.old) chunk_indices.now)) }
         ensures kept_length { length elements.new ≡ length elements.old }
         ensures same { (key : List ℕ) → S.content store.new key ≡ S.content store.old key }
         ensures asks { OnOk result (S.ask_count store.new ≡ counted (S.ask_count store.old) 1) }
         ensures asks_err { OnErr result ((S.ask_count store.new ≡ S.ask_count store.old) ⊎ (S.ask_count store.new ≡ counted (S.ask_count store.old) 1)) }
         ensures later { S.fault_count store.old ≤ S.fault_count store.new }
-        ensures failed { IfErr result (FailsToFetch (chunk_content (layout (described self.now) session_options) (S.content store.old) chunk_indices.now)
+        ensures failed { IfErr result (FailsToFetch (chunk_content (layout (described self.now) (options_of options.now)) (S.content store.old) chunk_indices.now)
             ((described self.now).key chunk_indices.now) (S.fault_count store.old) (S.fault_count store.new)) }
     {
         let chunk_subset = self.chunk_subset(alloc, chunk_indices)?;
         let key = self.chunk_key(alloc, chunk_indices)?;
-        let value = self.fetch_chunk(alloc, key, &chunk_subset, store)?;
+        let Some(value) = self.fetch_chunk(alloc, &key, &chunk_subset, store, options)? else {
+            return Err(SessionErrorKind::ChunkDecode { key });
+        };
         copy_shared(elements, subset, &value, &chunk_subset, 0);
         Ok(())
     }
@@ -65,25 +69,33 @@ impl OpenArray {
         subset: &ArraySubset,
         elements: &mut [u8],
         store: &mut S,
+        options: &CodecOptions,
     ) -> Result<(), SessionErrorKind>
         requires few { count (region chunks.now) < 2 ^ 64 }
         requires below { number < count (region chunks.now) }
         requires chunk { IsChunk (described self.now).grid (tuple_at (region chunks.now) number) }
         requires rank { length (region subset.now) ≡ length ((described self.now).grid.chunk_box (tuple_at (region chunks.now) number)) }
         requires as_long { length elements.old ≡ count (region subset.now) }
-        ensures copied { OnOk result ((array : Array Element) → ChunkHas (layout (described self.now) session_options) (S.content store.old) array (tuple_at (region chunks.now) number) →
+        ensures copied { OnOk result ((array : Array Element) → ChunkHas (layout (described self.now) (options_of options.now)) (S.content store.old) array (tuple_at (region chunks.now) number) →
             Copied (region subset.now) ((described self.now).grid.chunk_box (tuple_at (region chunks.now) number)) (elements_in ((described self.now).grid.chunk_box (tuple_at (region chunks.now) number)) array) (byte_elements elements.old) (byte_elements elements.new)) }
-        ensures decodes { OnOk result (IsSome (chunk_content (layout (described self.now) session_options) (S.content store.old) (tuple_at (region chunks.now) number))) }
+        ensures decodes { OnOk result (IsSome (chunk_content (layout (described self.now) (options_of options.now)) (S.content store.old) (tuple_at (region chunks.now) number))) }
         ensures kept_length { length elements.new ≡ length elements.old }
         ensures same { (key : List ℕ) → S.content store.new key ≡ S.content store.old key }
         ensures asks { OnOk result (S.ask_count store.new ≡ counted (S.ask_count store.old) 1) }
         ensures asks_err { OnErr result ((S.ask_count store.new ≡ S.ask_count store.old) ⊎ (S.ask_count store.new ≡ counted (S.ask_count store.old) 1)) }
         ensures later { S.fault_count store.old ≤ S.fault_count store.new }
-        ensures failed { IfErr result (FailsToFetch (chunk_content (layout (described self.now) session_options) (S.content store.old) (tuple_at (region chunks.now) number))
+        ensures failed { IfErr result (FailsToFetch (chunk_content (layout (described self.now) (options_of options.now)) (S.content store.old) (tuple_at (region chunks.now) number))
             ((described self.now).key (tuple_at (region chunks.now) number)) (S.fault_count store.old) (S.fault_count store.new)) }
     {
         let chunk_indices = indices_at(alloc, chunks, number, chunks.num_elements())?;
-        self.read_chunk(alloc, chunk_indices.as_slice(), subset, elements, store)
+        self.read_chunk(
+            alloc,
+            chunk_indices.as_slice(),
+            subset,
+            elements,
+            store,
+            options,
+        )
     }
 
     // Reads each chunk that a region meets, once, into the region's bytes.
@@ -94,25 +106,28 @@ impl OpenArray {
         subset: &ArraySubset,
         elements: &mut [u8],
         store: &mut S,
+        options: &CodecOptions,
     ) -> Result<(), CommandError>
         requires listed { tuples (region chunks.now) ≡ chunks_meeting (described self.now).grid (region subset.now) }
         requires few { count (region chunks.now) < 2 ^ 64 }
         requires inside { ends_within (region subset.now) (described self.now).shape ≡ true }
         requires as_long { length elements.old ≡ count (region subset.now) }
-        ensures elements { OnOk result ((array : Array Element) → WhollyMeans (layout (described self.now) session_options) (S.content store.old) array →
+        ensures elements { OnOk result ((array : Array Element) → WhollyMeans (layout (described self.now) (options_of options.now)) (S.content store.old) array →
             byte_elements elements.new ≡ elements_in (region subset.now) array) }
         ensures decodes { OnOk result ((k : ℕ) (chunk : List ℕ) → slice_get (chunks_meeting (described self.now).grid (region subset.now)) k ≡ Some chunk →
-            IsSome (chunk_content (layout (described self.now) session_options) (S.content store.old) chunk)) }
+            IsSome (chunk_content (layout (described self.now) (options_of options.now)) (S.content store.old) chunk)) }
         ensures kept_length { length elements.new ≡ length elements.old }
         ensures same { (key : List ℕ) → S.content store.new key ≡ S.content store.old key }
         ensures asks { OnOk result (S.ask_count store.new ≡ counted (S.ask_count store.old) (length (chunks_meeting (described self.now).grid (region subset.now)))) }
         ensures later { S.fault_count store.old ≤ S.fault_count store.new }
-        ensures failed { IfErr result (λ error. FailsToRead (described self.now) session_options (region subset.now) (S.content store.old)
+        ensures failed { IfErr result (λ error. FailsToRead (described self.now) (options_of options.now) (region subset.now) (S.content store.old)
             (S.ask_count store.old) (S.ask_count store.new) (S.fault_count store.old) (S.fault_count store.new) error.chunks_done error.kind) }
     {
         let num_chunks = chunks.num_elements();
         for number in 0..num_chunks {
-            if let Err(kind) = self.read_numbered(alloc, chunks, number, subset, elements, store) {
+            if let Err(kind) = self.read_numbered(
+                alloc, chunks, number, subset, elements, store, options,
+            ) {
                 return Err(CommandError {
                     chunks_done: number,
                     kind,
@@ -130,22 +145,30 @@ impl OpenArray {
         alloc: Global,
         subset: &ArraySubset,
         store: &mut S,
+        options: &CodecOptions,
     ) -> Result<Vec<u8>, CommandError>
         requires inside { ends_within (region subset.now) (described self.now).shape ≡ true }
-        ensures elements { IfOk result (λ elements. (array : Array Element) → WhollyMeans (layout (described self.now) session_options) (S.content store.old) array →
+        ensures elements { IfOk result (λ elements. (array : Array Element) → WhollyMeans (layout (described self.now) (options_of options.now)) (S.content store.old) array →
             byte_elements elements.items ≡ elements_in (region subset.now) array) }
         ensures decodes { OnOk result ((k : ℕ) (chunk : List ℕ) → slice_get (chunks_meeting (described self.now).grid (region subset.now)) k ≡ Some chunk →
-            IsSome (chunk_content (layout (described self.now) session_options) (S.content store.old) chunk)) }
+            IsSome (chunk_content (layout (described self.now) (options_of options.now)) (S.content store.old) chunk)) }
         ensures as_long { IfOk result (λ elements. length elements.items ≡ count (region subset.now)) }
         ensures same { (key : List ℕ) → S.content store.new key ≡ S.content store.old key }
         ensures asks { OnOk result (S.ask_count store.new ≡ counted (S.ask_count store.old) (length (chunks_meeting (described self.now).grid (region subset.now)))) }
         ensures later { S.fault_count store.old ≤ S.fault_count store.new }
-        ensures failed { IfErr result (λ error. FailsToRead (described self.now) session_options (region subset.now) (S.content store.old)
+        ensures failed { IfErr result (λ error. FailsToRead (described self.now) (options_of options.now) (region subset.now) (S.content store.old)
             (S.ask_count store.old) (S.ask_count store.new) (S.fault_count store.old) (S.fault_count store.new) error.chunks_done error.kind) }
     {
         let mut elements = filled(alloc, self.fill, subset.num_elements())?;
         let chunks = self.chunks_meeting(alloc, subset)?;
-        self.read_chunks(alloc, &chunks, subset, elements.as_mut_slice(), store)?;
+        self.read_chunks(
+            alloc,
+            &chunks,
+            subset,
+            elements.as_mut_slice(),
+            store,
+            options,
+        )?;
         Ok(elements)
     }
 }

@@ -2,8 +2,9 @@
 //!
 //! See <https://zarr-specs.readthedocs.io/en/latest/v3/core/index.html#regular-grids>.
 
-ghost use Rattle.std.specs.Prelude.{◌≡◌, ◌≤◌, ◌<◌, true, length, IfOk};
-ghost use Rattle.zarr_model.specs.Region.{count, tuples, ends_within};
+ghost use Rattle.std.specs.Prelude.{◌≡◌, ◌≤◌, ◌<◌, nat_lt, true, length, zip, IfOk};
+ghost use Rattle.std.specs.List.{list_all};
+ghost use Rattle.zarr_model.specs.Region.{count, whole, contains, tuples, ends_within};
 ghost use Rattle.zarr_model.specs.Grid.{IsChunk, chunks_meeting, regular_grid};
 ghost use Rattle.zarrs_array_subset.specs.ArraySubset.{region};
 ghost use Rattle.zarr_array.specs.RegularGrid.{BoxFits, nonzeros, quotients_up, quotients, lasts, products, counts_between, chunk_region};
@@ -65,6 +66,16 @@ fn products(alloc: Global, chunk: &[u64], lengths: &[NonZeroU64]) -> Result<Vec<
         .collect(alloc)
 }
 
+// Whether each index is below the count in its place.
+fn are_below(indices: &[u64], counts: &[u64]) -> bool
+    ensures { result ≡ list_all (λ p. nat_lt p.0 p.1) (zip indices.now counts.now) }
+{
+    indices
+        .iter()
+        .zip(counts)
+        .all(|(index, count)| *index < *count)
+}
+
 // The lengths as numbers.
 fn numbers(alloc: Global, lengths: &[NonZeroU64]) -> Result<Vec<u64>, AllocError>
     ensures { IfOk result (λ v. v.items ≡ nonzeros lengths.now) }
@@ -122,6 +133,13 @@ impl RegularGrid {
             chunk_shape,
             grid_shape,
         })
+    }
+
+    /// Whether a chunk of the grid has these indices.
+    pub fn has_chunk(&self, chunk_indices: &[u64]) -> bool
+        ensures { result ≡ contains (whole (grid_of_regular self.now).grid_shape) chunk_indices.now }
+    {
+        chunk_indices.len() == self.grid_shape.len() && are_below(chunk_indices, &self.grid_shape)
     }
 
     /// The box of a chunk, which is whole also at the edge of the array.

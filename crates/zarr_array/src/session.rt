@@ -1,81 +1,45 @@
 //! Sessions: a list of commands over a store.
 
-ghost use Rattle.std.specs.Prelude.{◌≡◌, ◌≤◌, ℕ, List, [], ◌∷◌, map, None, IfOk, IfErr, OnOk, IsOk, IsErr};
-ghost use Rattle.zarr_model.specs.Command.{layout, read};
+ghost use Rattle.std.specs.Prelude.{◌≡◌, ◌≤◌, map, None, IfOk, IfErr, OnOk, IsErr};
+ghost use Rattle.zarr_model.specs.Command.{layout};
 ghost use Rattle.zarr_model.specs.Store.{IsHonest};
 ghost use Rattle.zarr_model.specs.Outside.{Rose};
 ghost use Rattle.zarr_model.specs.Cost.{all_asks, counted};
 ghost use Rattle.zarr_model.specs.Causes.{MeetsNoDamage};
 ghost use Rattle.zarr_model.specs.Session.{LeavesKeys, ServesArray, RefusesRight, AreRefused, IsUntouched};
-ghost use Rattle.zarrs_array_subset.specs.ArraySubset.{region as region_of_subset};
 ghost use Rattle.zarr_array.specs.Document.{ArrayDocument, describe};
 ghost use Rattle.zarr_array.specs.Opening.{OpenRefusal, opened, not_opened};
 ghost use Rattle.zarr_array.specs.Narrow.{open_narrow};
 ghost use Rattle.zarr_array.specs.declared.open.OpenError.{OpenError};
 ghost use Rattle.zarr_array.specs.Command.{command_of, answer_of};
-ghost use Rattle.zarr_array.specs.Session.{session_options, FailsAt, IsNotOpenedBy, IsRefused};
+ghost use Rattle.zarr_array.specs.Options.{options_of};
+ghost use Rattle.zarr_array.specs.Session.{FailsAt, IsNotOpenedBy, IsRefused};
 
 use crate::command::{Command, Reply};
 use crate::error::{SessionError, SessionErrorKind};
 use crate::open::{OpenArray, OpenError};
+use crate::options::CodecOptions;
 use std::alloc::Global;
-use zarrs_array_subset::ArraySubset;
 use zarrs_storage::store::Store;
 
 impl OpenArray {
     ghost use Rattle.zarr_array.specs.OpenArray.{described};
 
-    /// Reads a region of the array: its elements in row-major order, or why it is refused.
-    ///
-    /// Each chunk that the region meets is asked for once, after the room for the elements is taken. The command is
-    /// number 0 in an error.
-    pub fn read<S: Store>(
-        &self,
-        alloc: Global,
-        region: &ArraySubset,
-        store: &mut S,
-    ) -> Result<Reply, SessionError>
-        // Over an honest store: the reply, and what is left.
-        ensures serves { IfOk result (λ reply. IsHonest (layout (described self.now) session_options) (S.content store.old) →
-            ServesArray (described self.now) session_options (read (region_of_subset region.now) ∷ []) (S.content store.old) (S.content store.new) (answer_of reply ∷ [])) }
-        ensures complete { IsHonest (layout (described self.now) session_options) (S.content store.old) → ¬ Rose (S.fault_count store.old) (S.fault_count store.new) →
-            IfErr result (λ error. error.kind ≡ SessionErrorKind.OutOfMemory) }
-
-        // Over any store: the refusal, the reading calls, that each chunk met decodes, and that a read changes nothing.
-        ensures refusals { IfOk result (λ reply. RefusesRight (described self.now) (read (region_of_subset region.now) ∷ []) (answer_of reply ∷ [])) }
-        ensures refused { AreRefused (described self.now) (read (region_of_subset region.now) ∷ []) →
-            IsUntouched (S.content store.old) (S.content store.new) (S.ask_count store.old) (S.ask_count store.new) (S.taken_count store.old) (S.taken_count store.new) × IsOk result }
-        ensures asks { OnOk result (S.ask_count store.new ≡ counted (S.ask_count store.old) (all_asks (described self.now) (read (region_of_subset region.now) ∷ []))) }
-        ensures undamaged { OnOk result (MeetsNoDamage (described self.now) session_options (read (region_of_subset region.now) ∷ []) (S.content store.old)) }
-        ensures same { (key : List ℕ) → S.content store.new key ≡ S.content store.old key }
-        ensures later { S.fault_count store.old ≤ S.fault_count store.new }
-
-        // Each error has its place, the reading calls up to it, and its cause.
-        ensures failed { IfErr result (λ error. FailsAt (described self.now) session_options (read (region_of_subset region.now) ∷ []) (S.content store.old) (S.content store.new)
-            (S.ask_count store.old) (S.ask_count store.new) (S.fault_count store.old) (S.fault_count store.new) error.at error.kind) }
-    {
-        match self.run_read(alloc, region, store) {
-            Ok(reply) => Ok(reply),
-            Err(error) => Err(SessionError {
-                at: Some((0, error.chunks_done)),
-                kind: error.kind,
-            }),
-        }
-    }
-
     /// Runs commands over a store. The replies are those of one plain array that the store means.
     ///
     /// The room for the replies is taken first; an error then says at which command, and after how many of its chunks.
+    /// The commands before stand, and so do these chunks.
     pub fn run_commands<S: Store>(
         &self,
         alloc: Global,
         commands: &[Command],
         store: &mut S,
+        options: &CodecOptions,
     ) -> Result<Vec<Reply>, SessionError>
         // Over an honest store: the replies, and what is left.
-        ensures serves { IfOk result (λ replies. IsHonest (layout (described self.now) session_options) (S.content store.old) →
-            ServesArray (described self.now) session_options (map command_of commands.now) (S.content store.old) (S.content store.new) (map answer_of replies.items)) }
-        ensures complete { IsHonest (layout (described self.now) session_options) (S.content store.old) → ¬ Rose (S.fault_count store.old) (S.fault_count store.new) →
+        ensures serves { IfOk result (λ replies. IsHonest (layout (described self.now) (options_of options.now)) (S.content store.old) →
+            ServesArray (described self.now) (options_of options.now) (map command_of commands.now) (S.content store.old) (S.content store.new) (map answer_of replies.items)) }
+        ensures complete { IsHonest (layout (described self.now) (options_of options.now)) (S.content store.old) → ¬ Rose (S.fault_count store.old) (S.fault_count store.new) →
             IfErr result (λ error. error.kind ≡ SessionErrorKind.OutOfMemory) }
 
         // Over any store: the refusals, the reading calls, that each chunk met decodes, and the keys that stay after every end.
@@ -83,12 +47,12 @@ impl OpenArray {
         ensures refused { AreRefused (described self.now) (map command_of commands.now) →
             IsUntouched (S.content store.old) (S.content store.new) (S.ask_count store.old) (S.ask_count store.new) (S.taken_count store.old) (S.taken_count store.new) }
         ensures asks { OnOk result (S.ask_count store.new ≡ counted (S.ask_count store.old) (all_asks (described self.now) (map command_of commands.now))) }
-        ensures undamaged { OnOk result (MeetsNoDamage (described self.now) session_options (map command_of commands.now) (S.content store.old)) }
-        ensures keys { LeavesKeys (described self.now) session_options (map command_of commands.now) (S.content store.old) (S.content store.new) }
+        ensures undamaged { OnOk result (MeetsNoDamage (described self.now) (options_of options.now) (map command_of commands.now) (S.content store.old)) }
+        ensures keys { LeavesKeys (described self.now) (options_of options.now) (map command_of commands.now) (S.content store.old) (S.content store.new) }
         ensures later { S.fault_count store.old ≤ S.fault_count store.new }
 
         // Each error has its place, the reading calls up to it, and its cause.
-        ensures failed { IfErr result (λ error. FailsAt (described self.now) session_options (map command_of commands.now) (S.content store.old) (S.content store.new)
+        ensures failed { IfErr result (λ error. FailsAt (described self.now) (options_of options.now) (map command_of commands.now) (S.content store.old) (S.content store.new)
             (S.ask_count store.old) (S.ask_count store.new) (S.fault_count store.old) (S.fault_count store.new) error.at error.kind) }
     {
         let mut replies = match Vec::with_capacity(alloc, commands.len()) {
@@ -96,7 +60,7 @@ impl OpenArray {
             Err(_) => return Err(SessionError::before_commands(SessionErrorKind::OutOfMemory)),
         };
         for (number, command) in commands.iter().enumerate() {
-            match self.run_command(alloc, command, store) {
+            match self.run_command(alloc, command, store, options) {
                 Ok(reply) => replies.push(reply).unwrap(),
                 Err(error) => {
                     return Err(SessionError {
@@ -118,6 +82,7 @@ pub fn run_session<S: Store>(
     metadata: &str,
     commands: &[Command],
     store: &mut S,
+    options: &CodecOptions,
 ) -> Result<Vec<Reply>, SessionError>
     // It is not opened exactly where opening refuses the text, and then nothing is touched.
     ensures not_opened { (why : OpenRefusal) → open_narrow metadata.now ≡ not_opened why → IfErr result (λ error. IsNotOpenedBy error.kind why × (error.at ≡ None)) × (IsErr result
@@ -127,9 +92,9 @@ pub fn run_session<S: Store>(
         × IsUntouched (S.content store.old) (S.content store.new) (S.ask_count store.old) (S.ask_count store.new) (S.taken_count store.old) (S.taken_count store.new)) }
 
     // Where the text is opened, the clauses of `run_commands` hold for the array that its document describes.
-    ensures serves { (document : ArrayDocument) → open_narrow metadata.now ≡ opened document → IfOk result (λ replies. IsHonest (layout (describe document) session_options) (S.content store.old) →
-        ServesArray (describe document) session_options (map command_of commands.now) (S.content store.old) (S.content store.new) (map answer_of replies.items)) }
-    ensures complete { (document : ArrayDocument) → open_narrow metadata.now ≡ opened document → IsHonest (layout (describe document) session_options) (S.content store.old) →
+    ensures serves { (document : ArrayDocument) → open_narrow metadata.now ≡ opened document → IfOk result (λ replies. IsHonest (layout (describe document) (options_of options.now)) (S.content store.old) →
+        ServesArray (describe document) (options_of options.now) (map command_of commands.now) (S.content store.old) (S.content store.new) (map answer_of replies.items)) }
+    ensures complete { (document : ArrayDocument) → open_narrow metadata.now ≡ opened document → IsHonest (layout (describe document) (options_of options.now)) (S.content store.old) →
         ¬ Rose (S.fault_count store.old) (S.fault_count store.new) → IfErr result (λ error. error.kind ≡ SessionErrorKind.OutOfMemory) }
     ensures refusals { (document : ArrayDocument) → open_narrow metadata.now ≡ opened document →
         IfOk result (λ replies. RefusesRight (describe document) (map command_of commands.now) (map answer_of replies.items)) }
@@ -138,15 +103,15 @@ pub fn run_session<S: Store>(
     ensures asks { (document : ArrayDocument) → open_narrow metadata.now ≡ opened document →
         OnOk result (S.ask_count store.new ≡ counted (S.ask_count store.old) (all_asks (describe document) (map command_of commands.now))) }
     ensures undamaged { (document : ArrayDocument) → open_narrow metadata.now ≡ opened document →
-        OnOk result (MeetsNoDamage (describe document) session_options (map command_of commands.now) (S.content store.old)) }
+        OnOk result (MeetsNoDamage (describe document) (options_of options.now) (map command_of commands.now) (S.content store.old)) }
     ensures keys { (document : ArrayDocument) → open_narrow metadata.now ≡ opened document →
-        LeavesKeys (describe document) session_options (map command_of commands.now) (S.content store.old) (S.content store.new) }
+        LeavesKeys (describe document) (options_of options.now) (map command_of commands.now) (S.content store.old) (S.content store.new) }
     ensures later { S.fault_count store.old ≤ S.fault_count store.new }
-    ensures failed { (document : ArrayDocument) → open_narrow metadata.now ≡ opened document → IfErr result (λ error. FailsAt (describe document) session_options (map command_of commands.now)
+    ensures failed { (document : ArrayDocument) → open_narrow metadata.now ≡ opened document → IfErr result (λ error. FailsAt (describe document) (options_of options.now) (map command_of commands.now)
         (S.content store.old) (S.content store.new) (S.ask_count store.old) (S.ask_count store.new) (S.fault_count store.old) (S.fault_count store.new) error.at error.kind) }
 {
     match OpenArray::open(alloc, metadata) {
-        Ok(array) => array.run_commands(alloc, commands, store),
+        Ok(array) => array.run_commands(alloc, commands, store, options),
         Err(OpenError::OutOfMemory) => Err(SessionError::before_commands(
             SessionErrorKind::OutOfMemory,
         )),

@@ -1,20 +1,22 @@
 //! One command of a session.
 
-ghost use Rattle.std.specs.Prelude.{◌≡◌, ◌≤◌, ℕ, List, [], ◌∷◌, Some, IsOk, IfOk, IfErr, OnOk};
-ghost use Rattle.zarr_model.specs.Command.{read};
-ghost use Rattle.zarr_model.specs.Cost.{all_asks, counted};
-ghost use Rattle.zarr_model.specs.Session.{LeavesKeys, ServesWhole, RefusesRight, AreRefused, IsUntouched};
-ghost use Rattle.zarr_model.specs.Causes.{KeepsDamage, MeetsNoDamage};
+ghost use Rattle.std.specs.Prelude.{◌≡◌, ◌≤◌, ℕ, List, [], ◌∷◌, Some, IsOk, IfOk, IfErr};
+ghost use Rattle.zarr_model.specs.ArrayBytes.{fixed_bytes};
+ghost use Rattle.zarr_model.specs.Command.{read, write, erase};
+ghost use Rattle.zarr_model.specs.Session.{LeavesKeys, AreRefused, IsUntouched};
 ghost use Rattle.zarrs_array_subset.specs.ArraySubset.{region};
 ghost use Rattle.zarr_array.specs.Command.{command_of, answer_of};
-ghost use Rattle.zarr_array.specs.Session.{session_options, FailsAt};
+ghost use Rattle.zarr_array.specs.Options.{options_of};
+ghost use Rattle.zarr_array.specs.Ran.{HasRun};
+ghost use Rattle.zarr_array.specs.Session.{FailsAt};
 
 use crate::command::{Command, Reply};
-use crate::error::CommandError;
+use crate::error::{CommandError, SessionErrorKind};
 use crate::open::OpenArray;
+use crate::options::CodecOptions;
 use std::alloc::Global;
 use zarrs_array_subset::ArraySubset;
-use zarrs_storage::store::Store;
+use zarrs_storage::store::{StorageError, Store};
 
 impl OpenArray {
     ghost use Rattle.zarr_array.specs.OpenArray.{described};
@@ -25,25 +27,79 @@ impl OpenArray {
         alloc: Global,
         subset: &ArraySubset,
         store: &mut S,
+        options: &CodecOptions,
     ) -> Result<Reply, CommandError>
-        ensures serves { IfOk result (λ reply. ServesWhole (described self.now) session_options (read (region subset.now) ∷ []) (S.content store.old) (S.content store.new) (answer_of reply ∷ [])) }
-        ensures refusals { IfOk result (λ reply. RefusesRight (described self.now) (read (region subset.now) ∷ []) (answer_of reply ∷ [])) }
+        ensures ran { IfOk result (λ reply. HasRun (described self.now) (options_of options.now) (read (region subset.now) ∷ []) (S.content store.old) (S.content store.new)
+            (S.ask_count store.old) (S.ask_count store.new) (S.taken_count store.old) (S.taken_count store.new) (S.fault_count store.old) (S.fault_count store.new) (answer_of reply ∷ [])) }
         ensures refused { AreRefused (described self.now) (read (region subset.now) ∷ []) →
             IsUntouched (S.content store.old) (S.content store.new) (S.ask_count store.old) (S.ask_count store.new) (S.taken_count store.old) (S.taken_count store.new) × IsOk result }
-        ensures asks { OnOk result (S.ask_count store.new ≡ counted (S.ask_count store.old) (all_asks (described self.now) (read (region subset.now) ∷ []))) }
-        ensures keys { LeavesKeys (described self.now) session_options (read (region subset.now) ∷ []) (S.content store.old) (S.content store.new) }
+        ensures keys { LeavesKeys (described self.now) (options_of options.now) (read (region subset.now) ∷ []) (S.content store.old) (S.content store.new) }
         ensures same { (key : List ℕ) → S.content store.new key ≡ S.content store.old key }
-        ensures met { OnOk result (MeetsNoDamage (described self.now) session_options (read (region subset.now) ∷ []) (S.content store.old)) }
-        ensures damage { KeepsDamage (described self.now) session_options (read (region subset.now) ∷ []) (S.content store.old) (S.content store.new) }
         ensures later { S.fault_count store.old ≤ S.fault_count store.new }
-        ensures failed { IfErr result (λ error. FailsAt (described self.now) session_options (read (region subset.now) ∷ []) (S.content store.old) (S.content store.new)
+        ensures failed { IfErr result (λ error. FailsAt (described self.now) (options_of options.now) (read (region subset.now) ∷ []) (S.content store.old) (S.content store.new)
             (S.ask_count store.old) (S.ask_count store.new) (S.fault_count store.old) (S.fault_count store.new) (Some (0, error.chunks_done)) error.kind) }
     {
         if let Some(refusal) = self.region_refusal(subset) {
             return Ok(Reply::Refused(refusal));
         }
-        let elements = self.read_elements(alloc, subset, store)?;
+        let elements = self.read_elements(alloc, subset, store, options)?;
         Ok(Reply::Elements(elements))
+    }
+
+    /// Runs a write.
+    pub(crate) fn run_write<S: Store>(
+        &self,
+        alloc: Global,
+        subset: &ArraySubset,
+        elements: &[u8],
+        store: &mut S,
+        options: &CodecOptions,
+    ) -> Result<Reply, CommandError>
+        ensures ran { IfOk result (λ reply. HasRun (described self.now) (options_of options.now) (write (region subset.now) (fixed_bytes elements.now) ∷ []) (S.content store.old) (S.content store.new)
+            (S.ask_count store.old) (S.ask_count store.new) (S.taken_count store.old) (S.taken_count store.new) (S.fault_count store.old) (S.fault_count store.new) (answer_of reply ∷ [])) }
+        ensures refused { AreRefused (described self.now) (write (region subset.now) (fixed_bytes elements.now) ∷ []) →
+            IsUntouched (S.content store.old) (S.content store.new) (S.ask_count store.old) (S.ask_count store.new) (S.taken_count store.old) (S.taken_count store.new) × IsOk result }
+        ensures keys { LeavesKeys (described self.now) (options_of options.now) (write (region subset.now) (fixed_bytes elements.now) ∷ []) (S.content store.old) (S.content store.new) }
+        ensures later { S.fault_count store.old ≤ S.fault_count store.new }
+        ensures failed { IfErr result (λ error. FailsAt (described self.now) (options_of options.now) (write (region subset.now) (fixed_bytes elements.now) ∷ []) (S.content store.old) (S.content store.new)
+            (S.ask_count store.old) (S.ask_count store.new) (S.fault_count store.old) (S.fault_count store.new) (Some (0, error.chunks_done)) error.kind) }
+    {
+        if let Some(refusal) = self.write_refusal(subset, elements) {
+            return Ok(Reply::Refused(refusal));
+        }
+        self.write_elements(alloc, subset, elements, store, options)?;
+        Ok(Reply::Done)
+    }
+
+    /// Runs an erase: one call on the store, which reads nothing.
+    pub(crate) fn run_erase<S: Store>(
+        &self,
+        alloc: Global,
+        chunk_indices: &[u64],
+        store: &mut S,
+        options: &CodecOptions,
+    ) -> Result<Reply, CommandError>
+        ensures ran { IfOk result (λ reply. HasRun (described self.now) (options_of options.now) (erase chunk_indices.now ∷ []) (S.content store.old) (S.content store.new)
+            (S.ask_count store.old) (S.ask_count store.new) (S.taken_count store.old) (S.taken_count store.new) (S.fault_count store.old) (S.fault_count store.new) (answer_of reply ∷ [])) }
+        ensures refused { AreRefused (described self.now) (erase chunk_indices.now ∷ []) →
+            IsUntouched (S.content store.old) (S.content store.new) (S.ask_count store.old) (S.ask_count store.new) (S.taken_count store.old) (S.taken_count store.new) × IsOk result }
+        ensures keys { LeavesKeys (described self.now) (options_of options.now) (erase chunk_indices.now ∷ []) (S.content store.old) (S.content store.new) }
+        ensures later { S.fault_count store.old ≤ S.fault_count store.new }
+        ensures failed { IfErr result (λ error. FailsAt (described self.now) (options_of options.now) (erase chunk_indices.now ∷ []) (S.content store.old) (S.content store.new)
+            (S.ask_count store.old) (S.ask_count store.new) (S.fault_count store.old) (S.fault_count store.new) (Some (0, error.chunks_done)) error.kind) }
+    {
+        if let Some(refusal) = self.erase_refusal(chunk_indices) {
+            return Ok(Reply::Refused(refusal));
+        }
+        let key = self.chunk_key(alloc, chunk_indices)?;
+        match store.erase(&key) {
+            Ok(()) => Ok(Reply::Done),
+            Err(StorageError::Failed) => Err(CommandError {
+                chunks_done: 0,
+                kind: SessionErrorKind::Store,
+            }),
+            Err(StorageError::OutOfMemory) => unreachable!(),
+        }
     }
 
     /// Runs one command. A refused one makes no call on the store.
@@ -52,21 +108,23 @@ impl OpenArray {
         alloc: Global,
         command: &Command,
         store: &mut S,
+        options: &CodecOptions,
     ) -> Result<Reply, CommandError>
-        ensures serves { IfOk result (λ reply. ServesWhole (described self.now) session_options (command_of command.now ∷ []) (S.content store.old) (S.content store.new) (answer_of reply ∷ [])) }
-        ensures refusals { IfOk result (λ reply. RefusesRight (described self.now) (command_of command.now ∷ []) (answer_of reply ∷ [])) }
+        ensures ran { IfOk result (λ reply. HasRun (described self.now) (options_of options.now) (command_of command.now ∷ []) (S.content store.old) (S.content store.new)
+            (S.ask_count store.old) (S.ask_count store.new) (S.taken_count store.old) (S.taken_count store.new) (S.fault_count store.old) (S.fault_count store.new) (answer_of reply ∷ [])) }
         ensures refused { AreRefused (described self.now) (command_of command.now ∷ []) →
             IsUntouched (S.content store.old) (S.content store.new) (S.ask_count store.old) (S.ask_count store.new) (S.taken_count store.old) (S.taken_count store.new) × IsOk result }
-        ensures asks { OnOk result (S.ask_count store.new ≡ counted (S.ask_count store.old) (all_asks (described self.now) (command_of command.now ∷ []))) }
-        ensures keys { LeavesKeys (described self.now) session_options (command_of command.now ∷ []) (S.content store.old) (S.content store.new) }
-        ensures met { OnOk result (MeetsNoDamage (described self.now) session_options (command_of command.now ∷ []) (S.content store.old)) }
-        ensures damage { KeepsDamage (described self.now) session_options (command_of command.now ∷ []) (S.content store.old) (S.content store.new) }
+        ensures keys { LeavesKeys (described self.now) (options_of options.now) (command_of command.now ∷ []) (S.content store.old) (S.content store.new) }
         ensures later { S.fault_count store.old ≤ S.fault_count store.new }
-        ensures failed { IfErr result (λ error. FailsAt (described self.now) session_options (command_of command.now ∷ []) (S.content store.old) (S.content store.new)
+        ensures failed { IfErr result (λ error. FailsAt (described self.now) (options_of options.now) (command_of command.now ∷ []) (S.content store.old) (S.content store.new)
             (S.ask_count store.old) (S.ask_count store.new) (S.fault_count store.old) (S.fault_count store.new) (Some (0, error.chunks_done)) error.kind) }
     {
         match command {
-            Command::Read(subset) => self.run_read(alloc, subset, store),
+            Command::Read(subset) => self.run_read(alloc, subset, store, options),
+            Command::Write(subset, elements) => {
+                self.run_write(alloc, subset, elements, store, options)
+            }
+            Command::Erase(chunk_indices) => self.run_erase(alloc, chunk_indices, store, options),
         }
     }
 }

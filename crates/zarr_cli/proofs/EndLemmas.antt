@@ -1,18 +1,19 @@
 -- From the run of an input to the clauses of the program.
-use Rattle.std.proofs.Common.{◌≡◌, ℕ, ◌+◌, ◌<◌, ◌≤◌, false, List, [], ◌∷◌, length, map, Option, Some, None, Result, Ok, Err, IfOk, IfErr, OnOk, MatchResult, ◌⊎◌, inl, inr, refl, sym, ap, ◌∙◌, subst, arith, Vec, String, add-zero}
+use Rattle.std.proofs.Common.{◌≡◌, ℕ, ◌<◌, ◌≤◌, false, List, length, map, Option, Some, None, Result, Ok, Err, IfOk, IfErr, OnOk, MatchResult, ◌⊎◌, inl, inr, refl, sym, ap, ◌∙◌, subst, arith, Vec}
 use Rattle.std.specs.declared.alloc.Global.{Global}
 use Rattle.zarr_model.specs.Store.{Content, with_keys}
 use Rattle.zarr_model.specs.Session.{AreRefused, IsUntouched}
-use Rattle.zarr_model.specs.Cost.{all_asks, counted}
+use Rattle.zarr_model.specs.Cost.{all_asks}
+use Rattle.zarr_model.specs.Outside.{Rose}
 use Rattle.zarr_array.specs.Document.{describe}
 use Rattle.zarr_array.specs.Opening.{OpenRefusal, not_opened}
 use Rattle.zarr_array.specs.OpenArray.{described, open_refusal_of}
 use Rattle.zarr_array.specs.Command.{command_of}
 use Rattle.zarr_cli_lines.specs.Parts.{entry_view}
-use Rattle.zarr_cli.specs.Program.{Settings, first_settings, settings_of, Run, input_limit, store_after_keys, IsDumpAsks}
+use Rattle.zarr_cli.specs.Program.{Settings, ReadsBy, settings_of, Run, input_limit, store_after_keys}
 use Rattle.zarr_cli.specs.Ending.{Ending, bad_input, refused_document, damaged_chunk, IsReading, IsOrMemory, HasBadLine, HasRefusedDocument, HasDamage, HasLongInput, WentThrough}
-use Rattle.zarr_cli.specs.Endings.{known_forms, words_of, ending_of, refused_by}
-use Rattle.zarr_cli.specs.Steps.{SaysInput, RunsCommands, DidRun, IsRunFault, IsReadFault, IsRefusedBy, IsToldFault}
+use Rattle.zarr_cli.specs.Endings.{known_forms, ending_of, refused_by}
+use Rattle.zarr_cli.specs.Steps.{SaysInput, RunsAll, DidRun, CountsDump, IsRunFault, IsReadFault, IsRefusedBy, IsToldFault, IsPlainFault}
 use Rattle.zarr_cli.proofs.ProgramLaws.{one_run}
 use Rattle.zarr_cli.proofs.OutcomeLemmas.{did_run, run_told, run_not_bad, run_not_refused, refused_not_bad, one_bad_line}
 use Rattle.zarr_cli.specs.declared.input.ParsedInput.{ParsedInput}
@@ -20,23 +21,16 @@ use Rattle.zarr_cli.specs.declared.status.Status.{Status}
 use Rattle.zarr_cli.specs.declared.status.Status.TheVariants.{Done, BadWords, BadInput, Document, Chunk, Store, Read, Write, TooLong, OutOfMemory}
 
 -- what a parsed input came to, whatever the result
-pub bytes_ran : (input : List ℕ) (parsed : ParsedInput) (old new : Content) (asks_before asks_now taken_before taken_now : ℕ) (result : Result (Vec ℕ Global) Status) → length input ≤ input_limit → SaysInput input parsed →
-    IfOk result (λ text. RunsCommands (described parsed.array) (map command_of parsed.commands.items) (with_keys (map entry_view parsed.entries.items) old) new asks_before asks_now text.items) →
-    OnOk result (AreRefused (described parsed.array) (map command_of parsed.commands.items) → IsUntouched (with_keys (map entry_view parsed.entries.items) old) new asks_before asks_now taken_before taken_now) →
-    IfOk result (λ text. DidRun [] input old new asks_before asks_now taken_before taken_now text.items)
-bytes_ran input parsed old new asks_before asks_now taken_before taken_now (Ok text) within says ran refused = did_run input parsed old new asks_before asks_now taken_before taken_now text.items within says ran refused
-bytes_ran input parsed old new asks_before asks_now taken_before taken_now (Err status) within says ran refused = tt
-
-pub bytes_fault : (input : List ℕ) (parsed : ParsedInput) (old : Content) (before now : ℕ) (result : Result (Vec ℕ Global) Status) → length input ≤ input_limit → SaysInput input parsed →
-    IfErr result (λ status. IsRunFault (described parsed.array) (map command_of parsed.commands.items) (with_keys (map entry_view parsed.entries.items) old) before now status) →
-    IfErr result (λ status. IsToldFault [] input old ⊥ before now status)
-bytes_fault input parsed old before now (Ok text) within says fault = tt
-bytes_fault input parsed old before now (Err status) within says fault = run_told input parsed old before now within says status fault
-
--- without words
-pub no_words : {Z : Type 0} (words : List (String Z)) → length words ≡ 0 → words_of words ≡ []
-no_words [] e = refl
-no_words (word ∷ words) e = absurd (omega arith)
+pub bytes_told : (words : List (List ℕ)) (settings : Settings) (input : List ℕ) (parsed : ParsedInput) (old new : Content) (asks_before asks_now taken_before taken_now before now : ℕ) (result : Result (Vec ℕ Global) Status) →
+    ReadsBy known_forms words settings → length input ≤ input_limit → SaysInput input parsed →
+    IfOk result (λ text. RunsAll (described parsed.array) settings (map command_of parsed.commands.items) (with_keys (map entry_view parsed.entries.items) old) new asks_before asks_now text.items) →
+    OnOk result (AreRefused (described parsed.array) (map command_of parsed.commands.items) → settings.dump ≡ false → IsUntouched (with_keys (map entry_view parsed.entries.items) old) new asks_before asks_now taken_before taken_now) →
+    IfErr result (λ status. IsRunFault (described parsed.array) settings.options (map command_of parsed.commands.items) (with_keys (map entry_view parsed.entries.items) old) before now status) →
+    MatchResult result (λ text. DidRun words input old new asks_before asks_now taken_before taken_now text.items) (λ status. IsToldFault words input old ⊥ before now status)
+bytes_told words settings input parsed old new asks_before asks_now taken_before taken_now before now (Ok text) reads within says ran refused fault =
+    did_run words settings input parsed old new asks_before asks_now taken_before taken_now text.items reads within says ran refused
+bytes_told words settings input parsed old new asks_before asks_now taken_before taken_now before now (Err status) reads within says ran refused fault =
+    run_told words settings input parsed old before now reads within says status fault
 
 weaker_told : (words : List (List ℕ)) (input : List ℕ) (old : Content) (rose : Type 0) (before now : ℕ) (status : Status) → IsToldFault words input old ⊥ before now status → IsToldFault words input old rose before now status
 weaker_told words input old rose before now BadWords told = told
@@ -51,55 +45,71 @@ weaker_told words input old rose before now Done told = told
 weaker_told words input old rose before now Write told = told
 
 -- the bytes that were read are those that the source had left
-pub told_bytes : (words : List (List ℕ)) (input bytes : List ℕ) (old new : Content) (asks_before asks_now taken_before taken_now : ℕ) (rose : Type 0) (before now : ℕ) (result : Result (Vec ℕ Global) Status) →
-    words ≡ [] → input ≡ bytes →
-    IfOk result (λ text. DidRun [] input old new asks_before asks_now taken_before taken_now text.items) → IfErr result (λ status. IsToldFault [] input old ⊥ before now status) →
+pub told_bytes : (words : List (List ℕ)) (input bytes : List ℕ) (old new : Content) (asks_before asks_now taken_before taken_now : ℕ) (rose : Type 0) (before now : ℕ) (result : Result (Vec ℕ Global) Status) → input ≡ bytes →
+    MatchResult result (λ text. DidRun words input old new asks_before asks_now taken_before taken_now text.items) (λ status. IsToldFault words input old ⊥ before now status) →
     MatchResult result (λ text. DidRun words bytes old new asks_before asks_now taken_before taken_now text.items) (λ status. IsToldFault words bytes old rose before now status)
-told_bytes words input bytes old new asks_before asks_now taken_before taken_now rose before now (Ok text) none same ran fault =
-    subst (λ w. DidRun w bytes old new asks_before asks_now taken_before taken_now text.items) (sym none) (subst (λ b. DidRun [] b old new asks_before asks_now taken_before taken_now text.items) same ran)
-told_bytes words input bytes old new asks_before asks_now taken_before taken_now rose before now (Err status) none same ran fault =
-    weaker_told words bytes old rose before now status
-    (subst (λ w. IsToldFault w bytes old ⊥ before now status) (sym none) (subst (λ b. IsToldFault [] b old ⊥ before now status) same fault))
+told_bytes words input bytes old new asks_before asks_now taken_before taken_now rose before now (Ok text) same told =
+    subst (λ b. DidRun words b old new asks_before asks_now taken_before taken_now text.items) same told
+told_bytes words input bytes old new asks_before asks_now taken_before taken_now rose before now (Err status) same told =
+    weaker_told words bytes old rose before now status (subst (λ b. IsToldFault words b old ⊥ before now status) same told)
 
-pub told_read : (words : List (List ℕ)) (left : Option (List ℕ)) (bytes : List ℕ) (old : Content) (rose : Type 0) (source_before source_now before now : ℕ) (status : Status) → words ≡ [] → left ≡ Some bytes →
+pub told_read : (words : List (List ℕ)) (settings : Settings) (left : Option (List ℕ)) (bytes : List ℕ) (old : Content) (rose : Type 0) (source_before source_now before now : ℕ) (status : Status) →
+    ReadsBy known_forms words settings → left ≡ Some bytes →
     (IsReadFault left source_before source_now Read → rose) → IsReadFault left source_before source_now status → IsToldFault words bytes old rose before now status
-told_read words left bytes old rose source_before source_now before now TooLong none e up fault = (subst (IsReading known_forms) (sym none) (first_settings, (refl, refl)), fault bytes e)
-told_read words left bytes old rose source_before source_now before now Read none e up fault = up fault
-told_read words left bytes old rose source_before source_now before now OutOfMemory none e up fault = tt
-told_read words left bytes old rose source_before source_now before now Done none e up fault = absurd fault
-told_read words left bytes old rose source_before source_now before now BadWords none e up fault = absurd fault
-told_read words left bytes old rose source_before source_now before now (BadInput line) none e up fault = absurd fault
-told_read words left bytes old rose source_before source_now before now (Document error) none e up fault = absurd fault
-told_read words left bytes old rose source_before source_now before now (Chunk key) none e up fault = absurd fault
-told_read words left bytes old rose source_before source_now before now Store none e up fault = absurd fault
-told_read words left bytes old rose source_before source_now before now Write none e up fault = absurd fault
+told_read words settings left bytes old rose source_before source_now before now TooLong reads e up fault = ((settings, reads), fault bytes e)
+told_read words settings left bytes old rose source_before source_now before now Read reads e up fault = up fault
+told_read words settings left bytes old rose source_before source_now before now OutOfMemory reads e up fault = tt
+told_read words settings left bytes old rose source_before source_now before now Done reads e up fault = absurd fault
+told_read words settings left bytes old rose source_before source_now before now BadWords reads e up fault = absurd fault
+told_read words settings left bytes old rose source_before source_now before now (BadInput line) reads e up fault = absurd fault
+told_read words settings left bytes old rose source_before source_now before now (Document error) reads e up fault = absurd fault
+told_read words settings left bytes old rose source_before source_now before now (Chunk key) reads e up fault = absurd fault
+told_read words settings left bytes old rose source_before source_now before now Store reads e up fault = absurd fault
+told_read words settings left bytes old rose source_before source_now before now Write reads e up fault = absurd fault
+
+-- what holds where the input is not known
+refused_plain : (words : List (List ℕ)) (input : List ℕ) (why : Option OpenRefusal) → IsRefusedBy words input why → ¬ (why ≡ None)
+refused_plain words input None refused = λ same. refused
+refused_plain words input (Some why) refused = λ same. (let e : Some why ≡ None = same in cc)
+
+told_plain : (words : List (List ℕ)) (input : List ℕ) (old : Content) (source_rose : Type 0) (before now : ℕ) (status : Status) → IsToldFault words input old ⊥ before now status →
+    IsPlainFault words source_rose (Rose before now) status
+told_plain words input old source_rose before now BadWords told = told
+told_plain words input old source_rose before now (BadInput line) told = tt
+told_plain words input old source_rose before now (Document error) told = refused_plain words input (open_refusal_of error) told
+told_plain words input old source_rose before now (Chunk key) told = tt
+told_plain words input old source_rose before now Store told = told.1
+told_plain words input old source_rose before now Read told = absurd told
+told_plain words input old source_rose before now TooLong told = tt
+told_plain words input old source_rose before now OutOfMemory told = tt
+told_plain words input old source_rose before now Done told = told
+told_plain words input old source_rose before now Write told = told
+
+pub bytes_plain : (words : List (List ℕ)) (input : List ℕ) (old : Content) (source_rose : Type 0) (before now : ℕ) (ran : List ℕ → Type 0) (result : Result (Vec ℕ Global) Status) →
+    MatchResult result (λ text. ran text.items) (λ status. IsToldFault words input old ⊥ before now status) → IfErr result (λ status. IsPlainFault words source_rose (Rose before now) status)
+bytes_plain words input old source_rose before now ran (Ok text) told = tt
+bytes_plain words input old source_rose before now ran (Err status) told = told_plain words input old source_rose before now status told
 
 -- a run that was written whole or in part
 pub went : (words : List (List ℕ)) (input : List ℕ) (old new : Content) (asks_before asks_now taken_before taken_now : ℕ) (text : List ℕ) (wrote : List ℕ → Type 0) →
     DidRun words input old new asks_before asks_now taken_before taken_now text → wrote text → WentThrough known_forms words input old new wrote
 went words input old new asks_before asks_now taken_before taken_now text wrote did given = (did.run, text, did.runs, given)
 
--- no word is known, so there is no dump
-no_dump : (words : List (List ℕ)) (settings : Settings) → settings_of known_forms words ≡ Some settings → settings.dump ≡ false
-no_dump [] settings e = let same : settings ≡ first_settings = cc in ap (λ s. s.dump) same
-no_dump (word ∷ words) settings e = absurd (cc)
-
 pub did_asks : (words : List (List ℕ)) (input : List ℕ) (old new : Content) (asks_before asks_now taken_before taken_now : ℕ) (text : List ℕ) → DidRun words input old new asks_before asks_now taken_before taken_now text →
-    (run : Run known_forms words input) → (more : ℕ) × IsDumpAsks run.settings.dump new more × (asks_now ≡ counted asks_before (all_asks (describe run.document) run.commands + more))
+    (run : Run known_forms words input) → CountsDump run.settings.dump new (all_asks (describe run.document) run.commands) asks_before asks_now
 did_asks words input old new asks_before asks_now taken_before taken_now text did run =
-    let same = one_run known_forms words input did.run.settings did.run.document did.run.commands did.run.are_words.0 did.run.is_opened did.run.are_commands run in (
-      0,
-      subst (λ dump. IsDumpAsks dump new 0) (sym (no_dump words run.settings run.are_words.0)) refl,
-      subst (λ commands. asks_now ≡ counted asks_before (all_asks (describe run.document) commands + 0)) (sym same.2)
-          (subst (λ document. asks_now ≡ counted asks_before (all_asks (describe document) did.run.commands + 0)) (sym same.1)
-          (did.asks ∙ ap (counted asks_before) (sym (add-zero (all_asks (describe did.run.document) did.run.commands))))),
-    )
+    let same = one_run known_forms words input did.run.settings did.run.document did.run.commands did.run.are_words.0 did.run.is_opened did.run.are_commands run in
+    subst (λ settings. CountsDump settings.dump new (all_asks (describe run.document) run.commands) asks_before asks_now) (sym same.0)
+    (subst (λ commands. CountsDump did.run.settings.dump new (all_asks (describe run.document) commands) asks_before asks_now) (sym same.2)
+    (subst (λ document. CountsDump did.run.settings.dump new (all_asks (describe document) did.run.commands) asks_before asks_now) (sym same.1) did.asks))
 
 pub did_refused : (words : List (List ℕ)) (input : List ℕ) (old new : Content) (asks_before asks_now taken_before taken_now : ℕ) (text : List ℕ) → DidRun words input old new asks_before asks_now taken_before taken_now text →
-    (run : Run known_forms words input) → AreRefused (describe run.document) run.commands → IsUntouched (store_after_keys input old) new asks_before asks_now taken_before taken_now
-did_refused words input old new asks_before asks_now taken_before taken_now text did run all =
+    (run : Run known_forms words input) → AreRefused (describe run.document) run.commands → run.settings.dump ≡ false →
+    IsUntouched (store_after_keys input old) new asks_before asks_now taken_before taken_now
+did_refused words input old new asks_before asks_now taken_before taken_now text did run all none =
     let same = one_run known_forms words input did.run.settings did.run.document did.run.commands did.run.are_words.0 did.run.is_opened did.run.are_commands run in
     did.refused (subst (λ commands. AreRefused (describe did.run.document) commands) same.2 (subst (λ document. AreRefused (describe document) run.commands) same.1 all))
+    (sym (ap (λ settings. settings.dump) same.0) ∙ none)
 
 -- a run excludes the causes that lie in the input
 pub not_long : (words : List (List ℕ)) (input : List ℕ) → Run known_forms words input → HasLongInput known_forms words input → ⊥

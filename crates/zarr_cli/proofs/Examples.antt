@@ -5,7 +5,7 @@ use Rattle.sha2.specs.Sha256.{sha256, digest_bytes, hash_after, compress, rounds
 use Rattle.hex.specs.Hex.{encode_with, decode_pairs}
 use Rattle.zarr_model.specs.Region.{whole, tuple_at, linear_index}
 use Rattle.zarr_model.specs.Cover.{linear_indices}
-use Rattle.zarr_cli.specs.Program.{Settings, with_words, first_settings, settings_of, reading_forms, writing_forms}
+use Rattle.zarr_cli.specs.Program.{Settings, IsDump, with_words, first_settings, settings_of, writing_forms}
 use Rattle.zarr_array.specs.Opening.{chain_order}
 use Rattle.zarr_cli.specs.Ending.{bad_input, refused_document, damaged_chunk, write_fault, ending_line}
 use Rattle.zarr_model.specs.Failure.{undamaged}
@@ -15,10 +15,10 @@ use Rattle.zarr_model.specs.ArrayBytes.{fixed_bytes, variable_bytes, optional_by
 use Rattle.zarr_model.specs.Key.{default_keys, v2_keys, chunk_key}
 use Rattle.zarr_model.specs.Codec.{Options, offset_codec, bytes_codec, vlen_codec, optional_codec, little, big, decode_array_to_bytes, decode_bytes, decode_levels}
 use Rattle.zarr_model.specs.Command.{Description, layout, write, refusal, bytes_refusal, is_too_large, has_long_step, invalid_variable_sized_array_offsets, invalid_mask, expected_optional_bytes, replies}
-use Rattle.zarr_cli_lines.specs.Text.{input_lines, command_of, replies_text, good_lines}
+use Rattle.zarr_cli_lines.specs.Text.{input_lines, first_entries, command_of, replies_text, good_lines}
 use Rattle.zarr_model.specs.Cost.{all_asks, all_bytes, present_in}
 use Rattle.zarr_array.specs.Document.{boundaries, offset, transpose, checksum, byte_document, describe}
-use Rattle.zarr_cli.proofs.Worked.{reply_lines, left_in_chunks, kept_in_chunks, left_chunks, kept_chunks, its_commands, first_array, empty_store, store_of}
+use Rattle.zarr_cli.proofs.Worked.{reply_lines, left_in_chunks, kept_in_chunks, left_chunks, kept_chunks, its_commands, first_array, empty_store, store_of, holding}
 
 abbrev plain_options : Options
 plain_options = record { store_empty_chunks = false; validate_checksums = true }
@@ -47,6 +47,10 @@ middle_write : Example square plain_options square_input
     middle_write_keys
 unfolding digits encode_with decode_pairs
 middle_write = record { texts = refl; elements = refl; present = refl }
+
+middle_write_dump : IsDump true (holding (first_entries (input_lines middle_write_keys))) middle_write_keys
+unfolding digits encode_with decode_pairs
+middle_write_dump = (first_entries (input_lines middle_write_keys), record { in_order = refl; held = λ key. refl }, refl)
 
 middle_write_asks : all_asks square (its_commands square square_input) ≡ 8
 unfolding digits encode_with decode_pairs
@@ -286,12 +290,12 @@ unfolding digits
 numbers_read = (refl, refl, refl, refl, refl)
 
 -- the words and the command lines that a program knows
-known_words : (settings_of reading_forms [] ≡ Some first_settings) × (settings_of reading_forms (codes "--dump" ∷ []) ≡ None)
+known_words : (settings_of writing_forms [] ≡ Some first_settings) × (settings_of writing_forms (codes "-dump" ∷ []) ≡ None)
     × (settings_of writing_forms (codes "--dump" ∷ []) ≡ Some (record first_settings { dump = true }))
     × (settings_of writing_forms (codes "--no-checksums" ∷ []) ≡ None) × (settings_of writing_forms (codes "--make" ∷ codes "5" ∷ []) ≡ None)
 known_words = (refl, refl, refl, refl, refl)
 
-known_commands : (good_lines (reading_forms.command (fixed 1)) (codes "key c/0 h01" ∷ codes "read 0..1" ∷ codes "write 0..1 h00" ∷ []) ≡ 2)
+known_commands : (good_lines (writing_forms.command (fixed 1)) (codes "key c/0 h01" ∷ codes "read 0..1" ∷ codes "write 0..1 00" ∷ []) ≡ 2)
     × (good_lines (writing_forms.command (fixed 1)) (codes "key c/0 h01" ∷ codes "read 0..1" ∷ codes "write 0..1 h00" ∷ []) ≡ 3)
 unfolding digits encode_with decode_pairs
 known_commands = (refl, refl)

@@ -7,3 +7,5 @@ mod StepLemmas
 mod RunLemmas
 mod OutcomeLemmas
 mod EndLemmas
+mod WordLemmas
+mod DumpLemmas

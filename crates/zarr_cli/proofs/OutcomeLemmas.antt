@@ -1,5 +1,5 @@
 -- What an input in form comes to, and that the causes of the statuses exclude one another.
-use Rattle.std.proofs.Common.{◌≡◌, ℕ, ◌+◌, ◌<◌, ◌≤◌, List, [], length, map, Option, Some, None, is_some, IsUtf8, inl, inr, refl, sym, ap, ◌∙◌, subst, arith, append-nil}
+use Rattle.std.proofs.Common.{◌≡◌, ℕ, ◌+◌, ◌<◌, ◌≤◌, false, List, length, map, Option, Some, None, is_some, IsUtf8, inl, inr, refl, sym, ap, ◌∙◌, subst, arith}
 use Rattle.std.specs.Str.{IsValidUpTo}
 use Rattle.std.proofs.lemmas.Str.{utf8_valid_len-IsUtf8, utf8_valid_len-IsValidUpTo}
 use Rattle.zarr_model.specs.Store.{Content, IsHonest, IsChunkKey, with_keys}
@@ -9,80 +9,78 @@ use Rattle.zarr_array.specs.Document.{ArrayDocument, describe}
 use Rattle.zarr_array.specs.Opening.{OpenRefusal, opened, not_opened}
 use Rattle.zarr_array.specs.OpenArray.{documented, described, open_refusal_of}
 use Rattle.zarr_array.specs.Command.{command_of}
-use Rattle.zarr_array.specs.Session.{session_options}
-use Rattle.zarr_cli_lines.specs.Text.{good_lines, line_at, replies_text}
+use Rattle.zarr_cli_lines.specs.Text.{good_lines, line_at}
 use Rattle.zarr_cli_lines.specs.Parts.{entry_view}
 use Rattle.zarr_cli_lines.proofs.TextLaws.{good_lines_all}
-use Rattle.zarr_cli.specs.Program.{Forms, first_settings, Run, input_limit, command_grammar, document_line, lines_after_document, store_after_keys}
+use Rattle.zarr_cli.specs.Program.{Settings, Forms, ReadsBy, Run, input_limit, command_grammar, document_line, lines_after_document, store_after_keys}
 use Rattle.zarr_cli.specs.Ending.{IsBadLine, SameKeysElsewhere, IsRunnable}
 use Rattle.zarr_cli.specs.Endings.{known_forms}
-use Rattle.zarr_cli.specs.Steps.{SaysInput, RunsCommands, DidRun, IsRunFault, IsInputFault, IsRefusal, IsRefusedBy, IsToldFault, IsKeyOf}
+use Rattle.zarr_cli.specs.Steps.{SaysInput, RunsAll, DidRun, IsRunFault, IsInputFault, IsRefusal, IsRefusedBy, IsToldFault, IsKeyOf}
 use Rattle.zarr_cli.proofs.ProgramLaws.{one_run}
 use Rattle.zarr_cli.specs.declared.input.ParsedInput.{ParsedInput}
 use Rattle.zarr_cli.specs.declared.status.Status.{Status}
 use Rattle.zarr_cli.specs.declared.status.Status.TheVariants.{Done, BadWords, BadInput, Document, Chunk, Store, Read, Write, TooLong, OutOfMemory}
 
--- the run of an input in form, without words
-abbrev pub its_run : (input : List ℕ) (parsed : ParsedInput) → length input ≤ input_limit → SaysInput input parsed → Run known_forms [] input
-its_run input parsed within says = record {
-  settings = first_settings;
+-- the run of an input in form under words in form
+abbrev pub its_run : (words : List (List ℕ)) (settings : Settings) (input : List ℕ) (parsed : ParsedInput) → ReadsBy known_forms words settings → length input ≤ input_limit → SaysInput input parsed →
+    Run known_forms words input
+its_run words settings input parsed reads within says = record {
+  settings = settings;
   document = documented parsed.array;
   commands = map command_of parsed.commands.items;
-  are_words = (refl, refl);
+  are_words = reads;
   within = within;
   is_text = says.is_text;
   is_opened = says.is_opened;
   are_commands = says.commands_are;
 }
 
-pub did_run : (input : List ℕ) (parsed : ParsedInput) (old new : Content) (asks_before asks_now taken_before taken_now : ℕ) (text : List ℕ) → length input ≤ input_limit → SaysInput input parsed →
-    RunsCommands (described parsed.array) (map command_of parsed.commands.items) (with_keys (map entry_view parsed.entries.items) old) new asks_before asks_now text →
-    (AreRefused (described parsed.array) (map command_of parsed.commands.items) → IsUntouched (with_keys (map entry_view parsed.entries.items) old) new asks_before asks_now taken_before taken_now) →
-    DidRun [] input old new asks_before asks_now taken_before taken_now text
-did_run input parsed old new asks_before asks_now taken_before taken_now text within says ran refused =
-    let runs = subst (λ entries. RunsCommands (described parsed.array) (map command_of parsed.commands.items) (with_keys entries old) new asks_before asks_now text) says.entries_are ran in
+pub did_run : (words : List (List ℕ)) (settings : Settings) (input : List ℕ) (parsed : ParsedInput) (old new : Content) (asks_before asks_now taken_before taken_now : ℕ) (text : List ℕ) →
+    ReadsBy known_forms words settings → length input ≤ input_limit → SaysInput input parsed →
+    RunsAll (described parsed.array) settings (map command_of parsed.commands.items) (with_keys (map entry_view parsed.entries.items) old) new asks_before asks_now text →
+    (AreRefused (described parsed.array) (map command_of parsed.commands.items) → settings.dump ≡ false → IsUntouched (with_keys (map entry_view parsed.entries.items) old) new asks_before asks_now taken_before taken_now) →
+    DidRun words input old new asks_before asks_now taken_before taken_now text
+did_run words settings input parsed old new asks_before asks_now taken_before taken_now text reads within says ran refused =
+    let runs = subst (λ entries. RunsAll (described parsed.array) settings (map command_of parsed.commands.items) (with_keys entries old) new asks_before asks_now text) says.entries_are ran in
     record {
-      run = its_run input parsed within says;
-      runs = record {
-        replied = λ array means. ([], refl, runs.replied array means ∙ sym (append-nil (replies_text _)));
-        left = runs.left;
-        undamaged = runs.undamaged;
-      };
+      run = its_run words settings input parsed reads within says;
+      runs = record { replied = runs.replied; left = runs.left; undamaged = runs.undamaged; dumped = runs.dumped };
       asks = runs.asks;
-      refused = λ all. subst (λ entries. IsUntouched (with_keys entries old) new asks_before asks_now taken_before taken_now) says.entries_are (refused all);
+      refused = λ all none. subst (λ entries. IsUntouched (with_keys entries old) new asks_before asks_now taken_before taken_now) says.entries_are (refused all none);
     }
 
-pub run_told : (input : List ℕ) (parsed : ParsedInput) (old : Content) (before now : ℕ) → length input ≤ input_limit → SaysInput input parsed → (status : Status) →
-    IsRunFault (described parsed.array) (map command_of parsed.commands.items) (with_keys (map entry_view parsed.entries.items) old) before now status → IsToldFault [] input old ⊥ before now status
-run_told input parsed old before now within says (Chunk key) fault = (
-  its_run input parsed within says,
-  subst (λ entries. IsRunFault (described parsed.array) (map command_of parsed.commands.items) (with_keys entries old) before now (Chunk key)) says.entries_are fault,
+pub run_told : (words : List (List ℕ)) (settings : Settings) (input : List ℕ) (parsed : ParsedInput) (old : Content) (before now : ℕ) → ReadsBy known_forms words settings → length input ≤ input_limit → SaysInput input parsed →
+    (status : Status) → IsRunFault (described parsed.array) settings.options (map command_of parsed.commands.items) (with_keys (map entry_view parsed.entries.items) old) before now status →
+    IsToldFault words input old ⊥ before now status
+run_told words settings input parsed old before now reads within says (Chunk key) fault = (
+  its_run words settings input parsed reads within says,
+  subst (λ entries. IsRunFault (described parsed.array) settings.options (map command_of parsed.commands.items) (with_keys entries old) before now (Chunk key)) says.entries_are fault,
 )
-run_told input parsed old before now within says Store fault = (its_run input parsed within says, fault)
-run_told input parsed old before now within says OutOfMemory fault = tt
-run_told input parsed old before now within says Done fault = absurd fault
-run_told input parsed old before now within says BadWords fault = absurd fault
-run_told input parsed old before now within says (BadInput line) fault = absurd fault
-run_told input parsed old before now within says (Document error) fault = absurd fault
-run_told input parsed old before now within says Read fault = absurd fault
-run_told input parsed old before now within says Write fault = absurd fault
-run_told input parsed old before now within says TooLong fault = absurd fault
+run_told words settings input parsed old before now reads within says Store fault = (its_run words settings input parsed reads within says, fault)
+run_told words settings input parsed old before now reads within says OutOfMemory fault = tt
+run_told words settings input parsed old before now reads within says Done fault = absurd fault
+run_told words settings input parsed old before now reads within says BadWords fault = absurd fault
+run_told words settings input parsed old before now reads within says (BadInput line) fault = absurd fault
+run_told words settings input parsed old before now reads within says (Document error) fault = absurd fault
+run_told words settings input parsed old before now reads within says Read fault = absurd fault
+run_told words settings input parsed old before now reads within says Write fault = absurd fault
+run_told words settings input parsed old before now reads within says TooLong fault = absurd fault
 
-pub kept_elsewhere : (input : List ℕ) (parsed : ParsedInput) (old new : Content) → length input ≤ input_limit → SaysInput input parsed →
-    ((key : List ℕ) → ¬ IsKeyOf (map entry_view parsed.entries.items) key → ¬ IsChunkKey (layout (described parsed.array) session_options) key → new key ≡ old key) →
-    SameKeysElsewhere known_forms [] input old new
-kept_elsewhere input parsed old new within says kept key free =
-    let none = free (its_run input parsed within says) in
+pub kept_elsewhere : (words : List (List ℕ)) (settings : Settings) (input : List ℕ) (parsed : ParsedInput) (old new : Content) → ReadsBy known_forms words settings → length input ≤ input_limit → SaysInput input parsed →
+    ((key : List ℕ) → ¬ IsKeyOf (map entry_view parsed.entries.items) key → ¬ IsChunkKey (layout (described parsed.array) settings.options) key → new key ≡ old key) →
+    SameKeysElsewhere known_forms words input old new
+kept_elsewhere words settings input parsed old new reads within says kept key free =
+    let none = free (its_run words settings input parsed reads within says) in
     kept key (subst (λ entries. ¬ IsKeyOf entries key) (sym says.entries_are) none.0) none.1
 
 -- a run in form is that of the parsed input
-pub runnable : (input : List ℕ) (parsed : ParsedInput) (old : Content) → SaysInput input parsed → IsRunnable known_forms [] input old →
-    IsHonest (layout (described parsed.array) session_options) (with_keys (map entry_view parsed.entries.items) old)
-runnable input parsed old says (run, honest) =
-    let same = one_run known_forms [] input first_settings (documented parsed.array) (map command_of parsed.commands.items) refl says.is_opened says.commands_are run in
-    subst (λ entries. IsHonest (layout (described parsed.array) session_options) (with_keys entries old)) (sym says.entries_are)
-    (subst (λ document. IsHonest (layout (describe document) session_options) (store_after_keys input old)) same.1
-    (subst (λ settings. IsHonest (layout (describe run.document) settings.options) (store_after_keys input old)) same.0 honest))
+pub runnable : (words : List (List ℕ)) (settings : Settings) (input : List ℕ) (parsed : ParsedInput) (old : Content) → ReadsBy known_forms words settings → SaysInput input parsed → IsRunnable known_forms words input old →
+    IsHonest (layout (described parsed.array) settings.options) (with_keys (map entry_view parsed.entries.items) old)
+runnable words settings input parsed old reads says (run, honest) =
+    let same = one_run known_forms words input settings (documented parsed.array) (map command_of parsed.commands.items) reads.0 says.is_opened says.commands_are run in
+    subst (λ entries. IsHonest (layout (described parsed.array) settings.options) (with_keys entries old)) (sym says.entries_are)
+    (subst (λ document. IsHonest (layout (describe document) settings.options) (store_after_keys input old)) same.1
+    (subst (λ set. IsHonest (layout (describe run.document) set.options) (store_after_keys input old)) same.0 honest))
 
 -- UTF-8 has no first bad byte
 valid_up_to-not : (input : List ℕ) (n : ℕ) → IsUtf8 input → IsValidUpTo input n → ⊥
@@ -124,21 +122,23 @@ one_bad_line forms input a b (inr (utf8, document, opens, below, e)) (inr (again
     e ∙ (ap (λ d. good_lines (command_grammar forms d) (lines_after_document input) + 2) same ∙ sym k)
 
 -- an input out of form: its cause, and that it cannot be run
-refused_by : (input : List ℕ) (why : Option OpenRefusal) → length input ≤ input_limit → IsUtf8 input → IsRefusal why (known_forms.opens (document_line input)) → IsRefusedBy [] input why
-refused_by input None within utf8 refused = refused
-refused_by input (Some why) within utf8 refused = ((first_settings, (refl, refl)), within, utf8, refused)
+refused_by : (words : List (List ℕ)) (settings : Settings) (input : List ℕ) (why : Option OpenRefusal) → ReadsBy known_forms words settings → length input ≤ input_limit → IsUtf8 input →
+    IsRefusal why (known_forms.opens (document_line input)) → IsRefusedBy words input why
+refused_by words settings input None reads within utf8 refused = refused
+refused_by words settings input (Some why) reads within utf8 refused = ((settings, reads), within, utf8, refused)
 
-pub input_told : (input : List ℕ) (old : Content) (before now : ℕ) → length input ≤ input_limit → (status : Status) → IsInputFault input status → IsToldFault [] input old ⊥ before now status
-input_told input old before now within (BadInput line) fault = ((first_settings, (refl, refl)), within, fault)
-input_told input old before now within (Document error) fault = refused_by input (open_refusal_of error) within fault.0 fault.1
-input_told input old before now within OutOfMemory fault = tt
-input_told input old before now within Done fault = absurd fault
-input_told input old before now within BadWords fault = absurd fault
-input_told input old before now within (Chunk key) fault = absurd fault
-input_told input old before now within Store fault = absurd fault
-input_told input old before now within Read fault = absurd fault
-input_told input old before now within Write fault = absurd fault
-input_told input old before now within TooLong fault = absurd fault
+pub input_told : (words : List (List ℕ)) (settings : Settings) (input : List ℕ) (old : Content) (before now : ℕ) → ReadsBy known_forms words settings → length input ≤ input_limit →
+    (status : Status) → IsInputFault input status → IsToldFault words input old ⊥ before now status
+input_told words settings input old before now reads within (BadInput line) fault = ((settings, reads), within, fault)
+input_told words settings input old before now reads within (Document error) fault = refused_by words settings input (open_refusal_of error) reads within fault.0 fault.1
+input_told words settings input old before now reads within OutOfMemory fault = tt
+input_told words settings input old before now reads within Done fault = absurd fault
+input_told words settings input old before now reads within BadWords fault = absurd fault
+input_told words settings input old before now reads within (Chunk key) fault = absurd fault
+input_told words settings input old before now reads within Store fault = absurd fault
+input_told words settings input old before now reads within Read fault = absurd fault
+input_told words settings input old before now reads within Write fault = absurd fault
+input_told words settings input old before now reads within TooLong fault = absurd fault
 
 never_refused : (words : List (List ℕ)) (input : List ℕ) (why : Option OpenRefusal) → Run known_forms words input → IsRefusal why (known_forms.opens (document_line input)) → ⊥
 never_refused words input None run refused = refused

@@ -1,6 +1,6 @@
 -- Answers of wrong programs, each refused by its definition.
 use Rattle.std.proofs.lemmas.List.{take_all}
-use Rattle.std.proofs.Common.{◌≡◌, ℕ, zero, suc, take, inl, inr, get_or, slice_get, lit<, lit≤, ◌+◌, ◌^◌, ◌<◌, ◌≤◌, Bool, List, [], ◌∷◌, ◌++◌, refl, codes, true, false, Some, None, Option, subst, ap, sym, ◌∙◌, IsUtf8, length, ⊎_elim, arith, slice_index, unwrap_or, is_some}
+use Rattle.std.proofs.Common.{◌≡◌, ℕ, if◌then◌else◌, zero, suc, take, inl, inr, get_or, slice_get, lit<, lit≤, ◌+◌, ◌^◌, ◌<◌, ◌≤◌, Bool, List, [], ◌∷◌, ◌++◌, refl, codes, true, false, Some, None, Option, subst, ap, sym, ◌∙◌, IsUtf8, length, ⊎_elim, arith, slice_index, unwrap_or, is_some}
 use Rattle.std.specs.List.{list_any}
 use Rattle.std.specs.Fmt.{digits}
 use Rattle.std.specs.Str.{IsValidUpTo, is_utf8, chars}
@@ -16,16 +16,17 @@ use Rattle.zarr_model.specs.Command.{Command, elements, read, write, erase, Desc
 use Rattle.zarr_model.specs.Session.{LeavesArray}
 use Rattle.zarr_array.specs.Document.{ArrayDocument, byte_document, describe}
 use Rattle.zarr_array.specs.Opening.{opened}
-use Rattle.zarr_model.specs.Cost.{command_chunks, asks_store}
+use Rattle.zarr_model.specs.Cost.{command_chunks, asks_store, counted}
 use Rattle.zarr_model.specs.Outside.{Rose}
 use Rattle.zarr_model.specs.Causes.{IsPlace, AsksUpTo, IsUndecoded, IsStopped, erases_chunk, IsDamageMet}
-use Rattle.zarr_cli.specs.Program.{input_limit, IsDumpAsks, first_settings, Forms, reading_forms, document_line, lines_after_document, store_after_keys, command_grammar}
+use Rattle.zarr_cli.specs.Program.{input_limit, ListsStore, IsDump, IsDumpAsks, first_settings, Forms, writing_forms, document_line, lines_after_document, store_after_keys, command_grammar}
 use Rattle.zarr_cli.specs.Ending.{bad_words, ending_line, IsGivenFront, IsGivenLine, IsBadLine, WentThrough}
-use Rattle.zarr_cli_lines.specs.Text.{line_at, good_lines, replies_text}
+use Rattle.zarr_cli_lines.specs.Text.{line_at, good_lines, replies_text, entries_text}
 use Rattle.zarr_array.proofs.DocumentLaws.{byte_document-means}
 use Rattle.zarr_model.proofs.StoreLaws.{Means-from_whole}
 use Rattle.zarr_model.proofs.GridLaws.{regular_grid-covers}
-use Rattle.zarr_cli.proofs.ProgramLaws.{went_through}
+use Rattle.zarr_cli.proofs.ProgramLaws.{went_through, one_listing}
+use Rattle.zarr_cli.proofs.Worked.{holding}
 use Rattle.zarr_array.proofs.Documents.{document_text, square_opens, line_opens}
 
 abbrev nothing : Content
@@ -59,10 +60,10 @@ past_the_shape left = let e : ◌≡◌ {A = ℕ} 0 9 = ap (at 1) (left.keys.sam
 abbrev line_input : List ℕ
 line_input = document_text (codes "[5]") (codes "[2]") (codes "0") ++ codes "\nkey c/2 h0709\nread 4..5\n"
 
-past_the_shape_run : ¬ WentThrough reading_forms [] line_input nothing changed (λ text. text ≡ codes "ok h07\n")
+past_the_shape_run : ¬ WentThrough writing_forms [] line_input nothing changed (λ text. text ≡ codes "ok h07\n")
 unfolding digits encode_with decode_pairs
 past_the_shape_run went =
-    let (output, runs, given) = went_through reading_forms [] line_input nothing changed (λ text. text ≡ codes "ok h07\n")
+    let (output, runs, given) = went_through writing_forms [] line_input nothing changed (λ text. text ≡ codes "ok h07\n")
     first_settings (byte_document (5 ∷ []) (2 ∷ []) 0) (read (record { start = 4; size = 1 } ∷ []) ∷ []) refl line_opens refl went in
     past_the_shape runs.left
 
@@ -123,7 +124,21 @@ abbrev square_array : Description
 square_array = describe (byte_document (4 ∷ 4 ∷ []) (2 ∷ 2 ∷ []) 0)
 
 asks_counted : AsksUpTo square_array two_writes 0 3 (Some (1, 1)) × IsPlace square_array two_writes (Some (1, 4))
-asks_counted = ((_, refl, inr refl), (_, refl, lit≤ tt))
+asks_counted = ((_, refl, inr (lit≤ tt, refl)), (_, refl, lit≤ tt))
+
+-- a run that failed at a refused read asked nothing for it
+abbrev far_read : Command
+far_read = read (record { start = 3; size = 2 } ∷ record { start = 0; size = 1 } ∷ [])
+
+refused_asks_none : AsksUpTo square_array (far_read ∷ []) 0 1 (Some (0, 0)) → ⊥
+refused_asks_none (command, is, inl none) =
+    let same : far_read ≡ command = cc in
+    let gone : 1 ≡ 0 = subst (λ c. 1 ≡ counted 0 (0 + (if asks_store c then 0 else 0))) (sym same) none in
+    absurd (omega (arith, gone))
+refused_asks_none (command, is, inr (below, more)) =
+    let same : far_read ≡ command = cc in
+    let gone : 0 < 0 = subst (λ c. 0 < length (command_chunks square_array c)) (sym same) below in
+    absurd (omega (arith, gone))
 
 -- the program names the line of a command out of form, though a later byte is no UTF-8
 abbrev bad_byte : List ℕ
@@ -158,10 +173,10 @@ square_meant : WhollyMeans (layout (describe (byte_document (4 ∷ 4 ∷ []) (2 
     (stored_array (layout (describe (byte_document (4 ∷ 4 ∷ []) (2 ∷ 2 ∷ []) 0)) first_settings.options) nothing)
 square_meant = byte_document-means (4 ∷ 4 ∷ []) (2 ∷ 2 ∷ []) 0 first_settings.options nothing (omega arith, (omega arith, tt)) (omega arith, (omega arith, tt)) (λ chunk h. refl)
 
-other_document : ¬ WentThrough reading_forms [] square_input nothing nothing (λ text. text ≡ codes "refused IncompatibleDimensionality\n")
+other_document : ¬ WentThrough writing_forms [] square_input nothing nothing (λ text. text ≡ codes "refused IncompatibleDimensionality\n")
 unfolding digits encode_with decode_pairs
 other_document went =
-    let (output, runs, given) = went_through reading_forms [] square_input nothing nothing (λ text. text ≡ codes "refused IncompatibleDimensionality\n")
+    let (output, runs, given) = went_through writing_forms [] square_input nothing nothing (λ text. text ≡ codes "refused IncompatibleDimensionality\n")
     first_settings (byte_document (4 ∷ 4 ∷ []) (2 ∷ 2 ∷ []) 0) (read (record { start = 3; size = 1 } ∷ record { start = 3; size = 1 } ∷ []) ∷ []) refl square_opens refl went in
     let (keys, dump, text) = runs.replied (stored_array (layout (describe (byte_document (4 ∷ 4 ∷ []) (2 ∷ 2 ∷ []) 0)) first_settings.options) nothing)
     (Means-from_whole (layout (describe (byte_document (4 ∷ 4 ∷ []) (2 ∷ 2 ∷ []) 0)) first_settings.options)
@@ -189,7 +204,7 @@ right_unmet : (key : List ℕ) → IsDamageMet (describe (byte_document (4 ∷ 4
 unfolding digits encode_with decode_pairs is_utf8 chars encode
 right_unmet key (m, command, is, asks, chunk, met, its_key, none, damaged) = let gone : true ≡ false = ap is_some damaged in cc
 
-right_run : WentThrough reading_forms [] square_input nothing nothing (λ text. text ≡ codes "ok h00\n")
+right_run : WentThrough writing_forms [] square_input nothing nothing (λ text. text ≡ codes "ok h00\n")
 unfolding digits encode_with decode_pairs is_utf8 chars encode
 right_run = (
   record {
@@ -217,12 +232,13 @@ right_run = (
       keys = record { same_chunks = λ chunk is_chunk e. refl; other_keys = λ key apart. refl };
     };
     undamaged = record { no_key = right_unmet };
+    dumped = (codes "ok h00\n", [], refl, refl);
   },
   refl,
 )
 
 -- the line of a command out of form
-bogus_line : IsBadLine reading_forms (document_text (codes "[4,4]") (codes "[2,2]") (codes "0") ++ codes "\nbogus\n") 2
+bogus_line : IsBadLine writing_forms (document_text (codes "[4,4]") (codes "[2,2]") (codes "0") ++ codes "\nbogus\n") 2
 unfolding digits encode_with decode_pairs is_utf8 chars encode
 bogus_line = inr (
   IsUtf8-from_is_utf8 (document_text (codes "[4,4]") (codes "[2,2]") (codes "0") ++ codes "\nbogus\n") refl,
@@ -242,3 +258,23 @@ front_unexplained given = ⊎_elim
     (λ (all : Some (codes "xwor") ≡ Some (codes "xwords\n")). let e : ◌≡◌ {A = ℕ} 4 7 = ap length (one_value all) in omega arith)
     (λ (front : Rose 0 0 × IsGivenFront (codes "words\n") (Some (codes "x")) (Some (codes "xwor"))). let e : 1 ≤ 0 = front.0 in omega arith)
     given
+
+-- a store has one dump: not one in another order, nor one without its first key or its last newline
+abbrev two_entries : List (List ℕ × List ℕ)
+two_entries = (codes "c/10", 1 ∷ []) ∷ (codes "c/2", 2 ∷ []) ∷ []
+
+two_listed : ListsStore (holding two_entries) two_entries
+two_listed = record { in_order = refl; held = λ key. refl }
+
+only_dump : (dump : List ℕ) → IsDump true (holding two_entries) dump → dump ≡ codes "key c/10 h01\nkey c/2 h02\n"
+unfolding digits encode_with
+only_dump dump (entries, lists, text) = text ∙ ap entries_text (one_listing (holding two_entries) entries two_entries lists two_listed)
+
+other_order : ¬ IsDump true (holding two_entries) (codes "key c/2 h02\nkey c/10 h01\n")
+other_order dump = let e : ◌≡◌ {A = ℕ} 50 49 = ap (λ text. slice_index text 6) (only_dump (codes "key c/2 h02\nkey c/10 h01\n") dump) in omega arith
+
+first_key_skipped : ¬ IsDump true (holding two_entries) (codes "key c/2 h02\n")
+first_key_skipped dump = let e : ◌≡◌ {A = ℕ} 12 25 = ap length (only_dump (codes "key c/2 h02\n") dump) in omega arith
+
+newline_left_out : ¬ IsDump true (holding two_entries) (codes "key c/10 h01\nkey c/2 h02")
+newline_left_out dump = let e : ◌≡◌ {A = ℕ} 24 25 = ap length (only_dump (codes "key c/10 h01\nkey c/2 h02") dump) in omega arith

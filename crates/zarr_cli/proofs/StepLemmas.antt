@@ -11,7 +11,7 @@ use Rattle.zarr_array.specs.Narrow.{open_narrow}
 use Rattle.zarr_array.specs.OpenArray.{documented}
 use Rattle.zarr_array.specs.declared.open.OpenArray.{OpenArray}
 use Rattle.zarr_cli_lines.specs.Text.{input_lines, good_lines}
-use Rattle.zarr_cli_lines.specs.Parts.{read_line, IsLineFault}
+use Rattle.zarr_cli_lines.specs.Parts.{command_line, IsLineFault}
 use Rattle.zarr_cli_lines.specs.declared.parse.LineError.{LineError}
 use Rattle.zarr_cli_lines.specs.declared.parse.LineError.TheVariants.{OutOfForm}
 use Rattle.zarr_cli_lines.proofs.SplitLemmas.{few_lines}
@@ -102,19 +102,19 @@ listed_key {E} view entries i entry within here key same = (
 )
 
 -- a fault of this form says where
-pub form_fault : (error : LineError) (good : ℕ) (lines : List (List ℕ)) → error ≡ OutOfForm good → IsLineFault error lines → (good ≡ good_lines read_line lines) × (good < length lines)
+pub form_fault : (error : LineError) (good : ℕ) (lines : List (List ℕ)) → error ≡ OutOfForm good → IsLineFault error lines → (good ≡ good_lines command_line lines) × (good < length lines)
 form_fault error good lines is fault = subst (λ e. IsLineFault e lines) is fault
 
 -- the first line out of form, of an input whose first line opens
 pub bad_line : (text line : List ℕ) (rest : List (List ℕ)) (array : OpenArray) (good : ℕ) → IsUtf8 text → input_lines text ≡ line ∷ rest → open_narrow line ≡ opened (documented array) →
-    good ≡ good_lines read_line rest → good < length rest → IsBadLine known_forms text (good + 2)
+    good ≡ good_lines command_line rest → good < length rest → IsBadLine known_forms text (good + 2)
 bad_line text line rest array good utf8 lines opens count below =
     inr (
       utf8,
       documented array,
       subst (λ all. open_narrow (first_line all) ≡ opened (documented array)) (sym lines) opens,
-      subst (λ all. good_lines read_line (drop 1 all) < length (drop 1 all)) (sym lines) (subst (λ n. n < length rest) count below),
-      subst (λ all. good + 2 ≡ good_lines read_line (drop 1 all) + 2) (sym lines) (ap (λ n. n + 2) count),
+      subst (λ all. good_lines command_line (drop 1 all) < length (drop 1 all)) (sym lines) (subst (λ n. n < length rest) count below),
+      subst (λ all. good + 2 ≡ good_lines command_line (drop 1 all) + 2) (sym lines) (ap (λ n. n + 2) count),
     )
 
 -- the number of a line fits

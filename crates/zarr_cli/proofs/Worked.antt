@@ -1,5 +1,8 @@
 -- What the worked examples are computed from: an input text against a description.
 use Rattle.std.proofs.Common.{ℕ, List, [], map, filter, Option, Some, None, option_map, unwrap_or}
+use Rattle.std.specs.Cmp.Lexicographic.{slice_cmp}
+use Rattle.std.specs.Ordering.{nat_cmp}
+use Rattle.std.specs.FinMap.{find}
 use Rattle.zarr_model.specs.Element.{Element}
 use Rattle.zarr_model.specs.Array.{Array, elements_in}
 use Rattle.zarr_model.specs.Grid.{chunks}
@@ -15,6 +18,10 @@ empty_store = λ key. None
 -- the store of the key lines at the front of a text
 abbrev pub store_of : List ℕ → Content
 store_of input = with_keys (first_entries (input_lines input)) empty_store
+
+-- the store that holds exactly these entries, in the order of their keys
+abbrev pub holding : List (List ℕ × List ℕ) → Content
+holding entries = λ key. find (slice_cmp nat_cmp) key entries
 
 -- the array at the start, and the commands
 abbrev pub first_array : Description → Options → List ℕ → Array Element

@@ -5,7 +5,9 @@ use Rattle.zarr_cli.specs.declared.status.Status.TheVariants.{Done, BadWords, Ba
 use Rattle.zarr_array.specs.Opening.{OpenRefusal}
 use Rattle.zarr_array.specs.OpenArray.{open_refusal_of}
 use Rattle.zarr_cli.specs.Ending.{Ending, done, bad_words, bad_input, refused_document, damaged_chunk, store_fault, read_fault, write_fault, too_long, out_of_memory}
-use Rattle.zarr_cli.specs.Program.{Forms, reading_forms}
+use Rattle.zarr_array.specs.Options.{options_of}
+use Rattle.zarr_cli.specs.declared.words.Settings as Held
+use Rattle.zarr_cli.specs.Program.{Settings, Forms, writing_forms}
 
 -- the words of the command line, as bytes
 abbrev pub words_of : {Z : Type 0} → List (String Z) → List (List ℕ)
@@ -29,6 +31,10 @@ ending_of Write = write_fault
 ending_of TooLong = too_long
 ending_of OutOfMemory = out_of_memory
 
--- the forms that the program knows: no words, narrow documents, and reads
+-- the settings that the program's own ones stand for: it makes no input
+abbrev pub settings_view : Held.Settings → Settings
+settings_view settings = record { dump = settings.dump; options = options_of settings.options; make = None }
+
+-- the forms that the program knows: its two words, narrow documents, and reads, writes and erases
 abbrev pub known_forms : Forms
-known_forms = reading_forms
+known_forms = writing_forms

@@ -8,7 +8,7 @@ use Rattle.zarr_model.specs.Array.{Array}
 use Rattle.zarr_model.specs.Codec.{Options}
 use Rattle.zarr_model.specs.Store.{Content, Means, with_keys}
 use Rattle.zarr_model.specs.Command.{Command, Description, kind, layout, replies}
-use Rattle.zarr_cli_lines.specs.Text.{number_of, command_of, read_of, input_lines, first_entries, commands_of, replies_text, entries_text}
+use Rattle.zarr_cli_lines.specs.Text.{number_of, command_of, input_lines, first_entries, commands_of, replies_text, entries_text}
 use Rattle.zarr_model.specs.Session.{LeavesArray}
 use Rattle.zarr_model.specs.Causes.{MeetsNoDamage}
 use Rattle.zarr_array.specs.Document.{ArrayDocument, describe}
@@ -51,11 +51,7 @@ pub record Forms : Type 0 where
 abbrev pub settings_of : Forms → List (List ℕ) → Option Settings
 settings_of forms words = with_words forms.knows false words first_settings
 
--- a program without words, for narrow documents, that only reads
-abbrev pub reading_forms : Forms
-reading_forms = record { knows = λ word. false; opens = open_narrow; command = read_of }
-
--- one that also writes, erases and dumps
+-- a program with two words, for narrow documents, that reads, writes and erases
 abbrev pub knows_writing : List ℕ → Bool
 knows_writing word = if bytes_eq word (codes "--dump") then true else bytes_eq word (codes "--store-empty-chunks")
 
@@ -120,9 +116,10 @@ pub record Run (forms : Forms) (words : List (List ℕ)) (input : List ℕ) : Ty
   pub is_opened : forms.opens (document_line input) ≡ opened document
   pub are_commands : commands_of (command_grammar forms document) (lines_after_document input) ≡ Some commands
 
--- A run went through: the output is that of one plain array that the store means once the key lines are set, the store is left as that array's, and each value that was met decodes.
+-- A run went through: the output is that of one plain array that the store means once the key lines are set, the store is left as that array's, and each value that was met decodes. Whatever the store meant, the output ends with its final keys where they were asked for.
 pub record RunsInput (document : ArrayDocument) (settings : Settings) (commands : List Command) (input : List ℕ) (old new : Content) (output : List ℕ) : Type 0 where
   pub replied : (array : Array Element) → Means (layout (describe document) settings.options) (store_after_keys input old) array →
       IsOutput (describe document) commands array settings.dump new output
   pub left : LeavesArray (describe document) settings.options commands (store_after_keys input old) new
   pub undamaged : MeetsNoDamage (describe document) settings.options commands (store_after_keys input old)
+  pub dumped : (front keys : List ℕ) × IsDump settings.dump new keys × (output ≡ front ++ keys)

@@ -1,5 +1,5 @@
 -- What each step of the program promises to the next one.
-use Rattle.std.specs.Prelude.{◌≡◌, ℕ, ◌<◌, List, ◌++◌, length, map, flat_map, IsUtf8, Contains, Option, Some, None, Result, Ok, Err}
+use Rattle.std.specs.Prelude.{◌≡◌, ℕ, ◌+◌, ◌<◌, Bool, false, List, [], ◌++◌, length, map, flat_map, IsUtf8, Contains, Option, Some, None, unwrap_or, Result, Ok, Err}
 use Rattle.zarr_model.specs.Element.{Element}
 use Rattle.zarr_model.specs.Array.{Array}
 use Rattle.zarr_model.specs.Store.{Content, Means}
@@ -13,15 +13,18 @@ use Rattle.zarr_array.specs.Opening.{OpenRefusal, OpenAnswer, opened, not_opened
 use Rattle.zarr_array.specs.Narrow.{open_narrow}
 use Rattle.zarr_array.specs.OpenArray.{documented, open_refusal_of}
 use Rattle.zarr_array.specs.Command.{command_of}
-use Rattle.zarr_array.specs.Session.{session_options}
+use Rattle.zarr_model.specs.Codec.{Options}
 use Rattle.zarr_array.specs.declared.open.OpenArray.{OpenArray}
 use Rattle.zarr_array.specs.declared.command.Reply.{Reply}
 use Rattle.zarr_array.specs.declared.error.SessionErrorKind.{SessionErrorKind}
 use Rattle.zarr_array.specs.declared.error.SessionErrorKind.TheVariants.{NotOpened, ChunkDecode}
 use Rattle.zarr_array.specs.declared.error.SessionErrorKind.TheVariants as Kind
+use Rattle.zarrs_storage.specs.declared.store.StorageError.{StorageError}
+use Rattle.zarrs_storage.specs.declared.store.StorageError.TheVariants.{Failed}
+use Rattle.zarrs_storage.specs.declared.store.StorageError.TheVariants as Storage
 use Rattle.zarr_cli_lines.specs.Text.{line_of, first_entries, commands_of, replies_text}
-use Rattle.zarr_cli_lines.specs.Parts.{entry_view, read_line, answer_text}
-use Rattle.zarr_cli.specs.Program.{Run, RunsInput, input_limit, document_line, lines_after_document, store_after_keys}
+use Rattle.zarr_cli_lines.specs.Parts.{entry_view, command_line, answer_text}
+use Rattle.zarr_cli.specs.Program.{Settings, Run, RunsInput, IsDump, IsDumpAsks, IsOutput, input_limit, document_line, lines_after_document, store_after_keys}
 use Rattle.zarr_cli.specs.Ending.{IsBadLine, HasBadWords, HasLongInput, HasBadLine, HasRefusedDocument, HasDamage}
 use Rattle.zarr_cli.specs.Endings.{known_forms}
 use Rattle.zarr_cli.specs.declared.status.Status.{Status}
@@ -65,7 +68,7 @@ pub record SaysInput (input : List ℕ) (parsed : ParsedInput) : Type 0 where
   pub is_text : IsUtf8 input
   pub is_opened : open_narrow (document_line input) ≡ opened (documented parsed.array)
   pub entries_are : map entry_view parsed.entries.items ≡ first_entries (lines_after_document input)
-  pub commands_are : commands_of read_line (lines_after_document input) ≡ Some (map command_of parsed.commands.items)
+  pub commands_are : commands_of command_line (lines_after_document input) ≡ Some (map command_of parsed.commands.items)
 
 -- opening refused for a reason other than memory
 abbrev pub IsRefusal : Option OpenRefusal → OpenAnswer → Type 0
@@ -107,24 +110,64 @@ abbrev pub answers_text : List Reply → List ℕ
 answers_text held = flat_map (λ reply. line_of (answer_text reply)) held
 
 -- commands ran over a store, and the text is that of their replies
-pub record RunsCommands (description : Description) (commands : List Command) (old new : Content) (asks_before asks_now : ℕ) (text : List ℕ) : Type 0 where
-  pub replied : (array : Array Element) → Means (layout description session_options) old array → text ≡ replies_text (replies description commands array)
-  pub left : LeavesArray description session_options commands old new
-  pub undamaged : MeetsNoDamage description session_options commands old
+pub record RunsCommands (description : Description) (options : Options) (commands : List Command) (old new : Content) (asks_before asks_now : ℕ) (text : List ℕ) : Type 0 where
+  pub replied : (array : Array Element) → Means (layout description options) old array → text ≡ replies_text (replies description commands array)
+  pub left : LeavesArray description options commands old new
+  pub undamaged : MeetsNoDamage description options commands old
   pub asks : asks_now ≡ counted asks_before (all_asks description commands)
 
+-- the calls of a dump, counted onto those before
+abbrev pub CountsDump : Bool → Content → ℕ → ℕ → ℕ → Type 0
+CountsDump dump store earlier asks_before asks_now = (more : ℕ) × IsDumpAsks dump store more × (asks_now ≡ counted asks_before (earlier + more))
+
+-- the lines of the keys were appended to a text where they were asked for, and the store holds what it held
+pub record Dumps (dump : Bool) (old new : Content) (asks_before asks_now : ℕ) (before now : List ℕ) : Type 0 where
+  pub text : (keys : List ℕ) × IsDump dump new keys × (now ≡ before ++ keys)
+  pub same : new ≡ old
+  pub asks : CountsDump dump new 0 asks_before asks_now
+
+-- the status of a call that gave no answer
+abbrev pub dump_status : StorageError → Status
+dump_status Failed = Store
+dump_status Storage.OutOfMemory = OutOfMemory
+
+-- listing the keys with their values ended early
+abbrev pub IsDumpFault : ℕ → ℕ → Status → Type 0
+IsDumpFault before now Store = Rose before now
+IsDumpFault before now OutOfMemory = Unit {0}
+IsDumpFault before now Done = ⊥
+IsDumpFault before now BadWords = ⊥
+IsDumpFault before now (BadInput line) = ⊥
+IsDumpFault before now (Document error) = ⊥
+IsDumpFault before now (Chunk key) = ⊥
+IsDumpFault before now Read = ⊥
+IsDumpFault before now Write = ⊥
+IsDumpFault before now TooLong = ⊥
+
+-- keys of a store with their values
+abbrev pub entries_at : Content → List (List ℕ) → List (List ℕ × List ℕ)
+entries_at store keys = map (λ key. (key, unwrap_or (store key) [])) keys
+
+-- commands ran over a store, and the text is that of their replies and of the keys that were asked for
+pub record RunsAll (description : Description) (settings : Settings) (commands : List Command) (old new : Content) (asks_before asks_now : ℕ) (text : List ℕ) : Type 0 where
+  pub replied : (array : Array Element) → Means (layout description settings.options) old array → IsOutput description commands array settings.dump new text
+  pub left : LeavesArray description settings.options commands old new
+  pub undamaged : MeetsNoDamage description settings.options commands old
+  pub dumped : (front keys : List ℕ) × IsDump settings.dump new keys × (text ≡ front ++ keys)
+  pub asks : CountsDump settings.dump new (all_asks description commands) asks_before asks_now
+
 -- commands ended early
-abbrev pub IsRunFault : Description → List Command → Content → ℕ → ℕ → Status → Type 0
-IsRunFault description commands old faults_before faults_now (Chunk key) = IsDamageMet description session_options commands old key
-IsRunFault description commands old faults_before faults_now Store = Rose faults_before faults_now
-IsRunFault description commands old faults_before faults_now OutOfMemory = Unit {0}
-IsRunFault description commands old faults_before faults_now Done = ⊥
-IsRunFault description commands old faults_before faults_now BadWords = ⊥
-IsRunFault description commands old faults_before faults_now (BadInput line) = ⊥
-IsRunFault description commands old faults_before faults_now (Document error) = ⊥
-IsRunFault description commands old faults_before faults_now Read = ⊥
-IsRunFault description commands old faults_before faults_now Write = ⊥
-IsRunFault description commands old faults_before faults_now TooLong = ⊥
+abbrev pub IsRunFault : Description → Options → List Command → Content → ℕ → ℕ → Status → Type 0
+IsRunFault description options commands old faults_before faults_now (Chunk key) = IsDamageMet description options commands old key
+IsRunFault description options commands old faults_before faults_now Store = Rose faults_before faults_now
+IsRunFault description options commands old faults_before faults_now OutOfMemory = Unit {0}
+IsRunFault description options commands old faults_before faults_now Done = ⊥
+IsRunFault description options commands old faults_before faults_now BadWords = ⊥
+IsRunFault description options commands old faults_before faults_now (BadInput line) = ⊥
+IsRunFault description options commands old faults_before faults_now (Document error) = ⊥
+IsRunFault description options commands old faults_before faults_now Read = ⊥
+IsRunFault description options commands old faults_before faults_now Write = ⊥
+IsRunFault description options commands old faults_before faults_now TooLong = ⊥
 
 -- the status of a session that ended early
 abbrev pub status_of : SessionErrorKind → Status
@@ -141,8 +184,8 @@ IsKeyOf entries key = (value : List ℕ) × Contains entries (key, value)
 pub record DidRun (words : List (List ℕ)) (input : List ℕ) (old new : Content) (asks_before asks_now taken_before taken_now : ℕ) (text : List ℕ) : Type 0 where
   pub run : Run known_forms words input
   pub runs : RunsInput run.document run.settings run.commands input old new text
-  pub asks : asks_now ≡ counted asks_before (all_asks (describe run.document) run.commands)
-  pub refused : AreRefused (describe run.document) run.commands → IsUntouched (store_after_keys input old) new asks_before asks_now taken_before taken_now
+  pub asks : CountsDump run.settings.dump new (all_asks (describe run.document) run.commands) asks_before asks_now
+  pub refused : AreRefused (describe run.document) run.commands → run.settings.dump ≡ false → IsUntouched (store_after_keys input old) new asks_before asks_now taken_before taken_now
 
 -- a refused document, by the refusal that an error stands for
 abbrev pub IsRefusedBy : List (List ℕ) → List ℕ → Option OpenRefusal → Type 0

@@ -1,6 +1,7 @@
 //! The program over a source of input, a sink for output and a store.
 #![tactic(auto)]
 
+mod dump;
 mod input;
 pub mod program;
 mod read;
@@ -8,4 +9,5 @@ mod run;
 pub mod status;
 #[cfg(test)]
 mod tests;
+mod words;
 mod write;

@@ -1,4 +1,4 @@
-//! The program: words, a document, key lines and commands in, the replies of one array out.
+//! The program: words, a document, key lines and commands in, the replies of one array and its final keys out.
 
 ghost use Rattle.std.specs.Prelude.{◌≡◌, ◌+◌, ◌≤◌, List, ℕ, [], length, Some, false, Ok, Err, IfOk, IfErr, OnOk, MatchResult};
 ghost use Rattle.zarr_model.specs.Outside.{Rose};
@@ -6,15 +6,16 @@ ghost use Rattle.zarr_model.specs.Cost.{all_asks, counted};
 ghost use Rattle.zarr_model.specs.Session.{AreRefused, IsUntouched};
 ghost use Rattle.zarr_array.specs.Document.{describe};
 ghost use Rattle.zarr_array.specs.Opening.{OpenRefusal};
-ghost use Rattle.zarr_cli.specs.Program.{Run, input_limit, store_after_keys, IsDumpAsks};
+ghost use Rattle.zarr_cli.specs.Program.{Run, settings_of, input_limit, store_after_keys, IsDumpAsks};
 ghost use Rattle.zarr_cli.specs.Ending.{done, bad_words, bad_input, refused_document, damaged_chunk, too_long, IsOrMemory, IsWritten, ending_line, IsGiven, IsGivenFront, IsGivenLine, HasBadWords, HasLongInput, HasBadLine, HasRefusedDocument, HasDamage, WentThrough, IsRunnable, SameKeysElsewhere, IsBeforeStore};
 ghost use Rattle.zarr_cli.specs.Steps.{DidRun, IsToldFault, IsPlainFault};
-ghost use Rattle.zarr_cli.specs.Endings.{known_forms, words_of, ending_of};
+ghost use Rattle.zarr_cli.specs.Endings.{known_forms, words_of, ending_of, settings_view};
 
 use crate::input::parse_input;
 use crate::read::read_input;
 use crate::run::run_input;
 use crate::status::Status;
+use crate::words::{Settings, parse_words};
 use crate::write::{end_with, write_text};
 use std::alloc::Global;
 use zarr_array::open::OpenError;
@@ -22,23 +23,30 @@ use zarrs_storage::sink::Sink;
 use zarrs_storage::source::Source;
 use zarrs_storage::store::Store;
 
-// Runs an input that is read, and gives the text of its replies.
-fn run_bytes<S: Store>(alloc: Global, input: &[u8], store: &mut S) -> Result<Vec<u8>, Status>
+// Runs an input that is read, and gives the text of its replies and of the keys that are asked for.
+fn run_bytes<S: Store>(
+    alloc: Global,
+    settings: &Settings,
+    input: &[u8],
+    store: &mut S,
+) -> Result<Vec<u8>, Status>
     requires { length input.now ≤ input_limit }
-    ensures ran { IfOk result (λ text. DidRun [] input.now (S.content store.old) (S.content store.new) (S.ask_count store.old) (S.ask_count store.new) (S.taken_count store.old) (S.taken_count store.new) text.items) }
-    ensures fault { IfErr result (λ status. IsToldFault [] input.now (S.content store.old) ⊥ (S.fault_count store.old) (S.fault_count store.new) status) }
+    ensures ran { (words : List (List ℕ)) → settings_of known_forms words ≡ Some (settings_view settings.now) → MatchResult result
+        (λ text. DidRun words input.now (S.content store.old) (S.content store.new) (S.ask_count store.old) (S.ask_count store.new) (S.taken_count store.old) (S.taken_count store.new) text.items)
+        (λ status. IsToldFault words input.now (S.content store.old) ⊥ (S.fault_count store.old) (S.fault_count store.new) status) }
     ensures untouched { IfErr result (λ status. IsBeforeStore (ending_of status) →
         IsUntouched (S.content store.old) (S.content store.new) (S.ask_count store.old) (S.ask_count store.new) (S.taken_count store.old) (S.taken_count store.new)) }
-    ensures elsewhere { SameKeysElsewhere known_forms [] input.now (S.content store.old) (S.content store.new) }
-    ensures complete { IsRunnable known_forms [] input.now (S.content store.old) → ¬ Rose (S.fault_count store.old) (S.fault_count store.new) → IfErr result (λ status. status ≡ Status.OutOfMemory) }
+    ensures elsewhere { (words : List (List ℕ)) → settings_of known_forms words ≡ Some (settings_view settings.now) → SameKeysElsewhere known_forms words input.now (S.content store.old) (S.content store.new) }
+    ensures complete { (words : List (List ℕ)) → settings_of known_forms words ≡ Some (settings_view settings.now) → IsRunnable known_forms words input.now (S.content store.old) →
+        ¬ Rose (S.fault_count store.old) (S.fault_count store.new) → IfErr result (λ status. status ≡ Status.OutOfMemory) }
 {
     match parse_input(alloc, input) {
-        Ok(parsed) => run_input(alloc, &parsed, store),
+        Ok(parsed) => run_input(alloc, settings, &parsed, store),
         Err(status) => Err(status),
     }
 }
 
-// The text of the replies, or the status that ends the program before it is written.
+// The text of the replies and keys, or the status that ends the program before it is written.
 fn output_of<R: Source, S: Store>(
     alloc: Global,
     words: &[String],
@@ -57,19 +65,20 @@ fn output_of<R: Source, S: Store>(
     ensures complete { (input : List ℕ) → R.left source.old ≡ Some input → IsRunnable known_forms (words_of words.now) input (S.content store.old) →
         ¬ Rose (R.fault_count source.old) (R.fault_count source.new) → ¬ Rose (S.fault_count store.old) (S.fault_count store.new) → IfErr result (λ status. status ≡ Status.OutOfMemory) }
 {
-    if !words.is_empty() {
+    let Some(settings) = parse_words(words) else {
         return Err(Status::BadWords);
-    }
+    };
     match read_input(alloc, source) {
-        Ok(input) => run_bytes(alloc, &input, store),
+        Ok(input) => run_bytes(alloc, &settings, &input, store),
         Err(status) => Err(status),
     }
 }
 
-/// Reads a document, key lines and commands from `source`, runs the commands over `store`, and writes their replies to `sink`.
+/// Reads a document, key lines and commands from `source`, runs the commands over `store`, and writes their
+/// replies to `sink`, with `--dump` also the lines of the final keys.
 ///
 /// In order: the words, reading, UTF-8, the first line as a document, all other lines, setting the key lines, the
-/// commands, writing. The first that fails decides the status.
+/// commands, listing the keys, writing. The first that fails decides the status.
 pub fn run_program<R: Source, W: Sink, S: Store>(
     alloc: Global,
     words: &[String],

@@ -1,6 +1,6 @@
 //! Running the commands of an input over a store.
 
-ghost use Rattle.std.specs.Prelude.{◌≡◌, ◌≤◌, map, List, ℕ, IfOk, IfErr, OnOk};
+ghost use Rattle.std.specs.Prelude.{◌≡◌, ◌≤◌, false, map, List, ℕ, IfOk, IfErr, OnOk};
 ghost use Rattle.zarr_model.specs.Outside.{Rose, HasCause};
 ghost use Rattle.zarr_model.specs.Store.{IsHonest, IsChunkKey, SameOtherKeys, with_keys};
 ghost use Rattle.zarr_model.specs.Command.{layout};
@@ -8,16 +8,20 @@ ghost use Rattle.zarr_model.specs.Session.{AreRefused, IsUntouched};
 ghost use Rattle.zarrs_storage.specs.Store.{IsFault as IsStoreFault};
 ghost use Rattle.zarr_array.specs.OpenArray.{described};
 ghost use Rattle.zarr_array.specs.Command.{command_of};
-ghost use Rattle.zarr_array.specs.Session.{session_options};
+ghost use Rattle.zarr_array.specs.Options.{options_of};
 ghost use Rattle.zarr_cli_lines.specs.Parts.{entry_view};
-ghost use Rattle.zarr_cli.specs.Steps.{answers_text, RunsCommands, IsRunFault, IsKeyOf, status_of};
+ghost use Rattle.zarr_cli.specs.Endings.{settings_view};
+ghost use Rattle.zarr_cli.specs.Steps.{answers_text, RunsCommands, RunsAll, IsRunFault, IsKeyOf, status_of};
 
+use crate::dump::push_dump;
 use crate::input::ParsedInput;
 use crate::status::Status;
+use crate::words::Settings;
 use std::alloc::{AllocError, Global};
 use zarr_array::command::{Command, Reply};
 use zarr_array::error::SessionErrorKind;
 use zarr_array::open::OpenArray;
+use zarr_array::options::CodecOptions;
 use zarr_cli_lines::entry::Entry;
 use zarr_cli_lines::reply_text::push_reply;
 use zarrs_storage::store::{StorageError, Store};
@@ -69,42 +73,71 @@ fn run_commands<S: Store>(
     array: &OpenArray,
     commands: &[Command],
     store: &mut S,
+    options: &CodecOptions,
 ) -> Result<Vec<u8>, Status>
-    ensures ran { IfOk result (λ text. RunsCommands (described array.now) (map command_of commands.now) (S.content store.old) (S.content store.new) (S.ask_count store.old) (S.ask_count store.new) text.items) }
+    ensures ran { IfOk result (λ text. RunsCommands (described array.now) (options_of options.now) (map command_of commands.now) (S.content store.old) (S.content store.new) (S.ask_count store.old) (S.ask_count store.new) text.items) }
     ensures refused { AreRefused (described array.now) (map command_of commands.now) →
         IsUntouched (S.content store.old) (S.content store.new) (S.ask_count store.old) (S.ask_count store.new) (S.taken_count store.old) (S.taken_count store.new) }
-    ensures keys { SameOtherKeys (layout (described array.now) session_options) (S.content store.old) (S.content store.new) }
+    ensures keys { SameOtherKeys (layout (described array.now) (options_of options.now)) (S.content store.old) (S.content store.new) }
     ensures later { S.fault_count store.old ≤ S.fault_count store.new }
-    ensures fault { IfErr result (λ status. IsRunFault (described array.now) (map command_of commands.now) (S.content store.old) (S.fault_count store.old) (S.fault_count store.new) status) }
-    ensures complete { IsHonest (layout (described array.now) session_options) (S.content store.old) → ¬ Rose (S.fault_count store.old) (S.fault_count store.new) →
+    ensures fault { IfErr result (λ status. IsRunFault (described array.now) (options_of options.now) (map command_of commands.now) (S.content store.old) (S.fault_count store.old) (S.fault_count store.new) status) }
+    ensures complete { IsHonest (layout (described array.now) (options_of options.now)) (S.content store.old) → ¬ Rose (S.fault_count store.old) (S.fault_count store.new) →
         IfErr result (λ status. status ≡ Status.OutOfMemory) }
 {
-    match array.run_commands(alloc, commands, store) {
+    match array.run_commands(alloc, commands, store, options) {
         Ok(replies) => Ok(replies_text(alloc, &replies)?),
         Err(error) => Err(status_of(error.kind)),
     }
 }
 
-/// Sets the key lines of an input, runs its commands, and gives the text of their replies.
+// Runs commands over a store, and gives the text of their replies and of the keys that are asked for.
+fn run_all<S: Store>(
+    alloc: Global,
+    settings: &Settings,
+    array: &OpenArray,
+    commands: &[Command],
+    store: &mut S,
+) -> Result<Vec<u8>, Status>
+    ensures ran { IfOk result (λ text. RunsAll (described array.now) (settings_view settings.now) (map command_of commands.now) (S.content store.old) (S.content store.new) (S.ask_count store.old) (S.ask_count store.new) text.items) }
+    ensures refused { AreRefused (described array.now) (map command_of commands.now) → settings.now.dump ≡ false →
+        IsUntouched (S.content store.old) (S.content store.new) (S.ask_count store.old) (S.ask_count store.new) (S.taken_count store.old) (S.taken_count store.new) }
+    ensures keys { SameOtherKeys (layout (described array.now) (options_of settings.now.options)) (S.content store.old) (S.content store.new) }
+    ensures later { S.fault_count store.old ≤ S.fault_count store.new }
+    ensures fault { IfErr result (λ status. IsRunFault (described array.now) (options_of settings.now.options) (map command_of commands.now) (S.content store.old) (S.fault_count store.old) (S.fault_count store.new) status) }
+    ensures complete { IsHonest (layout (described array.now) (options_of settings.now.options)) (S.content store.old) → ¬ Rose (S.fault_count store.old) (S.fault_count store.new) →
+        IfErr result (λ status. status ≡ Status.OutOfMemory) }
+{
+    match run_commands(alloc, array, commands, store, &settings.options) {
+        Ok(mut text) => match push_dump(alloc, settings.dump, &mut text, store) {
+            Ok(()) => Ok(text),
+            Err(status) => Err(status),
+        },
+        Err(status) => Err(status),
+    }
+}
+
+/// Sets the key lines of an input, runs its commands, and gives the text of their replies and of the keys that are asked
+/// for.
 pub(crate) fn run_input<S: Store>(
     alloc: Global,
+    settings: &Settings,
     parsed: &ParsedInput,
     store: &mut S,
 ) -> Result<Vec<u8>, Status>
-    ensures ran { IfOk result (λ text. RunsCommands (described parsed.now.array) (map command_of parsed.now.commands.items)
+    ensures ran { IfOk result (λ text. RunsAll (described parsed.now.array) (settings_view settings.now) (map command_of parsed.now.commands.items)
         (with_keys (map entry_view parsed.now.entries.items) (S.content store.old)) (S.content store.new) (S.ask_count store.old) (S.ask_count store.new) text.items) }
-    ensures refused { OnOk result (AreRefused (described parsed.now.array) (map command_of parsed.now.commands.items) →
+    ensures refused { OnOk result (AreRefused (described parsed.now.array) (map command_of parsed.now.commands.items) → settings.now.dump ≡ false →
         IsUntouched (with_keys (map entry_view parsed.now.entries.items) (S.content store.old)) (S.content store.new)
         (S.ask_count store.old) (S.ask_count store.new) (S.taken_count store.old) (S.taken_count store.new)) }
-    ensures elsewhere { (key : List ℕ) → ¬ IsKeyOf (map entry_view parsed.now.entries.items) key → ¬ IsChunkKey (layout (described parsed.now.array) session_options) key →
+    ensures elsewhere { (key : List ℕ) → ¬ IsKeyOf (map entry_view parsed.now.entries.items) key → ¬ IsChunkKey (layout (described parsed.now.array) (options_of settings.now.options)) key →
         S.content store.new key ≡ S.content store.old key }
-    ensures fault { IfErr result (λ status. IsRunFault (described parsed.now.array) (map command_of parsed.now.commands.items)
+    ensures fault { IfErr result (λ status. IsRunFault (described parsed.now.array) (options_of settings.now.options) (map command_of parsed.now.commands.items)
         (with_keys (map entry_view parsed.now.entries.items) (S.content store.old)) (S.fault_count store.old) (S.fault_count store.new) status) }
-    ensures complete { IsHonest (layout (described parsed.now.array) session_options) (with_keys (map entry_view parsed.now.entries.items) (S.content store.old)) →
+    ensures complete { IsHonest (layout (described parsed.now.array) (options_of settings.now.options)) (with_keys (map entry_view parsed.now.entries.items) (S.content store.old)) →
         ¬ Rose (S.fault_count store.old) (S.fault_count store.new) → IfErr result (λ status. status ≡ Status.OutOfMemory) }
 {
     match set_entries(alloc, &parsed.entries, store) {
-        Ok(()) => run_commands(alloc, &parsed.array, &parsed.commands, store),
+        Ok(()) => run_all(alloc, settings, &parsed.array, &parsed.commands, store),
         Err(StorageError::Failed) => Err(Status::Store),
         Err(StorageError::OutOfMemory) => Err(Status::OutOfMemory),
     }

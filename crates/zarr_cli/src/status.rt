@@ -22,7 +22,7 @@ pub enum Status {
     },
     /// The first line is not opened as an array document.
     Document(OpenError),
-    /// A chunk that was read does not decode.
+    /// The value of a chunk that a read or a write met does not decode.
     Chunk {
         /// The key of the chunk.
         key: StoreKey,

@@ -1,5 +1,6 @@
 pub mod TextLaws
 pub mod SplitLemmas
 mod NumberLemmas
-mod LineLemmas
+pub mod LineLemmas
+pub mod ElementLemmas
 pub mod ReplyLemmas

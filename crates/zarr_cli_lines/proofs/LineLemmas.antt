@@ -1,10 +1,10 @@
 -- Lines parsed one after another.
-use Rattle.std.proofs.Common.{◌≡◌, ℕ, ◌+◌, Bool, true, false, List, [], ◌∷◌, ◌++◌, map, drop, Option, Some, None, option_map, refl, sym, ap, ◌∙◌, cond, bytes_eq, codes, append_assoc}
+use Rattle.std.proofs.Common.{◌≡◌, ℕ, ◌+◌, ◌<◌, Bool, true, false, List, [], ◌∷◌, ◌++◌, length, map, drop, Option, Some, None, option_map, refl, sym, ap, ◌∙◌, arith, cond, bytes_eq, codes, append_assoc}
 use Rattle.std.proofs.lemmas.List.{drop-drop}
-use Rattle.zarr_model.specs.Region.{Region}
-use Rattle.zarr_model.specs.Element.{Element, fixed}
-use Rattle.zarr_cli_lines.specs.Text.{all_some, box_of, command_of_words, only_read, write_of, entry_of_line, entries_onto, first_entries, element_of}
-use Rattle.zarr_cli_lines.specs.Parts.{two_of}
+use Rattle.zarr_model.specs.Element.{fixed}
+use Rattle.zarr_model.proofs.FailureLaws.{same_bytes}
+use Rattle.zarr_cli_lines.specs.Text.{split_at, all_some, box_of, command_of_words, write_of, entry_of_line, entries_onto, first_entries, element_of}
+use Rattle.zarr_cli_lines.proofs.SplitLemmas.{split_nonempty}
 
 -- values that are all there, with one more of them before
 pub all_some-step : {A : Type 0} (x : A) (before : List A) (rest : List (Option A)) (all : Option (List A)) →
@@ -15,19 +15,14 @@ all_some-step {A} x before rest all e = go (all_some rest) e
     go None e = e
     go (Some xs) e = ap Some (append_assoc before (x ∷ []) xs) ∙ e
 
--- no other command is known than a read, which has two words
-pub read_words-none : (words : List (List ℕ)) → two_of words ≡ None → only_read (command_of_words (fixed 1) words) ≡ None
-read_words-none [] e = refl
-read_words-none (word ∷ []) e = refl
-read_words-none (word ∷ box ∷ []) e = cc
-read_words-none (word ∷ box ∷ first ∷ rest) e = go (bytes_eq word (codes "write")) (box_of box) (all_some (map (element_of (fixed 1)) (first ∷ rest)))
+-- no command but a write has three words
+pub no_longer_line : (word first rest : List ℕ) → ¬ (word ≡ codes "write") → None ≡ command_of_words (fixed 1) (word ∷ first ∷ split_at 32 rest)
+no_longer_line word first rest other = go (split_at 32 rest) (split_nonempty 32 rest) (bytes_eq word (codes "write")) refl
   where
-    go : (b : Bool) (r : Option Region) (l : Option (List Element)) → only_read (cond b (write_of (fixed 1) r l) None) ≡ None
-    go false r l = refl
-    go true None None = refl
-    go true None (Some l) = refl
-    go true (Some r) None = refl
-    go true (Some r) (Some l) = refl
+    go : (parts : List (List ℕ)) → 0 < length parts → (b : Bool) → bytes_eq word (codes "write") ≡ b → None ≡ command_of_words (fixed 1) (word ∷ first ∷ parts)
+    go [] some b is = absurd (omega arith)
+    go (part ∷ parts) some true is = absurd (other (same_bytes word (codes "write") is))
+    go (part ∷ parts) some false is = ap (λ t. cond t (write_of (fixed 1) (box_of first) (all_some (map (element_of (fixed 1)) (part ∷ parts)))) None) (sym is)
 
 -- the entries of key lines, with one more of them before
 pub entries_step : (line : List ℕ) (lines : List (List ℕ)) (entry : List ℕ × List ℕ) (before all : List (List ℕ × List ℕ)) →

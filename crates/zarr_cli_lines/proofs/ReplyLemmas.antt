@@ -2,13 +2,13 @@
 use Rattle.std.proofs.Common.{◌≡◌, ℕ, List, [], ◌∷◌, ◌++◌, length, flat_map, Option, Some, None, IsSome, codes, refl, sym, ap, ◌∙◌, append_assoc, rules}
 use Rattle.zarr_model.specs.Element.{Element, fixed}
 use Rattle.zarr_model.specs.ArrayBytes.{fixed_bytes, meaning}
-use Rattle.zarr_model.specs.Command.{Reply, elements, done, refused, Refusal, answered, answered_refused, Matches, refusal_name}
+use Rattle.zarr_model.specs.Command.{Reply, elements, done, refused, Refusal, answered, answered_done, answered_refused, Matches, refusal_name}
 use Rattle.zarr_array.specs.Chunk.{byte_elements}
 use Rattle.zarr_array.proofs.OneByteLaws.{meaning-bytes, bytes_meaning_length}
 use Rattle.zarr_cli_lines.specs.Text.{element_text, hex_text, reply_text, line_of}
 use Rattle.zarr_cli_lines.specs.Parts.{bytes_text, answer_text, AppendsReply}
 use Rattle.zarr_array.specs.declared.command.Reply.{Reply as Held}
-use Rattle.zarr_array.specs.declared.command.Reply.TheVariants.{Elements, Refused}
+use Rattle.zarr_array.specs.declared.command.Reply.TheVariants.{Elements, Done, Refused}
 use Rattle.zarr_array.specs.Command.{answer_of, refusal_of}
 
 -- the text of bytes, an element for each
@@ -38,9 +38,16 @@ refused_text why (elements list) h = absurd h
 refused_text why done h = absurd h
 refused_text why (refused other) h = ap (λ refusal. codes "refused " ++ refusal_name refusal) (sym h)
 
+-- the text of a reply that says done
+pub done_text : (answer : Reply) → Matches (fixed 1) answered_done answer → reply_text answer ≡ codes "done"
+done_text (elements list) h = absurd h
+done_text done h = refl
+done_text (refused why) h = absurd h
+
 -- so it is with each reply, and its line
 pub answered_text : (reply : Held) (answer : Reply) → Matches (fixed 1) (answer_of reply) answer → reply_text answer ≡ answer_text reply
 answered_text (Elements value) answer h = matched_text value.items answer h
+answered_text Done answer h = done_text answer h
 answered_text (Refused why) answer h = refused_text (refusal_of why) answer h
 
 pub line_put : (reply : Held) (before text now : List ℕ) → text ≡ before ++ answer_text reply → now ≡ text ++ 10 ∷ [] → now ≡ before ++ line_of (answer_text reply)

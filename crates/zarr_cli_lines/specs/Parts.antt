@@ -1,15 +1,16 @@
 -- The parts of a line, and what the parsed lines of an input stand for.
 use Rattle.std.specs.Prelude.{◌≡◌, ℕ, ◌-◌, ◌<◌, List, [], ◌∷◌, ◌++◌, length, flat_map, codes, Option, Some, None}
 use Rattle.std.specs.Option.{option_map_or}
+use Rattle.std.specs.Borrow.{Bor}
 use Rattle.std.specs.declared.ops.Range.{Range}
 use Rattle.zarr_model.specs.Region.{Span}
 use Rattle.zarr_model.specs.Element.{fixed}
 use Rattle.zarr_model.specs.Command.{Command, Matches, refusal_name}
 use Rattle.zarr_model.specs.Command as Model
 use Rattle.zarr_array.specs.declared.command.Reply.{Reply}
-use Rattle.zarr_array.specs.declared.command.Reply.TheVariants.{Elements, Refused}
+use Rattle.zarr_array.specs.declared.command.Reply.TheVariants.{Elements, Done, Refused}
 use Rattle.zarr_array.specs.Command.{answer_of, refusal_of}
-use Rattle.zarr_cli_lines.specs.Text.{split_at, read_of, good_lines, hex_text, line_of, reply_text}
+use Rattle.zarr_cli_lines.specs.Text.{split_at, command_of, good_lines, hex_text, line_of, reply_text}
 use Rattle.zarr_cli_lines.specs.declared.lines.Lines.{Lines}
 use Rattle.zarr_cli_lines.specs.declared.entry.Entry.{Entry}
 use Rattle.zarr_cli_lines.specs.declared.parse.LineError.{LineError}
@@ -33,17 +34,21 @@ span_of_range range = record { start = range.start; size = range.end - range.sta
 abbrev pub lines_left : Lines → List (List ℕ)
 lines_left lines = option_map_or (λ rest. split_at 10 rest.now) lines.rest []
 
+-- the words of a text, if there is one
+abbrev pub words_left : Option (Bor (List ℕ)) → List (List ℕ)
+words_left text = option_map_or (λ rest. split_at 32 rest.now) text []
+
 -- the key of an entry, and its value
 abbrev pub entry_view : Entry → List ℕ × List ℕ
 entry_view entry = (entry.key, entry.value.items)
 
--- the commands that a program knows which only reads elements of one byte
-abbrev pub read_line : List ℕ → Option Command
-read_line line = read_of (fixed 1) line
+-- the commands of arrays whose elements are one byte each
+abbrev pub command_line : List ℕ → Option Command
+command_line line = command_of (fixed 1) line
 
 -- lines are out of form after so many good ones, or memory ran out
 abbrev pub IsLineFault : LineError → List (List ℕ) → Type 0
-IsLineFault (OutOfForm good) lines = (good ≡ good_lines read_line lines) × (good < length lines)
+IsLineFault (OutOfForm good) lines = (good ≡ good_lines command_line lines) × (good < length lines)
 IsLineFault OutOfMemory lines = Unit {0}
 
 -- the text of bytes that are an element each: a space before each one
@@ -53,6 +58,7 @@ bytes_text value = flat_map (λ b. 32 ∷ hex_text (b ∷ [])) value
 -- the text of a reply as the program holds it
 abbrev pub answer_text : Reply → List ℕ
 answer_text (Elements value) = codes "ok" ++ bytes_text value.items
+answer_text Done = codes "done"
 answer_text (Refused why) = codes "refused " ++ refusal_name (refusal_of why)
 
 -- the line of a reply was appended to a text, for each reply of the model that this one is

@@ -116,14 +116,6 @@ first_entries (line ∷ lines) = entries_onto (entry_of_line line) (first_entrie
 abbrev pub lines_after_entries : List (List ℕ) → List (List ℕ)
 lines_after_entries lines = drop (length (first_entries lines)) lines
 
--- a command line that reads, where no other one is known
-abbrev pub only_read : Option Command → Option Command
-only_read (Some (read region)) = Some (read region)
-only_read _ = None
-
-abbrev pub read_of : Kind → List ℕ → Option Command
-read_of kind line = only_read (command_of kind line)
-
 -- the commands of the lines after the key lines, if each is a command by a grammar of command lines
 abbrev pub commands_of : (List ℕ → Option Command) → List (List ℕ) → Option (List Command)
 commands_of grammar lines = all_some (map grammar (lines_after_entries lines))

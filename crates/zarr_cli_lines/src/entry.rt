@@ -1,10 +1,11 @@
 //! Key lines: `key`, a key of the store, and its value in hexadecimal.
 
-ghost use Rattle.std.specs.Prelude.{◌≡◌, IfOk, option_map};
-ghost use Rattle.zarr_cli_lines.specs.Text.{hex_of, entry_of_line};
+ghost use Rattle.std.specs.Prelude.{◌≡◌, ◌++◌, IfOk, OnOk, option_map};
+ghost use Rattle.zarr_cli_lines.specs.Text.{hex_of, hex_text, entry_of_line, entry_text, line_of};
 ghost use Rattle.zarr_cli_lines.specs.Parts.{entry_view};
 
 use crate::parts::three_parts;
+use crate::reply_text::push_digits;
 use hex::FromHexError;
 use std::alloc::{AllocError, Global};
 use zarrs_storage::store_key::StoreKey;
@@ -49,4 +50,35 @@ pub fn parse_key_line(alloc: Global, line: &str) -> Result<Option<Entry>, AllocE
         return Ok(None);
     };
     Ok(Some(Entry { key, value }))
+}
+
+// Appends `h` and two lower-case digits for each byte.
+fn push_hex(text: &mut Vec<u8>, value: &[u8]) -> Result<(), AllocError>
+    ensures { OnOk result (text.new.items ≡ text.old.items ++ hex_text value.now) }
+{
+    text.push(b'h')?;
+    for byte in value {
+        push_digits(text, *byte)?;
+    }
+    Ok(())
+}
+
+/// Appends the key line of a key and its value, in lower-case hexadecimal.
+///
+/// An error comes only for want of memory; the text may then have a part of the line.
+pub fn push_entry(text: &mut Vec<u8>, key: &StoreKey, value: &[u8]) -> Result<(), AllocError>
+    ensures { OnOk result (text.new.items ≡ text.old.items ++ line_of (entry_text (key.now, value.now))) }
+{
+    let room = key
+        .as_str()
+        .len()
+        .saturating_add(value.len().saturating_mul(2))
+        .saturating_add(7);
+    text.reserve(room)?;
+    text.extend_from_slice(b"key ")?;
+    text.extend_from_slice(key.as_str().as_bytes())?;
+    text.push(b' ')?;
+    push_hex(text, value)?;
+    text.push(b'\n')?;
+    Ok(())
 }

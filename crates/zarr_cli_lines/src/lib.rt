@@ -2,7 +2,9 @@
 #![tactic(auto)]
 
 mod boxes;
+mod elements;
 pub mod entry;
+mod indices;
 pub mod lines;
 mod number;
 pub mod parse;

@@ -2,14 +2,17 @@
 
 ghost use Rattle.std.specs.Prelude.{◌≡◌, ◌<◌, ◌^◌, ℕ, map, length, Some, is_some, IfOk, IfErr, option_map};
 ghost use Rattle.std.specs.List.{prefix_len};
+ghost use Rattle.zarr_model.specs.Element.{fixed};
 ghost use Rattle.zarr_array.specs.Command.{command_of};
-ghost use Rattle.zarr_cli_lines.specs.Text.{first_entries, lines_after_entries, commands_of, all_some};
-ghost use Rattle.zarr_cli_lines.specs.Parts.{lines_left, entry_view, read_line, IsLineFault};
+ghost use Rattle.zarr_cli_lines.specs.Text.{first_entries, lines_after_entries, commands_of, all_some, box_of, element_of, write_of};
+ghost use Rattle.zarr_cli_lines.specs.Parts.{lines_left, words_left, entry_view, command_line, IsLineFault};
 
 use crate::boxes::parse_box;
+use crate::elements::parse_elements;
 use crate::entry::{Entry, parse_key_line};
+use crate::indices::parse_indices;
 use crate::lines::Lines;
-use crate::parts::two_parts;
+use crate::parts::cut;
 use std::alloc::{AllocError, AllocFailed, Global};
 use thiserror::Error;
 use zarr_array::command::Command;
@@ -57,20 +60,45 @@ impl<T: Drop> From<AllocFailed<T>> for LineError {
     }
 }
 
-/// The command of a line, if the line is one. An error comes only for want of memory.
-pub fn parse_command_line(alloc: Global, line: &str) -> Result<Option<Command>, AllocError>
-    ensures { IfOk result (λ command. option_map command_of command ≡ read_line line.now) }
+// The write of a box and of elements after it.
+#[tactic(auto, using(crate::proofs::ElementLemmas::bytes_of_elements))]
+fn parse_write(
+    alloc: Global,
+    region: &str,
+    elements: Option<&str>,
+) -> Result<Option<Command>, AllocError>
+    ensures { IfOk result (λ command. option_map command_of command ≡ write_of (fixed 1) (box_of region.now) (all_some (map (element_of (fixed 1)) (words_left elements.entry)))) }
 {
-    let Some((word, region)) = two_parts(line, ' ') else {
-        return Ok(None);
-    };
-    if word != "read" {
-        return Ok(None);
-    }
     let Some(region) = parse_box(alloc, region)? else {
         return Ok(None);
     };
-    Ok(Some(Command::Read(region)))
+    let Some(value) = parse_elements(alloc, elements)? else {
+        return Ok(None);
+    };
+    Ok(Some(Command::Write(region, value)))
+}
+
+/// The command of a line, if the line is one. An error comes only for want of memory.
+#[tactic(auto, using(crate::proofs::LineLemmas::no_longer_line))]
+pub fn parse_command_line(alloc: Global, line: &str) -> Result<Option<Command>, AllocError>
+    ensures { IfOk result (λ command. option_map command_of command ≡ command_line line.now) }
+{
+    let (word, rest) = cut(line, ' ');
+    let Some(rest) = rest else {
+        return Ok(None);
+    };
+    let (first, more) = cut(rest, ' ');
+    if word == "write" {
+        return parse_write(alloc, first, more);
+    }
+    let None = more else {
+        return Ok(None);
+    };
+    match word {
+        "read" => Ok(parse_box(alloc, first)?.map(Command::Read)),
+        "erase" => Ok(parse_indices(alloc, first)?.map(Command::Erase)),
+        _ => Ok(None),
+    }
 }
 
 // Takes the key lines off the front.
@@ -91,9 +119,9 @@ fn take_entries(alloc: Global, lines: &mut Lines) -> Result<Vec<Entry>, AllocErr
 
 // The commands of lines, or how many come before the first that is none.
 fn parse_commands(alloc: Global, lines: Lines) -> Result<Vec<Command>, LineError>
-    ensures ok { IfOk result (λ commands. all_some (map read_line (lines_left lines.entry)) ≡ Some (map command_of commands.items)) }
+    ensures ok { IfOk result (λ commands. all_some (map command_line (lines_left lines.entry)) ≡ Some (map command_of commands.items)) }
     ensures fault { IfErr result (λ error. (good : ℕ) → error ≡ LineError.OutOfForm good →
-        (good ≡ prefix_len (λ line. is_some (read_line line)) (lines_left lines.entry)) × (good < length (lines_left lines.entry))) }
+        (good ≡ prefix_len (λ line. is_some (command_line line)) (lines_left lines.entry)) × (good < length (lines_left lines.entry))) }
     ensures small { IfErr result (λ error. (good : ℕ) → error ≡ LineError.OutOfForm good → good < 2 ^ 63) }
 {
     let mut commands = Vec::new(alloc);
@@ -113,7 +141,7 @@ fn parse_commands(alloc: Global, lines: Lines) -> Result<Vec<Command>, LineError
 /// Parses the lines after the document, each once, or says how many come before the first that is out of form.
 pub fn parse_lines(alloc: Global, lines: Lines) -> Result<ParsedLines, LineError>
     ensures entries { IfOk result (λ parsed. map entry_view parsed.entries.items ≡ first_entries (lines_left lines.entry)) }
-    ensures commands { IfOk result (λ parsed. commands_of read_line (lines_left lines.entry) ≡ Some (map command_of parsed.commands.items)) }
+    ensures commands { IfOk result (λ parsed. commands_of command_line (lines_left lines.entry) ≡ Some (map command_of parsed.commands.items)) }
     ensures fault { IfErr result (λ error. IsLineFault error (lines_left lines.entry)) }
 {
     let mut left = lines;

@@ -1,6 +1,7 @@
 //! The text of replies.
 
-ghost use Rattle.std.specs.Prelude.{◌≡◌, ◌++◌, codes, OnOk};
+ghost use Rattle.std.specs.Prelude.{◌≡◌, [], ◌∷◌, ◌++◌, codes, OnOk};
+ghost use Rattle.hex.specs.Hex.{encode_lower};
 ghost use Rattle.zarr_array.specs.Command.{refusal_of};
 ghost use Rattle.zarr_model.specs.Command.{refusal_name};
 ghost use Rattle.zarr_cli_lines.specs.Text.{line_of};
@@ -10,17 +11,25 @@ use std::alloc::AllocError;
 use zarr_array::command::Reply;
 use zarr_array::refusal::Refusal;
 
+/// Appends the two lower-case digits of a byte.
+pub(crate) fn push_digits(text: &mut Vec<u8>, byte: u8) -> Result<(), AllocError>
+    ensures { OnOk result (text.new.items ≡ text.old.items ++ encode_lower (byte ∷ [])) }
+{
+    let mut digits = [0; 2];
+    let Ok(()) = hex::encode_to_slice([byte], &mut digits) else {
+        unreachable!();
+    };
+    text.extend_from_slice(&digits)?;
+    Ok(())
+}
+
 // Appends a space and the text of each element of one byte.
 fn push_elements(text: &mut Vec<u8>, elements: &[u8]) -> Result<(), AllocError>
     ensures { OnOk result (text.new.items ≡ text.old.items ++ bytes_text elements.now) }
 {
     for byte in elements {
-        let mut digits = [0; 2];
-        let Ok(()) = hex::encode_to_slice([*byte], &mut digits) else {
-            unreachable!();
-        };
         text.extend_from_slice(b" h")?;
-        text.extend_from_slice(&digits)?;
+        push_digits(text, *byte)?;
     }
     Ok(())
 }
@@ -46,11 +55,13 @@ fn push_answer(text: &mut Vec<u8>, reply: &Reply) -> Result<(), AllocError>
 {
     match reply {
         Reply::Elements(elements) => push_ok(text, elements),
+        Reply::Done => text.extend_from_slice(b"done"),
         Reply::Refused(refusal) => push_refused(text, *refusal),
     }
 }
 
-/// Appends the line of a reply: `ok` and the elements in lower-case hexadecimal, or `refused` and the refusal's name.
+/// Appends the line of a reply: `ok` and the elements in lower-case hexadecimal, `done`, or `refused` and the
+/// refusal's name.
 ///
 /// An error comes only for want of memory; the text may then have a part of the line.
 pub fn push_reply(text: &mut Vec<u8>, reply: &Reply) -> Result<(), AllocError>

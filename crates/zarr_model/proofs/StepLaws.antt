@@ -1,5 +1,5 @@
 -- One command of a session: refused, or a read; and how a command's failure is one of the whole list.
-use Rattle.std.proofs.Common.{◌≡◌, ℕ, zero, suc, ◌+◌, ◌≤◌, Bool, true, false, List, [], ◌∷◌, ◌++◌, length, take, slice_get, Option, Some, None, IsSome, is_some, if◌then◌else◌, refl, sym, ap, ◌∙◌, subst, arith, inl, inr, ⊎_elim}
+use Rattle.std.proofs.Common.{◌≡◌, ℕ, zero, suc, ◌+◌, ◌<◌, ◌≤◌, Bool, true, false, List, [], ◌∷◌, ◌++◌, length, take, slice_get, Option, Some, None, IsSome, is_some, if◌then◌else◌, refl, sym, ap, ◌∙◌, subst, arith, inl, inr, ⊎_elim}
 use Rattle.std.specs.List.{list_any}
 use Rattle.std.proofs.lemmas.List.Folds.{list_any-append}
 use Rattle.std.proofs.lemmas.Bool.{or_parts, or_from, true≢false}
@@ -119,7 +119,10 @@ module _ (description : Description) (options : Options) (commands : List Comman
         here,
         ⊎_elim
             (λ (done : now ≡ counted mid (0 + (if asks_store other then k else 0))). inl (more (if asks_store other then k else 0) (if asks_store command then k else 0) (ap (λ c. if asks_store c then k else 0) same) done))
-            (λ (next : now ≡ counted mid (0 + (if asks_store other then k + 1 else 0))). inr (more (if asks_store other then k + 1 else 0) (if asks_store command then k + 1 else 0) (ap (λ c. if asks_store c then k + 1 else 0) same) next))
+            (λ (next : (k < length (command_chunks description other)) × (now ≡ counted mid (0 + (if asks_store other then k + 1 else 0)))). inr (
+              subst (λ c. k < length (command_chunks description c)) same next.0,
+              more (if asks_store other then k + 1 else 0) (if asks_store command then k + 1 else 0) (ap (λ c. if asks_store c then k + 1 else 0) same) next.1,
+            ))
             asked,
       )
     where

@@ -1,7 +1,7 @@
-use Rattle.std.proofs.Common.{◌<◌, ◌+◌, ◌*◌, ◌/◌, length, arith, sym, ap, ◌∙◌, drop, refl}
+use Rattle.std.proofs.Common.{◌<◌, ◌+◌, ◌*◌, ◌/◌, length, arith, sym, ap, ◌∙◌, drop, refl, subst}
 use Rattle.zarrs_array_subset.specs.ArraySubset.{region}
-use Rattle.zarr_array.specs.Overlap.{span_at}
-use Rattle.zarr_array.proofs.CopyLaws.{drop-span, shared_none, rows_start, rows_step, rows_end, row_part}
+use Rattle.zarr_array.specs.Overlap.{span_at, Copied}
+use Rattle.zarr_array.proofs.CopyLaws.{drop-span, shared_none, rows_start, rows_step, rows_end, row_part, run_room, run_enough, run_copied}
 use Rattle.zarr_array.proofs.overlap.+copy_shared.Goals as goal
 
 pub returns-then-shared-eq0 : goal.returns-then-shared-eq0
@@ -13,6 +13,25 @@ returns-then-shared-eq0 t c =
     shared_none (span_at target c.args.axis) (span_at source c.args.axis) (drop c.args.axis target) (drop (c.args.axis + 1) target) (drop c.args.axis source) (drop (c.args.axis + 1) source)
     (drop-span target c.args.axis in_target) (drop-span source c.args.axis in_source) c.args.source.now c.args.target.now
     (sym c.shared_span-shared.ensures.len ∙ c.if-shared-eq0.true)
+
+pub copy_run-requires-clause-target_within : goal.copy_run-requires-clause-target_within
+copy_run-requires-clause-target_within t c =
+    run_room (region c.args.target_subset.now) (region c.args.source_subset.now) c.args.axis (omega arith) (omega arith) c.args.source.now c.args.target.now
+    c.shared_span-shared.result.target_at c.shared_span-shared.result.source_at c.shared_span-shared.result.len
+    c.shared_span-shared.ensures.target c.shared_span-shared.ensures.source c.shared_span-shared.ensures.len c.if-shared-eq0.false c.requires.target_count c.requires.source_count
+
+pub copy_run-requires-clause-source_within : goal.copy_run-requires-clause-source_within
+copy_run-requires-clause-source_within t c =
+    run_enough (region c.args.target_subset.now) (region c.args.source_subset.now) c.args.axis (omega arith) (omega arith) c.args.source.now c.args.target.now
+    c.shared_span-shared.result.target_at c.shared_span-shared.result.source_at c.shared_span-shared.result.len
+    c.shared_span-shared.ensures.target c.shared_span-shared.ensures.source c.shared_span-shared.ensures.len c.if-shared-eq0.false c.requires.target_count c.requires.source_count
+
+pub returns-then-axis-rank-2 : goal.returns-then-axis-rank-2
+returns-then-axis-rank-2 t c =
+    subst (λ new. Copied (drop c.args.axis (region c.args.target_subset.now)) (drop c.args.axis (region c.args.source_subset.now)) c.args.source.now c.args.target.now new) (sym c.copy_run.ensures)
+    (run_copied (region c.args.target_subset.now) (region c.args.source_subset.now) c.args.axis (omega arith) (omega arith) c.args.source.now c.args.target.now
+    c.shared_span-shared.result.target_at c.shared_span-shared.result.source_at c.shared_span-shared.result.len
+    c.shared_span-shared.ensures.target c.shared_span-shared.ensures.source c.shared_span-shared.ensures.len c.if-shared-eq0.false c.requires.target_count c.requires.source_count)
 
 pub loop-i-init : goal.loop-i-init
 loop-i-init t c =

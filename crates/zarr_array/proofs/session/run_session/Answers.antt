@@ -8,17 +8,18 @@ use Rattle.zarr_model.specs.Session.{LeavesKeys, ServesArray, RefusesRight, AreR
 use Rattle.zarr_array.specs.Document.{describe}
 use Rattle.zarr_array.specs.Command.{command_of, answer_of}
 use Rattle.zarr_array.specs.OpenArray.{documented}
-use Rattle.zarr_array.specs.Session.{session_options, FailsAt}
+use Rattle.zarr_array.specs.Options.{options_of}
+use Rattle.zarr_array.specs.Session.{FailsAt}
 use Rattle.zarr_array.specs.declared.error.SessionErrorKind.TheVariants.{OutOfMemory}
 use Rattle.zarr_array.proofs.OpenedLaws.{one_document}
 use Rattle.zarr_array.proofs.session.run_session.Goals as goal
 
 pub returns-in-Ok-clause-serves : goal.returns-in-Ok-clause-serves
-returns-in-Ok-clause-serves g c = λ document opens. subst (λ d. IfOk c.run_commands.result (λ replies. IsHonest (layout (describe d) session_options) (g.S.Store.content c.args.store.now) → ServesArray (describe d) session_options (map command_of c.args.commands.now) (g.S.Store.content c.args.store.now) (g.S.Store.content c.run_commands.new.store) (map answer_of replies.items)))
+returns-in-Ok-clause-serves g c = λ document opens. subst (λ d. IfOk c.run_commands.result (λ replies. IsHonest (layout (describe d) (options_of c.args.options.now)) (g.S.Store.content c.args.store.now) → ServesArray (describe d) (options_of c.args.options.now) (map command_of c.args.commands.now) (g.S.Store.content c.args.store.now) (g.S.Store.content c.run_commands.new.store) (map answer_of replies.items)))
     (one_document (documented c.in-Ok.array) document _ c.in-Ok.ensures opens) c.run_commands.ensures.serves
 
 pub returns-in-Ok-clause-complete : goal.returns-in-Ok-clause-complete
-returns-in-Ok-clause-complete g c = λ document opens. subst (λ d. IsHonest (layout (describe d) session_options) (g.S.Store.content c.args.store.now) → ¬ Rose (g.S.Store.fault_count c.args.store.now) (g.S.Store.fault_count c.run_commands.new.store) → IfErr c.run_commands.result (λ error. error.kind ≡ OutOfMemory))
+returns-in-Ok-clause-complete g c = λ document opens. subst (λ d. IsHonest (layout (describe d) (options_of c.args.options.now)) (g.S.Store.content c.args.store.now) → ¬ Rose (g.S.Store.fault_count c.args.store.now) (g.S.Store.fault_count c.run_commands.new.store) → IfErr c.run_commands.result (λ error. error.kind ≡ OutOfMemory))
     (one_document (documented c.in-Ok.array) document _ c.in-Ok.ensures opens) c.run_commands.ensures.complete
 
 pub returns-in-Ok-clause-refusals : goal.returns-in-Ok-clause-refusals
@@ -34,13 +35,13 @@ returns-in-Ok-clause-asks g c = λ document opens. subst (λ d. OnOk c.run_comma
     (one_document (documented c.in-Ok.array) document _ c.in-Ok.ensures opens) c.run_commands.ensures.asks
 
 pub returns-in-Ok-clause-keys : goal.returns-in-Ok-clause-keys
-returns-in-Ok-clause-keys g c = λ document opens. subst (λ d. LeavesKeys (describe d) session_options (map command_of c.args.commands.now) (g.S.Store.content c.args.store.now) (g.S.Store.content c.run_commands.new.store))
+returns-in-Ok-clause-keys g c = λ document opens. subst (λ d. LeavesKeys (describe d) (options_of c.args.options.now) (map command_of c.args.commands.now) (g.S.Store.content c.args.store.now) (g.S.Store.content c.run_commands.new.store))
     (one_document (documented c.in-Ok.array) document _ c.in-Ok.ensures opens) c.run_commands.ensures.keys
 
 pub returns-in-Ok-clause-failed : goal.returns-in-Ok-clause-failed
-returns-in-Ok-clause-failed g c = λ document opens. subst (λ d. IfErr c.run_commands.result (λ error. FailsAt (describe d) session_options (map command_of c.args.commands.now) (g.S.Store.content c.args.store.now) (g.S.Store.content c.run_commands.new.store) (g.S.Store.ask_count c.args.store.now) (g.S.Store.ask_count c.run_commands.new.store) (g.S.Store.fault_count c.args.store.now) (g.S.Store.fault_count c.run_commands.new.store) error.at error.kind))
+returns-in-Ok-clause-failed g c = λ document opens. subst (λ d. IfErr c.run_commands.result (λ error. FailsAt (describe d) (options_of c.args.options.now) (map command_of c.args.commands.now) (g.S.Store.content c.args.store.now) (g.S.Store.content c.run_commands.new.store) (g.S.Store.ask_count c.args.store.now) (g.S.Store.ask_count c.run_commands.new.store) (g.S.Store.fault_count c.args.store.now) (g.S.Store.fault_count c.run_commands.new.store) error.at error.kind))
     (one_document (documented c.in-Ok.array) document _ c.in-Ok.ensures opens) c.run_commands.ensures.failed
 
 pub returns-in-Ok-clause-undamaged : goal.returns-in-Ok-clause-undamaged
-returns-in-Ok-clause-undamaged g c = λ document opens. subst (λ d. OnOk c.run_commands.result (MeetsNoDamage (describe d) session_options (map command_of c.args.commands.now) (g.S.Store.content c.args.store.now)))
+returns-in-Ok-clause-undamaged g c = λ document opens. subst (λ d. OnOk c.run_commands.result (MeetsNoDamage (describe d) (options_of c.args.options.now) (map command_of c.args.commands.now) (g.S.Store.content c.args.store.now)))
     (one_document (documented c.in-Ok.array) document _ c.in-Ok.ensures opens) c.run_commands.ensures.undamaged

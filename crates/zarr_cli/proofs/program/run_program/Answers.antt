@@ -38,7 +38,7 @@ pub returns-then-write_text-clause-refused : goal.returns-then-write_text-clause
 returns-then-write_text-clause-refused g c = λ input run is e all none.
     did_refused (words_of c.args.words.now) input (g.S.Store.content c.args.store.now) (g.S.Store.content c.output_of.new.store)
     (g.S.Store.ask_count c.args.store.now) (g.S.Store.ask_count c.output_of.new.store) (g.S.Store.taken_count c.args.store.now) (g.S.Store.taken_count c.output_of.new.store) c.in-Ok.text.items
-    (c.in-Ok.ensures.told input e) run all
+    (c.in-Ok.ensures.told input e) run all none
 
 pub returns-in-Ok-clause-exactly_long : goal.returns-in-Ok-clause-exactly_long
 returns-in-Ok-clause-exactly_long g c = λ input e calm long. absurd (not_long (words_of c.args.words.now) input (c.in-Ok.ensures.told input e).run long)
@@ -53,7 +53,7 @@ pub returns-in-Ok-clause-refused : goal.returns-in-Ok-clause-refused
 returns-in-Ok-clause-refused g c = λ input run is e all none.
     did_refused (words_of c.args.words.now) input (g.S.Store.content c.args.store.now) (g.S.Store.content c.output_of.new.store)
     (g.S.Store.ask_count c.args.store.now) (g.S.Store.ask_count c.output_of.new.store) (g.S.Store.taken_count c.args.store.now) (g.S.Store.taken_count c.output_of.new.store) c.in-Ok.text.items
-    (c.in-Ok.ensures.told input e) run all
+    (c.in-Ok.ensures.told input e) run all none
 
 pub returns-clause-chunk : goal.returns-clause-chunk
 returns-clause-chunk g c = λ input key is e.

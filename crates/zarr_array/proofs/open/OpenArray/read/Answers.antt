@@ -4,17 +4,17 @@ use Rattle.zarr_model.proofs.SessionLaws.{serves_from_whole}
 use Rattle.zarrs_array_subset.specs.ArraySubset.{region}
 use Rattle.zarr_array.specs.Command.{answer_of}
 use Rattle.zarr_array.specs.OpenArray.{described}
-use Rattle.zarr_array.specs.Session.{session_options}
+use Rattle.zarr_array.specs.Options.{options_of}
 use Rattle.zarr_array.proofs.ReadSteps.{described_covers, described_sound}
 use Rattle.zarr_array.proofs.SessionSteps.{only_memory}
 use Rattle.zarr_array.proofs.open.OpenArray.read.Goals as goal
 
 pub returns-in-Ok-clause-serves : goal.returns-in-Ok-clause-serves
 returns-in-Ok-clause-serves g c = λ honest.
-    serves_from_whole (described c.args.self.now) session_options (read (region c.args.region.now) ∷ []) (g.S.Store.content c.args.store.now) (g.S.Store.content c.run_read.new.store)
-    (answer_of c.in-Ok.reply ∷ []) (described_covers c.args.self.now) (described_sound c.args.self.now session_options) honest c.in-Ok.ensures.serves
+    serves_from_whole (described c.args.self.now) (options_of c.args.options.now) (read (region c.args.region.now) ∷ []) (g.S.Store.content c.args.store.now) (g.S.Store.content c.run_read.new.store)
+    (answer_of c.in-Ok.reply ∷ []) (described_covers c.args.self.now) (described_sound c.args.self.now (options_of c.args.options.now)) honest c.in-Ok.ensures.ran.serves
 
 pub returns-in-Err-clause-complete : goal.returns-in-Err-clause-complete
-returns-in-Err-clause-complete g c = only_memory (described c.args.self.now) session_options (described_covers c.args.self.now) (read (region c.args.region.now) ∷ [])
+returns-in-Err-clause-complete g c = only_memory (described c.args.self.now) (options_of c.args.options.now) (described_covers c.args.self.now) (read (region c.args.region.now) ∷ [])
     (g.S.Store.content c.args.store.now) (g.S.Store.content c.run_read.new.store) (g.S.Store.fault_count c.args.store.now) (g.S.Store.fault_count c.run_read.new.store)
     (Some (0, c.in-Err.error.chunks_done)) c.in-Err.error.kind c.in-Err.ensures.failed.cause

@@ -7,7 +7,7 @@ use Rattle.zarr_model.proofs.RegionLaws.{length-tuples}
 use Rattle.zarrs_array_subset.specs.ArraySubset.{region}
 use Rattle.zarr_array.specs.Chunk.{byte_elements}
 use Rattle.zarr_array.specs.OpenArray.{described}
-use Rattle.zarr_array.specs.Session.{session_options}
+use Rattle.zarr_array.specs.Options.{options_of}
 use Rattle.zarr_array.proofs.ReadLaws.{read-step, read-end, HasRead}
 use Rattle.zarr_array.proofs.DecodeLaws.{decode-step, decode-all}
 use Rattle.zarr_array.proofs.ReadSteps.{met_at, met_rank, described_covers, stops_reading, count_met, counted_more}
@@ -29,7 +29,7 @@ pub returns-in-Err-clause-failed : goal.returns-in-Err-clause-failed
 returns-in-Err-clause-failed g c =
     let below : c.loop-number.number < count (region c.args.chunks.now) = omega arith in
     let here = met_at (described c.args.self.now).grid (region c.args.subset.now) (region c.args.chunks.now) c.loop-number.number c.requires.listed below in
-    stops_reading (described c.args.self.now) session_options (region c.args.subset.now) (g.S.Store.content c.args.store.now) (g.S.Store.content c.loop-number.store)
+    stops_reading (described c.args.self.now) (options_of c.args.options.now) (region c.args.subset.now) (g.S.Store.content c.args.store.now) (g.S.Store.content c.loop-number.store)
     (g.S.Store.ask_count c.args.store.now) (g.S.Store.ask_count c.loop-number.store) (g.S.Store.ask_count c.read_numbered.new.store)
     (g.S.Store.fault_count c.args.store.now) (g.S.Store.fault_count c.loop-number.store) (g.S.Store.fault_count c.read_numbered.new.store)
     c.loop-number.number (tuple_at (region c.args.chunks.now) c.loop-number.number) c.in-Err.kind here.0
@@ -46,7 +46,7 @@ loop-number-preserved g c = record {
   decode =
       let below : c.loop-number.number < count (region c.args.chunks.now) = omega arith in
       let here = met_at (described c.args.self.now).grid (region c.args.subset.now) (region c.args.chunks.now) c.loop-number.number c.requires.listed below in
-      decode-step (layout (described c.args.self.now) session_options) (chunks_meeting (described c.args.self.now).grid (region c.args.subset.now))
+      decode-step (layout (described c.args.self.now) (options_of c.args.options.now)) (chunks_meeting (described c.args.self.now).grid (region c.args.subset.now))
       (g.S.Store.content c.args.store.now) (g.S.Store.content c.loop-number.store) c.loop-number.number (tuple_at (region c.args.chunks.now) c.loop-number.number) here.0
       c.loop-number.invariant.same c.loop-number.invariant.decode c.in_default.ensures.decodes;
   read = λ array meant.
@@ -54,7 +54,7 @@ loop-number-preserved g c = record {
       let grid = (described c.args.self.now).grid in
       let chunk = tuple_at (region c.args.chunks.now) c.loop-number.number in
       let here = met_at grid (region c.args.subset.now) (region c.args.chunks.now) c.loop-number.number c.requires.listed below in
-      let place = layout (described c.args.self.now) session_options in
+      let place = layout (described c.args.self.now) (options_of c.args.options.now) in
       read-step grid (region c.args.subset.now) (tuples (region c.args.chunks.now)) array c.loop-number.number chunk (byte_elements c.loop-number.elements) (byte_elements c.read_numbered.new.elements)
       (ap (λ l. slice_get l c.loop-number.number) c.requires.listed ∙ here.0) (c.loop-number.invariant.read array meant)
       (c.in_default.ensures.copied array (ap (box_content place (grid.chunk_box chunk)) (c.loop-number.invariant.same (place.key chunk)) ∙ meant.each_chunk chunk here.1));
@@ -76,5 +76,5 @@ returns-clause-asks g c =
 pub returns-clause-decodes : goal.returns-clause-decodes
 returns-clause-decodes g c =
     let met = count_met (described c.args.self.now).grid (region c.args.subset.now) (region c.args.chunks.now) c.requires.listed in
-    decode-all (layout (described c.args.self.now) session_options) (chunks_meeting (described c.args.self.now).grid (region c.args.subset.now))
+    decode-all (layout (described c.args.self.now) (options_of c.args.options.now)) (chunks_meeting (described c.args.self.now).grid (region c.args.subset.now))
     (g.S.Store.content c.args.store.now) c.loop-number.number (omega (arith, met)) c.loop-number.invariant.decode

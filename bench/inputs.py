@@ -1,0 +1,79 @@
+#!/usr/bin/env python3
+"""Inputs for measuring the program. `python3 inputs.py N` writes that of case N."""
+
+import sys
+
+DOCUMENT = (
+    '{{"zarr_format":3,"node_type":"array","shape":{shape},"data_type":"uint8",'
+    '"chunk_grid":{{"name":"regular","configuration":{{"chunk_shape":{chunks}}}}},'
+    '"chunk_key_encoding":"default","fill_value":0,"codecs":["bytes"]}}\n'
+)
+
+
+def document(shape, chunks):
+    return DOCUMENT.format(shape=list(shape), chunks=list(chunks))
+
+
+def key_lines(counts, size):
+    """A value of `size` bytes for each chunk of a grid of these counts."""
+    value = "".join(f"{n % 251 + 1:02x}" for n in range(size))
+    return "".join(
+        f"key c/{i}/{j} h{value}\n" for i in range(counts[0]) for j in range(counts[1])
+    )
+
+
+def box(shape):
+    return ",".join(f"0..{n}" for n in shape)
+
+
+def one_read():
+    """64 chunks of 16 KiB, and one read over 49 of them."""
+    return (
+        document((1024, 1024), (128, 128))
+        + key_lines((8, 8), 128 * 128)
+        + "read 300..900,100..900\n"
+    )
+
+
+def small_reads():
+    """The same chunks, and 1,000 reads of 2 by 2."""
+    reads = (
+        f"read {i % 1021}..{i % 1021 + 2},{i * 7 % 1021}..{i * 7 % 1021 + 2}\n"
+        for i in range(1000)
+    )
+    return document((1024, 1024), (128, 128)) + key_lines((8, 8), 128 * 128) + "".join(reads)
+
+
+def write_and_read(shape, chunks):
+    """One write of a whole array and one read of it."""
+    count = shape[0] * shape[1]
+    elements = "".join(f" h{n % 251 + 1:02x}" for n in range(count))
+    return (
+        document(shape, chunks)
+        + f"write {box(shape)}{elements}\n"
+        + f"read {box(shape)}\n"
+    )
+
+
+def cases():
+    """Each case: its group, its name, and a function that makes its input."""
+    yield "read", "one read of 600 x 800 from 64 chunks of 128 x 128", one_read
+    yield "read", "1,000 reads of 2 x 2 from the same", small_reads
+    for scale in (1, 2, 4, 8):
+        shape = (1024 * scale, 1024)
+        yield (
+            "elements",
+            f"write and read {shape[0]} x {shape[1]} in chunks of 128 x 128",
+            lambda shape=shape: write_and_read(shape, (128, 128)),
+        )
+    for shape in ((500, 500), (1000, 500), (1000, 1000), (2000, 1000)):
+        chunks = shape[0] * shape[1] // 100
+        yield (
+            "chunks",
+            f"write and read {shape[0]} x {shape[1]} in {chunks:,} chunks of 10 x 10",
+            lambda shape=shape: write_and_read(shape, (10, 10)),
+        )
+
+
+if __name__ == "__main__":
+    sys.stdout.write(list(cases())[int(sys.argv[1])][2]())

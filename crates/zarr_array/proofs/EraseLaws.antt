@@ -1,0 +1,134 @@
+-- An erase as a command of a session.
+use Rattle.std.proofs.Common.{◌≡◌, ℕ, zero, suc, ◌-◌, ◌^◌, ◌≤◌, ◌&&◌, ◌||◌, ◌⊎◌, true, false, if◌then◌else◌, bytes_eq, List, [], ◌∷◌, slice_get, Option, Some, None, IsSome, is_some, refl, sym, ap, ◌∙◌, subst, arith, inl, inr, ⊎_elim}
+use Rattle.std.specs.List.{list_any}
+use Rattle.std.proofs.lemmas.Bool.{cases_Bool, cond-true, cond-false, true≢false, or_parts, or_from}
+use Rattle.zarr_model.specs.Grid.{IsChunk, CoversShape}
+use Rattle.zarr_model.specs.Codec.{Options}
+use Rattle.zarr_model.specs.Store.{Content, IsSound, box_content, chunk_content}
+use Rattle.zarr_model.specs.Command.{erase, Description, kind, layout, refusal, reply_of, array_of, after, answered_done, Matches}
+use Rattle.zarr_model.specs.Cost.{chunks_under, command_chunks, asks_store, is_among, present_in, present_under}
+use Rattle.zarr_model.specs.Causes.{erases_chunk, IsDamageMet, MeetsNoDamage, KeepsDamage, IsLeftAt}
+use Rattle.zarr_model.specs.Outside.{Rose, PutsKey, MayPutKey}
+use Rattle.zarr_model.specs.Session.{LeavesKeys, ServesWhole}
+use Rattle.zarr_model.proofs.FailureLaws.{same_bytes, bytes_eq-refl, listed_is_chunk, part_way-start, part_way-fails, erase-done}
+use Rattle.zarr_array.specs.declared.error.SessionErrorKind.TheVariants.{Store, OutOfMemory}
+use Rattle.zarr_array.specs.Ran.{HasRun}
+use Rattle.zarr_array.specs.Session.{FailsAt}
+use Rattle.zarr_array.proofs.StepRuns.{command-starved}
+
+-- what was put may have been put
+pub MayPutKey-from : (old new : Content) (key : List ℕ) (value : Option (List ℕ)) → PutsKey old new key value → MayPutKey old new key value
+MayPutKey-from old new key value puts = record { here = inr (inl puts.here); others = puts.others }
+
+-- an erase asks for no chunk, and so meets no damage
+pub MeetsNoDamage-erase : (description : Description) (options : Options) (chunk : List ℕ) (store : Content) → MeetsNoDamage description options (erase chunk ∷ []) store
+MeetsNoDamage-erase description options chunk store = record { no_key = unmet }
+  where
+    unmet : (key : List ℕ) → IsDamageMet description options (erase chunk ∷ []) store key → ⊥
+    unmet key (zero, command, is, asks, _, _, _, _, _) =
+        let same : erase chunk ≡ command = cc in
+        true≢false (sym (subst (λ c. asks_store c ≡ true) (sym same) asks))
+    unmet key (suc m, command, is, _, _, _, _, _, _) = cc
+
+module _ (description : Description) (covers : CoversShape description.shape description.grid) (options : Options) (sound : IsSound (layout description options)) (chunk : List ℕ)
+    (accepted : refusal description (erase chunk) ≡ None) where
+  erase-listed : command_chunks description (erase chunk) ≡ chunk ∷ []
+  erase-listed = ap (λ why. chunks_under description why (erase chunk)) accepted
+
+  erased_is_chunk : IsChunk description.grid chunk
+  erased_is_chunk = listed_is_chunk description covers None (erase chunk) accepted 0 chunk refl
+
+  -- a chunk is the erased one, or has another key
+  one_or_other : (other : List ℕ) → IsChunk description.grid other → (P : Type 0) → (other ≡ chunk → bytes_eq other chunk ≡ true → P) →
+      (¬ (description.key other ≡ description.key chunk) → bytes_eq other chunk ≡ false → P) → P
+  one_or_other other is_other P one apart = ⊎_elim
+      (λ (same : bytes_eq other chunk ≡ true). one (same_bytes other chunk same) same)
+      (λ (differs : bytes_eq other chunk ≡ false). apart
+      (λ same. true≢false (sym (bytes_eq-refl other) ∙ (ap (bytes_eq other) (sound.keys_apart other chunk is_other erased_is_chunk same) ∙ differs))) differs)
+      (cases_Bool (bytes_eq other chunk))
+
+  -- another chunk is not among those of the erase
+  not_erased : (other : List ℕ) → bytes_eq other chunk ≡ false → is_among (command_chunks description (erase chunk)) other ≡ false
+  not_erased other differs = ap (λ chunks. is_among chunks other) erase-listed ∙ or_from (bytes_eq other chunk) false differs refl
+
+  is_erased : is_among (command_chunks description (erase chunk)) chunk ≡ true
+  is_erased = ap (λ chunks. is_among chunks chunk) erase-listed ∙ ap (λ b. b || false) (bytes_eq-refl chunk)
+
+  -- no other key is touched
+  pub erase-keys : (old new : Content) → MayPutKey old new (description.key chunk) None → LeavesKeys description options (erase chunk ∷ []) old new
+  erase-keys old new puts = record {
+    same_chunks = λ other is_other none. one_or_other other is_other (new (description.key other) ≡ old (description.key other))
+        (λ same equal. absurd (true≢false (sym is_erased ∙ subst (λ c. is_among (command_chunks description (erase chunk)) c ≡ false) same
+        (or_parts (is_among (command_chunks description (erase chunk)) other) false none).0)))
+        (λ apart differs. puts.others (description.key other) apart);
+    other_keys = λ key apart. puts.others key (λ same. apart (chunk, erased_is_chunk, sym same));
+  }
+
+  module _ (old new : Content) (puts : PutsKey old new (description.key chunk) None) where
+    pub erase-serves : ServesWhole description options (erase chunk ∷ []) old new (answered_done ∷ [])
+    erase-serves = record {
+      answers_match = λ array meant. (subst (λ why. Matches (kind description) answered_done (reply_of why (erase chunk) array)) (sym accepted) tt, tt);
+      whole_chunks = λ array meant. erase-done description covers options sound chunk array old new accepted meant puts;
+      presence = λ array other meant is_other. subst
+          (λ why. present_in description new other ≡ present_under description options why (erase chunk) (array_of description why (erase chunk) array) (present_in description old) other)
+          (sym accepted)
+          (one_or_other other is_other (present_in description new other ≡ (if bytes_eq other chunk then false else present_in description old other))
+          (λ same equal. ap (present_in description new) same ∙ (ap is_some puts.here ∙ sym (cond-true (bytes_eq other chunk) false (present_in description old other) equal)))
+          (λ apart differs. ap is_some (puts.others (description.key other) apart) ∙ sym (cond-false (bytes_eq other chunk) false (present_in description old other) differs)));
+      keys = erase-keys old new (MayPutKey-from old new (description.key chunk) None puts);
+    }
+
+    pub KeepsDamage-erase : KeepsDamage description options (erase chunk ∷ []) old new
+    KeepsDamage-erase = record {
+      each = λ other is_other. one_or_other other is_other
+          (IsSome (chunk_content (layout description options) new other) ⊎ ((new (description.key other) ≡ old (description.key other)) × (list_any (erases_chunk description other) (erase chunk ∷ []) ≡ false)))
+          (λ same equal. inl (subst (λ c. IsSome (chunk_content (layout description options) new c)) (sym same)
+          (subst IsSome (sym (ap (box_content (layout description options) (description.grid.chunk_box chunk)) puts.here)) refl)))
+          (λ apart differs. inr (puts.others (description.key other) apart, or_from (is_among (command_chunks description (erase chunk)) other) false (not_erased other differs) refl));
+      stands = λ other is_other damaged none.
+          (erase-keys old new (MayPutKey-from old new (description.key chunk) None puts)).same_chunks other is_other none;
+    }
+
+    -- an erase whose key is gone ran
+    pub erase-ran : (asks_old asks_new taken_old taken_new faults_old faults_new : ℕ) → asks_new ≡ asks_old → asks_old ≤ 2 ^ 64 - 1 → faults_old ≤ faults_new →
+        HasRun description options (erase chunk ∷ []) old new asks_old asks_new taken_old taken_new faults_old faults_new (answered_done ∷ [])
+    erase-ran asks_old asks_new taken_old taken_new faults_old faults_new asked fits later = record {
+      serves = erase-serves;
+      refusals = ap (λ why. why ∷ []) (sym accepted);
+      refused = λ all. absurd (true≢false (sym all ∙ ap (λ why. is_some why && true) accepted));
+      asks = omega (arith, asked, fits);
+      damage = KeepsDamage-erase;
+      met = MeetsNoDamage-erase description options chunk old;
+      later = later;
+    }
+
+  -- the store failed in an erase: the chunk's key is old or absent
+  pub erase-fails : (old new : Content) (asks_old asks_new faults_old faults_new : ℕ) → MayPutKey old new (description.key chunk) None → Rose faults_old faults_new →
+      asks_new ≡ asks_old → asks_old ≤ 2 ^ 64 - 1 → FailsAt description options (erase chunk ∷ []) old new asks_old asks_new faults_old faults_new (Some (0, 0)) Store
+  erase-fails old new asks_old asks_new faults_old faults_new puts rose asked fits = record {
+    place = (erase chunk, refl, omega arith);
+    asks = (erase chunk, refl, inl (omega (arith, asked, fits)));
+    cause = (rose, refl, λ honest. left);
+  }
+    where
+      left : IsLeftAt description options (erase chunk ∷ []) old new true (Some (0, 0))
+      left array meant = (
+        erase chunk,
+        refl,
+        part_way-fails description covers options sound (erase chunk) 0 chunk true array (after description (erase chunk) array) old new (ap (λ chunks. slice_get chunks 0) erase-listed)
+            (part_way-start description covers options sound (erase chunk) array old meant)
+            (⊎_elim
+            (λ (kept : new (description.key chunk) ≡ old (description.key chunk)). inl kept)
+            (λ (put : (new (description.key chunk) ≡ None) ⊎ (new (description.key chunk) ≡ None)). inr (inr (
+              refl,
+              tt,
+              ⊎_elim (λ (gone : new (description.key chunk) ≡ None). gone) (λ (gone : new (description.key chunk) ≡ None). gone) put,
+            )))
+            puts.here)
+            puts.others,
+      )
+
+-- memory ran out before the call of an erase
+pub erase-starved : (description : Description) → CoversShape description.shape description.grid → (options : Options) (chunk : List ℕ) (store : Content) (asks faults : ℕ) → asks ≤ 2 ^ 64 - 1 →
+    FailsAt description options (erase chunk ∷ []) store store asks asks faults faults (Some (0, 0)) OutOfMemory
+erase-starved description covers options chunk = command-starved description covers options (erase chunk)

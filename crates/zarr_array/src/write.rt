@@ -1,0 +1,161 @@
+//! Writing to a region, chunk by chunk.
+
+ghost use Rattle.std.specs.Prelude.{◌≡◌, ◌≤◌, ◌<◌, ◌^◌, ◌⊎◌, ℕ, List, true, length, OnOk, OnErr, IfErr};
+ghost use Rattle.zarr_model.specs.Region.{count, tuples, tuple_at, ends_within};
+ghost use Rattle.zarr_model.specs.Array.{written};
+ghost use Rattle.zarr_model.specs.Grid.{IsChunk, chunks_meeting};
+ghost use Rattle.zarr_model.specs.Cost.{counted};
+ghost use Rattle.zarrs_array_subset.specs.ArraySubset.{region};
+ghost use Rattle.zarr_array.specs.Options.{options_of};
+ghost use Rattle.zarr_array.specs.Chunk.{byte_elements};
+ghost use Rattle.zarr_array.specs.Overlap.{Copied};
+ghost use Rattle.zarr_array.specs.Write.{ChangesChunk, FailsToChange};
+ghost use Rattle.zarr_array.specs.PartWay.{ChangedSome, FailsPartWay};
+
+use crate::chunk::indices_at;
+use crate::error::{CommandError, SessionErrorKind};
+use crate::open::OpenArray;
+use crate::options::CodecOptions;
+use crate::overlap::copy_shared;
+use std::alloc::Global;
+use zarrs_array_subset::ArraySubset;
+use zarrs_storage::store::Store;
+
+// Puts the elements that a region shares with a chunk in the chunk's place for them.
+fn put_elements(
+    chunk: &mut Vec<u8>,
+    chunk_subset: &ArraySubset,
+    elements: &[u8],
+    subset: &ArraySubset,
+)
+    requires rank { length (region subset.now) ≡ length (region chunk_subset.now) }
+    requires chunk_count { length chunk.old.items ≡ count (region chunk_subset.now) }
+    requires count { length elements.now ≡ count (region subset.now) }
+    ensures { Copied (region chunk_subset.now) (region subset.now) elements.now chunk.old.items chunk.new.items }
+{
+    copy_shared(chunk.as_mut_slice(), chunk_subset, elements, subset, 0);
+}
+
+impl OpenArray {
+    ghost use Rattle.zarr_array.specs.OpenArray.{described};
+
+    // Puts the elements that a region shares with a chunk into the chunk, and stores it anew: the old value is
+    // fetched and decoded first, also where the region covers all of it.
+    fn write_chunk<S: Store>(
+        &self,
+        alloc: Global,
+        chunk_indices: &[u64],
+        subset: &ArraySubset,
+        elements: &[u8],
+        store: &mut S,
+        options: &CodecOptions,
+    ) -> Result<(), SessionErrorKind>
+        requires chunk { IsChunk (described self.now).grid chunk_indices.now }
+        requires rank { length (region subset.now) ≡ length ((described self.now).grid.chunk_box chunk_indices.now) }
+        requires as_long { length elements.now ≡ count (region subset.now) }
+        ensures changed { OnOk result (ChangesChunk (described self.now) (options_of options.now) (written (region subset.now) (byte_elements elements.now)) chunk_indices.now (S.content store.old) (S.content store.new)) }
+        ensures asks { OnOk result (S.ask_count store.new ≡ counted (S.ask_count store.old) 1) }
+        ensures asks_err { OnErr result ((S.ask_count store.new ≡ S.ask_count store.old) ⊎ (S.ask_count store.new ≡ counted (S.ask_count store.old) 1)) }
+        ensures later { S.fault_count store.old ≤ S.fault_count store.new }
+        ensures failed { IfErr result (FailsToChange (described self.now) (options_of options.now) (written (region subset.now) (byte_elements elements.now)) chunk_indices.now
+            (S.content store.old) (S.content store.new) (S.fault_count store.old) (S.fault_count store.new)) }
+    {
+        let chunk_subset = self.chunk_subset(alloc, chunk_indices)?;
+        let key = self.chunk_key(alloc, chunk_indices)?;
+        let Some(mut value) = self.fetch_chunk(alloc, &key, &chunk_subset, store, options)? else {
+            return Err(SessionErrorKind::ChunkDecode { key });
+        };
+        put_elements(&mut value, &chunk_subset, elements, subset);
+        self.store_chunk(alloc, &key, &value, store, options)?;
+        Ok(())
+    }
+
+    // The same for the chunk at a place of a list of chunks.
+    fn write_numbered<S: Store>(
+        &self,
+        alloc: Global,
+        chunks: &ArraySubset,
+        number: u64,
+        subset: &ArraySubset,
+        elements: &[u8],
+        store: &mut S,
+        options: &CodecOptions,
+    ) -> Result<(), SessionErrorKind>
+        requires few { count (region chunks.now) < 2 ^ 64 }
+        requires below { number < count (region chunks.now) }
+        requires chunk { IsChunk (described self.now).grid (tuple_at (region chunks.now) number) }
+        requires rank { length (region subset.now) ≡ length ((described self.now).grid.chunk_box (tuple_at (region chunks.now) number)) }
+        requires as_long { length elements.now ≡ count (region subset.now) }
+        ensures changed { OnOk result (ChangesChunk (described self.now) (options_of options.now) (written (region subset.now) (byte_elements elements.now)) (tuple_at (region chunks.now) number) (S.content store.old) (S.content store.new)) }
+        ensures asks { OnOk result (S.ask_count store.new ≡ counted (S.ask_count store.old) 1) }
+        ensures asks_err { OnErr result ((S.ask_count store.new ≡ S.ask_count store.old) ⊎ (S.ask_count store.new ≡ counted (S.ask_count store.old) 1)) }
+        ensures later { S.fault_count store.old ≤ S.fault_count store.new }
+        ensures failed { IfErr result (FailsToChange (described self.now) (options_of options.now) (written (region subset.now) (byte_elements elements.now)) (tuple_at (region chunks.now) number)
+            (S.content store.old) (S.content store.new) (S.fault_count store.old) (S.fault_count store.new)) }
+    {
+        let chunk_indices = indices_at(alloc, chunks, number, chunks.num_elements())?;
+        self.write_chunk(
+            alloc,
+            chunk_indices.as_slice(),
+            subset,
+            elements,
+            store,
+            options,
+        )
+    }
+
+    // Writes to each chunk that a region meets, in row-major order.
+    fn write_chunks<S: Store>(
+        &self,
+        alloc: Global,
+        chunks: &ArraySubset,
+        subset: &ArraySubset,
+        elements: &[u8],
+        store: &mut S,
+        options: &CodecOptions,
+    ) -> Result<(), CommandError>
+        requires listed { tuples (region chunks.now) ≡ chunks_meeting (described self.now).grid (region subset.now) }
+        requires few { count (region chunks.now) < 2 ^ 64 }
+        requires inside { ends_within (region subset.now) (described self.now).shape ≡ true }
+        requires as_long { length elements.now ≡ count (region subset.now) }
+        ensures changed { OnOk result (ChangedSome (described self.now) (options_of options.now) (written (region subset.now) (byte_elements elements.now)) (chunks_meeting (described self.now).grid (region subset.now))
+            (length (chunks_meeting (described self.now).grid (region subset.now))) (S.content store.old) (S.content store.new) (S.ask_count store.old) (S.ask_count store.new) (S.fault_count store.old) (S.fault_count store.new)) }
+        ensures failed { IfErr result (λ error. FailsPartWay (described self.now) (options_of options.now) (written (region subset.now) (byte_elements elements.now)) (chunks_meeting (described self.now).grid (region subset.now))
+            error.chunks_done (S.content store.old) (S.content store.new) (S.ask_count store.old) (S.ask_count store.new) (S.fault_count store.old) (S.fault_count store.new) error.kind) }
+    {
+        let num_chunks = chunks.num_elements();
+        for number in 0..num_chunks {
+            if let Err(kind) = self.write_numbered(
+                alloc, chunks, number, subset, elements, store, options,
+            ) {
+                return Err(CommandError {
+                    chunks_done: number,
+                    kind,
+                });
+            }
+        }
+        Ok(())
+    }
+
+    /// Writes elements to an accepted region. Each chunk that the region meets is asked for once, and then stored or
+    /// erased by one call.
+    #[tactic(auto, using(crate::proofs::ReadSteps::of_regions))]
+    pub(crate) fn write_elements<S: Store>(
+        &self,
+        alloc: Global,
+        subset: &ArraySubset,
+        elements: &[u8],
+        store: &mut S,
+        options: &CodecOptions,
+    ) -> Result<(), CommandError>
+        requires inside { ends_within (region subset.now) (described self.now).shape ≡ true }
+        requires as_long { length elements.now ≡ count (region subset.now) }
+        ensures changed { OnOk result (ChangedSome (described self.now) (options_of options.now) (written (region subset.now) (byte_elements elements.now)) (chunks_meeting (described self.now).grid (region subset.now))
+            (length (chunks_meeting (described self.now).grid (region subset.now))) (S.content store.old) (S.content store.new) (S.ask_count store.old) (S.ask_count store.new) (S.fault_count store.old) (S.fault_count store.new)) }
+        ensures failed { IfErr result (λ error. FailsPartWay (described self.now) (options_of options.now) (written (region subset.now) (byte_elements elements.now)) (chunks_meeting (described self.now).grid (region subset.now))
+            error.chunks_done (S.content store.old) (S.content store.new) (S.ask_count store.old) (S.ask_count store.new) (S.fault_count store.old) (S.fault_count store.new) error.kind) }
+    {
+        let chunks = self.chunks_meeting(alloc, subset)?;
+        self.write_chunks(alloc, &chunks, subset, elements, store, options)
+    }
+}
