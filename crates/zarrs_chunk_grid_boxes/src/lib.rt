@@ -4,8 +4,6 @@
 mod array_subset_traits;
 mod chunk_shape_traits;
 mod indexer;
-#[cfg(test)]
-mod tests;
 
 pub use array_subset_traits::ArraySubsetTraits;
 pub use chunk_shape_traits::ChunkShapeTraits;

@@ -5,8 +5,6 @@
 #![tactic(auto)]
 
 mod node;
-#[cfg(test)]
-mod tests;
 mod v3;
 
 pub use node::NodeMetadataV3;

@@ -12,8 +12,6 @@ mod floats;
 pub mod json;
 pub mod laws;
 pub mod reading;
-#[cfg(test)]
-mod tests;
 mod v2;
 mod v3;
 pub mod writing;

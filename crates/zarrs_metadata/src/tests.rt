@@ -1,6 +1,0 @@
-//! Worked examples.
-
-mod arrays;
-mod caller;
-mod foreign;
-mod groups;

@@ -1,9 +1,0 @@
-//! Worked examples.
-
-mod caller;
-mod configurations;
-mod extensions;
-mod fields;
-mod fills;
-mod names;
-mod version_2;

@@ -1,0 +1,7 @@
+//! Worked examples of `zarrs_metadata_ext`: fill values and additional fields.
+#![tactic(auto)]
+
+#[cfg(test)]
+mod fields;
+#[cfg(test)]
+mod fills;
