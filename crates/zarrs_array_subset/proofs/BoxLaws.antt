@@ -6,7 +6,7 @@ use Rattle.std.proofs.Math.Nat.{zero-mul, mul_comm, mul-le-mul_right}
 use Rattle.zarr_model.specs.Region.{Region, count_of, sizes, ends_within, shared_span, whole}
 use Rattle.std.proofs.lemmas.List.{length-map}
 use Rattle.std.specs.declared.ops.Range.{Range}
-use Rattle.zarrs_array_subset.specs.Boxes.{box_in, is_rising, is_rising_inc, is_within, last_indices, ranges_of, region_through, region_of_ranges, region_between, is_box, region_of, ends, overlap_of, starts_past, moved_back, contains_front, ends_fit, moved, cut_at, sums_up, differences, maxes, mins, are_in, end_in, can_move}
+use Rattle.zarrs_array_subset.specs.Boxes.{box_in, is_rising, is_rising_inc, is_within, last_indices, ranges_of, region_of_ranges, region_between, is_box, region_of, ends, overlap_of, starts_past, moved_back, contains_front, ends_fit, moved, cut_at, sums_up, differences, maxes, mins, are_in, end_in, can_move}
 
 pub same_rank : (start shape : List ℕ) → is_box start shape ≡ true → length start ≡ length shape
 same_rank [] [] e = refl
@@ -244,26 +244,6 @@ product_grows n p b h k = let m : 1 * p ≤ n * p = mul-le-mul_right p h in omeg
 
 pub ruleset of_products = (product_grows)
 
-pub between_is : (start end : List ℕ) → length start ≡ length end → region_of start (differences end start) ≡ region_between start end
-between_is [] [] rank = refl
-between_is [] (e ∷ end) rank = cc
-between_is (s ∷ start) [] rank = cc
-between_is (s ∷ start) (e ∷ end) rank = ap (λ rest. record { start = s; size = e - s } ∷ rest) (between_is start end (omega arith))
-
-pub between_fits : (start end : List ℕ) → length start ≡ length end → ((k : ℕ) → get_or start k 0 < 2 ^ 64) → ((k : ℕ) → get_or end k 0 < 2 ^ 64) → is_box start (differences end start) ≡ true
-between_fits [] [] rank a b = refl
-between_fits [] (e ∷ end) rank a b = cc
-between_fits (s ∷ start) [] rank a b = cc
-between_fits (s ∷ start) (e ∷ end) rank a b =
-    let here : s + (e - s) < 2 ^ 64 = omega (arith, a 0, b 0) in
-    and_from _ _ (lt-ltb _ _ here) (between_fits start end (omega arith) (λ k. a (suc k)) (λ k. b (suc k)))
-
-pub between_box : (start end xs ys : List ℕ) → length start ≡ length end → ((k : ℕ) → get_or start k 0 < 2 ^ 64) → ((k : ℕ) → get_or end k 0 < 2 ^ 64) →
-    xs ≡ start → ys ≡ differences end start → is_box xs ys ≡ true
-between_box start end xs ys rank a b first second = ap₂ is_box first second ∙ between_fits start end rank a b
-
-pub ruleset of_between = (between_is)
-
 pub ranges_are : (ranges : List (Range ℕ)) → region_between (map (λ r. r.start) ranges) (map (λ r. r.end) ranges) ≡ region_of_ranges ranges
 ranges_are [] = refl
 ranges_are (r ∷ ranges) = ap (λ rest. record { start = r.start; size = r.end - r.start } ∷ rest) (ranges_are ranges)
@@ -343,18 +323,7 @@ same_rank_rising_inc [] (b ∷ end) e = cc
 same_rank_rising_inc (s ∷ start) [] e = cc
 same_rank_rising_inc (s ∷ start) (b ∷ end) e = let rest : length start ≡ length end = same_rank_rising_inc start end (and_parts _ _ e).1 in omega arith
 
--- the numbers after included ends
-pub through_is : (start end : List ℕ) → is_rising_inc start end ≡ true → region_between start (map (λ e. min (e + 1) (2 ^ 64 - 1)) end) ≡ region_through start end
-through_is [] [] e = refl
-through_is [] (b ∷ end) e = cc
-through_is (s ∷ start) [] e = cc
-through_is (s ∷ start) (b ∷ end) e =
-    let parts = and_parts (nat_le s b && nat_lt (b + 1) (2 ^ 64)) (is_rising_inc start end) e in
-    let below : b + 1 < 2 ^ 64 = ltb-true _ _ (and_parts (nat_le s b) (nat_lt (b + 1) (2 ^ 64)) parts.0).1 in
-    let here : min (b + 1) (2 ^ 64 - 1) ≡ b + 1 = omega arith in
-    ap₂ (λ n rest. record { start = s; size = n - s } ∷ rest) here (through_is start end parts.1)
-
-pub ruleset of_rising = (rising_by_zip, rising_rank, same_rank_rising, rising_inc_by_zip, rising_inc_rank, same_rank_rising_inc, through_is, length-map)
+pub ruleset of_rising = (rising_by_zip, rising_rank, same_rank_rising, rising_inc_by_zip, rising_inc_rank, same_rank_rising_inc, length-map)
 
 -- the last indices, and the ranges
 pub last_are : (region : Region) → map (λ e. e - 1) (ends region) ≡ last_indices region

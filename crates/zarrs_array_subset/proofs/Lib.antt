@@ -1,3 +1,4 @@
 pub mod BoxLaws
 pub mod Ravels
 pub mod MoveLaws
+pub mod Lengths

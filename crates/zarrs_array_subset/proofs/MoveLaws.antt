@@ -1,9 +1,10 @@
 -- Overlaps, offsets, and linear indices and back.
-use Rattle.std.proofs.Common.{◌≡◌, ℕ, ◌+◌, ◌-◌, ◌*◌, ◌<◌, ◌≤◌, ◌^◌, ◌&&◌, Bool, true, false, nat_le, nat_lt, min, max, List, [], ◌∷◌, length, Some, None, refl, sym, ap, ap₂, ◌∙◌, arith}
+use Rattle.std.proofs.Common.{◌≡◌, ℕ, ◌+◌, ◌-◌, ◌*◌, ◌<◌, ◌≤◌, ◌^◌, ◌&&◌, Bool, true, false, nat_le, nat_lt, min, max, List, [], ◌∷◌, length, Some, None, refl, sym, ap, ap₂, subst, ◌∙◌, arith}
 use Rattle.std.proofs.lemmas.Bool.{and_parts, and_from, leb-true, ltb-true, lt-ltb, cond-true}
-use Rattle.zarr_model.specs.Region.{Span, Region, count, whole, contains, is_in, linear_index, tuple_at, shared_span, sizes, starts}
+use Rattle.zarr_model.specs.Region.{Span, Region, count, count_of, whole, contains, is_in, linear_index, tuple_at, shared_span, sizes, starts}
 use Rattle.zarr_model.proofs.RegionLaws.{span_in, tuple_at-place, place-tuple_at, contains-tuple_at}
-use Rattle.zarrs_array_subset.specs.Boxes.{ends_fit, is_box, moved, moved_back, overlap_of, starts_past}
+use Rattle.zarr_model.proofs.ChainLaws.{sizes-whole}
+use Rattle.zarrs_array_subset.specs.Boxes.{contains_front, ends_fit, is_box, moved, moved_back, overlap_of, starts_past}
 use Rattle.zarrs_array_subset.specs.Ravel.{count_front, place_front, is_below, raveled}
 
 -- two tests that hold for the same reasons are one
@@ -41,6 +42,15 @@ overlap_is_both (x ∷ a) (y ∷ b) [] e = refl
 overlap_is_both (x ∷ a) (y ∷ b) (i ∷ tuple) e =
     ap₂ (λ p q. p && q) (shared_is_both i x y) (overlap_is_both a b tuple (omega arith)) ∙ swap_tests (is_in i x) (is_in i y) (contains a tuple) (contains b tuple)
 
+-- the same of indices as far as they go
+pub front_is_both : (a b : Region) (indices : List ℕ) → length a ≡ length b → contains_front (overlap_of a b) indices ≡ (contains_front a indices && contains_front b indices)
+front_is_both [] [] indices e = refl
+front_is_both [] (y ∷ b) indices e = absurd (omega arith)
+front_is_both (x ∷ a) [] indices e = absurd (omega arith)
+front_is_both (x ∷ a) (y ∷ b) [] e = refl
+front_is_both (x ∷ a) (y ∷ b) (i ∷ indices) e =
+    ap₂ (λ p q. p && q) (shared_is_both i x y) (front_is_both a b indices (omega arith)) ∙ swap_tests (is_in i x) (is_in i y) (contains_front a indices) (contains_front b indices)
+
 first_is : (i n : ℕ) → is_in i (record { start = 0; size = n }) ≡ true → i < n
 first_is i n h = let e : (0 ≤ i) × (i < 0 + n) = ends_of_span i (record { start = 0; size = n }) h in omega arith
 
@@ -69,8 +79,10 @@ ravel_tuples shape tuple h =
     let f = front_of shape tuple h in
     (cond-true (is_below shape tuple) (Some (place_front shape tuple)) None f.0 ∙ ap Some f.1, tuple_at-place (whole shape) tuple h)
 
-pub ravel_places : (shape : List ℕ) (k : ℕ) → k < count (whole shape) → raveled shape (tuple_at (whole shape) k) ≡ Some k
-ravel_places shape k h = (ravel_tuples shape (tuple_at (whole shape) k) (contains-tuple_at (whole shape) k h)).0 ∙ ap Some (place-tuple_at (whole shape) k h)
+pub ravel_places : (shape : List ℕ) (k : ℕ) → k < count_of shape → raveled shape (tuple_at (whole shape) k) ≡ Some k
+ravel_places shape k h =
+    let below : k < count (whole shape) = subst (λ ns. k < count_of ns) (sym (sizes-whole shape)) h in
+    (ravel_tuples shape (tuple_at (whole shape) k) (contains-tuple_at (whole shape) k below)).0 ∙ ap Some (place-tuple_at (whole shape) k below)
 
 -- an offset that was taken off may be added
 pub undoing_fits : (box : Region) (offset : List ℕ) → starts_past box offset ≡ true → is_box (starts box) (sizes box) ≡ true → ends_fit (moved_back box offset) offset ≡ true

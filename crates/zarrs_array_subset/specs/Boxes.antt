@@ -40,6 +40,11 @@ abbrev pub region_through : List ℕ → List ℕ → Region
 region_through (s ∷ start) (e ∷ end) = record { start = s; size = e + 1 - s } ∷ region_through start end
 region_through _ _ = []
 
+-- the length from each start to the end there, and this much more; an end below its start is at it
+abbrev pub lengths_to : ℕ → List ℕ → List ℕ → List ℕ
+lengths_to more (e ∷ end) (s ∷ start) = min (e - s + more) (2 ^ 64 - 1) ∷ lengths_to more end start
+lengths_to more _ _ = []
+
 -- where each dimension of a region ends
 abbrev pub ends : Region → List ℕ
 ends region = map (λ span. span.start + span.size) region

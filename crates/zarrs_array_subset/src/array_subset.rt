@@ -12,8 +12,7 @@ mod numbers;
 use crate::error::{ArrayIndices, ArrayShape, ArraySubsetError};
 pub use numbers::shape_product;
 use numbers::{
-    ends_of, fits, has_zero, lengths_between, next_numbers, no_lengths, rises, rises_inc,
-    starts_of, zeros,
+    ends_of, fits, has_zero, no_lengths, rises, rises_inc, starts_of, to_lengths, zeros,
 };
 use std::alloc::{AllocError, Global};
 use std::ops::Range;
@@ -37,18 +36,29 @@ impl ArraySubset {
     {
         let start = starts_of(alloc, ranges)?;
         let end = ends_of(alloc, ranges)?;
-        Self::between(alloc, &start, &end)
+        Ok(Self::between(start, end))
     }
 
-    // From each start to the end there, or of length 0.
-    #[tactic(auto, using(crate::proofs::BoxLaws::of_between))]
-    fn between(alloc: Global, start: &[u64], end: &[u64]) -> Result<ArraySubset, AllocError>
-        requires { length start.now ≡ length end.now }
-        ensures { IfOk result (λ s. region s ≡ region_between start.now end.now) }
+    // From each start to the end there, or of length 0. The lengths stand where the ends stood.
+    #[tactic(auto, using(crate::proofs::Lengths::of_ends))]
+    fn between(start: Vec<u64>, end: Vec<u64>) -> ArraySubset
+        requires { length start.items ≡ length end.items }
+        ensures { region result ≡ region_between start.items end.items }
     {
-        let shape = lengths_between(alloc, end, start)?;
-        let start = start.to_vec(alloc)?;
-        Ok(ArraySubset { start, shape })
+        let mut shape = end;
+        to_lengths(&mut shape, &start, 0);
+        ArraySubset { start, shape }
+    }
+
+    // From each start through the end there. The lengths stand where the ends stood.
+    #[tactic(auto, using(crate::proofs::Lengths::of_ends))]
+    fn through(start: Vec<u64>, end: Vec<u64>) -> ArraySubset
+        requires { is_rising_inc start.items end.items ≡ true }
+        ensures { region result ≡ region_through start.items end.items }
+    {
+        let mut shape = end;
+        to_lengths(&mut shape, &start, 1);
+        ArraySubset { start, shape }
     }
 
     /// All of an array of this shape.
@@ -93,9 +103,8 @@ impl ArraySubset {
     ) -> Result<Self, ArraySubsetError>
         ensures ok { IfOk result (λ s. (is_rising start.items end.items ≡ true)
             × (region s ≡ region_between start.items end.items)) }
-        ensures refused { IfErr result (λ e. (e ≡ ArraySubsetError.OutOfMemory)
-            ⊎ ((e ≡ ArraySubsetError.IncompatibleStartEnd start end false)
-            × (is_rising start.items end.items ≡ false))) }
+        ensures refused { IfErr result (λ e. (e ≡ ArraySubsetError.IncompatibleStartEnd start end false)
+            × (is_rising start.items end.items ≡ false)) }
     {
         if !rises(&start, &end) {
             return Err(ArraySubsetError::IncompatibleStartEnd {
@@ -104,9 +113,7 @@ impl ArraySubset {
                 inclusive: false,
             });
         }
-        let alloc = *start.allocator();
-        let subset = Self::between(alloc, &start, &end)?;
-        Ok(subset)
+        Ok(Self::between(start, end))
     }
 
     /// From a start to an end that is included.
@@ -117,9 +124,8 @@ impl ArraySubset {
     ) -> Result<Self, ArraySubsetError>
         ensures ok { IfOk result (λ s. (is_rising_inc start.items end.items ≡ true)
             × (region s ≡ region_through start.items end.items)) }
-        ensures refused { IfErr result (λ e. (e ≡ ArraySubsetError.OutOfMemory)
-            ⊎ ((e ≡ ArraySubsetError.IncompatibleStartEnd start end true)
-            × (is_rising_inc start.items end.items ≡ false))) }
+        ensures refused { IfErr result (λ e. (e ≡ ArraySubsetError.IncompatibleStartEnd start end true)
+            × (is_rising_inc start.items end.items ≡ false)) }
     {
         if !rises_inc(&start, &end) {
             return Err(ArraySubsetError::IncompatibleStartEnd {
@@ -128,10 +134,7 @@ impl ArraySubset {
                 inclusive: true,
             });
         }
-        let alloc = *start.allocator();
-        let end = next_numbers(alloc, &end)?;
-        let subset = Self::between(alloc, &start, &end)?;
-        Ok(subset)
+        Ok(Self::through(start, end))
     }
 
     /// Where the subset begins in each dimension.

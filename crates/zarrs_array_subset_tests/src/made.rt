@@ -2,6 +2,7 @@
 
 use crate::texts::has_text;
 use std::alloc::{AllocError, Global};
+use std::ops::Range;
 use std::process::Abort;
 use std::test::Fail;
 use zarrs_array_subset::ArraySubset;
@@ -126,6 +127,25 @@ fn the_last_index_is_told(rt: HostRuntime) -> Result<(), Fail> {
 }
 
 #[test]
+fn the_ranges_are_told(rt: HostRuntime) -> Result<(), Fail> {
+    let subset = some_ranges(rt.alloc())?;
+    let ranges = subset.to_ranges(rt.alloc())?;
+    assert_eq!(rt; ranges.as_slice(), [1..5, 2..6].as_slice());
+    Ok(())
+}
+
+#[test]
+fn the_chunk_shape_is_told(rt: HostRuntime) -> Result<(), Fail> {
+    let subset = some_ranges(rt.alloc())?;
+    let chunk = subset.chunk_shape(rt.alloc())?.ok_or("chunk shape")?;
+    assert_eq!(rt; chunk.len(), 2);
+    for length in &chunk {
+        assert_eq!(rt; length.get(), 4);
+    }
+    Ok(())
+}
+
+#[test]
 fn an_empty_subset_is_made(rt: HostRuntime) -> Result<(), Fail> {
     let empty = ArraySubset::new_empty(rt.alloc(), 2)?;
     let copy = empty.try_clone(rt.alloc())?;
@@ -150,5 +170,38 @@ fn an_empty_subset_has_no_last_index(rt: HostRuntime) -> Result<(), Fail> {
 fn an_empty_subset_has_no_chunk_shape(rt: HostRuntime) -> Result<(), Fail> {
     let whole = no_elements(rt.alloc())?;
     assert!(rt; whole.chunk_shape(rt.alloc())?.is_none());
+    Ok(())
+}
+
+// All of an array of this shape.
+fn all_of(alloc: Global, shape: &[u64]) -> Result<ArraySubset, AllocError> {
+    let shape = shape.to_vec(alloc)?;
+    ArraySubset::new_with_shape(alloc, shape)
+}
+
+// It has this text, and is this subset.
+fn is_all_of(
+    rt: &impl Abort,
+    alloc: Global,
+    shape: &[u64],
+    ranges: &[Range<u64>],
+    want: &str,
+) -> Result<(), AllocError> {
+    let whole = all_of(alloc, shape)?;
+    let subset = ArraySubset::new_with_ranges(alloc, ranges)?;
+    assert!(rt; whole == subset);
+    has_text(rt, alloc, Ok(whole), want)
+}
+
+#[test]
+fn from_a_shape(rt: HostRuntime) -> Result<(), Fail> {
+    let cases: [(&[u64], &[Range<u64>], &str); 3] = [
+        (&[4, 3], &[0..4, 0..3], "[0..4, 0..3]"),
+        (&[u64::MAX], &[0..u64::MAX], "[0..18446744073709551615]"),
+        (&[], &[], "[]"),
+    ];
+    for (shape, ranges, want) in cases {
+        is_all_of(&rt, rt.alloc(), shape, ranges, want)?;
+    }
     Ok(())
 }

@@ -1,47 +1,18 @@
--- Facts on ranges as regions.
-use Rattle.std.proofs.Common.{◌≡◌, ℕ, zero, suc, ◌+◌, ◌-◌, ◌*◌, ◌<◌, ◌≤◌, ◌^◌, ◌&&◌, ◌||◌, Bool, true, false, nat_eq, nat_le, nat_lt, min, max, List, [], ◌∷◌, length, map, refl, sym, ap, ap₂, ◌∙◌, arith}
-use Rattle.std.specs.List.{zip, list_all, list_any}
+-- Facts on tests of ranges as regions.
+use Rattle.std.proofs.Common.{◌≡◌, ℕ, suc, ◌+◌, ◌-◌, ◌<◌, ◌≤◌, ◌^◌, ◌&&◌, true, false, nat_eq, nat_le, nat_lt, min, max, List, [], ◌∷◌, length, map, refl, sym, ap, ap₂, ◌∙◌, arith}
+use Rattle.std.specs.List.{zip, list_all}
 use Rattle.std.specs.declared.ops.Range.{Range}
-use Rattle.std.proofs.lemmas.Bool.{and_parts, and_from, ltb-true, lt-ltb, leb-true, le-leb, eqb-true, eq-eqb}
-use Rattle.zarr_model.specs.Region.{Span, Region, count, sizes, starts, ends_within, is_in}
+use Rattle.std.proofs.lemmas.Bool.{and_parts, and_from, ltb-true, lt-ltb, leb-true, eqb-true, eq-eqb}
+use Rattle.zarr_model.specs.Region.{Span, Region, sizes, starts, ends_within, is_in}
 use Rattle.zarrs_array_subset.specs.Boxes.{contains_front, is_box, is_within, region_of_ranges}
-use Rattle.zarrs_chunk_grid_boxes.specs.RangeTests.{are_box, are_in_box, are_in_ranges, end_in_shape, some_is_empty}
-
-pub lengths_are : (ranges : List (Range ℕ)) → map (λ range. range.end - range.start) ranges ≡ sizes (region_of_ranges ranges)
-lengths_are [] = refl
-lengths_are (r ∷ ranges) = ap (λ rest. (r.end - r.start) ∷ rest) (lengths_are ranges)
+use Rattle.zarrs_chunk_grid_indexer.specs.RangeTests.{are_box, are_in_box, are_in_ranges, end_in_shape}
+use Rattle.zarrs_chunk_grid_indexer.proofs.Ranges.{length_ranges, same_test}
 
 pub starts_are : (ranges : List (Range ℕ)) → map (λ range. range.start) ranges ≡ starts (region_of_ranges ranges)
 starts_are [] = refl
 starts_are (r ∷ ranges) = ap (λ rest. r.start ∷ rest) (starts_are ranges)
 
-pub ruleset of_lists = (lengths_are, starts_are)
-
--- two tests are one where each follows from the other
-same_test : (a b : Bool) → (a ≡ true → b ≡ true) → (b ≡ true → a ≡ true) → a ≡ b
-same_test true b f g = sym (f refl)
-same_test false true f g = g refl
-same_test false false f g = refl
-
-le_zero : (s e : ℕ) → nat_le e s ≡ nat_eq (e - s) 0
-le_zero s e = same_test (nat_le e s) (nat_eq (e - s) 0)
-    (λ h. let low : e ≤ s = leb-true _ _ h in eq-eqb _ _ (let z : e - s ≡ 0 = omega arith in z))
-    (λ h. let none : e - s ≡ 0 = eqb-true _ _ h in le-leb _ _ (let z : e ≤ s = omega arith in z))
-
-times : (d k : ℕ) → (nat_eq d 0 || nat_eq k 0) ≡ nat_eq (d * k) 0
-times zero k = grind arith
-times (suc d) zero = grind arith
-times (suc d) (suc k) = grind arith
-
-empty_range : (s e k : ℕ) → (nat_le e s || nat_eq k 0) ≡ nat_eq ((e - s) * k) 0
-empty_range s e k = ap (λ b. b || nat_eq k 0) (le_zero s e) ∙ times (e - s) k
-
-pub empty_by_any : (ranges : List (Range ℕ)) → some_is_empty ranges ≡ nat_eq (count (region_of_ranges ranges)) 0
-unfolding some_is_empty
-empty_by_any [] = refl
-empty_by_any (r ∷ ranges) =
-    let rest : list_any (λ range. nat_le range.end range.start) ranges ≡ nat_eq (count (region_of_ranges ranges)) 0 = empty_by_any ranges in
-    ap (λ b. nat_le r.end r.start || b) rest ∙ empty_range r.start r.end (count (region_of_ranges ranges))
+pub ruleset of_starts = (starts_are)
 
 index_in : (s e i : ℕ) → (nat_le s i && nat_lt i e) ≡ is_in i (record { start = s; size = e - s })
 index_in s e i = same_test (nat_le s i && nat_lt i e) (is_in i (record { start = s; size = e - s }))
@@ -74,7 +45,7 @@ ends_rank (r ∷ ranges) (n ∷ shape) ne =
     let rest : ends_within (region_of_ranges ranges) shape ≡ false = ends_rank ranges shape (λ same. ne (ap suc same)) in
     grind (arith, rest)
 
-pub ruleset of_tests = (empty_by_any, contains_by_zip, ends_by_zip, ends_rank)
+pub ruleset of_tests = (contains_by_zip, ends_by_zip, ends_rank)
 
 -- ranges and a box of their rank, by its starts and lengths
 pub in_box_by_zip : (ranges : List (Range ℕ)) (other : Region) → is_box (starts other) (sizes other) ≡ true → length ranges ≡ length other →
@@ -113,12 +84,6 @@ self_box : (ranges : List (Range ℕ)) → are_box ranges (starts (region_of_ran
 unfolding are_box
 self_box [] = refl
 self_box (r ∷ ranges) = and_from _ _ (and_from _ _ (eq-eqb r.start r.start refl) (eq-eqb (r.end - r.start) (r.end - r.start) refl)) (self_box ranges)
-
-pub length_ranges : (ranges : List (Range ℕ)) → length (region_of_ranges ranges) ≡ length ranges
-length_ranges [] = refl
-length_ranges (r ∷ ranges) = ap suc (length_ranges ranges)
-
-pub ruleset of_rank = (length_ranges)
 
 pub box_of_itself : (ranges : List (Range ℕ)) (other : Region) → region_of_ranges ranges ≡ other → (length ranges ≡ length other) × (are_box ranges (starts other) (sizes other) ≡ true)
 box_of_itself ranges other e = (

@@ -7,6 +7,6 @@ pub use Rattle.zarrs_chunk_grid_iterators.specs.Yields
 pub use Rattle.zarrs_chunk_grid_iterators.specs.Runs
 pub use Rattle.zarrs_chunk_grid_iterators.specs.Iterators
 pub use Rattle.zarrs_chunk_grid_iterators.specs.Lists
-pub mod Bytes
-pub mod RangeTests
-pub mod ListIterators
+pub use Rattle.zarrs_chunk_grid_indexer.specs.Bytes
+pub use Rattle.zarrs_chunk_grid_indexer.specs.RangeTests
+pub use Rattle.zarrs_chunk_grid_indexer.specs.ListIterators

@@ -7,16 +7,17 @@ ghost use Rattle.zarr_model.specs.Region.{Region, count, count_of, ends_within, 
 ghost use Rattle.zarrs_array_subset.specs.ArraySubset.{region};
 ghost use Rattle.zarrs_array_subset.specs.Boxes.{contains_front, ends, ends_fit, is_within, last_indices, moved, moved_back, overlap_of, ranges_of, starts_past};
 ghost use Rattle.zarrs_array_subset.specs.Errors.{RefusesOffset, RefusesShape};
+ghost use Rattle.zarrs_array_subset.specs.declared.error.IndexerError.{IndexerError};
 ghost use Rattle.zarrs_chunk_grid_iterators.specs.Iterators.{linear_of, runs_of, tuple_runs_of, tuples_of};
-ghost use Rattle.zarrs_chunk_grid_iterators.specs.Runs.{runs, tuple_runs};
+ghost use Rattle.zarrs_chunk_grid_iterators.specs.Runs.{run_size, runs, tuple_runs};
 
 mod ranges;
 mod subset;
 
-use crate::indexer::Indexer;
 use std::alloc::{AllocError, Global};
 use std::ops::Range;
 use zarrs_array_subset::{ArrayIndices, ArraySubset, ArraySubsetError, IndexerError};
+use zarrs_chunk_grid_indexer::Indexer;
 use zarrs_chunk_grid_iterators::{
     ContiguousIndices, ContiguousLinearisedIndices, Indices, LinearisedIndices,
 };
@@ -184,6 +185,7 @@ pub trait ArraySubsetTraits: Indexer {
         requires { count_of array_shape.now < 2 ^ 64 }
         ensures inside { IfOk result (λ it. ends_within (extent self.now) array_shape.now ≡ true) }
         ensures lists { IfOk result (λ it. tuple_runs_of it ≡ tuple_runs array_shape.now (extent self.now)) }
+        ensures each { IfOk result (λ it. it.contiguous_elements ≡ run_size array_shape.now (extent self.now)) }
         ensures refused { IfErr result (RefusesShape (extent self.now) array_shape.now) }
     {
         let subset = self.to_array_subset(alloc)?;
@@ -202,6 +204,7 @@ pub trait ArraySubsetTraits: Indexer {
         requires { count_of array_shape.now < 2 ^ 64 }
         ensures inside { IfOk result (λ it. ends_within (extent self.now) array_shape.now ≡ true) }
         ensures lists { IfOk result (λ it. runs_of it ≡ runs array_shape.now (extent self.now)) }
+        ensures each { IfOk result (λ it. it.contiguous_elements ≡ run_size array_shape.now (extent self.now)) }
         ensures refused { IfErr result (RefusesShape (extent self.now) array_shape.now) }
     {
         let subset = self.to_array_subset(alloc)?;
@@ -212,10 +215,16 @@ pub trait ArraySubsetTraits: Indexer {
         }
     }
 
-    // as an indexer it lists the region
+    // as an indexer it lists the region, and is refused as the region
     ghost lists: { (x : Self) → Self.places x ≡ tuples (extent x) };
 
     ghost bounds: { (x : Self) (shape : List ℕ) → Self.fits x shape ≡ ends_within (extent x) shape };
 
     ghost least: { (x : Self) (shape : List ℕ) → Self.pieces x shape ≡ runs shape (extent x) };
+
+    ghost ranks: { (x : Self) → Self.rank x ≡ length (extent x) };
+
+    ghost shapes: { (x : Self) → Self.output x ≡ sizes (extent x) };
+
+    ghost refuses_shape: { (x : Self) (shape : List ℕ) (e : IndexerError) → Self.refuses x shape e → RefusesShape (extent x) shape e };
 }

@@ -1,20 +1,21 @@
-//! What selects elements of an array: array subsets, ranges, lists of indices, and lists of these.
+//! Regions of an array in any form, and shapes of chunks; with all that they stand on.
 #![tactic(auto)]
 
 mod array_subset_traits;
 mod chunk_shape_traits;
-mod indexer;
+mod range_tests;
 
 pub use array_subset_traits::ArraySubsetTraits;
 pub use chunk_shape_traits::ChunkShapeTraits;
-pub use indexer::{
-    ByteRuns, GatheredTuples, IndexSlice, Indexer, IndexerIterator, IndexerList, RangeSlice,
-    SingleRuns, append_contiguous_linearised_indices, append_indices, append_linearised_indices,
-};
 pub use zarrs_array_subset::{
     ArrayIndices, ArrayIndicesTinyVec, ArrayShape, ArraySubset, ArraySubsetError, ChunkShape,
-    IncompatibleDimensionalityError, IndexerError, offset_undoes, overlap_contains, ravel_indices,
-    ravel_inverse, shape_product, unravel_index,
+    IncompatibleDimensionalityError, IndexerError, offset_undoes, overlap_contains, push_tuple,
+    ravel_indices, ravel_inverse, shape_product, unravel_index,
+};
+pub use zarrs_chunk_grid_indexer::{
+    ByteRuns, GatheredTuples, IndexSlice, Indexer, IndexerIterator, IndexerList, RangeSlice,
+    SingleRuns, append_contiguous_linearised_indices, append_indices, append_linearised_indices,
+    collect_indices,
 };
 pub use zarrs_chunk_grid_iterators::{
     ContiguousIndices, ContiguousIndicesIntoIterator, ContiguousIndicesIterator,

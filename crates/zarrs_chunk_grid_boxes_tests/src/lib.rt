@@ -1,9 +1,7 @@
-//! Worked examples of `zarrs_chunk_grid_boxes`: regions and indexers.
+//! Worked examples of `zarrs_chunk_grid_boxes`: regions in each form, and shapes of chunks.
 #![tactic(auto)]
 
 #[cfg(test)]
-mod boxes;
-#[cfg(test)]
-mod indexer;
+mod region_kinds;
 #[cfg(test)]
 mod regions;

@@ -1,5 +1,5 @@
 -- What holds of a region's tuples and runs inside a shape.
-use Rattle.std.proofs.Common.{◌≡◌, ℕ, zero, suc, ◌+◌, ◌<◌, ◌≤◌, ◌⊎◌, inl, inr, Bool, true, false, ◌&&◌, nat_le, List, [], ◌∷◌, ◌++◌, length, map, Some, None, refl, sym, ap, subst, arith}
+use Rattle.std.proofs.Common.{◌≡◌, ℕ, zero, suc, ◌+◌, ◌<◌, ◌≤◌, ◌^◌, ◌⊎◌, inl, inr, Bool, true, false, ◌&&◌, nat_le, List, [], ◌∷◌, ◌++◌, length, map, Some, None, refl, sym, ap, subst, arith}
 use Rattle.std.specs.List.{AllByRecursion, range_with_len}
 use Rattle.std.proofs.lemmas.List.Elements.{recursion_from_All}
 use Rattle.zarr_model.specs.Region.{Span, Region, count, count_of, sizes, whole, contains, tuples, ends_within, linear_index}
@@ -53,6 +53,9 @@ box_within region shape e =
 
 pub box_outputs : (region : Region) → count_of (sizes region) ≡ length (tuples region)
 box_outputs region = sym (length-tuples region)
+
+pub box_listable : (region : Region) → length (tuples region) < 2 ^ 64 → count region < 2 ^ 64
+box_listable region h = subst (λ n. n < 2 ^ 64) (length-tuples region) h
 
 pub same_region : (a r : Region) → Some a ≡ Some r → (tuples a ≡ tuples r) × (length a ≡ length r)
 same_region a r e = let same : a ≡ r = cc in (ap tuples same, ap length same)

@@ -1,7 +1,7 @@
 -- What holds of a list of things, each of which stands for a list.
-use Rattle.std.proofs.Common.{◌≡◌, ℕ, zero, suc, ◌+◌, ◌-◌, ◌*◌, ◌<◌, ◌≤◌, ◌⊎◌, inl, inr, Bool, true, false, ◌&&◌, nat_lt, List, [], ◌∷◌, ◌++◌, length, take, get_or, map, refl, sym, ap, ap₂, ◌∙◌, subst, arith}
+use Rattle.std.proofs.Common.{◌≡◌, ℕ, zero, suc, ◌+◌, ◌-◌, ◌*◌, ◌<◌, ◌≤◌, ◌^◌, ◌⊎◌, inl, inr, Bool, true, false, ◌&&◌, nat_lt, List, [], ◌∷◌, ◌++◌, length, take, get_or, map, refl, sym, ap, ap₂, ◌∙◌, subst, arith}
 use Rattle.std.specs.List.{AllByRecursion, list_all, flat_map, range_with_len}
-use Rattle.std.proofs.lemmas.List.{map-append, length-map, get_or-map, take-map}
+use Rattle.std.proofs.lemmas.List.{length-append, map-append, length-map, get_or-map, take-map}
 use Rattle.std.proofs.lemmas.Bool.{and_parts, lt-ltb, ltb-true}
 use Rattle.std.proofs.lemmas.Grind.{flat_map-append}
 use Rattle.std.specs.Bool.{MatchBool}
@@ -159,3 +159,13 @@ list_no_memory tuples shape = items_memory (contains (whole shape)) (λ tuple. R
 pub map_items : {X : Type 0} (f : List ℕ → ℕ) (places : X → List (List ℕ)) (xs : List X) → flat_map (λ x. map f (places x)) xs ≡ map f (flat_map places xs)
 map_items f places [] = refl
 map_items f places (x ∷ xs) = ap (λ rest. map f (places x) ++ rest) (map_items f places xs) ∙ sym (map-append f (places x) (flat_map places xs))
+
+-- where 64 bits count all that items list, they count what each lists
+pub items_listable : {X A : Type 0} (list : X → List A) (listable : X → Type 0) → ((x : X) → length (list x) < 2 ^ 64 → listable x) →
+    (xs : List X) → length (flat_map list xs) < 2 ^ 64 → AllByRecursion listable xs
+items_listable list listable each [] h = tt
+items_listable list listable each (x ∷ xs) h =
+    let both : length (flat_map list (x ∷ xs)) ≡ length (list x) + length (flat_map list xs) = length-append (list x) (flat_map list xs) in
+    let first : length (list x) < 2 ^ 64 = omega arith in
+    let rest : length (flat_map list xs) < 2 ^ 64 = omega arith in
+    (each x first, items_listable list listable each xs rest)

@@ -1,7 +1,7 @@
 //! Runs of neighbours of an array subset inside an array's shape, by the indices at which they begin.
 
-ghost use Rattle.std.specs.Prelude.{◌≡◌, ◌<◌, ◌^◌, true, false, ℕ, List, length, Some, IfOk, IfErr, IfSome, nat_eq};
-ghost use Rattle.std.specs.Iterator.{item_count, UpTo};
+ghost use Rattle.std.specs.Prelude.{⊤, ◌≡◌, ◌<◌, ◌^◌, true, false, ℕ, List, length, Some, IfOk, IfErr, IfSome, nat_eq};
+ghost use Rattle.std.specs.Iterator.{item_count, MakesProgress, UpTo};
 ghost use Rattle.std.specs.Iterator.SizeHint.{IsWithinCount};
 ghost use Rattle.zarr_model.specs.Region.{count_of, ends_within};
 ghost use Rattle.zarrs_array_subset.specs.ArraySubset.{region};
@@ -177,7 +177,11 @@ impl Iterator for ContiguousIndicesIterator<'_> {
 
     ghost remaining = { item_count tuple_runs_lent };
 
-    fn next(&mut self) -> Option<Result<(ArrayIndicesTinyVec, u64), AllocError>> {
+    fn next(&mut self) -> Option<Result<(ArrayIndicesTinyVec, u64), AllocError>>
+        ensures steps { YieldsOne IsRun tuple_runs_lent first_run_lent self.old result self.new }
+        ensures goes { MakesProgress (λ _. ⊤) (item_count tuple_runs_lent) self.old result self.new }
+        ensures each { self.new.contiguous_elements ≡ self.old.contiguous_elements }
+    {
         let start = self.starts.next()?;
         Some(with_length(start, self.contiguous_elements))
     }
@@ -198,9 +202,20 @@ impl DoubleEndedIterator for ContiguousIndicesIterator<'_> {
 
     ghost next_back_gives = { YieldsOneBack IsRun tuple_runs_lent last_run_lent };
 
-    fn next_back(&mut self) -> Option<Result<(ArrayIndicesTinyVec, u64), AllocError>> {
+    fn next_back(&mut self) -> Option<Result<(ArrayIndicesTinyVec, u64), AllocError>>
+        ensures steps { YieldsOneBack IsRun tuple_runs_lent last_run_lent self.old result self.new }
+        ensures goes { MakesProgress (λ _. ⊤) (item_count tuple_runs_lent) self.old result self.new }
+        ensures each { self.new.contiguous_elements ≡ self.old.contiguous_elements }
+    {
         let start = self.starts.next_back()?;
         Some(with_length(start, self.contiguous_elements))
+    }
+}
+
+#[tactic(auto, using(crate::proofs::Lefts::of_lengths))]
+impl ExactSizeIterator for ContiguousIndicesIterator<'_> {
+    fn len(&self) -> usize {
+        self.starts.len()
     }
 }
 
@@ -236,7 +251,11 @@ impl Iterator for ContiguousIndicesIntoIterator {
 
     ghost remaining = { item_count tuple_runs_left };
 
-    fn next(&mut self) -> Option<Result<(ArrayIndicesTinyVec, u64), AllocError>> {
+    fn next(&mut self) -> Option<Result<(ArrayIndicesTinyVec, u64), AllocError>>
+        ensures steps { YieldsOne IsRun tuple_runs_left first_run_left self.old result self.new }
+        ensures goes { MakesProgress (λ _. ⊤) (item_count tuple_runs_left) self.old result self.new }
+        ensures each { self.new.contiguous_elements ≡ self.old.contiguous_elements }
+    {
         let start = self.starts.next()?;
         Some(with_length(start, self.contiguous_elements))
     }
@@ -257,8 +276,19 @@ impl DoubleEndedIterator for ContiguousIndicesIntoIterator {
 
     ghost next_back_gives = { YieldsOneBack IsRun tuple_runs_left last_run_left };
 
-    fn next_back(&mut self) -> Option<Result<(ArrayIndicesTinyVec, u64), AllocError>> {
+    fn next_back(&mut self) -> Option<Result<(ArrayIndicesTinyVec, u64), AllocError>>
+        ensures steps { YieldsOneBack IsRun tuple_runs_left last_run_left self.old result self.new }
+        ensures goes { MakesProgress (λ _. ⊤) (item_count tuple_runs_left) self.old result self.new }
+        ensures each { self.new.contiguous_elements ≡ self.old.contiguous_elements }
+    {
         let start = self.starts.next_back()?;
         Some(with_length(start, self.contiguous_elements))
+    }
+}
+
+#[tactic(auto, using(crate::proofs::Lefts::of_lengths))]
+impl ExactSizeIterator for ContiguousIndicesIntoIterator {
+    fn len(&self) -> usize {
+        self.starts.len()
     }
 }

@@ -1,7 +1,7 @@
 //! Runs of neighbouring linear indices of an array subset inside an array's shape.
 
-ghost use Rattle.std.specs.Prelude.{◌≡◌, ◌<◌, ◌^◌, true, length, Some, IfOk, IfErr, IfSome, nat_eq};
-ghost use Rattle.std.specs.Iterator.{YieldsFirstBy, YieldsLastBy, item_count, UpTo};
+ghost use Rattle.std.specs.Prelude.{⊤, ◌≡◌, ◌<◌, ◌^◌, true, length, Some, IfOk, IfErr, IfSome, nat_eq};
+ghost use Rattle.std.specs.Iterator.{YieldsFirstBy, YieldsLastBy, item_count, MakesProgress, UpTo};
 ghost use Rattle.std.specs.Iterator.SizeHint.{IsWithinCount};
 ghost use Rattle.zarr_model.specs.Region.{count_of, ends_within};
 ghost use Rattle.zarrs_array_subset.specs.ArraySubset.{region};
@@ -156,7 +156,11 @@ impl Iterator for ContiguousLinearisedIndicesIterator<'_> {
 
     ghost remaining = { item_count runs_lent };
 
-    fn next(&mut self) -> Option<(u64, u64)> {
+    fn next(&mut self) -> Option<(u64, u64)>
+        ensures steps { YieldsFirstBy span_of runs_lent self.old result self.new }
+        ensures goes { MakesProgress (λ _. ⊤) (item_count runs_lent) self.old result self.new }
+        ensures each { self.new.contiguous_elements ≡ self.old.contiguous_elements }
+    {
         let start = self.starts.next()?;
         Some((start, self.contiguous_elements))
     }
@@ -177,9 +181,20 @@ impl DoubleEndedIterator for ContiguousLinearisedIndicesIterator<'_> {
 
     ghost next_back_gives = { YieldsLastBy span_of runs_lent };
 
-    fn next_back(&mut self) -> Option<(u64, u64)> {
+    fn next_back(&mut self) -> Option<(u64, u64)>
+        ensures steps { YieldsLastBy span_of runs_lent self.old result self.new }
+        ensures goes { MakesProgress (λ _. ⊤) (item_count runs_lent) self.old result self.new }
+        ensures each { self.new.contiguous_elements ≡ self.old.contiguous_elements }
+    {
         let start = self.starts.next_back()?;
         Some((start, self.contiguous_elements))
+    }
+}
+
+#[tactic(auto, using(crate::proofs::Lefts::of_lengths))]
+impl ExactSizeIterator for ContiguousLinearisedIndicesIterator<'_> {
+    fn len(&self) -> usize {
+        self.starts.len()
     }
 }
 
@@ -215,7 +230,11 @@ impl Iterator for ContiguousLinearisedIndicesIntoIterator {
 
     ghost remaining = { item_count runs_left };
 
-    fn next(&mut self) -> Option<(u64, u64)> {
+    fn next(&mut self) -> Option<(u64, u64)>
+        ensures steps { YieldsFirstBy span_of runs_left self.old result self.new }
+        ensures goes { MakesProgress (λ _. ⊤) (item_count runs_left) self.old result self.new }
+        ensures each { self.new.contiguous_elements ≡ self.old.contiguous_elements }
+    {
         let start = self.starts.next()?;
         Some((start, self.contiguous_elements))
     }
@@ -236,8 +255,19 @@ impl DoubleEndedIterator for ContiguousLinearisedIndicesIntoIterator {
 
     ghost next_back_gives = { YieldsLastBy span_of runs_left };
 
-    fn next_back(&mut self) -> Option<(u64, u64)> {
+    fn next_back(&mut self) -> Option<(u64, u64)>
+        ensures steps { YieldsLastBy span_of runs_left self.old result self.new }
+        ensures goes { MakesProgress (λ _. ⊤) (item_count runs_left) self.old result self.new }
+        ensures each { self.new.contiguous_elements ≡ self.old.contiguous_elements }
+    {
         let start = self.starts.next_back()?;
         Some((start, self.contiguous_elements))
+    }
+}
+
+#[tactic(auto, using(crate::proofs::Lefts::of_lengths))]
+impl ExactSizeIterator for ContiguousLinearisedIndicesIntoIterator {
+    fn len(&self) -> usize {
+        self.starts.len()
     }
 }

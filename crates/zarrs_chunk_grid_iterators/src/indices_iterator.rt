@@ -53,11 +53,10 @@ impl Indices {
 
     /// The indices at a range of places of the subset's list. An end past the list is its end.
     pub fn new_with_start_end<R: RangeBounds<usize>>(subset: ArraySubset, range: R) -> Self
-        requires small { count (region subset) < 2 ^ 64 }
-        requires bounds { R.has_bounds range }
-        ensures lists { tuples_of result ≡ indices_of (region subset) (first_place (R.start_bound range)) (end_place (R.end_bound range) (count (region subset))) }
-        ensures start { result.start ≡ first_place (R.start_bound range) }
-        ensures end { result.end ≡ end_place (R.end_bound range) (count (region subset)) }
+        requires { count (region subset) < 2 ^ 64 }
+        ensures lists { R.has_bounds range → tuples_of result ≡ indices_of (region subset) (first_place (R.start_bound range)) (end_place (R.end_bound range) (count (region subset))) }
+        ensures start { R.has_bounds range → result.start ≡ first_place (R.start_bound range) }
+        ensures end { R.has_bounds range → result.end ≡ end_place (R.end_bound range) (count (region subset)) }
     {
         let total = subset.num_elements();
         let start = first_of(range.start_bound());
@@ -213,6 +212,13 @@ impl DoubleEndedIterator for IndicesIterator<'_> {
     }
 }
 
+#[tactic(auto, using(crate::proofs::Lefts::of_places))]
+impl ExactSizeIterator for IndicesIterator<'_> {
+    fn len(&self) -> usize {
+        self.end.saturating_sub(self.start) as usize
+    }
+}
+
 /// The indices of a subset that are left, with the subset.
 #[derive(Debug, Drop)]
 pub struct IndicesIntoIterator {
@@ -267,5 +273,12 @@ impl DoubleEndedIterator for IndicesIntoIterator {
         } else {
             None
         }
+    }
+}
+
+#[tactic(auto, using(crate::proofs::Lefts::of_places))]
+impl ExactSizeIterator for IndicesIntoIterator {
+    fn len(&self) -> usize {
+        self.end.saturating_sub(self.start) as usize
     }
 }

@@ -217,6 +217,13 @@ impl DoubleEndedIterator for LinearisedIndicesIterator<'_> {
     }
 }
 
+#[tactic(auto, using(crate::proofs::Lefts::of_places))]
+impl ExactSizeIterator for LinearisedIndicesIterator<'_> {
+    fn len(&self) -> usize {
+        self.end.saturating_sub(self.start) as usize
+    }
+}
+
 /// The linear indices of a subset that are left, with the subset.
 #[derive(Debug, Drop)]
 pub struct LinearisedIndicesIntoIterator {
@@ -270,5 +277,12 @@ impl DoubleEndedIterator for LinearisedIndicesIntoIterator {
         } else {
             None
         }
+    }
+}
+
+#[tactic(auto, using(crate::proofs::Lefts::of_places))]
+impl ExactSizeIterator for LinearisedIndicesIntoIterator {
+    fn len(&self) -> usize {
+        self.end.saturating_sub(self.start) as usize
     }
 }

@@ -50,6 +50,24 @@ fn linear_indices(rt: HostRuntime) -> Result<(), Fail> {
     Ok(())
 }
 
+// The linear indices of the inner box of a 4x4 array, the last one first.
+fn are_inner(rt: &impl Abort, indices: LinearisedIndices) {
+    let mut iter = indices.into_iter();
+    assert_eq!(rt; iter.next_back(), Some(10));
+    assert_eq!(rt; iter.next(), Some(5));
+    assert_eq!(rt; iter.next(), Some(6));
+    assert_eq!(rt; iter.next(), Some(9));
+    assert_eq!(rt; iter.len(), 0);
+    assert_eq!(rt; iter.next(), None);
+}
+
+#[test]
+fn linear_indices_from_the_last(rt: HostRuntime) -> Result<(), Fail> {
+    let indices = linear_of(rt.alloc(), &[1..3, 1..3], &[4, 4]);
+    are_inner(&rt, indices.ok().ok_or("inside")?);
+    Ok(())
+}
+
 // How many there are, where the ranges lie in the shape.
 fn count_of(alloc: Global, ranges: &[Range<u64>], shape: &[u64]) -> Option<usize> {
     let indices = linear_of(alloc, ranges, shape).ok()?;

@@ -27,7 +27,9 @@ fn runs_of(
 fn are_two(rt: &impl Abort, runs: &ContiguousLinearisedIndices) {
     let mut iter = runs.iter();
     assert_eq!(rt; iter.size_hint(), (2, Some(2)));
+    assert_eq!(rt; iter.contiguous_elements(), 2);
     assert_eq!(rt; iter.next_back(), Some((9, 2)));
+    assert_eq!(rt; iter.contiguous_elements_usize(), 2);
     assert_eq!(rt; iter.next(), Some((5, 2)));
     assert_eq!(rt; iter.next(), None);
 }
@@ -37,6 +39,7 @@ fn runs(rt: HostRuntime) -> Result<(), Fail> {
     let runs = runs_of(rt.alloc(), &[1..3, 1..3], &[4, 4]);
     let runs = runs.ok().ok_or("inside")?;
     are_two(&rt, &runs);
+    assert_eq!(rt; runs.contiguous_elements_usize(), 2);
     Ok(())
 }
 

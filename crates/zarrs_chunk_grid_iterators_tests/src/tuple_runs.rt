@@ -69,3 +69,24 @@ fn runs_of_whole_rows(rt: HostRuntime) -> Result<(), Fail> {
     let runs = tuple_runs_of(rt.alloc(), &ranges, &[3, 1, 2, 2]);
     is_one(&rt, runs.ok().ok_or("inside")?)
 }
+
+// One run of a whole array: it is told how long it is, and it comes.
+fn is_whole(rt: &impl Abort, runs: &ContiguousIndices) -> Result<(), Fail> {
+    let mut iter = runs.iter();
+    assert_eq!(rt; iter.size_hint(), (1, Some(1)));
+    assert_eq!(rt; iter.contiguous_elements(), 4);
+    assert_eq!(rt; iter.contiguous_elements_usize(), 4);
+    is_run(rt, iter.next(), &[0, 0], 4)?;
+    assert_eq!(rt; iter.contiguous_elements(), 4);
+    assert_eq!(rt; iter.len(), 0);
+    assert!(rt; iter.next().is_none());
+    Ok(())
+}
+
+#[test]
+fn the_run_of_a_whole_array(rt: HostRuntime) -> Result<(), Fail> {
+    let runs = tuple_runs_of(rt.alloc(), &[0..2, 0..2], &[2, 2]);
+    let runs = runs.ok().ok_or("inside")?;
+    assert_eq!(rt; runs.contiguous_elements_usize(), 4);
+    is_whole(&rt, &runs)
+}

@@ -99,3 +99,25 @@ fn places_past_the_end(rt: HostRuntime) -> Result<(), Fail> {
     }
     Ok(())
 }
+
+// The number of indices up to a place that is included.
+fn count_through(
+    alloc: Global,
+    ranges: &[Range<u64>],
+    last: usize,
+) -> Result<Option<usize>, AllocError> {
+    let subset = ArraySubset::new_with_ranges(alloc, ranges)?;
+    if subset.checked_num_elements().is_none() {
+        return Ok(None);
+    }
+    Ok(Some(Indices::new_with_start_end(subset, ..=last).len()))
+}
+
+#[test]
+fn places_up_to_an_included_one(rt: HostRuntime) -> Result<(), Fail> {
+    for (last, want) in [(0, 1), (3, 4), (4, 4), (usize::MAX, 4)] {
+        let count = count_through(rt.alloc(), &[1..3, 5..7], last)?;
+        assert_eq!(rt; count, Some(want), "..={last}");
+    }
+    Ok(())
+}

@@ -5,7 +5,7 @@ ghost use Rattle.std.specs.List.{list_all, list_any};
 ghost use Rattle.std.specs.Option.{SomeIff};
 ghost use Rattle.std.specs.Int.NonZero.{non_zero_u64_get};
 ghost use Rattle.zarr_model.specs.Region.{count_of};
-ghost use Rattle.zarrs_array_subset.specs.Boxes.{is_box, sums_up, differences, maxes, mins, are_in, box_in, can_move, end_in, is_rising, is_rising_inc};
+ghost use Rattle.zarrs_array_subset.specs.Boxes.{is_box, sums_up, differences, maxes, mins, are_in, box_in, can_move, end_in, is_rising, is_rising_inc, lengths_to};
 
 use std::alloc::{AllocError, Global};
 use std::num::NonZeroU64;
@@ -137,11 +137,22 @@ fn rise_before_last(start: &[u64], end: &[u64]) -> bool
         .all(|(s, e)| *s <= *e && *e < u64::MAX)
 }
 
-// The next number of each.
-pub fn next_numbers(alloc: Global, end: &[u64]) -> Result<Vec<u64>, AllocError>
-    ensures { IfOk result (λ v. v.items ≡ map (λ e. min (e + 1) (2 ^ 64 - 1)) end.now) }
+// Makes each end the length from the start there, or 0, and this much more.
+pub fn to_lengths(ends: &mut Vec<u64>, starts: &[u64], more: u64)
+    requires { length ends.old.items ≡ length starts.now }
+    ensures { ends.new.items ≡ lengths_to more ends.old.items starts.now }
 {
-    end.iter().map(|e| e.saturating_add(1)).collect(alloc)
+    turn_to_lengths(ends.as_mut_slice(), starts, more)
+}
+
+#[tactic(auto, using(crate::proofs::Lengths::of_steps))]
+fn turn_to_lengths(ends: &mut [u64], starts: &[u64], more: u64)
+    requires { length ends.old ≡ length starts.now }
+    ensures { ends.new ≡ lengths_to more ends.old starts.now }
+{
+    for (i, start) in starts.iter().enumerate() {
+        ends[i] = ends[i].saturating_sub(*start).saturating_add(more);
+    }
 }
 
 // The numbers before each.

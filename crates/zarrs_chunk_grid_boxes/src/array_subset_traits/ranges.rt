@@ -4,14 +4,13 @@ ghost use Rattle.std.specs.Prelude.{refl};
 ghost use Rattle.zarrs_array_subset.specs.Boxes.{region_of_ranges};
 
 use super::ArraySubsetTraits;
-use crate::indexer::RangeSlice;
-use crate::indexer::ranges::{
-    are_inbounds, are_inbounds_shape, are_subset, contain, count_of_ranges, lengths_of, starts_of,
-};
+use crate::range_tests::{are_inbounds, are_inbounds_shape, are_subset, contain, starts_of};
 use std::alloc::{AllocError, Global};
 use std::ops::Range;
 use zarrs_array_subset::ArraySubset;
+use zarrs_chunk_grid_indexer::{Indexer, RangeSlice};
 
+#[tactic(auto, using(zarrs_chunk_grid_indexer::proofs::Boxes::of_boxes))]
 impl ArraySubsetTraits for RangeSlice<'_> {
     ghost extent = { λ s. region_of_ranges s.ranges.now };
 
@@ -21,16 +20,22 @@ impl ArraySubsetTraits for RangeSlice<'_> {
 
     ghost least = { λ s shape. refl };
 
+    ghost ranks = { λ s. refl };
+
+    ghost shapes = { λ s. refl };
+
+    ghost refuses_shape = { λ s shape e h. h };
+
     fn start(&self, alloc: Global) -> Result<Vec<u64>, AllocError> {
         starts_of(alloc, self.as_slice())
     }
 
     fn shape(&self, alloc: Global) -> Result<Vec<u64>, AllocError> {
-        lengths_of(alloc, self.as_slice())
+        self.output_shape(alloc)
     }
 
     fn checked_num_elements(&self) -> Option<u64> {
-        count_of_ranges(self.as_slice())
+        self.checked_len()
     }
 
     fn contains(&self, indices: &[u64]) -> bool {
@@ -54,6 +59,7 @@ impl ArraySubsetTraits for RangeSlice<'_> {
     }
 }
 
+#[tactic(auto, using(zarrs_chunk_grid_indexer::proofs::Boxes::of_boxes))]
 impl ArraySubsetTraits for Vec<Range<u64>> {
     ghost extent = { λ s. region_of_ranges s.items };
 
@@ -63,16 +69,22 @@ impl ArraySubsetTraits for Vec<Range<u64>> {
 
     ghost least = { λ s shape. refl };
 
+    ghost ranks = { λ s. refl };
+
+    ghost shapes = { λ s. refl };
+
+    ghost refuses_shape = { λ s shape e h. h };
+
     fn start(&self, alloc: Global) -> Result<Vec<u64>, AllocError> {
         starts_of(alloc, self.as_slice())
     }
 
     fn shape(&self, alloc: Global) -> Result<Vec<u64>, AllocError> {
-        lengths_of(alloc, self.as_slice())
+        self.output_shape(alloc)
     }
 
     fn checked_num_elements(&self) -> Option<u64> {
-        count_of_ranges(self.as_slice())
+        self.checked_len()
     }
 
     fn contains(&self, indices: &[u64]) -> bool {
@@ -96,6 +108,7 @@ impl ArraySubsetTraits for Vec<Range<u64>> {
     }
 }
 
+#[tactic(auto, using(zarrs_chunk_grid_indexer::proofs::Boxes::of_boxes))]
 impl<const N: usize> ArraySubsetTraits for [Range<u64>; N] {
     ghost extent = { λ s. region_of_ranges s };
 
@@ -105,16 +118,22 @@ impl<const N: usize> ArraySubsetTraits for [Range<u64>; N] {
 
     ghost least = { λ s shape. refl };
 
+    ghost ranks = { λ s. refl };
+
+    ghost shapes = { λ s. refl };
+
+    ghost refuses_shape = { λ s shape e h. h };
+
     fn start(&self, alloc: Global) -> Result<Vec<u64>, AllocError> {
         starts_of(alloc, &self[..])
     }
 
     fn shape(&self, alloc: Global) -> Result<Vec<u64>, AllocError> {
-        lengths_of(alloc, &self[..])
+        self.output_shape(alloc)
     }
 
     fn checked_num_elements(&self) -> Option<u64> {
-        count_of_ranges(&self[..])
+        self.checked_len()
     }
 
     fn contains(&self, indices: &[u64]) -> bool {

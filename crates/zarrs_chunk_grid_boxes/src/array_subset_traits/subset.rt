@@ -17,6 +17,12 @@ impl ArraySubsetTraits for ArraySubset {
 
     ghost least = { λ s shape. refl };
 
+    ghost ranks = { λ s. refl };
+
+    ghost shapes = { λ s. refl };
+
+    ghost refuses_shape = { λ s shape e h. h };
+
     fn start(&self, alloc: Global) -> Result<Vec<u64>, AllocError> {
         let start: &[u64] = self.start();
         start.to_vec(alloc)

@@ -1,0 +1,5 @@
+pub mod ByteFacts
+pub mod Boxes
+pub mod Ranges
+pub mod Gathered
+pub mod Items
