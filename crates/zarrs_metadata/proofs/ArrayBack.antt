@@ -1,34 +1,25 @@
 -- What is written for an array or a group, read again.
-use Rattle.std.proofs.Common.{◌≡◌, ℕ, List, [], ◌∷◌, map, Ordering, Less, Equal, Greater, Option, Some, None, codes, nat_cmp, Bool, true, refl, sym, ◌∙◌}
+use Rattle.std.proofs.Common.{◌≡◌, ℕ, List, [], ◌∷◌, map, Option, Some, None, codes, nat_cmp, true, refl, sym, ◌∙◌}
 use Rattle.std.specs.Cmp.Lexicographic.{slice_cmp}
 use Rattle.std.specs.Ordering.{match_ordering}
-use Rattle.serde_json.specs.Data.{Data, unsigned, number, string, array, object, Items, no_items, item, Members, no_members, member}
+use Rattle.serde_json.specs.Data.{Data, array, Items, no_items, item, Members, no_members}
 use Rattle.serde_json.specs.Find.{get_member}
 use Rattle.serde_json.specs.View.{items_of}
-use Rattle.zarrs_metadata_ext.specs.Reading.{each, from_data, unless_float, is_number, is_text, object_or_empty}
-use Rattle.zarrs_metadata_ext.specs.Writing.{numbers_data, put_object, put_list}
-use Rattle.zarrs_metadata_ext.specs.MetadataV3.{Extension, extension_data, normal_by, normal_form}
-use Rattle.zarrs_metadata_ext.proofs.PutLemmas.{look}
+use Rattle.zarrs_metadata_ext.specs.Reading.{each, from_data, unless_float, is_number, is_text}
+use Rattle.zarrs_metadata_ext.specs.Writing.{numbers_data, put_list}
+use Rattle.zarrs_metadata_ext.specs.MetadataV3.{Extension, extension_data, normal_form}
+use Rattle.zarrs_metadata_json.proofs.PutLemmas.{look}
 use Rattle.zarrs_metadata_ext.proofs.ExtensionLemmas.{extension_reads_back}
 use Rattle.zarrs_metadata_ext.proofs.ReadBack.{extensions_read_back, whole_numbers_read_back}
-use Rattle.zarrs_metadata.specs.AdditionalFields.{is_array_key, is_group_key, is_named_key, additional_fields_of, put_fields, normal_fields, AreOrderly}
-use Rattle.zarrs_metadata.specs.ArrayMetadata.{ArrayFields, dimension_name, dimension_names, dimension_name_data, extensions_or_none, is_array, required_fields, with_optional_fields, array_members, array_of, put_names, optional_data, parts_data, required_data, array_data, normal_array}
-use Rattle.zarrs_metadata.specs.GroupMetadata.{GroupFields, group_members, group_of, group_data_members, group_data, normal_group}
+use Rattle.zarrs_metadata_group.specs.AdditionalFields.{is_array_key, is_named_key, additional_fields_of, put_fields}
+use Rattle.zarrs_metadata.specs.ArrayMetadata.{ArrayFields, dimension_name, dimension_names, dimension_name_data, extensions_or_none, is_array, named_fields, required_fields, optional_fields, with_optional_fields, array_members, array_of, put_names, optional_data, parts_data, required_data, array_data, normal_array}
+use Rattle.zarrs_metadata_group.specs.GroupMetadata.{GroupFields, group_data}
 use Rattle.zarrs_metadata.specs.Node.{NodeFields, array_node, group_node, node_of, node_data, normal_node}
-use Rattle.zarrs_metadata.specs.declared.v3.additional_fields.NodeKind.{NodeKind}
-use Rattle.zarrs_metadata.specs.declared.v3.additional_fields.NodeKind.TheVariants.{Array, Group}
-use Rattle.zarrs_metadata.proofs.FieldsBack.{fields-put_named, fields_beside, look-put_fields, normal_fields_once}
+use Rattle.zarrs_metadata_group.specs.declared.additional_fields.NodeKind.TheVariants.{Array, Group}
+use Rattle.zarrs_metadata_group.proofs.FieldsBack.{fields-put_named, fields_beside, look-put_fields}
+use Rattle.zarrs_metadata_group.proofs.GroupBack.{either_way, object_found, look_object, fields_object, object_back, group_format, group_type, group_reads_back}
 
 -- ---- what is found after a member that is put only where it isn't empty
-
-either_way : (o : Ordering) (x : Option Data) → match_ordering o x x x ≡ x
-either_way Less x = refl
-either_way Equal x = refl
-either_way Greater x = refl
-
-abbrev object_found : Members → Option Data → Option Data
-object_found no_members before = before
-object_found (member k d ms) before = Some (object (member k d ms))
 
 abbrev list_found : Items → Option Data → Option Data
 list_found no_items before = before
@@ -37,10 +28,6 @@ list_found (item d ds) before = Some (array (item d ds))
 abbrev names_found : Option (List (Option (List ℕ))) → Option Data → Option Data
 names_found None before = before
 names_found (Some names) before = Some (array (items_of (map dimension_name_data names)))
-
-look_object : (q k : List ℕ) (ns ms : Members) → get_member q (put_object k ns ms) ≡ match_ordering (slice_cmp nat_cmp q k) (get_member q ms) (object_found ns (get_member q ms)) (get_member q ms)
-look_object q k no_members ms = sym (either_way (slice_cmp nat_cmp q k) (get_member q ms))
-look_object q k (member l e ns) ms = look q k (object (member l e ns)) ms
 
 look_list : (q k : List ℕ) (ds : Items) (ms : Members) → get_member q (put_list k ds ms) ≡ match_ordering (slice_cmp nat_cmp q k) (get_member q ms) (list_found ds (get_member q ms)) (get_member q ms)
 look_list q k no_items ms = sym (either_way (slice_cmp nat_cmp q k) (get_member q ms))
@@ -52,10 +39,6 @@ look_names q None ms = sym (either_way (slice_cmp nat_cmp q (codes "dimension_na
 look_names q (Some names) ms = look q (codes "dimension_names") (array (items_of (map dimension_name_data names))) ms
 
 -- ---- the additional fields beside it
-
-fields_object : (kind : NodeKind) (k : List ℕ) (ns ms : Members) → is_named_key kind k ≡ true → additional_fields_of kind (put_object k ns ms) ≡ additional_fields_of kind ms
-fields_object kind k no_members ms named = refl
-fields_object kind k (member l e ns) ms named = fields-put_named kind k (object (member l e ns)) ms named
 
 fields_list : (k : List ℕ) (ds : Items) (ms : Members) → is_named_key Array k ≡ true → additional_fields_of Array (put_list k ds ms) ≡ additional_fields_of Array ms
 fields_list k no_items ms named = refl
@@ -126,9 +109,13 @@ required_again f = record {
   additional_fields = [];
 }
 
+named_back : (f : ArrayFields) (ms : Members) → named_fields (required_data f ms) ≡ Some (record { data_type = normal_form f.data_type; chunk_grid = normal_form f.chunk_grid; chunk_key_encoding = normal_form f.chunk_key_encoding })
+unfolding named_fields
+named_back f ms = rw (type_there f ms, extension_reads_back f.data_type, grid_there f ms, extension_reads_back f.chunk_grid, keys_there f ms, extension_reads_back f.chunk_key_encoding)
+
 required_back : (f : ArrayFields) (ms : Members) → required_fields (required_data f ms) ≡ Some (required_again f)
 unfolding required_fields
-required_back f ms = rw (shape_there f ms, whole_numbers_read_back f.shape, type_there f ms, extension_reads_back f.data_type, grid_there f ms, extension_reads_back f.chunk_grid, keys_there f ms, extension_reads_back f.chunk_key_encoding, fill_there f ms, codecs_there f ms, extensions_read_back f.codecs)
+required_back f ms = rw (shape_there f ms, whole_numbers_read_back f.shape, named_back f ms, fill_there f ms, codecs_there f ms, extensions_read_back f.codecs)
 
 -- ---- the parts that may be there
 
@@ -143,11 +130,6 @@ transformers_there f ms = simp (look, look_object, look_list, look_names)
 names_there : (f : ArrayFields) (ms : Members) → get_member (codes "dimension_names") (required_data f (optional_data f ms)) ≡ names_found f.dimension_names (get_member (codes "dimension_names") ms)
 unfolding required_data parts_data optional_data
 names_there f ms = simp (look, look_object, look_list, look_names)
-
-object_back : (ns : Members) → object_or_empty (object_found ns None) ≡ Some ns
-unfolding object_or_empty
-object_back no_members = refl
-object_back (member k d ns) = refl
 
 transformers_back : (es : List Extension) → extensions_or_none (list_found (items_of (map extension_data es)) None) ≡ Some (map normal_form es)
 unfolding extensions_or_none
@@ -180,7 +162,7 @@ unfolding is_array_key
 no_names fs = look-put_fields Array (codes "dimension_names") fs no_members refl
 
 optional_back : (f : ArrayFields) → with_optional_fields (required_data f (optional_data f (put_fields Array f.additional_fields no_members))) (required_again f) ≡ Some (normal_array f)
-unfolding with_optional_fields
+unfolding with_optional_fields optional_fields
 optional_back f =
     let ms : Members = put_fields Array f.additional_fields no_members in
     rw (
@@ -203,34 +185,6 @@ array_reads_back f =
     let ms : Members = optional_data f (put_fields Array f.additional_fields no_members) in
     rw (array_again f ms, required_back f ms) (optional_back f)
 
--- ---- groups
-
-group_attributes : (g : GroupFields) (ms : Members) → get_member (codes "attributes") (group_data_members g ms) ≡ object_found g.attributes (get_member (codes "attributes") ms)
-unfolding group_data_members
-group_attributes g ms = simp (look, look_object)
-
-group_format : (g : GroupFields) (ms : Members) → get_member (codes "zarr_format") (group_data_members g ms) ≡ Some (number (unsigned 3))
-unfolding group_data_members
-group_format g ms = simp look
-
-group_type : (g : GroupFields) (ms : Members) → get_member (codes "node_type") (group_data_members g ms) ≡ Some (string (codes "group"))
-unfolding group_data_members
-group_type g ms = simp look
-
-group_fields : (g : GroupFields) (ms : Members) → additional_fields_of Group (group_data_members g ms) ≡ additional_fields_of Group ms
-unfolding group_data_members is_group_key
-group_fields g ms = rw (fields_beside Group (codes "zarr_format") refl, fields_beside Group (codes "node_type") refl, fields_object Group (codes "attributes") g.attributes ms refl)
-
-no_group_attributes : (fs : _) → get_member (codes "attributes") (put_fields Group fs no_members) ≡ None
-unfolding is_group_key
-no_group_attributes fs = look-put_fields Group (codes "attributes") fs no_members refl
-
-pub group_reads_back : (g : GroupFields) → group_of (group_data g) ≡ Some (normal_group g)
-unfolding group_members is_number is_text
-group_reads_back g =
-    let ms : Members = put_fields Group g.additional_fields no_members in
-    rw (group_format g ms, group_type g ms, group_attributes g ms, no_group_attributes g.additional_fields, object_back g.attributes, group_fields g ms)
-
 -- a group is no array
 pub group_is_no_array : (g : GroupFields) → array_of (group_data g) ≡ None
 unfolding array_members is_array is_number is_text
@@ -238,39 +192,9 @@ group_is_no_array g =
     let ms : Members = put_fields Group g.additional_fields no_members in
     rw (group_format g ms, group_type g ms)
 
--- ---- normal forms, twice
-
-normal_once : (name : List ℕ) (configuration : Option Members) (must_understand : Bool) → normal_form (normal_by name configuration must_understand) ≡ normal_by name configuration must_understand
-normal_once name None must_understand = refl
-normal_once name (Some no_members) must_understand = refl
-normal_once name (Some (member k d ms)) must_understand = refl
-
-form_once : (e : Extension) → normal_form (normal_form e) ≡ normal_form e
-form_once e = normal_once e.name e.configuration e.must_understand
-
-forms_once : (es : List Extension) → map normal_form (map normal_form es) ≡ map normal_form es
-forms_once [] = refl
-forms_once (e ∷ es) = rw (form_once e, forms_once es)
-
-pub normal_array_once : (f : ArrayFields) → AreOrderly Array f.additional_fields → normal_array (normal_array f) ≡ normal_array f
-normal_array_once f h =
-    let types : normal_form (normal_form f.data_type) ≡ normal_form f.data_type = form_once f.data_type in
-    let grids : normal_form (normal_form f.chunk_grid) ≡ normal_form f.chunk_grid = form_once f.chunk_grid in
-    let keys : normal_form (normal_form f.chunk_key_encoding) ≡ normal_form f.chunk_key_encoding = form_once f.chunk_key_encoding in
-    let codecs : map normal_form (map normal_form f.codecs) ≡ map normal_form f.codecs = forms_once f.codecs in
-    let transformers : map normal_form (map normal_form f.storage_transformers) ≡ map normal_form f.storage_transformers = forms_once f.storage_transformers in
-    let fields : normal_fields Array (normal_fields Array f.additional_fields) ≡ normal_fields Array f.additional_fields = normal_fields_once Array f.additional_fields h in
-    cc
-
-pub normal_group_once : (g : GroupFields) → AreOrderly Group g.additional_fields → normal_group (normal_group g) ≡ normal_group g
-normal_group_once g h = rw (normal_fields_once Group g.additional_fields h)
-
 pub node_reads_back : (n : NodeFields) → node_of (node_data n) ≡ Some (normal_node n)
 node_reads_back (array_node a) = rw (array_reads_back a)
 node_reads_back (group_node g) = rw (group_is_no_array g, group_reads_back g)
 
 pub array_again_by_value : (f : ArrayFields) → from_data array_of (array_data f) ≡ unless_float (array_data f) (normal_array f)
 array_again_by_value f = rw (array_reads_back f)
-
-pub group_again_by_value : (g : GroupFields) → from_data group_of (group_data g) ≡ unless_float (group_data g) (normal_group g)
-group_again_by_value g = rw (group_reads_back g)

@@ -1,4 +1,3 @@
-pub mod AdditionalFieldLemmas
-pub mod FieldsBack
 pub mod ArrayBack
 pub mod ReadFields
+pub mod Twice

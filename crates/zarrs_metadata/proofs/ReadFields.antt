@@ -1,86 +1,43 @@
--- The additional fields of a document that was read are orderly, and stay as they are.
-use Rattle.std.proofs.Common.{◌≡◌, ℕ, Bool, true, false, cond, List, ◌∷◌, Less, Some, codes, nat_cmp, refl, ◌∙◌}
-use Rattle.std.specs.Cmp.Lexicographic.{slice_cmp}
-use Rattle.serde_json.specs.Data.{Data, null, boolean, number, string, array, object, Members, no_members, member}
+-- The additional fields of an array that was read stay as they are.
+use Rattle.std.proofs.Common.{◌≡◌, Option, Some, None, Result, Ok, Err, IfOk, codes, refl, ◌∙◌}
+use Rattle.serde_json.specs.Data.{Data, null, boolean, number, string, array, object, Members}
 use Rattle.serde_json.specs.Find.{get_member}
-use Rattle.zarrs_metadata_ext.specs.AdditionalField.{AdditionalField, additional_field_of, additional_field_data}
-use Rattle.zarrs_metadata_ext.specs.Reading.{◌>>=◌, object_or_empty, is_number, is_text}
-use Rattle.zarrs_metadata_ext.specs.Rising.{IsBelowMembers, Rises, MembersRise}
-use Rattle.zarrs_metadata_ext.proofs.EachLemmas.{bind_some}
-use Rattle.zarrs_metadata_ext.proofs.RisingLemmas.{no_mark, read_is_normal}
-use Rattle.zarrs_metadata.specs.AdditionalFields.{is_null, is_no_field, additional_fields_of, normal_fields, normal_each, IsBelow, AreOrderly}
-use Rattle.zarrs_metadata.specs.ArrayMetadata.{ArrayFields, dimension_names, extensions_or_none, is_array, required_fields, with_optional_fields, array_members, array_of}
-use Rattle.zarrs_metadata.specs.GroupMetadata.{GroupFields, group_members, group_of, normal_group}
-use Rattle.zarrs_metadata.specs.declared.v3.additional_fields.NodeKind.{NodeKind}
-use Rattle.zarrs_metadata.specs.declared.v3.additional_fields.NodeKind.TheVariants.{Array, Group}
-use Rattle.zarrs_metadata.proofs.FieldsBack.{orderly_fields_read_back}
+use Rattle.zarrs_metadata_ext.specs.Reading.{object_or_empty, Reads}
+use Rattle.zarrs_metadata_json.specs.declared.error.MetadataError.{MetadataError}
+use Rattle.zarrs_metadata_ext.specs.Rising.{Rises}
+use Rattle.zarrs_metadata_json.proofs.EachLemmas.{bind_some}
+use Rattle.zarrs_metadata_group.specs.AdditionalFields.{additional_fields_of, normal_fields}
+use Rattle.zarrs_metadata.specs.ArrayMetadata.{ArrayFields, OptionalFields, dimension_names, extensions_or_none, is_array, required_fields, optional_fields, with_optional_fields, array_members, array_of, array_seen, KeepsFields}
+use Rattle.zarrs_metadata_group.specs.GroupMetadata.{group_of}
+use Rattle.zarrs_metadata.specs.Node.{NodeFields, array_node, group_node, node_seen, node_of, array_node_or, group_node_of, KeepsNodeFields}
+use Rattle.zarrs_metadata_group.specs.declared.additional_fields.NodeKind.TheVariants.{Array}
+use Rattle.zarrs_metadata.specs.declared.v3.array.ArrayMetadataV3.{ArrayMetadataV3}
+use Rattle.zarrs_metadata.specs.declared.node.NodeMetadataV3.{NodeMetadataV3}
+use Rattle.zarrs_metadata_group.proofs.ReadFields.{fields_kept, group_again}
 
-same_null : (d : Data) → is_null (additional_field_data (additional_field_of d)) ≡ is_null d
-same_null null = refl
-same_null (boolean b) = refl
-same_null (number n) = refl
-same_null (string s) = refl
-same_null (array ds) = refl
-same_null (object ms) = refl
-
-same_place : (kind : NodeKind) (k : List ℕ) (d : Data) → is_no_field kind k (additional_field_data (additional_field_of d)) ≡ is_no_field kind k d
-same_place Array k d = refl
-same_place Group k d = rw (same_null d)
-
-below_at : (left_out : Bool) (j k : List ℕ) (field : AdditionalField) (fs : List (List ℕ × AdditionalField)) → slice_cmp nat_cmp j k ≡ Less → IsBelow j fs → IsBelow j (cond left_out fs ((k, field) ∷ fs))
-below_at true j k field fs lt h = h
-below_at false j k field fs lt h = (lt, h)
-
-below_fields : (kind : NodeKind) (j : List ℕ) (ms : Members) → IsBelowMembers j ms → IsBelow j (additional_fields_of kind ms)
-below_fields kind j no_members h = tt
-below_fields kind j (member k d ms) h = below_at (is_no_field kind k d) j k (additional_field_of d) (additional_fields_of kind ms) h.0 (below_fields kind j ms h.1)
-
-orderly_at : (left_out : Bool) (kind : NodeKind) (k : List ℕ) (d : Data) (fs : List (List ℕ × AdditionalField)) → is_no_field kind k d ≡ left_out → Rises d → IsBelow k fs → AreOrderly kind fs
-    → AreOrderly kind (cond left_out fs ((k, additional_field_of d) ∷ fs))
-orderly_at true kind k d fs is rises below h = h
-orderly_at false kind k d fs is rises below h = (same_place kind k d ∙ is, no_mark d rises, below, h)
-
-pub read_fields_are_orderly : (kind : NodeKind) (ms : Members) → MembersRise ms → AreOrderly kind (additional_fields_of kind ms)
-read_fields_are_orderly kind no_members h = tt
-read_fields_are_orderly kind (member k d ms) h =
-    orderly_at (is_no_field kind k d) kind k d (additional_fields_of kind ms) refl h.0 (below_fields kind k ms h.1) (read_fields_are_orderly kind ms h.2)
-
-normal_at : (left_out : Bool) (k : List ℕ) (d : Data) (fs : List (List ℕ × AdditionalField)) → normal_each fs ≡ fs
-    → normal_each (cond left_out fs ((k, additional_field_of d) ∷ fs)) ≡ cond left_out fs ((k, additional_field_of d) ∷ fs)
-normal_at true k d fs h = h
-normal_at false k d fs h = rw (read_is_normal d, h)
-
-each_is_normal : (kind : NodeKind) (ms : Members) → normal_each (additional_fields_of kind ms) ≡ additional_fields_of kind ms
-each_is_normal kind no_members = refl
-each_is_normal kind (member k d ms) = normal_at (is_no_field kind k d) k d (additional_fields_of kind ms) (each_is_normal kind ms)
-
-fields_kept : (kind : NodeKind) (ms : Members) → MembersRise ms → normal_fields kind (additional_fields_of kind ms) ≡ additional_fields_of kind ms
-fields_kept kind ms h = orderly_fields_read_back kind (additional_fields_of kind ms) (read_fields_are_orderly kind ms h) ∙ each_is_normal kind ms
-
-optional_fields : (ms : Members) (fields f : ArrayFields) → with_optional_fields ms fields ≡ Some f → f.additional_fields ≡ additional_fields_of Array ms
-unfolding with_optional_fields
-optional_fields ms fields f e =
-    let a = bind_some (object_or_empty (get_member (codes "attributes") ms)) _ f e in
-    let b = bind_some (extensions_or_none (get_member (codes "storage_transformers") ms)) _ f a.2 in
-    let c = bind_some (dimension_names (get_member (codes "dimension_names") ms)) _ f b.2 in
+optional_parts : (ms : Members) (o : OptionalFields) → optional_fields ms ≡ Some o → o.additional_fields ≡ additional_fields_of Array ms
+unfolding optional_fields
+optional_parts ms o e =
+    let a = bind_some (object_or_empty (get_member (codes "attributes") ms)) _ o e in
+    let b = bind_some (extensions_or_none (get_member (codes "storage_transformers") ms)) _ o a.2 in
+    let c = bind_some (dimension_names (get_member (codes "dimension_names") ms)) _ o b.2 in
     let same = c.2 in
     cc
+
+with_optional_parts : (ms : Members) (fields f : ArrayFields) → with_optional_fields ms fields ≡ Some f → f.additional_fields ≡ additional_fields_of Array ms
+unfolding with_optional_fields
+with_optional_parts ms fields f e =
+    let a = bind_some (optional_fields ms) _ f e in
+    let same = a.2 in
+    let is : f.additional_fields ≡ (a.0).additional_fields = cc in
+    is ∙ optional_parts ms a.0 a.1
 
 array_fields : (ms : Members) (f : ArrayFields) → array_members ms ≡ Some f → f.additional_fields ≡ additional_fields_of Array ms
 unfolding array_members
 array_fields ms f e =
     let a = bind_some (is_array ms) _ f e in
     let b = bind_some (required_fields ms) _ f a.2 in
-    optional_fields ms b.0 f b.2
-
-group_fields_of : (ms : Members) (g : GroupFields) → group_members ms ≡ Some g → g.additional_fields ≡ additional_fields_of Group ms
-unfolding group_members
-group_fields_of ms g e =
-    let a = bind_some (get_member (codes "zarr_format") ms >>= is_number 3) _ g e in
-    let b = bind_some (get_member (codes "node_type") ms >>= is_text (codes "group")) _ g a.2 in
-    let c = bind_some (object_or_empty (get_member (codes "attributes") ms)) _ g b.2 in
-    let same = c.2 in
-    cc
+    with_optional_parts ms b.0 f b.2
 
 -- an array that was read keeps its additional fields
 pub array_kept : (d : Data) (f : ArrayFields) → Rises d → array_of d ≡ Some f → normal_fields Array f.additional_fields ≡ f.additional_fields
@@ -91,14 +48,22 @@ array_kept (string s) f h e = absurd cc
 array_kept (array ds) f h e = absurd cc
 array_kept (object ms) f h e = let is = array_fields ms f e in rw is (fields_kept Array ms h)
 
-group_kept : (d : Data) (g : GroupFields) → Rises d → group_of d ≡ Some g → normal_fields Group g.additional_fields ≡ g.additional_fields
-group_kept null g h e = absurd cc
-group_kept (boolean b) g h e = absurd cc
-group_kept (number n) g h e = absurd cc
-group_kept (string s) g h e = absurd cc
-group_kept (array ds) g h e = absurd cc
-group_kept (object ms) g h e = let is = group_fields_of ms g e in rw is (fields_kept Group ms h)
+array_or_group : (o : Option ArrayFields) (d : Data) (n : NodeFields) → Rises d → array_of d ≡ o → array_node_or (group_node_of d) o ≡ Some n → KeepsNodeFields n
+array_or_group (Some a) d n h is e = let same : array_node a ≡ n = cc in rw (← same) (array_kept d a h is)
+array_or_group None d n h is e =
+    let g = bind_some (group_of d) _ n e in
+    let same : group_node g.0 ≡ n = cc in
+    rw (← same) (group_again d g.0 h g.1)
 
--- a group that was read is the same when it is written and read again
-pub group_again : (d : Data) (g : GroupFields) → Rises d → group_of d ≡ Some g → normal_group g ≡ g
-group_again d g h e = rw (group_kept d g h e)
+node_kept : (d : Data) (n : NodeFields) → Rises d → node_of d ≡ Some n → KeepsNodeFields n
+node_kept d n h e = array_or_group (array_of d) d n h refl e
+
+-- ---- what a reader returned
+
+pub read_array_kept : (d : Data) (r : Result ArrayMetadataV3 MetadataError) → Rises d → Reads array_seen r (array_of d) → IfOk r (λ a. KeepsFields (array_seen a))
+read_array_kept d (Ok a) h e = array_kept d (array_seen a) h e
+read_array_kept d (Err e) h is = tt
+
+pub read_node_kept : (d : Data) (r : Result NodeMetadataV3 MetadataError) → Rises d → Reads node_seen r (node_of d) → IfOk r (λ n. KeepsNodeFields (node_seen n))
+read_node_kept d (Ok n) h e = node_kept d (node_seen n) h e
+read_node_kept d (Err e) h is = tt

@@ -1,5 +1,5 @@
 -- A version 3 array document: what it says, how it is read and how it is written.
-use Rattle.std.specs.Prelude.{ℕ, ⊤, true, List, [], map, Option, Some, None, option_map, codes, String, string_bytes}
+use Rattle.std.specs.Prelude.{◌≡◌, ℕ, ⊤, true, List, [], map, Option, Some, None, option_map, codes, String, string_bytes}
 use Rattle.std.specs.declared.alloc.Global.{Global}
 use Rattle.serde_json.specs.Data.{unsigned, Data, null, boolean, number, string, array, object, Members, no_members, member, put}
 use Rattle.serde_json.specs.Find.{get_member, as_object}
@@ -9,9 +9,11 @@ use Rattle.zarrs_metadata_ext.specs.Writing.{numbers_data, put_object, put_list}
 use Rattle.zarrs_metadata_ext.specs.MetadataV3.{Extension, extension_of, extensions_of, extension_seen, extensions_seen, extension_data, normal_form}
 use Rattle.zarrs_metadata_ext.specs.AdditionalField.{AdditionalField}
 use Rattle.zarrs_metadata_ext.specs.FillValueMetadata.{fill_view}
-use Rattle.zarrs_metadata.specs.AdditionalFields.{additional_fields_seen, additional_fields_of, put_fields, normal_fields}
-use Rattle.zarrs_metadata.specs.declared.v3.additional_fields.NodeKind.TheVariants.{Array}
+use Rattle.zarrs_metadata_group.specs.AdditionalFields.{additional_fields_seen, additional_fields_of, put_fields, normal_fields}
+use Rattle.zarrs_metadata_group.specs.declared.additional_fields.NodeKind.TheVariants.{Array}
 use Rattle.zarrs_metadata.specs.declared.v3.array.ArrayMetadataV3.{ArrayMetadataV3}
+use Rattle.zarrs_metadata.specs.declared.v3.named_parts.NamedParts.{NamedParts}
+use Rattle.zarrs_metadata.specs.declared.v3.optional_parts.OptionalParts.{OptionalParts}
 
 pub record ArrayFields : Type 0 where
   pub shape : List ℕ
@@ -25,8 +27,32 @@ pub record ArrayFields : Type 0 where
   pub dimension_names : Option (List (Option (List ℕ)))
   pub additional_fields : List (List ℕ × AdditionalField)
 
+-- what an array has that is one extension each
+pub record NamedFields : Type 0 where
+  pub data_type : Extension
+  pub chunk_grid : Extension
+  pub chunk_key_encoding : Extension
+
+abbrev pub named_seen : NamedParts → NamedFields
+named_seen n = record { data_type = extension_seen n.data_type; chunk_grid = extension_seen n.chunk_grid; chunk_key_encoding = extension_seen n.chunk_key_encoding }
+
 abbrev pub dimension_names_seen : List (Option (String Global)) → List (Option (List ℕ))
 dimension_names_seen ns = map (option_map string_bytes) ns
+
+-- what a document may leave out
+pub record OptionalFields : Type 0 where
+  pub attributes : Members
+  pub storage_transformers : List Extension
+  pub dimension_names : Option (List (Option (List ℕ)))
+  pub additional_fields : List (List ℕ × AdditionalField)
+
+abbrev pub optional_seen : OptionalParts → OptionalFields
+optional_seen o = record {
+  attributes = members_view o.attributes.entries;
+  storage_transformers = extensions_seen o.storage_transformers.items;
+  dimension_names = option_map (λ v. dimension_names_seen v.items) o.dimension_names;
+  additional_fields = additional_fields_seen o.additional_fields.entries;
+}
 
 abbrev pub array_seen : ArrayMetadataV3 → ArrayFields
 array_seen a = record {
@@ -80,20 +106,30 @@ is_array ms = do
   _ ← get_member (codes "zarr_format") ms >>= is_number 3
   get_member (codes "node_type") ms >>= is_text (codes "array")
 
+-- what a grammar reads of the value under a key that must be there
+abbrev pub read_under : {Y : Type 0} → List ℕ → (Data → Option Y) → Members → Option Y
+read_under key grammar ms = get_member key ms >>= grammar
+
+-- the three that are one extension each
+unfoldable pub named_fields : Members → Option NamedFields
+named_fields ms = do
+  data_type ← read_under (codes "data_type") extension_of ms
+  chunk_grid ← read_under (codes "chunk_grid") extension_of ms
+  chunk_key_encoding ← read_under (codes "chunk_key_encoding") extension_of ms
+  Some (record { data_type = data_type; chunk_grid = chunk_grid; chunk_key_encoding = chunk_key_encoding })
+
 -- the fields that must be there, with the others empty
 unfoldable pub required_fields : Members → Option ArrayFields
 required_fields ms = do
-  shape ← get_member (codes "shape") ms >>= whole_numbers
-  data_type ← get_member (codes "data_type") ms >>= extension_of
-  chunk_grid ← get_member (codes "chunk_grid") ms >>= extension_of
-  chunk_key_encoding ← get_member (codes "chunk_key_encoding") ms >>= extension_of
+  shape ← read_under (codes "shape") whole_numbers ms
+  named ← named_fields ms
   fill_value ← get_member (codes "fill_value") ms
-  codecs ← get_member (codes "codecs") ms >>= extensions_of
+  codecs ← read_under (codes "codecs") extensions_of ms
   Some (record {
     shape = shape;
-    data_type = data_type;
-    chunk_grid = chunk_grid;
-    chunk_key_encoding = chunk_key_encoding;
+    data_type = named.data_type;
+    chunk_grid = named.chunk_grid;
+    chunk_key_encoding = named.chunk_key_encoding;
     fill_value = fill_value;
     codecs = codecs;
     attributes = no_members;
@@ -102,13 +138,22 @@ required_fields ms = do
     additional_fields = [];
   })
 
--- and those that may be there
-unfoldable pub with_optional_fields : Members → ArrayFields → Option ArrayFields
-with_optional_fields ms fields = do
+-- the fields that may be there
+unfoldable pub optional_fields : Members → Option OptionalFields
+optional_fields ms = do
   attributes ← object_or_empty (get_member (codes "attributes") ms)
   storage_transformers ← extensions_or_none (get_member (codes "storage_transformers") ms)
   names ← dimension_names (get_member (codes "dimension_names") ms)
-  Some (record fields { attributes = attributes; storage_transformers = storage_transformers; dimension_names = names; additional_fields = additional_fields_of Array ms })
+  Some (record { attributes = attributes; storage_transformers = storage_transformers; dimension_names = names; additional_fields = additional_fields_of Array ms })
+
+-- an array with other such fields
+abbrev pub with_optional : ArrayFields → OptionalFields → ArrayFields
+with_optional f o = record f { attributes = o.attributes; storage_transformers = o.storage_transformers; dimension_names = o.dimension_names; additional_fields = o.additional_fields }
+
+unfoldable pub with_optional_fields : Members → ArrayFields → Option ArrayFields
+with_optional_fields ms fields = do
+  optional ← optional_fields ms
+  Some (with_optional fields optional)
 
 unfoldable pub array_members : Members → Option ArrayFields
 array_members ms = do
@@ -161,3 +206,15 @@ normal_array f = record f {
   storage_transformers = map normal_form f.storage_transformers;
   additional_fields = normal_fields Array f.additional_fields;
 }
+
+-- the fields that must be there, with the others empty
+abbrev pub required_part : ArrayFields → ArrayFields
+required_part f = record f { attributes = no_members; storage_transformers = []; dimension_names = None; additional_fields = [] }
+
+-- the fields that may be left out
+abbrev pub optional_part : ArrayFields → OptionalFields
+optional_part f = record { attributes = f.attributes; storage_transformers = f.storage_transformers; dimension_names = f.dimension_names; additional_fields = f.additional_fields }
+
+-- Its additional fields stay as they are when it is written and read again.
+abbrev pub KeepsFields : ArrayFields → Type 0
+KeepsFields f = normal_fields Array f.additional_fields ≡ f.additional_fields

@@ -1,9 +1,9 @@
 -- The document of an array, or of a group.
-use Rattle.std.specs.Prelude.{Option, Some, None}
+use Rattle.std.specs.Prelude.{◌≡◌, Option, Some, None}
 use Rattle.serde_json.specs.Data.{Data}
 use Rattle.zarrs_metadata_ext.specs.Reading.{◌>>=◌}
-use Rattle.zarrs_metadata.specs.ArrayMetadata.{ArrayFields, array_seen, array_of, array_data, normal_array}
-use Rattle.zarrs_metadata.specs.GroupMetadata.{GroupFields, group_seen, group_of, group_data, normal_group}
+use Rattle.zarrs_metadata.specs.ArrayMetadata.{ArrayFields, array_seen, array_of, array_data, normal_array, KeepsFields}
+use Rattle.zarrs_metadata_group.specs.GroupMetadata.{GroupFields, group_seen, group_of, group_data, normal_group}
 use Rattle.zarrs_metadata.specs.declared.node.NodeMetadataV3.{NodeMetadataV3}
 use Rattle.zarrs_metadata.specs.declared.node.NodeMetadataV3.TheVariants.{Array, Group}
 
@@ -34,3 +34,8 @@ node_data (group_node g) = group_data g
 abbrev pub normal_node : NodeFields → NodeFields
 normal_node (array_node a) = array_node (normal_array a)
 normal_node (group_node g) = group_node (normal_group g)
+
+-- Its additional fields stay as they are when it is written and read again, and of a group all.
+abbrev pub KeepsNodeFields : NodeFields → Type 0
+KeepsNodeFields (array_node a) = KeepsFields a
+KeepsNodeFields (group_node g) = normal_group g ≡ g

@@ -1,7 +1,7 @@
 //! The metadata documents of Zarr arrays and groups, as JSON.
 //!
 //! See <https://zarr-specs.readthedocs.io/en/latest/v3/core/index.html#metadata>. What documents are made of comes from
-//! the crate `zarrs_metadata_ext`, and is passed on here.
+//! the crate `zarrs_metadata_ext`, groups from `zarrs_metadata_group`; both are passed on here.
 #![tactic(auto)]
 
 mod node;
@@ -9,7 +9,6 @@ mod v3;
 
 pub use node::NodeMetadataV3;
 pub use v3::array::ArrayMetadataV3;
-pub use v3::group::GroupMetadataV3;
 pub use v3::laws;
 pub use zarrs_metadata_ext::{
     AdditionalFieldV3, AdditionalFieldsV3, ArrayShape, ChunkKeySeparator, ChunkShape,
@@ -19,3 +18,4 @@ pub use zarrs_metadata_ext::{
     FromConfigurationError, IntoDimensionName, MetadataError, MetadataV2, MetadataV3,
     ToConfiguration, ToConfigurationFault,
 };
+pub use zarrs_metadata_group::GroupMetadataV3;

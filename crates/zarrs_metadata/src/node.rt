@@ -5,15 +5,16 @@ ghost use Rattle.serde_json.specs.Data.{depth};
 ghost use Rattle.serde_json.specs.Read.{read, max_depth};
 ghost use Rattle.serde_json.specs.View.{view};
 ghost use Rattle.zarrs_metadata_ext.specs.Reading.{Reads, Gives, from_data, from_json};
-ghost use Rattle.zarrs_metadata.specs.Node.{node_seen, node_of, group_node_of, node_data};
+ghost use Rattle.zarrs_metadata.specs.Node.{node_seen, node_of, group_node_of, node_data, KeepsNodeFields};
 
 use crate::v3::array::ArrayMetadataV3;
-use crate::v3::group::GroupMetadataV3;
-use crate::v3::reading::{read_array, read_group};
+use crate::v3::reading::read_array;
 use serde_json::Value;
 use std::alloc::{AllocError, Global};
 use zarrs_metadata_ext::MetadataError;
 use zarrs_metadata_ext::reading::{read_value, refuse_floats};
+use zarrs_metadata_group::GroupMetadataV3;
+use zarrs_metadata_group::group::read_group;
 
 /// The version 3 document of an array or a group.
 #[derive(Debug, PartialEq, Drop)]
@@ -25,13 +26,16 @@ pub enum NodeMetadataV3 {
 }
 
 impl NodeMetadataV3 {
-    /// The document that a value is: an array's, else a group's.
+    /// The document that a value is: an array's, else a group's. Its additional fields stay as they are when it is
+    /// written and read again.
     ///
     /// # Errors
     /// `FloatNumber` exactly where the value holds a float, attributes included, else `InvalidMetadata` exactly where it
     /// is neither.
+    #[tactic(auto, using(crate::proofs::ReadFields::read_node_kept))]
     pub fn from_value(alloc: Global, value: &Value) -> Result<Self, MetadataError>
-        ensures { Gives node_seen result (from_data node_of (view value.now)) }
+        ensures gives { Gives node_seen result (from_data node_of (view value.now)) }
+        ensures kept { IfOk result (λ n. KeepsNodeFields (node_seen n)) }
     {
         refuse_floats(value)?;
         read_node(alloc, value)
@@ -51,8 +55,10 @@ impl NodeMetadataV3 {
     ///
     /// # Errors
     /// `InvalidJson` exactly where the text is not JSON, else as for the value.
+    #[tactic(auto, using(crate::proofs::ReadFields::read_node_kept))]
     pub fn try_from_text(alloc: Global, text: &str) -> Result<Self, MetadataError>
-        ensures { Gives node_seen result (from_json node_of (read text.now)) }
+        ensures gives { Gives node_seen result (from_json node_of (read text.now)) }
+        ensures kept { IfOk result (λ n. KeepsNodeFields (node_seen n)) }
     {
         let value = read_value(alloc, text)?;
         read_node(alloc, &value)

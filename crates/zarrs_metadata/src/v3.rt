@@ -1,8 +1,9 @@
 //! Version 3 documents.
 
-pub mod additional_fields;
 pub mod array;
-pub mod group;
+pub mod copying;
 pub mod laws;
+pub mod named_parts;
+pub mod optional_parts;
 pub mod reading;
 pub mod writing;

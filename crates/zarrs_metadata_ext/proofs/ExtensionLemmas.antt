@@ -1,7 +1,7 @@
 -- What is written for an extension, read again.
 use Rattle.std.proofs.Common.{◌≡◌, Bool, true, false, Some, None, refl}
 use Rattle.serde_json.specs.Data.{no_members, member}
-use Rattle.zarrs_metadata_ext.specs.Reading.{from_data, unless_float}
+use Rattle.zarrs_metadata_json.specs.Reading.{from_data, unless_float}
 use Rattle.zarrs_metadata_ext.specs.MetadataV3.{Extension, extension_of, object_extension, extension_data, configured, normal_by, normal_form}
 
 read_configured : (name : _) (configuration : _) (must_understand : Bool) → extension_of (configured name configuration must_understand) ≡ Some (normal_by name configuration must_understand)

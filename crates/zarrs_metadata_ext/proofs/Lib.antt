@@ -1,8 +1,5 @@
-pub mod MemberLemmas
-pub mod EachLemmas
-pub mod PutLemmas
-pub mod FillLemmas
-pub mod FillBytes
+pub use Rattle.zarrs_metadata_json.proofs.EachLemmas
+pub use Rattle.zarrs_metadata_json.proofs.PutLemmas
 pub mod ExtensionLemmas
 pub mod ReadBack
 pub mod RisingLemmas

@@ -4,15 +4,15 @@ use Rattle.serde_json.specs.Data.{Data, null, boolean, number, string, array, ob
 use Rattle.serde_json.specs.Find.{get, get_member}
 use Rattle.serde_json.specs.View.{items_of}
 use Rattle.serde_json.proofs.Views.{get_member-put}
-use Rattle.zarrs_metadata_ext.specs.Reading.{each, whole_number, whole_numbers}
-use Rattle.zarrs_metadata_ext.specs.Writing.{number_data, numbers_data}
+use Rattle.zarrs_metadata_json.specs.Reading.{each, whole_number, whole_numbers}
+use Rattle.zarrs_metadata_json.specs.Writing.{number_data, numbers_data}
 use Rattle.zarrs_metadata_ext.specs.AdditionalField.{AdditionalField, additional_field_of, additional_field_data, with_must_understand, normal_field, normal_field_by}
 use Rattle.zarrs_metadata_ext.specs.MetadataV2.{CodecV2, codec_v2_of, codec_v2_members, codec_v2_data}
 use Rattle.zarrs_metadata_ext.specs.DataTypeV2.{FieldV2, DataTypeV2, simple, structured, field_v2_of, named_field, optional_numbers, data_type_v2_of, field_v2_data, data_type_v2_data}
 use Rattle.zarrs_metadata_ext.specs.MetadataV3.{Extension, extension_of, extensions_of, extension_data, normal_form}
-use Rattle.zarrs_metadata_ext.proofs.EachLemmas.{each_written}
+use Rattle.zarrs_metadata_json.proofs.EachLemmas.{each_written}
 use Rattle.zarrs_metadata_ext.proofs.ExtensionLemmas.{extension_reads_back}
-use Rattle.zarrs_metadata_ext.proofs.PutLemmas.{without-put}
+use Rattle.zarrs_metadata_json.proofs.PutLemmas.{without-put}
 
 field_back : (value : Data) (b : Bool) → get (codes "must_understand") value ≡ None → additional_field_of (with_must_understand b value) ≡ normal_field_by value b
 field_back null b h = refl

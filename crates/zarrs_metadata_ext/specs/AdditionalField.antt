@@ -3,7 +3,7 @@ use Rattle.std.specs.Prelude.{Bool, true, Option, Some, None, codes}
 use Rattle.serde_json.specs.Data.{Data, null, boolean, number, string, array, object, put}
 use Rattle.serde_json.specs.Find.{get_member}
 use Rattle.serde_json.specs.View.{view}
-use Rattle.zarrs_metadata_ext.specs.Reading.{without}
+use Rattle.zarrs_metadata_json.specs.Reading.{without}
 use Rattle.zarrs_metadata_ext.specs.declared.v3.additional_field.AdditionalFieldV3.{AdditionalFieldV3}
 
 -- what is left of it without its `must_understand`, and whether it must be understood

@@ -3,8 +3,8 @@ use Rattle.std.specs.Prelude.{ℕ, List, map, Option, Some, None, option_map, st
 use Rattle.serde_json.specs.Data.{Data, null, boolean, number, string, array, object, Items, no_items, item}
 use Rattle.serde_json.specs.Find.{as_str, as_array}
 use Rattle.serde_json.specs.View.{items_of}
-use Rattle.zarrs_metadata_ext.specs.Reading.{◌>>=◌, each, whole_number}
-use Rattle.zarrs_metadata_ext.specs.Writing.{numbers_data}
+use Rattle.zarrs_metadata_json.specs.Reading.{◌>>=◌, each, whole_number}
+use Rattle.zarrs_metadata_json.specs.Writing.{numbers_data}
 use Rattle.zarrs_metadata_ext.specs.declared.v2.data_type.DataTypeMetadataV2.{DataTypeMetadataV2}
 use Rattle.zarrs_metadata_ext.specs.declared.v2.data_type.DataTypeMetadataV2.TheVariants.{Simple, Structured}
 use Rattle.zarrs_metadata_ext.specs.declared.v2.data_type.DataTypeMetadataV2Structured.{DataTypeMetadataV2Structured}

@@ -1,10 +1,10 @@
-pub mod Reading
-pub mod Writing
-pub mod Configuration
+pub use Rattle.zarrs_metadata_json.specs.Reading
+pub use Rattle.zarrs_metadata_json.specs.Writing
+pub use Rattle.zarrs_metadata_json.specs.Rising
+pub use Rattle.zarrs_metadata_configuration.specs.Configuration
+pub use Rattle.zarrs_metadata_configuration.specs.FillValueMetadata
 pub mod MetadataV3
 pub mod AdditionalField
-pub mod FillValueMetadata
 pub mod MetadataV2
 pub mod DataTypeV2
 pub mod Names
-pub mod Rising

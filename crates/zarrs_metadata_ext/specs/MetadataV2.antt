@@ -2,8 +2,8 @@
 use Rattle.std.specs.Prelude.{ℕ, List, Option, Some, codes, string_bytes}
 use Rattle.serde_json.specs.Data.{Data, string, object, Members, put}
 use Rattle.serde_json.specs.Find.{get_member, as_str, as_object}
-use Rattle.zarrs_metadata_ext.specs.Reading.{◌>>=◌, without}
-use Rattle.zarrs_metadata_ext.specs.Configuration.{configuration_seen}
+use Rattle.zarrs_metadata_json.specs.Reading.{◌>>=◌, without}
+use Rattle.zarrs_metadata_configuration.specs.Configuration.{configuration_seen}
 use Rattle.zarrs_metadata_ext.specs.declared.v2.metadata.MetadataV2.{MetadataV2}
 
 pub record CodecV2 : Type 0 where

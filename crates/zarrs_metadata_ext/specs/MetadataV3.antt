@@ -4,8 +4,8 @@ use Rattle.std.specs.Str.{bytes_eq}
 use Rattle.serde_json.specs.Data.{Data, null, boolean, number, string, array, object, Members, no_members, member}
 use Rattle.serde_json.specs.Find.{get_member, as_str, as_array}
 use Rattle.serde_json.specs.Written.{compact_text}
-use Rattle.zarrs_metadata_ext.specs.Reading.{◌>>=◌, boolean_or, optional_object, each}
-use Rattle.zarrs_metadata_ext.specs.Configuration.{configuration_seen}
+use Rattle.zarrs_metadata_json.specs.Reading.{◌>>=◌, boolean_or, optional_object, each}
+use Rattle.zarrs_metadata_configuration.specs.Configuration.{configuration_seen}
 use Rattle.zarrs_metadata_ext.specs.declared.v3.metadata.MetadataV3.{MetadataV3}
 
 pub record Extension : Type 0 where

@@ -7,12 +7,12 @@ ghost use Rattle.zarrs_metadata_ext.specs.AdditionalField.{AdditionalField, addi
 ghost use Rattle.zarrs_metadata_ext.specs.DataTypeV2.{DataTypeV2, data_type_v2_of, data_type_v2_data};
 ghost use Rattle.zarrs_metadata_ext.specs.MetadataV2.{CodecV2, codec_v2_of, codec_v2_data};
 ghost use Rattle.zarrs_metadata_ext.specs.MetadataV3.{Extension, extension_seen, extension_of, extension_data, normal_form};
-ghost use Rattle.zarrs_metadata_ext.specs.Reading.{Gives, unless_float};
-ghost use Rattle.zarrs_metadata_ext.specs.Rising.{Rises};
+ghost use Rattle.zarrs_metadata_json.specs.Reading.{Gives, unless_float};
+ghost use Rattle.zarrs_metadata_json.specs.Rising.{Rises};
 
-use crate::error::MetadataError;
 use crate::v3::metadata::MetadataV3;
 use std::alloc::Global;
+use zarrs_metadata_json::MetadataError;
 
 /// What is written for an extension reads back as its normal form: without a configuration where it has none or an
 /// empty one, and then it must be understood.

@@ -2,14 +2,11 @@
 //! version 2 codecs and data types, and reading them from JSON.
 //!
 //! See <https://zarr-specs.readthedocs.io/en/latest/v3/core/index.html#array-metadata>. A value that holds a number
-//! which is neither a `u64` nor an `i64` is refused throughout.
+//! which is neither a `u64` nor an `i64` is refused throughout. Configurations and fill values come from the crate
+//! `zarrs_metadata_configuration`, errors and the values of JSON from `zarrs_metadata_json`; both are passed on here.
 #![tactic(auto)]
 
 mod array;
-mod configuration;
-mod error;
-mod floats;
-pub mod json;
 pub mod laws;
 pub mod reading;
 mod v2;
@@ -19,18 +16,17 @@ pub mod writing;
 pub use array::chunk_key_separator::ChunkKeySeparator;
 pub use array::endianness::Endianness;
 pub use array::{ArrayShape, ChunkShape, DataTypeSize, DimensionName, IntoDimensionName};
-pub use configuration::{
-    Configuration, ConfigurationError, EmptyConfiguration, FromConfiguration, ToConfiguration,
-    ToConfigurationFault,
-};
-pub use error::{FromConfigurationError, MetadataError};
 pub use v2::data_type::{
     DataTypeMetadataV2, DataTypeMetadataV2EndiannessError, DataTypeMetadataV2Structured,
 };
 pub use v2::metadata::MetadataV2;
 pub use v3::additional_field::{AdditionalFieldV3, AdditionalFieldsV3};
-pub use v3::fill_value::FillValueMetadataV3;
 pub use v3::metadata::MetadataV3;
+pub use zarrs_metadata_configuration::{
+    Configuration, ConfigurationError, EmptyConfiguration, FillValueMetadataV3, FromConfiguration,
+    FromConfigurationError, ToConfiguration, ToConfigurationFault,
+};
+pub use zarrs_metadata_json::{MetadataError, json};
 
 /// The fill value of either version.
 pub type FillValueMetadata = FillValueMetadataV3;

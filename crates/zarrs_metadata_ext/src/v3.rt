@@ -1,5 +1,4 @@
 //! Version 3 metadata.
 
 pub mod additional_field;
-pub mod fill_value;
 pub mod metadata;

@@ -58,6 +58,11 @@ fn additional_fields_are_read_and_written(rt: HostRuntime) -> Result<(), Fail> {
             "{\"key\":\"value\",\"must_understand\":true}",
         ),
         (
+            "{\"key\":\"value\",\"must_understand\":true}",
+            "{\"key\":\"value\"}",
+            "{\"key\":\"value\",\"must_understand\":true}",
+        ),
+        (
             "{\"must_understand\":null}",
             "{}",
             "{\"must_understand\":true}",
@@ -81,6 +86,7 @@ fn must_be_understood(alloc: Global, text: &str) -> Result<bool, MetadataError> 
 fn additional_fields_must_be_understood(rt: HostRuntime) -> Result<(), Fail> {
     for text in [
         "{\"key\":\"value\"}",
+        "{\"key\":\"value\",\"must_understand\":true}",
         "{\"must_understand\":null}",
         "{}",
         "[]",

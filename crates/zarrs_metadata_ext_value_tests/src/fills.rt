@@ -108,7 +108,7 @@ fn bytes_are_numbers_below_256(rt: HostRuntime) -> Result<(), Fail> {
 
 #[test]
 fn other_values_are_no_bytes(rt: HostRuntime) -> Result<(), Fail> {
-    for text in ["[256]", "[1,-1]", "[\"1\"]", "1"] {
+    for text in ["[256]", "[-5]", "[1,-1]", "[\"1\"]", "1"] {
         assert!(rt; bytes_of(rt.alloc(), text)?.is_none(), "{text}");
     }
     Ok(())

@@ -1,7 +1,5 @@
-//! Worked examples of `zarrs_metadata`: arrays that are made and changed, and groups.
+//! Worked examples of `zarrs_metadata`: arrays that are made and changed.
 #![tactic(auto)]
 
-#[cfg(test)]
-mod groups;
 #[cfg(test)]
 mod made_arrays;

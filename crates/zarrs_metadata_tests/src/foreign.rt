@@ -38,6 +38,10 @@ const ZARR_PYTHON: &str = "{
   \"storage_transformers\": []
 }";
 
+// The same array with checksums, on one line.
+const CHECKSUMMED: &str =
+    "{\"shape\":[1000,700],\"data_type\":\"int32\",\"chunk_grid\":{\"name\":\"regular\",\"configuration\":{\"chunk_shape\":[128,128]}},\"chunk_key_encoding\":{\"name\":\"default\",\"configuration\":{\"separator\":\"/\"}},\"fill_value\":0,\"codecs\":[{\"name\":\"bytes\",\"configuration\":{\"endian\":\"little\"}},{\"name\":\"zarr_basics.sha256\"}],\"attributes\":{\"title\":\"height\",\"units\":\"mm\",\"version\":2},\"dimension_names\":[\"y\",\"x\"],\"storage_transformers\":[],\"zarr_format\":3,\"node_type\":\"array\"}";
+
 // As a sharded array is written, with names as texts and as objects, and a field that may be passed over.
 const SHARDED: &str =
     "{\"zarr_format\":3,\"node_type\":\"array\",\"shape\":[64,64],\"data_type\":{\"name\":\"uint16\"},\"chunk_grid\":{\"name\":\"regular\",\"configuration\":{\"chunk_shape\":[32,32]}},\"chunk_key_encoding\":\"v2\",\"fill_value\":65535,\"codecs\":[{\"name\":\"sharding_indexed\",\"configuration\":{\"chunk_shape\":[8,8],\"codecs\":[\"bytes\"],\"index_codecs\":[\"bytes\",{\"name\":\"crc32c\"}],\"index_location\":\"end\"}}],\"storage_transformers\":[{\"name\":\"cache\",\"configuration\":{\"size\":8},\"must_understand\":false},\"log\"],\"dimension_names\":[null,null,\"extra\"],\"provenance\":{\"tool\":\"ours\",\"must_understand\":false},\"zz\":[]}";
@@ -47,6 +51,9 @@ const SPECIFICATION_WRITTEN: &str =
 
 const ZARR_PYTHON_WRITTEN: &str =
     "{\"attributes\":{\"title\":\"height\",\"units\":\"mm\",\"version\":2},\"chunk_grid\":{\"configuration\":{\"chunk_shape\":[128,128]},\"name\":\"regular\"},\"chunk_key_encoding\":{\"configuration\":{\"separator\":\"/\"},\"name\":\"default\"},\"codecs\":[{\"configuration\":{\"endian\":\"little\"},\"name\":\"bytes\"},{\"configuration\":{\"checksum\":false,\"level\":0},\"name\":\"zstd\"}],\"data_type\":\"int32\",\"dimension_names\":[\"y\",null],\"fill_value\":0,\"node_type\":\"array\",\"shape\":[1000,700],\"zarr_format\":3}";
+
+const CHECKSUMMED_WRITTEN: &str =
+    "{\"attributes\":{\"title\":\"height\",\"units\":\"mm\",\"version\":2},\"chunk_grid\":{\"configuration\":{\"chunk_shape\":[128,128]},\"name\":\"regular\"},\"chunk_key_encoding\":{\"configuration\":{\"separator\":\"/\"},\"name\":\"default\"},\"codecs\":[{\"configuration\":{\"endian\":\"little\"},\"name\":\"bytes\"},\"zarr_basics.sha256\"],\"data_type\":\"int32\",\"dimension_names\":[\"y\",\"x\"],\"fill_value\":0,\"node_type\":\"array\",\"shape\":[1000,700],\"zarr_format\":3}";
 
 const SHARDED_WRITTEN: &str =
     "{\"chunk_grid\":{\"configuration\":{\"chunk_shape\":[32,32]},\"name\":\"regular\"},\"chunk_key_encoding\":\"v2\",\"codecs\":[{\"configuration\":{\"chunk_shape\":[8,8],\"codecs\":[\"bytes\"],\"index_codecs\":[\"bytes\",{\"name\":\"crc32c\"}],\"index_location\":\"end\"},\"name\":\"sharding_indexed\"}],\"data_type\":\"uint16\",\"dimension_names\":[null,null,\"extra\"],\"fill_value\":65535,\"node_type\":\"array\",\"provenance\":{\"must_understand\":false,\"tool\":\"ours\"},\"shape\":[64,64],\"storage_transformers\":[{\"configuration\":{\"size\":8},\"must_understand\":false,\"name\":\"cache\"},\"log\"],\"zarr_format\":3,\"zz\":[]}";
@@ -59,11 +66,20 @@ fn is_written_so(
     written: &str,
 ) -> Result<(), MetadataError> {
     let array = ArrayMetadataV3::try_from_text(alloc, text)?;
-    is_written(rt, alloc, &array, written)?;
-    is_read_again(rt, alloc, &array)?;
-    is_copied(rt, alloc, &array)?;
-    is_read_of_pretty_text(rt, alloc, &array)?;
+    is_written_and_read_again(rt, alloc, &array, written)?;
     is_a_node(rt, alloc, text, array)
+}
+
+fn is_written_and_read_again(
+    rt: &impl Abort,
+    alloc: Global,
+    array: &ArrayMetadataV3,
+    written: &str,
+) -> Result<(), MetadataError> {
+    is_written(rt, alloc, array, written)?;
+    is_read_again(rt, alloc, array)?;
+    is_copied(rt, alloc, array)?;
+    is_read_of_pretty_text(rt, alloc, array)
 }
 
 fn is_written(
@@ -132,18 +148,28 @@ fn an_array_of_zarr_python_is_written(rt: HostRuntime) -> Result<(), Fail> {
 }
 
 #[test]
+fn an_array_with_checksums_is_written(rt: HostRuntime) -> Result<(), Fail> {
+    is_written_so(&rt, rt.alloc(), CHECKSUMMED, CHECKSUMMED_WRITTEN)?;
+    Ok(())
+}
+
+#[test]
 fn a_sharded_array_is_written(rt: HostRuntime) -> Result<(), Fail> {
     is_written_so(&rt, rt.alloc(), SHARDED, SHARDED_WRITTEN)?;
     Ok(())
 }
 
-#[test]
-fn a_sharded_array_has_its_parts(rt: HostRuntime) -> Result<(), Fail> {
-    let array = ArrayMetadataV3::try_from_text(rt.alloc(), SHARDED)?;
+fn has_sharded_parts(rt: &impl Abort, array: &ArrayMetadataV3) {
     assert_eq!(rt; array.shape.as_slice(), [64, 64].as_slice());
     assert_eq!(rt; array.data_type.name(), "uint16");
     assert_eq!(rt; array.fill_value.as_u64(), Some(65535));
     assert_eq!(rt; array.additional_fields.len(), 2);
+}
+
+#[test]
+fn a_sharded_array_has_its_parts(rt: HostRuntime) -> Result<(), Fail> {
+    let array = ArrayMetadataV3::try_from_text(rt.alloc(), SHARDED)?;
+    has_sharded_parts(&rt, &array);
     Ok(())
 }
 
@@ -153,11 +179,9 @@ fn field_must_be_understood(array: &ArrayMetadataV3, key: &str) -> Option<bool> 
     Some(field.must_understand())
 }
 
-#[test]
-fn a_sharded_array_says_what_may_be_passed_over(rt: HostRuntime) -> Result<(), Fail> {
-    let array = ArrayMetadataV3::try_from_text(rt.alloc(), SHARDED)?;
-    assert_eq!(rt; field_must_be_understood(&array, "provenance"), Some(false));
-    assert_eq!(rt; field_must_be_understood(&array, "zz"), Some(true));
+fn may_be_passed_over(rt: &impl Abort, array: &ArrayMetadataV3) {
+    assert_eq!(rt; field_must_be_understood(array, "provenance"), Some(false));
+    assert_eq!(rt; field_must_be_understood(array, "zz"), Some(true));
     match array.storage_transformers.as_slice() {
         [cache, log] => {
             assert!(rt; !cache.must_understand());
@@ -165,6 +189,12 @@ fn a_sharded_array_says_what_may_be_passed_over(rt: HostRuntime) -> Result<(), F
         }
         _ => assert!(rt; false, "two transformers"),
     }
+}
+
+#[test]
+fn a_sharded_array_says_what_may_be_passed_over(rt: HostRuntime) -> Result<(), Fail> {
+    let array = ArrayMetadataV3::try_from_text(rt.alloc(), SHARDED)?;
+    may_be_passed_over(&rt, &array);
     Ok(())
 }
 

@@ -9,16 +9,15 @@ ghost use Rattle.serde_json.specs.View.{view, members_view};
 ghost use Rattle.zarrs_metadata_ext.specs.Reading.{Gives, from_data, from_json};
 ghost use Rattle.zarrs_metadata_ext.specs.MetadataV3.{extension_seen, extensions_seen};
 ghost use Rattle.zarrs_metadata_ext.specs.FillValueMetadata.{fill_view};
-ghost use Rattle.zarrs_metadata.specs.AdditionalFields.{additional_fields_seen};
-ghost use Rattle.zarrs_metadata.specs.ArrayMetadata.{array_seen, array_of, array_data, dimension_names_seen, default_keys};
+ghost use Rattle.zarrs_metadata_group.specs.AdditionalFields.{additional_fields_seen};
+ghost use Rattle.zarrs_metadata.specs.ArrayMetadata.{array_seen, array_of, array_data, dimension_names_seen, default_keys, KeepsFields};
 
-use crate::v3::additional_fields::copy_additional_fields;
+use crate::v3::copying::copy_array;
 use crate::v3::reading::read_array;
-use crate::v3::writing::{array_to_value, copy_dimension_names, copy_extensions};
+use crate::v3::writing::array_to_value;
 use serde_json::{Map, Value};
 use std::alloc::{AllocError, Global};
 use std::collections::BTreeMap;
-use zarrs_metadata_ext::json::copy_members;
 use zarrs_metadata_ext::reading::{read_value, refuse_floats};
 use zarrs_metadata_ext::{
     AdditionalFieldsV3, ArrayShape, Configuration, DimensionName, FillValueMetadataV3,
@@ -136,13 +135,15 @@ impl ArrayMetadataV3 {
         }
     }
 
-    /// The document that a value is.
+    /// The document that a value is. Its additional fields stay as they are when it is written and read again.
     ///
     /// # Errors
     /// `FloatNumber` exactly where the value holds a float, attributes included, else `InvalidMetadata` exactly where it
     /// is no version 3 array document.
+    #[tactic(auto, using(crate::proofs::ReadFields::read_array_kept))]
     pub fn from_value(alloc: Global, value: &Value) -> Result<Self, MetadataError>
-        ensures { Gives array_seen result (from_data array_of (view value.now)) }
+        ensures gives { Gives array_seen result (from_data array_of (view value.now)) }
+        ensures kept { IfOk result (λ a. KeepsFields (array_seen a)) }
     {
         refuse_floats(value)?;
         read_array(alloc, value)
@@ -160,8 +161,10 @@ impl ArrayMetadataV3 {
     ///
     /// # Errors
     /// `InvalidJson` exactly where the text is not JSON, else as for the value.
+    #[tactic(auto, using(crate::proofs::ReadFields::read_array_kept))]
     pub fn try_from_text(alloc: Global, text: &str) -> Result<Self, MetadataError>
-        ensures { Gives array_seen result (from_json array_of (read text.now)) }
+        ensures gives { Gives array_seen result (from_json array_of (read text.now)) }
+        ensures kept { IfOk result (λ a. KeepsFields (array_seen a)) }
     {
         let value = read_value(alloc, text)?;
         read_array(alloc, &value)
@@ -180,18 +183,7 @@ impl ArrayMetadataV3 {
     pub fn try_clone(&self, alloc: Global) -> Result<Self, AllocError>
         ensures { IfOk result (λ copy. array_seen copy ≡ array_seen self.now) }
     {
-        Ok(ArrayMetadataV3 {
-            shape: self.shape.as_slice().to_vec(alloc)?,
-            data_type: self.data_type.try_clone(alloc)?,
-            chunk_grid: self.chunk_grid.try_clone(alloc)?,
-            chunk_key_encoding: self.chunk_key_encoding.try_clone(alloc)?,
-            fill_value: self.fill_value.try_clone(alloc)?,
-            codecs: copy_extensions(alloc, &self.codecs)?,
-            attributes: copy_members(&self.attributes)?,
-            storage_transformers: copy_extensions(alloc, &self.storage_transformers)?,
-            dimension_names: copy_dimension_names(alloc, &self.dimension_names)?,
-            additional_fields: copy_additional_fields(alloc, &self.additional_fields)?,
-        })
+        copy_array(alloc, self)
     }
 }
 

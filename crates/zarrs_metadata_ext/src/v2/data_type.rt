@@ -7,15 +7,15 @@ ghost use Rattle.serde_json.specs.Data.{array, item};
 ghost use Rattle.serde_json.specs.Read.{read};
 ghost use Rattle.serde_json.specs.View.{view, items_of, items_view};
 ghost use Rattle.zarrs_metadata_ext.specs.DataTypeV2.{data_type_v2_seen, data_type_v2_of, data_type_v2_data, field_v2_seen, field_v2_of, field_v2_data, field_items, named_field, last_shape, optional_numbers, shape_items};
-ghost use Rattle.zarrs_metadata_ext.specs.Reading.{Reads, Gives, from_data, from_json, each};
+ghost use Rattle.zarrs_metadata_json.specs.Reading.{Reads, Gives, from_data, from_json, each};
 
-use crate::error::MetadataError;
-use crate::json::{read_each_whole_number, read_list, read_text};
-use crate::reading::{read_value, refuse_floats};
-use crate::writing::numbers_value;
 use serde_json::Value;
 use std::alloc::{AllocError, Global};
 use thiserror::Error;
+use zarrs_metadata_json::MetadataError;
+use zarrs_metadata_json::json::{read_each_whole_number, read_list, read_text};
+use zarrs_metadata_json::reading::{read_value, refuse_floats};
+use zarrs_metadata_json::writing::numbers_value;
 
 /// A field of a structured data type.
 #[derive(Debug, PartialEq, Drop)]
@@ -110,7 +110,7 @@ pub fn read_data_type_v2(alloc: Global, value: &Value) -> Result<DataTypeMetadat
     }
 }
 
-#[tactic(auto, using(crate::proofs::EachLemmas::each_push, crate::proofs::EachLemmas::each_fails))]
+#[tactic(auto, using(zarrs_metadata_json::proofs::EachLemmas::each_push, zarrs_metadata_json::proofs::EachLemmas::each_fails))]
 fn read_each_field_v2(
     alloc: Global,
     items: &[Value],

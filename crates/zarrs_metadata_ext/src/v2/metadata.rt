@@ -2,19 +2,20 @@
 //!
 //! See <https://zarr-specs.readthedocs.io/en/latest/v2/v2.0.html#metadata>.
 
-ghost use Rattle.std.specs.Prelude.{◌≡◌, IfOk, string_bytes};
+ghost use Rattle.std.specs.Prelude.{◌≡◌, None, IfOk, codes, string_bytes};
+ghost use Rattle.serde_json.specs.Find.{get_member};
 ghost use Rattle.serde_json.specs.Read.{read};
 ghost use Rattle.serde_json.specs.View.{view, members_view};
-ghost use Rattle.zarrs_metadata_ext.specs.Configuration.{configuration_seen, Typed};
+ghost use Rattle.zarrs_metadata_configuration.specs.Configuration.{configuration_seen, Typed};
 ghost use Rattle.zarrs_metadata_ext.specs.MetadataV2.{codec_v2_seen, codec_v2_of, codec_v2_members, codec_v2_data};
-ghost use Rattle.zarrs_metadata_ext.specs.Reading.{Reads, Gives, from_data, from_json};
+ghost use Rattle.zarrs_metadata_json.specs.Reading.{Reads, Gives, from_data, from_json};
 
-use crate::configuration::{Configuration, FromConfiguration};
-use crate::error::{FromConfigurationError, MetadataError};
-use crate::json::{copy_members, read_object, read_text, required, take_member};
-use crate::reading::{read_value, refuse_floats};
 use serde_json::{Map, Value};
 use std::alloc::{AllocError, Global};
+use zarrs_metadata_configuration::{Configuration, FromConfiguration, FromConfigurationError};
+use zarrs_metadata_json::MetadataError;
+use zarrs_metadata_json::json::{copy_members, read_object, read_text, required, take_member};
+use zarrs_metadata_json::reading::{read_value, refuse_floats};
 
 /// A codec of a version 2 array: an id, and a configuration whose members stand beside the id.
 #[derive(Debug, PartialEq, Drop)]
@@ -71,8 +72,10 @@ impl MetadataV2 {
     ///
     /// # Errors
     /// `FloatNumber` exactly where the value holds a float, else `InvalidMetadata` exactly where it is no such object.
+    #[tactic(auto, using(crate::proofs::RisingLemmas::read_without_id))]
     pub fn from_value(alloc: Global, value: &Value) -> Result<Self, MetadataError>
-        ensures { Gives codec_v2_seen result (from_data codec_v2_of (view value.now)) }
+        ensures gives { Gives codec_v2_seen result (from_data codec_v2_of (view value.now)) }
+        ensures without_id { IfOk result (λ c. get_member (codes "id") (codec_v2_seen c).configuration ≡ None) }
     {
         refuse_floats(value)?;
         read_codec_v2(alloc, value)
@@ -92,8 +95,10 @@ impl MetadataV2 {
     ///
     /// # Errors
     /// `InvalidJson` exactly where the text is not JSON, else as for the value.
+    #[tactic(auto, using(crate::proofs::RisingLemmas::read_without_id))]
     pub fn try_from_text(alloc: Global, text: &str) -> Result<Self, MetadataError>
-        ensures { Gives codec_v2_seen result (from_json codec_v2_of (read text.now)) }
+        ensures gives { Gives codec_v2_seen result (from_json codec_v2_of (read text.now)) }
+        ensures without_id { IfOk result (λ c. get_member (codes "id") (codec_v2_seen c).configuration ≡ None) }
     {
         let value = read_value(alloc, text)?;
         read_codec_v2(alloc, &value)

@@ -2,19 +2,20 @@
 //!
 //! See <https://zarr-specs.readthedocs.io/en/latest/v3/core/index.html#extension-points>.
 
-ghost use Rattle.std.specs.Prelude.{◌≡◌, Some, IfOk, codes, option_map};
+ghost use Rattle.std.specs.Prelude.{◌≡◌, Some, None, IfOk, codes, option_map};
 ghost use Rattle.serde_json.specs.Data.{object};
+ghost use Rattle.serde_json.specs.Find.{get};
 ghost use Rattle.serde_json.specs.Read.{read};
 ghost use Rattle.serde_json.specs.View.{view, members_view};
 ghost use Rattle.zarrs_metadata_ext.specs.AdditionalField.{additional_field_seen, additional_field_of, additional_field_data, some_field, unless_false, with_must_understand};
-ghost use Rattle.zarrs_metadata_ext.specs.Reading.{Gives, from_data, from_json};
+ghost use Rattle.zarrs_metadata_json.specs.Reading.{Gives, from_data, from_json};
 
-use crate::error::MetadataError;
-use crate::json::{copy_members, copy_value, take_member};
-use crate::reading::{read_value, refuse_floats};
 use serde_json::{Map, Value};
 use std::alloc::{AllocError, Global};
 use std::collections::BTreeMap;
+use zarrs_metadata_json::MetadataError;
+use zarrs_metadata_json::json::{copy_members, copy_value, take_member};
+use zarrs_metadata_json::reading::{read_value, refuse_floats};
 
 /// A field of a document beyond those that it names.
 #[derive(Debug, PartialEq, Drop)]
@@ -53,12 +54,14 @@ impl AdditionalFieldV3 {
     }
 
     /// The additional field that a value says. An object gives up its `must_understand`: a boolean there counts,
-    /// anything else counts as true. A value that is no object must be understood.
+    /// anything else counts as true. A value that is no object must be understood. What is left of an object has no
+    /// `must_understand`.
     ///
     /// # Errors
     /// `FloatNumber` exactly where the value holds a float.
     pub fn from_value(_alloc: Global, value: &Value) -> Result<Self, MetadataError>
-        ensures { Gives additional_field_seen result (from_data some_field (view value.now)) }
+        ensures gives { Gives additional_field_seen result (from_data some_field (view value.now)) }
+        ensures unmarked { IfOk result (λ a. get (codes "must_understand") (additional_field_seen a).value ≡ None) }
     {
         refuse_floats(value)?;
         Ok(read_additional_field(value)?)
@@ -76,7 +79,8 @@ impl AdditionalFieldV3 {
     /// # Errors
     /// `InvalidJson` exactly where the text is not JSON, else as for the value.
     pub fn try_from_text(alloc: Global, text: &str) -> Result<Self, MetadataError>
-        ensures { Gives additional_field_seen result (from_json some_field (read text.now)) }
+        ensures gives { Gives additional_field_seen result (from_json some_field (read text.now)) }
+        ensures unmarked { IfOk result (λ a. get (codes "must_understand") (additional_field_seen a).value ≡ None) }
     {
         let value = read_value(alloc, text)?;
         Ok(AdditionalFieldV3::from(value))

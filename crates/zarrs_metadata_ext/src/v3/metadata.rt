@@ -6,21 +6,22 @@ ghost use Rattle.std.specs.Prelude.{◌≡◌, Some, None, false, true, IfOk, ma
 ghost use Rattle.serde_json.specs.Read.{read};
 ghost use Rattle.serde_json.specs.View.{view, items_of, items_view, members_view};
 ghost use Rattle.serde_json.specs.Written.{members_have_float};
-ghost use Rattle.zarrs_metadata_ext.specs.Reading.{Reads, Gives, from_data, from_json, each};
-ghost use Rattle.zarrs_metadata_ext.specs.Configuration.{configuration_seen, members_or_none, is_none_or_empty, Typed, TypedOf};
+ghost use Rattle.zarrs_metadata_json.specs.Reading.{Reads, Gives, from_data, from_json, each};
+ghost use Rattle.zarrs_metadata_configuration.specs.Configuration.{configuration_seen, members_or_none, is_none_or_empty, Typed, TypedOf};
 ghost use Rattle.zarrs_metadata_ext.specs.MetadataV3.{extension_seen, extensions_seen, extension_of, extensions_of, object_extension, is_extension_key, has_only_extension_keys, extension_data, configured, display_text};
 
-use crate::configuration::{
-    Configuration, ConfigurationError, FromConfiguration, ToConfiguration, ToConfigurationFault,
-    copy_optional, is_empty,
-};
-use crate::error::{FromConfigurationError, MetadataError};
-use crate::json::{
-    copy_members, member, read_boolean, read_list, read_optional_object, read_text, required,
-};
-use crate::reading::{read_value, refuse_floats};
 use serde_json::{Map, Value, json};
 use std::alloc::{AllocError, Global};
+use zarrs_metadata_configuration::configuration::{copy_optional, is_empty};
+use zarrs_metadata_configuration::{
+    Configuration, ConfigurationError, FromConfiguration, FromConfigurationError, ToConfiguration,
+    ToConfigurationFault,
+};
+use zarrs_metadata_json::MetadataError;
+use zarrs_metadata_json::json::{
+    copy_members, member, read_boolean, read_list, read_optional_object, read_text, required,
+};
+use zarrs_metadata_json::reading::{read_value, refuse_floats};
 
 /// A named extension of a version 3 document.
 ///
@@ -329,7 +330,7 @@ pub fn read_extensions(alloc: Global, value: &Value) -> Result<Vec<MetadataV3>, 
     read_each_extension(alloc, read_list(value)?)
 }
 
-#[tactic(auto, using(crate::proofs::EachLemmas::each_push, crate::proofs::EachLemmas::each_fails))]
+#[tactic(auto, using(zarrs_metadata_json::proofs::EachLemmas::each_push, zarrs_metadata_json::proofs::EachLemmas::each_fails))]
 fn read_each_extension(alloc: Global, items: &[Value]) -> Result<Vec<MetadataV3>, MetadataError>
     ensures { Reads (λ v. extensions_seen v.items) result (each extension_of (items_view items.now)) }
 {

@@ -1,5 +1,5 @@
 use Rattle.std.proofs.Common.{ap, subst, ◌∙◌}
-use Rattle.zarrs_metadata_ext.specs.Reading.{Gives, from_data}
+use Rattle.zarrs_metadata_json.specs.Reading.{Gives, from_data}
 use Rattle.zarrs_metadata_ext.specs.MetadataV3.{extension_seen, extension_of}
 use Rattle.zarrs_metadata_ext.proofs.ExtensionLemmas.{normal_again}
 use Rattle.zarrs_metadata_ext.proofs.laws.read_again.Goals as goal

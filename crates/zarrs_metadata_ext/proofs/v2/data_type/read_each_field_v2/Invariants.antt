@@ -1,6 +1,6 @@
 use Rattle.std.proofs.Common.{◌≡◌, Some, take, map}
 use Rattle.serde_json.specs.View.{items_view}
-use Rattle.zarrs_metadata_ext.specs.Reading.{each}
+use Rattle.zarrs_metadata_json.specs.Reading.{each}
 use Rattle.zarrs_metadata_ext.specs.DataTypeV2.{field_v2_of, field_v2_seen}
 use Rattle.zarrs_metadata_ext.proofs.v2.data_type.read_each_field_v2.Given as goal
 

@@ -1,6 +1,6 @@
 use Rattle.std.proofs.Common.{◌≡◌, Some, take}
 use Rattle.serde_json.specs.View.{items_view}
-use Rattle.zarrs_metadata_ext.specs.Reading.{each}
+use Rattle.zarrs_metadata_json.specs.Reading.{each}
 use Rattle.zarrs_metadata_ext.specs.MetadataV3.{extension_of, extensions_seen}
 use Rattle.zarrs_metadata_ext.proofs.v3.metadata.read_each_extension.Given as goal
 

@@ -1,8 +1,0 @@
-use Rattle.std.proofs.Common.{ap, subst, ◌∙◌}
-use Rattle.zarrs_metadata_ext.specs.Reading.{Gives, from_data}
-use Rattle.zarrs_metadata.specs.GroupMetadata.{group_seen, group_of}
-use Rattle.zarrs_metadata.proofs.ArrayBack.{group_again_by_value}
-use Rattle.zarrs_metadata.proofs.v3.laws.read_group_again.Goals as goal
-
-pub returns : goal.returns
-returns c = subst (λ x. Gives group_seen c.from_value.result x) (ap (from_data group_of) c.in_ok-value.ensures ∙ group_again_by_value (group_seen c.args.metadata.now)) c.from_value.ensures

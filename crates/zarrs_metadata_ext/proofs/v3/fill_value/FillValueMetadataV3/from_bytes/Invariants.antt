@@ -1,7 +1,0 @@
-use Rattle.std.proofs.Common.{◌≡◌, take, map}
-use Rattle.zarrs_metadata_ext.specs.FillValueMetadata.{fill_view}
-use Rattle.zarrs_metadata_ext.specs.Writing.{number_data}
-use Rattle.zarrs_metadata_ext.proofs.v3.fill_value.FillValueMetadataV3.from_bytes.Given as goal
-
-abbrev pub invariant-loop-byte : goal.invariant-loop-byte
-invariant-loop-byte l = map fill_view l.fills.items ≡ map number_data (take l.byte-index l.bytes)

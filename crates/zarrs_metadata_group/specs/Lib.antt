@@ -1,0 +1,2 @@
+pub mod AdditionalFields
+pub mod GroupMetadata

@@ -1,0 +1,4 @@
+pub mod MemberLemmas
+pub mod EachLemmas
+pub mod PutLemmas
+pub mod RisingLemmas
