@@ -7,7 +7,7 @@ use Rattle.std.proofs.Math.Nat.{add-mul, one-mul, le-mul_of_pos_right}
 use Rattle.zarr_model.specs.Region.{whole, contains, is_in}
 use Rattle.zarr_model.specs.Grid.{regular_grid}
 use Rattle.zarr_model.specs.Key.{KeyEncoding, default_keys, v2_keys, chunk_key}
-use Rattle.zarr_model.specs.Codec.{Options, KeepsCount}
+use Rattle.zarr_model.specs.Codec.{Options, ByteOrder, KeepsCount}
 use Rattle.zarr_model.specs.Store.{Content, IsSound, IsHonest, WhollyMeans, stored_array}
 use Rattle.zarr_model.specs.Command.{layout}
 use Rattle.zarr_array.specs.Document.{ArrayDocument, ArrayToArray, offset, transpose, grid_of, array_codec_of, describe, byte_document}
@@ -72,10 +72,10 @@ regular_countable (n ∷ shape) (p ∷ chunk_shape) small h =
     let below : (n + (p - 1)) / p < n + 1 = div_below (n + (p - 1)) p (n + 1) h.0 (omega (arith, h.0)) in
     (omega (arith, small.0), regular_countable shape chunk_shape small.1 h.1)
 
--- an honest store under a narrow document means an array
-pub byte_document-means : (shape chunk_shape : List ℕ) (fill : ℕ) (options : Options) (store : Content) → AllByRecursion (λ n. n ≤ 2 ^ 64) shape → IsChunkShape shape chunk_shape →
-    IsHonest (layout (describe (byte_document shape chunk_shape fill)) options) store →
-    WhollyMeans (layout (describe (byte_document shape chunk_shape fill)) options) store (stored_array (layout (describe (byte_document shape chunk_shape fill)) options) store)
-byte_document-means shape chunk_shape fill options store small h honest =
-    stored_array-meant (layout (describe (byte_document shape chunk_shape fill)) options) (regular_grid-covers shape chunk_shape h)
-    (describe-sound (byte_document shape chunk_shape fill) options (λ digit. absurd (omega (arith, digit.0))) (regular_countable shape chunk_shape small h)) store honest
+-- an honest store under such a document means an array
+pub byte_document-means : (keys : KeyEncoding) (order : ByteOrder) (shape chunk_shape : List ℕ) (fill : ℕ) (options : Options) (store : Content) → HasSeparator keys → AllByRecursion (λ n. n ≤ 2 ^ 64) shape → IsChunkShape shape chunk_shape →
+    IsHonest (layout (describe (byte_document keys order shape chunk_shape fill)) options) store →
+    WhollyMeans (layout (describe (byte_document keys order shape chunk_shape fill)) options) store (stored_array (layout (describe (byte_document keys order shape chunk_shape fill)) options) store)
+byte_document-means keys order shape chunk_shape fill options store apart small h honest =
+    stored_array-meant (layout (describe (byte_document keys order shape chunk_shape fill)) options) (regular_grid-covers shape chunk_shape h)
+    (describe-sound (byte_document keys order shape chunk_shape fill) options apart (regular_countable shape chunk_shape small h)) store honest

@@ -1,14 +1,21 @@
--- Narrow documents, opened and refused, by computation.
+-- Documents, opened and refused, by computation.
 use Rattle.std.proofs.Common.{◌≡◌, ℕ, List, [], ◌∷◌, ◌++◌, refl, codes}
 use Rattle.std.specs.Bool.{⊤}
 use Rattle.serde_json.proofs.OnLiterals.{serde_json_on_literals}
-use Rattle.zarr_array.specs.Document.{byte_document}
-use Rattle.zarr_array.specs.Opening.{opened, not_opened, invalid_json, invalid_metadata}
-use Rattle.zarr_array.specs.Narrow.{open_narrow, narrow_document, has_members, is_byte_array, is_number, is_text, is_list_of, whole_numbers, regular_chunk_shape, is_chunk_length}
+use Rattle.zarr_model.specs.Key.{default_keys}
+use Rattle.zarr_model.specs.Codec.{little, big}
+use Rattle.zarrs_metadata_ext.specs.Reading.{object_or_empty, whole_numbers, is_number, is_text}
+use Rattle.zarrs_metadata_ext.specs.MetadataV3.{object_extension, extension_of, extensions_of}
+use Rattle.zarrs_metadata.specs.AdditionalFields.{is_array_key}
+use Rattle.zarrs_metadata.specs.ArrayMetadata.{dimension_names, extensions_or_none, is_array, named_fields, required_fields, optional_fields, with_optional_fields, array_members}
+use Rattle.zarr_basics.specs.Configurations.{chunk_shape_in, given_separator, given_order}
+use Rattle.zarr_array.specs.Document.{ArrayDocument, byte_document}
+use Rattle.zarr_array.specs.Opening.{opened, not_opened, invalid_json, float_number, invalid_metadata, unsupported_field, plugin_unsupported, plugin_create, invalid_fill, chain_order, chunk_too_large}
+use Rattle.zarr_array.specs.Registered.{document_of, open_builtin}
 
 -- what opening a text computes by
 unfoldable pub opening : ⊤
-unfolding serde_json_on_literals narrow_document has_members is_byte_array is_number is_text is_list_of whole_numbers regular_chunk_shape is_chunk_length
+unfolding serde_json_on_literals object_or_empty whole_numbers is_number is_text object_extension extension_of extensions_of is_array_key dimension_names extensions_or_none is_array named_fields required_fields optional_fields with_optional_fields array_members chunk_shape_in given_separator given_order document_of
 opening = tt
 
 -- a document line of a shape, a chunk shape and a fill
@@ -17,35 +24,60 @@ document_text dims chunk_shape filler =
     codes "{\"zarr_format\":3,\"node_type\":\"array\",\"shape\":" ++ (dims ++ (codes ",\"data_type\":\"uint8\",\"chunk_grid\":{\"name\":\"regular\",\"configuration\":{\"chunk_shape\":" ++ (chunk_shape
     ++ (codes "}},\"chunk_key_encoding\":\"default\",\"fill_value\":" ++ (filler ++ codes ",\"codecs\":[\"bytes\"]}")))))
 
-pub square_opens : open_narrow (document_text (codes "[4,4]") (codes "[2,2]") (codes "0")) ≡ opened (byte_document (4 ∷ 4 ∷ []) (2 ∷ 2 ∷ []) 0)
+-- what such a line describes: keys with slashes
+abbrev pub plain_document : List ℕ → List ℕ → ℕ → ArrayDocument
+plain_document dims chunk_shape filler = byte_document (default_keys 47) little dims chunk_shape filler
+
+pub square_opens : open_builtin (document_text (codes "[4,4]") (codes "[2,2]") (codes "0")) ≡ opened (plain_document (4 ∷ 4 ∷ []) (2 ∷ 2 ∷ []) 0)
 unfolding opening
 square_opens = refl
 
-pub line_opens : open_narrow (document_text (codes "[5]") (codes "[2]") (codes "0")) ≡ opened (byte_document (5 ∷ []) (2 ∷ []) 0)
+pub line_opens : open_builtin (document_text (codes "[5]") (codes "[2]") (codes "0")) ≡ opened (plain_document (5 ∷ []) (2 ∷ []) 0)
 unfolding opening
 line_opens = refl
 
 -- at the limits
-limits_open : (open_narrow (document_text (codes "[]") (codes "[]") (codes "255")) ≡ opened (byte_document [] [] 255))
-    × (open_narrow (document_text (codes "[0,65535]") (codes "[65535,1]") (codes "7")) ≡ opened (byte_document (0 ∷ 65535 ∷ []) (65535 ∷ 1 ∷ []) 7))
+limits_open : (open_builtin (document_text (codes "[]") (codes "[]") (codes "255")) ≡ opened (plain_document [] [] 255))
+    × (open_builtin (document_text (codes "[0,65535]") (codes "[65535,1]") (codes "7")) ≡ opened (plain_document (0 ∷ 65535 ∷ []) (65535 ∷ 1 ∷ []) 7))
 unfolding opening
 limits_open = (refl, refl)
 
--- past them: a third dimension, a long one, a chunk length 0, another rank, a fill, a float, a number below 0
-limits_refused : (open_narrow (document_text (codes "[1,1,1]") (codes "[1,1,1]") (codes "0")) ≡ not_opened invalid_metadata)
-    × (open_narrow (document_text (codes "[65536]") (codes "[1]") (codes "0")) ≡ not_opened invalid_metadata)
-    × (open_narrow (document_text (codes "[4]") (codes "[0]") (codes "0")) ≡ not_opened invalid_metadata)
-    × (open_narrow (document_text (codes "[4]") (codes "[2,2]") (codes "0")) ≡ not_opened invalid_metadata)
-    × (open_narrow (document_text (codes "[4]") (codes "[2]") (codes "256")) ≡ not_opened invalid_metadata)
-    × (open_narrow (document_text (codes "[4]") (codes "[2]") (codes "1.0")) ≡ not_opened invalid_metadata)
-    × (open_narrow (document_text (codes "[4]") (codes "[2]") (codes "-1")) ≡ not_opened invalid_metadata)
+-- past them: a third dimension and a long one
+limits_refused : (open_builtin (document_text (codes "[1,1,1]") (codes "[1,1,1]") (codes "0")) ≡ not_opened chunk_too_large)
+    × (open_builtin (document_text (codes "[65536]") (codes "[1]") (codes "0")) ≡ not_opened chunk_too_large)
 unfolding opening
-limits_refused = (refl, refl, refl, refl, refl, refl, refl)
+limits_refused = (refl, refl)
 
--- no JSON, JSON of another form, one key too many, and a key that stands twice, of which the last counts
-forms_of_text : (open_narrow [] ≡ not_opened invalid_json) × (open_narrow (codes "[]") ≡ not_opened invalid_metadata)
-    × (open_narrow (document_text (codes "[4]") (codes "[2]") (codes "0,\"attributes\":{}")) ≡ not_opened invalid_metadata)
-    × (open_narrow (document_text (codes "[4]") (codes "[2],\"x\":1") (codes "0")) ≡ not_opened invalid_metadata)
-    × (open_narrow (document_text (codes "[4]") (codes "[2]") (codes "0,\"fill_value\":9")) ≡ opened (byte_document (4 ∷ []) (2 ∷ []) 9))
+-- a chunk length 0, a chunk shape of another rank; fills that are no byte; a float, which comes first
+parts_refused : (open_builtin (document_text (codes "[4]") (codes "[0]") (codes "0")) ≡ not_opened plugin_create)
+    × (open_builtin (document_text (codes "[4]") (codes "[2,2]") (codes "0")) ≡ not_opened plugin_create)
+    × (open_builtin (document_text (codes "[4]") (codes "[2]") (codes "256")) ≡ not_opened invalid_fill)
+    × (open_builtin (document_text (codes "[4]") (codes "[2]") (codes "-1")) ≡ not_opened invalid_fill)
+    × (open_builtin (document_text (codes "[4]") (codes "[0]") (codes "1.0")) ≡ not_opened float_number)
 unfolding opening
-forms_of_text = (refl, refl, refl, refl, refl)
+parts_refused = (refl, refl, refl, refl, refl)
+
+-- no JSON, JSON of another form, a field more that need not or has to be understood, and a key that stands twice, of which the last counts
+forms_of_text : (open_builtin [] ≡ not_opened invalid_json) × (open_builtin (codes "[]") ≡ not_opened invalid_metadata)
+    × (open_builtin (document_text (codes "[4]") (codes "[2]") (codes "0,\"attributes\":{}")) ≡ opened (plain_document (4 ∷ []) (2 ∷ []) 0))
+    × (open_builtin (document_text (codes "[4]") (codes "[2]") (codes "0,\"x\":{\"must_understand\":false}")) ≡ opened (plain_document (4 ∷ []) (2 ∷ []) 0))
+    × (open_builtin (document_text (codes "[4]") (codes "[2]") (codes "0,\"x\":1")) ≡ not_opened unsupported_field)
+    × (open_builtin (document_text (codes "[4]") (codes "[2]") (codes "0,\"fill_value\":9")) ≡ opened (plain_document (4 ∷ []) (2 ∷ []) 9))
+unfolding opening
+forms_of_text = (refl, refl, refl, refl, refl, refl)
+
+-- a document of four elements with these keys and codecs
+abbrev chain_text : List ℕ → List ℕ → List ℕ
+chain_text keys codecs =
+    codes "{\"zarr_format\":3,\"node_type\":\"array\",\"shape\":[4],\"data_type\":\"uint8\",\"chunk_grid\":{\"name\":\"regular\",\"configuration\":{\"chunk_shape\":[2]}},\"chunk_key_encoding\":"
+    ++ (keys ++ (codes ",\"fill_value\":0,\"codecs\":" ++ (codecs ++ codes "}")))
+
+-- keys with dots, a byte order, an unknown name before a bad configuration, and the order of a chain after all names
+chains : (open_builtin (chain_text (codes "{\"name\":\"default\",\"configuration\":{\"separator\":\".\"}}") (codes "[{\"name\":\"bytes\",\"configuration\":{\"endian\":\"big\"}}]"))
+    ≡ opened (byte_document (default_keys 46) big (4 ∷ []) (2 ∷ []) 0))
+    × (open_builtin (chain_text (codes "\"v2\"") (codes "[]")) ≡ not_opened plugin_unsupported)
+    × (open_builtin (chain_text (codes "\"default\"") (codes "[{\"name\":\"zstd\",\"configuration\":{\"x\":1}}]")) ≡ not_opened plugin_unsupported)
+    × (open_builtin (chain_text (codes "\"default\"") (codes "[{\"name\":\"bytes\",\"configuration\":{\"x\":1}},\"zstd\"]")) ≡ not_opened plugin_create)
+    × (open_builtin (chain_text (codes "\"default\"") (codes "[\"bytes\",\"bytes\"]")) ≡ not_opened chain_order)
+unfolding opening
+chains = (refl, refl, refl, refl, refl)

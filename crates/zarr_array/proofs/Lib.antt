@@ -1,14 +1,8 @@
-pub mod EachLemmas
-pub mod MemberLemmas
-pub mod NarrowLemmas
-pub mod NarrowLaws
+pub mod ServedLaws
 pub mod DocumentLaws
 pub mod Documents
 pub mod OneByteLaws
-pub mod RegularLaws
-pub mod ChunkTests
 pub mod CopyLaws
-pub mod ChunkKeyLaws
 pub mod ReadLaws
 pub mod ChunkLaws
 pub mod StoredLaws
@@ -17,6 +11,7 @@ pub mod ReadCommand
 pub mod DecodeLaws
 pub mod SessionSteps
 pub mod OpenedLaws
+pub mod OpeningLaws
 pub mod PartWayLaws
 pub mod WriteLaws
 pub mod StepRuns

@@ -1,4 +1,4 @@
--- What narrow arrays come to: an element for each byte.
+-- What arrays of one-byte elements come to: an element for each byte.
 use Rattle.std.proofs.Common.{◌≡◌, ℕ, ◌*◌, ◌<◌, Bool, true, false, ◌==◌, List, [], ◌∷◌, length, map, get_or, Some, None, IsSome, refl, sym, ap, ◌∙◌, subst, arith, if◌then◌else◌, eq-eqb, eqb-true}
 use Rattle.std.proofs.lemmas.List.{length-map, get_or-map, same_lists}
 use Rattle.std.proofs.lemmas.Bool.{cond-true}
@@ -6,7 +6,8 @@ use Rattle.zarr_model.specs.Region.{Region, count, count_of, contains, tuples, p
 use Rattle.zarr_model.specs.Element.{of_bytes, fixed}
 use Rattle.zarr_model.specs.ArrayBytes.{fixed_bytes, pieces, meaning}
 use Rattle.zarr_model.specs.Array.{Array, elements_in, written}
-use Rattle.zarr_model.specs.Codec.{Options}
+use Rattle.zarr_model.specs.Key.{KeyEncoding}
+use Rattle.zarr_model.specs.Codec.{Options, ByteOrder, little, big, from_order}
 use Rattle.zarr_model.specs.Command.{layout}
 use Rattle.zarr_array.specs.Chunk.{byte_elements}
 use Rattle.zarr_array.specs.Document.{byte_document, describe}
@@ -22,21 +23,33 @@ meaning-bytes number value e =
     cond-true (length value == number * 1) _ None (eq-eqb (length value) (number * 1) (omega arith))
     ∙ ap Some (ap (λ n. map of_bytes (pieces n 1 value)) (sym e) ∙ pieces_of_one value)
 
-pub bytes_meaning_length : (number : ℕ) (value : List ℕ) → IsSome (meaning (fixed 1) number (fixed_bytes value)) → length value ≡ number
-bytes_meaning_length number value h = go (length value == number * 1) refl h
+some_where : {A : Type 0} (number : ℕ) (value : List ℕ) (x : A) → IsSome (if length value == number * 1 then Some x else None) → length value ≡ number
+some_where {A} number value x h = go (length value == number * 1) refl h
   where
-    go : (b : Bool) → (length value == number * 1) ≡ b → IsSome (if b then Some (map of_bytes (pieces number 1 value)) else None) → length value ≡ number
+    go : (b : Bool) → (length value == number * 1) ≡ b → IsSome (if b then Some x else None) → length value ≡ number
     go true is h = let e : length value ≡ number * 1 = eqb-true (length value) (number * 1) is in omega arith
     go false is h = cc
 
--- so it is with a stored value: what a chunk's value decodes to, and only a value of the chunk's length
-pub decode-bytes : (shape chunk_shape : List ℕ) (fill : ℕ) (options : Options) (dims value : List ℕ) → length value ≡ count_of dims →
-    (layout (describe (byte_document shape chunk_shape fill)) options).decode dims value ≡ Some (byte_elements value)
-decode-bytes shape chunk_shape fill options dims value e = meaning-bytes (count_of dims) value e
+pub bytes_meaning_length : (number : ℕ) (value : List ℕ) → IsSome (meaning (fixed 1) number (fixed_bytes value)) → length value ≡ number
+bytes_meaning_length number value h = some_where number value (map of_bytes (pieces number 1 value)) h
 
-pub decoded_bytes_length : (shape chunk_shape : List ℕ) (fill : ℕ) (options : Options) (dims value : List ℕ) →
-    IsSome ((layout (describe (byte_document shape chunk_shape fill)) options).decode dims value) → length value ≡ count_of dims
-decoded_bytes_length shape chunk_shape fill options dims value h = bytes_meaning_length (count_of dims) value h
+-- an element of one byte is the same in every byte order
+pieces_in_order : (order : ByteOrder) (value : List ℕ) → map (λ piece. of_bytes (from_order order 1 piece)) (pieces (length value) 1 value) ≡ byte_elements value
+pieces_in_order little value = pieces_of_one value
+pieces_in_order big [] = refl
+pieces_in_order big (b ∷ value) = ap (λ rest. of_bytes (b ∷ []) ∷ rest) (pieces_in_order big value)
+
+-- so it is with a stored value: what a chunk's value decodes to, and only a value of the chunk's length
+pub decode-bytes : (keys : KeyEncoding) (order : ByteOrder) (shape chunk_shape : List ℕ) (fill : ℕ) (options : Options) (dims value : List ℕ) → length value ≡ count_of dims →
+    (layout (describe (byte_document keys order shape chunk_shape fill)) options).decode dims value ≡ Some (byte_elements value)
+decode-bytes keys order shape chunk_shape fill options dims value e =
+    cond-true (length value == count_of dims * 1) _ None (eq-eqb (length value) (count_of dims * 1) (omega (arith, e)))
+    ∙ ap Some (ap (λ n. map (λ piece. of_bytes (from_order order 1 piece)) (pieces n 1 value)) (sym e) ∙ pieces_in_order order value)
+
+pub decoded_bytes_length : (keys : KeyEncoding) (order : ByteOrder) (shape chunk_shape : List ℕ) (fill : ℕ) (options : Options) (dims value : List ℕ) →
+    IsSome ((layout (describe (byte_document keys order shape chunk_shape fill)) options).decode dims value) → length value ≡ count_of dims
+decoded_bytes_length keys order shape chunk_shape fill options dims value h =
+    some_where (count_of dims) value (map (λ piece. of_bytes (from_order order 1 piece)) (pieces (count_of dims) 1 value)) h
 
 -- the list that replaces a box's elements at a region's tuples is the box's part of the written array
 pub updated_box : {E : Type 0} (box region : Region) (list old new : List E) (array : Array E) → old ≡ elements_in box array → length new ≡ count box →

@@ -13,19 +13,21 @@ use Rattle.zarr_model.proofs.FailureLaws.{meeting_is}
 use Rattle.zarr_array.specs.declared.open.OpenArray.{OpenArray}
 use Rattle.zarr_array.specs.declared.error.SessionErrorKind.{SessionErrorKind}
 use Rattle.zarr_array.specs.declared.error.SessionErrorKind.TheVariants.{NotOpened, ChunkDecode, Store, OutOfMemory}
-use Rattle.zarr_array.specs.RegularGrid.{nonzeros}
+use Rattle.zarr_basics.specs.BytesCodec.{named_order, stored_order}
+use Rattle.zarr_basics.specs.RegularGrid.{nonzeros}
 use Rattle.zarr_array.specs.OpenArray.{described}
 use Rattle.zarr_array.specs.Chunk.{FailsToFetch}
 use Rattle.zarr_array.specs.Read.{HasReadCause, FailsToRead}
-use Rattle.zarr_array.proofs.NarrowLaws.{narrow_covers, narrow_sound, narrow_region}
-use Rattle.zarr_array.proofs.RegularLaws.{rank_within}
+use Rattle.zarr_array.proofs.ServedLaws.{served_covers, served_sound, served_region}
+use Rattle.zarr_basics.proofs.RegularLaws.{rank_within}
 
 -- the laws of an opened array's grid and layout
 pub described_covers : (array : OpenArray) → CoversShape (described array).shape (described array).grid
-described_covers array = narrow_covers array.grid.array_shape.items (nonzeros array.grid.chunk_shape.items) array.fill array.within_limits
+described_covers array = served_covers array.grid.array_shape.items (nonzeros array.grid.chunk_shape.items) array.within_limits
 
 pub described_sound : (array : OpenArray) (options : Options) → IsSound (layout (described array) options)
-described_sound array options = narrow_sound array.grid.array_shape.items (nonzeros array.grid.chunk_shape.items) array.fill options array.within_limits
+described_sound array options =
+    served_sound array.keys (stored_order (named_order array.codec)) array.grid.array_shape.items (nonzeros array.grid.chunk_shape.items) array.fill options array.within_limits
 
 -- a place of a list
 slice_get-at : {A : Type 0} (xs : List A) (k : ℕ) (x : A) → k < length xs → get_or xs k x ≡ x → slice_get xs k ≡ Some x
@@ -75,4 +77,4 @@ stops_reading description options region old mid asks_old asks_mid asks_new faul
     by_kind Store fails = rose_later faults_old faults_mid faults_new later fails
     by_kind OutOfMemory fails = tt
 
-pub ruleset of_regions = (narrow_region)
+pub ruleset of_regions = (served_region)

@@ -6,7 +6,8 @@ use Rattle.std.proofs.lemmas.List.{length-map, get_or_default}
 use Rattle.zarr_model.specs.Region.{Region, count, sizes, contains, place, tuple_at}
 use Rattle.zarr_model.specs.Element.{Element, of_bytes, same_element}
 use Rattle.zarr_model.specs.Array.{Array, elements_in, written}
-use Rattle.zarr_model.specs.Codec.{Options}
+use Rattle.zarr_model.specs.Key.{KeyEncoding}
+use Rattle.zarr_model.specs.Codec.{Options, ByteOrder}
 use Rattle.zarr_model.specs.Store.{Content, Layout, box_content, chunk_content}
 use Rattle.zarr_model.specs.Command.{Description, layout}
 use Rattle.zarr_model.specs.Failure.{ChunkHas}
@@ -30,16 +31,16 @@ all_fill fill (b ∷ value) all =
     ap₂ (λ c rest. c ∷ rest) (eqb-true b fill parts.0) (all_fill fill value parts.1)
 
 -- what is stored of a chunk's bytes stands for their elements
-pub stored-content : (shape chunk_shape : List ℕ) (fill : ℕ) (options : Options) (box : Region) (value : List ℕ) → length value ≡ count box →
-    box_content (layout (describe (byte_document shape chunk_shape fill)) options) box (stored_value options fill value) ≡ Some (byte_elements value)
-stored-content shape chunk_shape fill options box value long = go options.store_empty_chunks (list_all (λ b. b == fill) value) refl
+pub stored-content : (keys : KeyEncoding) (order : ByteOrder) (shape chunk_shape : List ℕ) (fill : ℕ) (options : Options) (box : Region) (value : List ℕ) → length value ≡ count box →
+    box_content (layout (describe (byte_document keys order shape chunk_shape fill)) options) box (stored_value options fill value) ≡ Some (byte_elements value)
+stored-content keys order shape chunk_shape fill options box value long = go options.store_empty_chunks (list_all (λ b. b == fill) value) refl
   where
     here : Layout Element
-    here = layout (describe (byte_document shape chunk_shape fill)) options
+    here = layout (describe (byte_document keys order shape chunk_shape fill)) options
 
     go : (keeps all : Bool) → list_all (λ b. b == fill) value ≡ all → box_content here box (if keeps || not all then Some value else None) ≡ Some (byte_elements value)
-    go true all is = decode-bytes shape chunk_shape fill options (sizes box) value long
-    go false false is = decode-bytes shape chunk_shape fill options (sizes box) value long
+    go true all is = decode-bytes keys order shape chunk_shape fill options (sizes box) value long
+    go false false is = decode-bytes keys order shape chunk_shape fill options (sizes box) value long
     go false true is = ap Some (sym (ap byte_elements (all_fill fill value is ∙ ap (λ n. replicate n fill) long) ∙ map-replicate (count box) fill))
 
 -- the test of bytes for the fill is the test of their elements
@@ -78,12 +79,12 @@ some_one : {A : Type 0} {a b : A} → Some a ≡ Some b → a ≡ b
 some_one e = cc
 
 -- a chunk of one-byte elements was fetched, a region's elements were put in, and it is to be stored
-module _ (shape chunk_shape : List ℕ) (fill : ℕ) (options : Options) (region box : Region) (chunk key elements part old value : List ℕ) (before : Content)
-    (whole : box ≡ (describe (byte_document shape chunk_shape fill)).grid.chunk_box chunk) (its_key : key ≡ (describe (byte_document shape chunk_shape fill)).key chunk)
-    (fetched : box_content (layout (describe (byte_document shape chunk_shape fill)) options) box (before key) ≡ Some (byte_elements old))
+module _ (keys : KeyEncoding) (order : ByteOrder) (shape chunk_shape : List ℕ) (fill : ℕ) (options : Options) (region box : Region) (chunk key elements part old value : List ℕ) (before : Content)
+    (whole : box ≡ (describe (byte_document keys order shape chunk_shape fill)).grid.chunk_box chunk) (its_key : key ≡ (describe (byte_document keys order shape chunk_shape fill)).key chunk)
+    (fetched : box_content (layout (describe (byte_document keys order shape chunk_shape fill)) options) box (before key) ≡ Some (byte_elements old))
     (long : length old ≡ count box) (elements_long : length elements ≡ count region) (part_is : part ≡ old) (copied : Copied box region elements part value) where
   abbrev description : Description
-  description = describe (byte_document shape chunk_shape fill)
+  description = describe (byte_document keys order shape chunk_shape fill)
 
   abbrev change : Array Element → Array Element
   change = written region (byte_elements elements)
@@ -101,7 +102,7 @@ module _ (shape chunk_shape : List ℕ) (fill : ℕ) (options : Options) (region
   content_is : (after : Content) → after key ≡ stored_value options fill value → chunk_content (layout description options) after chunk ≡ Some (byte_elements value)
   content_is after is =
       ap₂ (λ b k. box_content (layout description options) b (after k)) (sym whole) (sym its_key)
-      ∙ (ap (box_content (layout description options) box) is ∙ stored-content shape chunk_shape fill options box value value_long)
+      ∙ (ap (box_content (layout description options) box) is ∙ stored-content keys order shape chunk_shape fill options box value value_long)
 
   has_now : (after : Content) (array : Array Element) → after key ≡ stored_value options fill value → ChunkHas (layout description options) before array chunk →
       ChunkHas (layout description options) after (change array) chunk

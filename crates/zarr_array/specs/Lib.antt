@@ -1,9 +1,7 @@
 pub mod Document
 pub mod Opening
-pub mod Reading
-pub mod Narrow
-pub mod RegularGrid
-pub mod GridOf
+pub mod Registered
+pub mod Refusing
 pub mod OpenArray
 pub mod Overlap
 pub mod Command

@@ -1,5 +1,5 @@
 -- What opening a document answers.
-use Rattle.std.specs.Prelude.{ℕ, List, codes}
+use Rattle.std.specs.Prelude.{ℕ, List, codes, Result, Ok, Err}
 use Rattle.zarr_array.specs.Document.{ArrayDocument}
 
 -- why a document is refused
@@ -36,3 +36,7 @@ open_refusal_name chunk_too_large = codes "ChunkTooLarge"
 pub data OpenAnswer : Type 0 where
   opened : ArrayDocument → OpenAnswer
   not_opened : OpenRefusal → OpenAnswer
+
+abbrev pub answer_of : Result ArrayDocument OpenRefusal → OpenAnswer
+answer_of (Ok document) = opened document
+answer_of (Err why) = not_opened why

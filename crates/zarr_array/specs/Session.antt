@@ -5,7 +5,7 @@ use Rattle.zarr_model.specs.Store.{Content}
 use Rattle.zarr_model.specs.Command.{Command, Description}
 use Rattle.zarr_model.specs.Causes.{IsPlace, AsksUpTo, IsUndecoded, IsStopped, IsStarved}
 use Rattle.zarr_array.specs.Opening.{OpenRefusal, OpenAnswer, not_opened}
-use Rattle.zarr_array.specs.declared.open.OpenError.{OpenError}
+use Rattle.zarr_array.specs.declared.open_error.OpenError.{OpenError}
 use Rattle.zarr_array.specs.OpenArray.{open_refusal_of}
 use Rattle.zarr_array.specs.declared.error.SessionErrorKind.{SessionErrorKind}
 use Rattle.zarr_array.specs.declared.error.SessionErrorKind.TheVariants.{NotOpened, ChunkDecode, Store, OutOfMemory}

@@ -13,7 +13,6 @@ ghost use Rattle.zarr_array.specs.Options.{options_of};
 ghost use Rattle.zarrs_storage.specs.Store.{IsFault};
 ghost use Rattle.zarr_array.specs.Chunk.{byte_elements, stored_value};
 
-use crate::chunk_key::default_chunk_key;
 use crate::open::OpenArray;
 use crate::options::CodecOptions;
 use std::alloc::{AllocError, Global};
@@ -56,7 +55,7 @@ impl OpenArray {
     ghost use Rattle.zarr_array.specs.OpenArray.{described};
 
     /// The chunks that share an element with a region of the array.
-    #[tactic(auto, using(crate::proofs::NarrowLaws::narrow_region))]
+    #[tactic(auto, using(crate::proofs::ServedLaws::served_region))]
     pub(crate) fn chunks_meeting(
         &self,
         alloc: Global,
@@ -71,7 +70,7 @@ impl OpenArray {
     }
 
     /// The box of a chunk.
-    #[tactic(auto, using(crate::proofs::NarrowLaws::narrow_fits, crate::proofs::NarrowLaws::narrow_chunk))]
+    #[tactic(auto, using(crate::proofs::ServedLaws::served_fits, crate::proofs::ServedLaws::served_chunk))]
     pub(crate) fn chunk_subset(
         &self,
         alloc: Global,
@@ -93,7 +92,7 @@ impl OpenArray {
     ) -> Result<StoreKey, AllocError>
         ensures { IfOk result (λ key. key ≡ (described self.now).key chunk_indices.now) }
     {
-        let key = default_chunk_key(alloc, chunk_indices)?;
+        let key = self.keys.key(alloc, chunk_indices)?;
         Ok(key)
     }
 

@@ -3,18 +3,20 @@
 
 mod calls;
 mod chunk;
-mod chunk_key;
 pub mod command;
 pub mod error;
-mod json;
+mod extensions;
 pub mod open;
+mod open_error;
 pub mod options;
 mod overlap;
 mod read;
 pub mod refusal;
-mod regular_grid;
 pub mod session;
 mod step;
-#[cfg(test)]
-mod tests;
 mod write;
+
+pub use zarr_basics::{
+    ChunkKeyKind, CodecKind, DataTypeKind, GridKind, Registries, builtin_registries,
+};
+pub use zarrs_plugin::NamePattern;

@@ -2,193 +2,133 @@
 //!
 //! See <https://zarr-specs.readthedocs.io/en/latest/v3/core/index.html#array-metadata>.
 
-ghost use Rattle.std.specs.Prelude.{◌≡◌, IsTrue, IfOk, IfSome, IfNone, false};
+ghost use Rattle.std.specs.Prelude.{◌≡◌, IsTrue, nat_le};
+ghost use Rattle.std.specs.Int.NonZero.{non_zero_u64_get};
 ghost use Rattle.std.specs.List.{list_all};
-ghost use Rattle.serde_json.specs.View.{view, members_view};
-ghost use Rattle.zarr_array.specs.Reading.{Reads};
-ghost use Rattle.zarr_array.specs.RegularGrid.{nonzeros};
-ghost use Rattle.zarr_array.specs.Narrow.{is_chunk_length, is_narrow_shape, is_narrow_chunk_shape, is_narrow, within_limits, is_byte_array, regular_chunk_shape, narrow_document, open_narrow};
+ghost use Rattle.serde_json.specs.Read.{read};
+ghost use Rattle.zarrs_metadata.specs.ArrayMetadata.{array_seen};
+ghost use Rattle.zarr_basics.specs.BytesCodec.{named_order};
+ghost use Rattle.zarr_basics.specs.Configurations.{are_chunk_lengths};
+ghost use Rattle.zarr_basics.specs.Keys.{keys_of};
+ghost use Rattle.zarr_basics.specs.Registries.{names_of};
+ghost use Rattle.zarr_basics.specs.RegularGrid.{nonzeros};
+ghost use Rattle.zarr_array.specs.Registered.{are_within_limits, is_served, within_limits, document_of, document_read, open_document};
 
-use crate::json::{
-    ReadFault, expect_list_of, expect_members, expect_number, expect_text, read_object,
-    read_whole_number, read_whole_numbers, required,
+use crate::extensions::{
+    chunk_shape_by, codecs_by, expect_data_type, expect_known_fields, fill_byte, keys_by,
+    only_codec,
 };
-use crate::regular_grid::RegularGrid;
-use serde_json::{Map, Value};
-use std::alloc::{AllocError, Global};
+pub use crate::open_error::OpenError;
+use std::alloc::Global;
 use std::num::NonZeroU64;
-use thiserror::Error;
+use zarr_basics::{BytesCodec, ChunkKeyEncoding, Registries, RegularGrid};
 use zarrs_array_subset::ChunkShape;
+use zarrs_metadata::ArrayMetadataV3;
 
-/// Why a document is not opened.
-#[derive(Clone, Copy, Debug, PartialEq, Eq, Error)]
-pub enum OpenError {
-    /// The text is not JSON.
-    #[error("the document is not JSON")]
-    InvalidJson,
-    /// The value is not an array document of the form that is known.
-    #[error("the document is not an array document of a known form")]
-    InvalidMetadata,
-    /// Memory ran out.
-    #[error("out of memory")]
-    OutOfMemory,
-}
-
-impl OpenError {
-    ghost use Rattle.zarr_array.specs.OpenArray.{open_error_name};
-
-    /// The name of the error.
-    pub fn name(&self) -> &'static str
-        ensures { result.now ≡ open_error_name self.now }
-    {
-        match self {
-            OpenError::InvalidJson => "InvalidJson",
-            OpenError::InvalidMetadata => "InvalidMetadata",
-            OpenError::OutOfMemory => "OutOfMemory",
-        }
-    }
-}
-
-/// An array of `uint8` elements that a document describes: its regular grid and its fill value.
+/// An array of `uint8` elements that a document describes: its grid, the keys and the codec of its chunks, and its fill
+/// value.
 #[derive(Drop)]
 pub struct OpenArray {
     pub(crate) grid: RegularGrid,
+    pub(crate) keys: ChunkKeyEncoding,
+    pub(crate) codec: BytesCodec,
     pub(crate) fill: u8,
-    ghost within_limits: { IsTrue (is_narrow grid.array_shape.items (nonzeros grid.chunk_shape.items) fill) },
+    ghost within_limits: { IsTrue (is_served grid.array_shape.items (nonzeros grid.chunk_shape.items)) },
 }
 
-// Whether a shape is within the limits.
-fn is_narrow_shape(shape: &[u64]) -> bool
-    ensures { result ≡ is_narrow_shape shape.now }
+fn are_small(lengths: &[u64]) -> bool
+    ensures { result ≡ list_all (λ n. nat_le n 65535) lengths.now }
 {
-    shape.len() <= 2 && shape.iter().all(|length| *length <= 65535)
+    lengths.iter().all(|length| *length <= 65535)
 }
 
-// Whether a chunk may have this length.
-#[tactic(auto, unfolding(crate::specs::Narrow::is_chunk_length))]
-fn is_chunk_length(length: u64) -> bool
-    ensures { result ≡ is_chunk_length length }
+fn are_small_chunks(lengths: &[NonZeroU64]) -> bool
+    ensures { result ≡ list_all (λ p. nat_le (non_zero_u64_get p) 65535) lengths.now }
 {
-    1 <= length && length <= 65535
+    lengths.iter().all(|length| length.get() <= 65535)
 }
 
-fn are_chunk_lengths(lengths: &[u64]) -> bool
-    ensures { result ≡ list_all is_chunk_length lengths.now }
+// Whether the shapes are within the limits.
+#[tactic(auto, using(crate::proofs::OpeningLaws::all_nonzeros))]
+fn are_within_limits(shape: &[u64], chunk_shape: &[NonZeroU64]) -> bool
+    ensures { result ≡ are_within_limits shape.now (nonzeros chunk_shape.now) }
 {
-    lengths.iter().all(|length| is_chunk_length(*length))
-}
-
-// Whether a chunk shape is within the limits, and has the rank of the shape.
-fn is_narrow_chunk_shape(shape: &[u64], chunk_shape: &[u64]) -> bool
-    ensures { result ≡ is_narrow_chunk_shape shape.now chunk_shape.now }
-{
-    chunk_shape.len() == shape.len() && are_chunk_lengths(chunk_shape)
-}
-
-// Whether a shape, a chunk shape and a fill value are within the limits.
-fn is_narrow(shape: &[u64], chunk_shape: &[u64], fill: u64) -> bool
-    ensures { result ≡ is_narrow shape.now chunk_shape.now fill }
-{
-    is_narrow_shape(shape) && is_narrow_chunk_shape(shape, chunk_shape) && fill <= 255
-}
-
-// The lengths of a chunk, if none is 0.
-#[tactic(auto, using(crate::proofs::NarrowLemmas::zero_chunk_length))]
-fn positive_lengths(alloc: Global, lengths: &[u64]) -> Result<Option<ChunkShape>, AllocError>
-    ensures some { IfOk result (λ shape. IfSome shape (λ v. nonzeros v.items ≡ lengths.now)) }
-    ensures none { IfOk result (λ shape. IfNone shape (list_all is_chunk_length lengths.now ≡ false)) }
-{
-    let mut shape = Vec::with_capacity(alloc, lengths.len())?;
-    for length in lengths {
-        let Some(length) = NonZeroU64::new(*length) else {
-            return Ok(None);
-        };
-        shape.push(length)?;
-    }
-    Ok(Some(shape))
-}
-
-// The fields that have one value.
-#[tactic(auto, unfolding(crate::specs::Narrow::is_byte_array))]
-fn expect_byte_array(members: &Map<String, Value>) -> Result<(), ReadFault>
-    ensures { Reads (λ _. tt) result (is_byte_array (members_view members.now.entries)) }
-{
-    expect_number(required(members, "zarr_format")?, 3)?;
-    expect_text(required(members, "node_type")?, "array")?;
-    expect_text(required(members, "data_type")?, "uint8")?;
-    expect_text(required(members, "chunk_key_encoding")?, "default")?;
-    expect_list_of(required(members, "codecs")?, "bytes")
-}
-
-// The chunk shape of a regular grid.
-#[tactic(auto, unfolding(crate::specs::Narrow::regular_chunk_shape))]
-fn read_regular_chunk_shape(alloc: Global, value: &Value) -> Result<Vec<u64>, ReadFault>
-    ensures { Reads (λ v. v.items) result (regular_chunk_shape (view value.now)) }
-{
-    let members = read_object(value)?;
-    expect_members(members, 2)?;
-    expect_text(required(members, "name")?, "regular")?;
-    let configuration = read_object(required(members, "configuration")?)?;
-    expect_members(configuration, 1)?;
-    read_whole_numbers(alloc, required(configuration, "chunk_shape")?)
+    shape.len() <= 2 && are_small(shape) && are_small_chunks(chunk_shape)
 }
 
 impl OpenArray {
-    ghost use Rattle.zarr_array.specs.OpenArray.{documented, OpensAs};
+    ghost use Rattle.zarr_array.specs.OpenArray.{documented, Opens, OpensAs};
 
-    // The array of a shape, a chunk shape and a fill value, where they are within the limits.
-    fn array_within_limits(
+    // The array with these parts, if its shapes are within the limits.
+    fn within_limits(
         alloc: Global,
         shape: Vec<u64>,
-        chunk_shape: &[u64],
-        fill: u64,
-    ) -> Result<OpenArray, ReadFault>
-        ensures { Reads documented result (within_limits shape.items chunk_shape.now fill) }
+        chunk_shape: ChunkShape,
+        keys: ChunkKeyEncoding,
+        codec: BytesCodec,
+        fill: u8,
+    ) -> Result<OpenArray, OpenError>
+        requires { IsTrue (are_chunk_lengths shape.items (nonzeros chunk_shape.items)) }
+        ensures { Opens documented result (within_limits (keys_of keys) (named_order codec) shape.items (nonzeros chunk_shape.items) fill) }
     {
-        let Some(lengths) = positive_lengths(alloc, chunk_shape)? else {
-            return Err(ReadFault::OutOfForm);
-        };
-        if !is_narrow(&shape, chunk_shape, fill) {
-            return Err(ReadFault::OutOfForm);
+        if !are_within_limits(&shape, &chunk_shape) {
+            return Err(OpenError::ChunkTooLarge);
         }
-        let grid = RegularGrid::new(alloc, shape, lengths)?;
+        let grid = RegularGrid::new(alloc, shape, chunk_shape)?;
         Ok(OpenArray {
             grid,
-            fill: fill as u8,
+            keys,
+            codec,
+            fill,
         })
     }
 
-    // An array document of the form that is known.
-    #[tactic(auto, unfolding(crate::specs::Narrow::narrow_document))]
-    fn read_document(alloc: Global, value: &Value) -> Result<OpenArray, ReadFault>
-        ensures { Reads documented result (narrow_document (view value.now)) }
+    // The array that the fields of a document describe.
+    #[tactic(auto, unfolding(crate::specs::Registered::document_of), using(crate::proofs::OpeningLaws::fails_after))]
+    fn from_metadata(
+        alloc: Global,
+        metadata: &ArrayMetadataV3,
+        registries: &Registries,
+    ) -> Result<OpenArray, OpenError>
+        ensures { Opens documented result (document_of (names_of registries.now) (array_seen metadata.now)) }
     {
-        let members = read_object(value)?;
-        expect_members(members, 8)?;
-        expect_byte_array(members)?;
-        let shape = read_whole_numbers(alloc, required(members, "shape")?)?;
-        let chunk_shape = read_regular_chunk_shape(alloc, required(members, "chunk_grid")?)?;
-        let fill = read_whole_number(required(members, "fill_value")?)?;
-        Self::array_within_limits(alloc, shape, &chunk_shape, fill)
+        expect_known_fields(metadata)?;
+        expect_data_type(&metadata.data_type, &registries.data_types)?;
+        let chunk_shape = chunk_shape_by(
+            alloc,
+            &metadata.shape,
+            &metadata.chunk_grid,
+            &registries.grids,
+        )?;
+        let keys = keys_by(&metadata.chunk_key_encoding, &registries.key_encodings)?;
+        let codecs = codecs_by(alloc, &metadata.codecs, &registries.codecs)?;
+        let fill = fill_byte(&metadata.fill_value)?;
+        let codec = only_codec(&codecs)?;
+        let shape = metadata.shape.as_slice().to_vec(alloc)?;
+        Self::within_limits(alloc, shape, chunk_shape, keys, codec, fill)
     }
 
-    /// Opens the array that a document describes.
-    ///
-    /// Known are documents of exactly the eight required fields, with data type `uint8`, the grid `regular`, keys
-    /// `default`, the codecs `["bytes"]`, at most two dimensions and lengths up to 65,535.
-    pub fn open(alloc: Global, text: &str) -> Result<OpenArray, OpenError>
-        ensures { OpensAs result (open_narrow text.now) }
+    // The array that a text describes.
+    #[tactic(auto, using(crate::proofs::OpeningLaws::read_fields, crate::proofs::OpeningLaws::not_read))]
+    fn from_text(alloc: Global, text: &str, registries: &Registries) -> Result<OpenArray, OpenError>
+        ensures { Opens documented result (document_read (names_of registries.now) (read text.now)) }
     {
-        let value = match Value::from_str(alloc, text) {
-            Ok(value) => value,
-            Err(error) if error.is_memory() => return Err(OpenError::OutOfMemory),
-            Err(_) => return Err(OpenError::InvalidJson),
-        };
-        match Self::read_document(alloc, &value) {
-            Ok(array) => Ok(array),
-            Err(ReadFault::OutOfForm) => Err(OpenError::InvalidMetadata),
-            Err(ReadFault::OutOfMemory) => Err(OpenError::OutOfMemory),
-        }
+        let metadata = ArrayMetadataV3::try_from_text(alloc, text)?;
+        Self::from_metadata(alloc, &metadata, registries)
+    }
+
+    /// Opens the array that a document describes, by the names of some registries.
+    ///
+    /// Served are arrays of `uint8` on a regular grid with the codec `bytes`, of at most two dimensions and lengths up to
+    /// 65,535. Attributes, dimension names and fields that need not be understood are read and left alone.
+    ///
+    /// # Errors
+    /// The first of [`OpenError`] that applies, or `OutOfMemory`.
+    #[tactic(auto, using(crate::proofs::OpeningLaws::opens_as))]
+    pub fn open(alloc: Global, text: &str, registries: &Registries) -> Result<OpenArray, OpenError>
+        ensures { OpensAs result (open_document (names_of registries.now) text.now) }
+    {
+        Self::from_text(alloc, text, registries)
     }
 
     /// The shape of the array.

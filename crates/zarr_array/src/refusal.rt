@@ -40,7 +40,7 @@ impl OpenArray {
     ghost use Rattle.zarr_array.specs.OpenArray.{described};
 
     /// Why a region of the array is refused, if it is: its rank is tested first, and then its end.
-    #[tactic(auto, using(crate::proofs::NarrowLaws::small_enough))]
+    #[tactic(auto, using(crate::proofs::ServedLaws::small_enough))]
     pub(crate) fn region_refusal(&self, subset: &ArraySubset) -> Option<Refusal>
         ensures { option_map refusal_of result ≡ region_refusal (described self.now) (region subset.now) }
     {

@@ -9,8 +9,10 @@ ghost use Rattle.zarr_model.specs.Causes.{MeetsNoDamage};
 ghost use Rattle.zarr_model.specs.Session.{LeavesKeys, ServesArray, RefusesRight, AreRefused, IsUntouched};
 ghost use Rattle.zarr_array.specs.Document.{ArrayDocument, describe};
 ghost use Rattle.zarr_array.specs.Opening.{OpenRefusal, opened, not_opened};
-ghost use Rattle.zarr_array.specs.Narrow.{open_narrow};
-ghost use Rattle.zarr_array.specs.declared.open.OpenError.{OpenError};
+ghost use Rattle.zarr_basics.specs.Registries.{names_of};
+ghost use Rattle.zarr_array.specs.Refusing.{ended_by};
+ghost use Rattle.zarr_array.specs.Registered.{open_document};
+ghost use Rattle.zarr_array.specs.declared.open_error.OpenError.{OpenError};
 ghost use Rattle.zarr_array.specs.Command.{command_of, answer_of};
 ghost use Rattle.zarr_array.specs.Options.{options_of};
 ghost use Rattle.zarr_array.specs.Session.{FailsAt, IsNotOpenedBy, IsRefused};
@@ -20,6 +22,7 @@ use crate::error::{SessionError, SessionErrorKind};
 use crate::open::{OpenArray, OpenError};
 use crate::options::CodecOptions;
 use std::alloc::Global;
+use zarr_basics::Registries;
 use zarrs_storage::store::Store;
 
 impl OpenArray {
@@ -74,47 +77,55 @@ impl OpenArray {
     }
 }
 
-/// Opens a document and runs commands over a store.
+/// Opens a document by the names of some registries, and runs commands over a store.
 ///
 /// A document that is refused is told as `NotOpened`, before any command; then the store is not touched.
 pub fn run_session<S: Store>(
     alloc: Global,
     metadata: &str,
+    registries: &Registries,
     commands: &[Command],
     store: &mut S,
     options: &CodecOptions,
 ) -> Result<Vec<Reply>, SessionError>
     // It is not opened exactly where opening refuses the text, and then nothing is touched.
-    ensures not_opened { (why : OpenRefusal) → open_narrow metadata.now ≡ not_opened why → IfErr result (λ error. IsNotOpenedBy error.kind why × (error.at ≡ None)) × (IsErr result
+    ensures not_opened { (why : OpenRefusal) → open_document (names_of registries.now) metadata.now ≡ not_opened why → IfErr result (λ error. IsNotOpenedBy error.kind why × (error.at ≡ None)) × (IsErr result
         × IsUntouched (S.content store.old) (S.content store.new) (S.ask_count store.old) (S.ask_count store.new) (S.taken_count store.old) (S.taken_count store.new)) }
     ensures refusal { IfErr result (λ error. (e : OpenError) → error.kind ≡ SessionErrorKind.NotOpened e → (error.at ≡ None)
-        × IsRefused e (open_narrow metadata.now)
+        × IsRefused e (open_document (names_of registries.now) metadata.now)
         × IsUntouched (S.content store.old) (S.content store.new) (S.ask_count store.old) (S.ask_count store.new) (S.taken_count store.old) (S.taken_count store.new)) }
 
     // Where the text is opened, the clauses of `run_commands` hold for the array that its document describes.
-    ensures serves { (document : ArrayDocument) → open_narrow metadata.now ≡ opened document → IfOk result (λ replies. IsHonest (layout (describe document) (options_of options.now)) (S.content store.old) →
+    ensures serves { (document : ArrayDocument) → open_document (names_of registries.now) metadata.now ≡ opened document → IfOk result (λ replies. IsHonest (layout (describe document) (options_of options.now)) (S.content store.old) →
         ServesArray (describe document) (options_of options.now) (map command_of commands.now) (S.content store.old) (S.content store.new) (map answer_of replies.items)) }
-    ensures complete { (document : ArrayDocument) → open_narrow metadata.now ≡ opened document → IsHonest (layout (describe document) (options_of options.now)) (S.content store.old) →
+    ensures complete { (document : ArrayDocument) → open_document (names_of registries.now) metadata.now ≡ opened document → IsHonest (layout (describe document) (options_of options.now)) (S.content store.old) →
         ¬ Rose (S.fault_count store.old) (S.fault_count store.new) → IfErr result (λ error. error.kind ≡ SessionErrorKind.OutOfMemory) }
-    ensures refusals { (document : ArrayDocument) → open_narrow metadata.now ≡ opened document →
+    ensures refusals { (document : ArrayDocument) → open_document (names_of registries.now) metadata.now ≡ opened document →
         IfOk result (λ replies. RefusesRight (describe document) (map command_of commands.now) (map answer_of replies.items)) }
-    ensures refused { (document : ArrayDocument) → open_narrow metadata.now ≡ opened document → AreRefused (describe document) (map command_of commands.now) →
+    ensures refused { (document : ArrayDocument) → open_document (names_of registries.now) metadata.now ≡ opened document → AreRefused (describe document) (map command_of commands.now) →
         IsUntouched (S.content store.old) (S.content store.new) (S.ask_count store.old) (S.ask_count store.new) (S.taken_count store.old) (S.taken_count store.new) }
-    ensures asks { (document : ArrayDocument) → open_narrow metadata.now ≡ opened document →
+    ensures asks { (document : ArrayDocument) → open_document (names_of registries.now) metadata.now ≡ opened document →
         OnOk result (S.ask_count store.new ≡ counted (S.ask_count store.old) (all_asks (describe document) (map command_of commands.now))) }
-    ensures undamaged { (document : ArrayDocument) → open_narrow metadata.now ≡ opened document →
+    ensures undamaged { (document : ArrayDocument) → open_document (names_of registries.now) metadata.now ≡ opened document →
         OnOk result (MeetsNoDamage (describe document) (options_of options.now) (map command_of commands.now) (S.content store.old)) }
-    ensures keys { (document : ArrayDocument) → open_narrow metadata.now ≡ opened document →
+    ensures keys { (document : ArrayDocument) → open_document (names_of registries.now) metadata.now ≡ opened document →
         LeavesKeys (describe document) (options_of options.now) (map command_of commands.now) (S.content store.old) (S.content store.new) }
     ensures later { S.fault_count store.old ≤ S.fault_count store.new }
-    ensures failed { (document : ArrayDocument) → open_narrow metadata.now ≡ opened document → IfErr result (λ error. FailsAt (describe document) (options_of options.now) (map command_of commands.now)
+    ensures failed { (document : ArrayDocument) → open_document (names_of registries.now) metadata.now ≡ opened document → IfErr result (λ error. FailsAt (describe document) (options_of options.now) (map command_of commands.now)
         (S.content store.old) (S.content store.new) (S.ask_count store.old) (S.ask_count store.new) (S.fault_count store.old) (S.fault_count store.new) error.at error.kind) }
 {
-    match OpenArray::open(alloc, metadata) {
+    match OpenArray::open(alloc, metadata, registries) {
         Ok(array) => array.run_commands(alloc, commands, store, options),
-        Err(OpenError::OutOfMemory) => Err(SessionError::before_commands(
-            SessionErrorKind::OutOfMemory,
-        )),
-        Err(error) => Err(SessionError::before_commands(SessionErrorKind::NotOpened(error))),
+        Err(error) => Err(SessionError::before_commands(ended_by(error))),
+    }
+}
+
+// How a session ends whose document is not opened.
+fn ended_by(error: OpenError) -> SessionErrorKind
+    ensures { result ≡ ended_by error }
+{
+    match error {
+        OpenError::OutOfMemory => SessionErrorKind::OutOfMemory,
+        _ => SessionErrorKind::NotOpened(error),
     }
 }

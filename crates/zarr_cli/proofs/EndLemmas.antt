@@ -147,6 +147,32 @@ pub told_chunk : (words : List (List ℕ)) (input : List ℕ) (old : Content) (r
 told_chunk words input old rose before now status end key (inl same) told e = told_damage words input old rose before now status key told (sym (ap ending_of same) ∙ e)
 told_chunk words input old rose before now status end key (inr memory) told e = absurd (let none : ending_of OutOfMemory ≡ damaged_chunk key = sym (ap ending_of memory) ∙ e in cc)
 
+-- a refused document, which only one status names
+same_document : (v w : OpenRefusal) → refused_document v ≡ refused_document w → v ≡ w
+same_document v w e = cc
+
+refused_is : (words : List (List ℕ)) (input : List ℕ) (o : Option OpenRefusal) (why : OpenRefusal) → IsRefusedBy words input o → refused_by o ≡ refused_document why → HasRefusedDocument known_forms words input why
+refused_is words input None why told e = absurd told
+refused_is words input (Some other) why told e = subst (HasRefusedDocument known_forms words input) (same_document other why e) told
+
+told_refusal : (words : List (List ℕ)) (input : List ℕ) (old : Content) (rose : Type 0) (before now : ℕ) (status : Status) (why : OpenRefusal) → IsToldFault words input old rose before now status →
+    ending_of status ≡ refused_document why → HasRefusedDocument known_forms words input why
+told_refusal words input old rose before now (Document error) why told e = refused_is words input (open_refusal_of error) why told e
+told_refusal words input old rose before now (Chunk key) why told e = absurd (cc)
+told_refusal words input old rose before now BadWords why told e = absurd (cc)
+told_refusal words input old rose before now (BadInput line) why told e = absurd (cc)
+told_refusal words input old rose before now Store why told e = absurd (cc)
+told_refusal words input old rose before now Read why told e = absurd (cc)
+told_refusal words input old rose before now TooLong why told e = absurd (cc)
+told_refusal words input old rose before now OutOfMemory why told e = absurd (cc)
+told_refusal words input old rose before now Done why told e = absurd told
+told_refusal words input old rose before now Write why told e = absurd told
+
+pub told_opening : (words : List (List ℕ)) (input : List ℕ) (old : Content) (rose : Type 0) (before now : ℕ) (status end : Status) (why : OpenRefusal) → (end ≡ status) ⊎ (end ≡ OutOfMemory) →
+    IsToldFault words input old rose before now status → ending_of end ≡ refused_document why → HasRefusedDocument known_forms words input why
+told_opening words input old rose before now status end why (inl same) told e = told_refusal words input old rose before now status why told (sym (ap ending_of same) ∙ e)
+told_opening words input old rose before now status end why (inr memory) told e = absurd (let none : ending_of OutOfMemory ≡ refused_document why = sym (ap ending_of memory) ∙ e in cc)
+
 -- each cause in the input gives its answer
 not_reading : (words : List (List ℕ)) → settings_of known_forms words ≡ None → IsReading known_forms words → ⊥
 not_reading words none (settings, reads) = let both : None ≡ Some settings = sym none ∙ reads.0 in cc

@@ -17,7 +17,8 @@ use Rattle.zarr_model.specs.Codec.{Options, offset_codec, bytes_codec, vlen_code
 use Rattle.zarr_model.specs.Command.{Description, layout, write, refusal, bytes_refusal, is_too_large, has_long_step, invalid_variable_sized_array_offsets, invalid_mask, expected_optional_bytes, replies}
 use Rattle.zarr_cli_lines.specs.Text.{input_lines, first_entries, command_of, replies_text, good_lines}
 use Rattle.zarr_model.specs.Cost.{all_asks, all_bytes, present_in}
-use Rattle.zarr_array.specs.Document.{boundaries, offset, transpose, checksum, byte_document, describe}
+use Rattle.zarr_array.specs.Document.{boundaries, offset, transpose, checksum, describe}
+use Rattle.zarr_array.proofs.Documents.{plain_document}
 use Rattle.zarr_cli.proofs.Worked.{reply_lines, left_in_chunks, kept_in_chunks, left_chunks, kept_chunks, its_commands, first_array, empty_store, store_of, holding}
 
 abbrev plain_options : Options
@@ -34,7 +35,7 @@ record Example (description : Description) (options : Options) (input answer dum
 
 -- a write in the middle, and the whole array
 abbrev square : Description
-square = describe (byte_document (4 ∷ 4 ∷ []) (2 ∷ 2 ∷ []) 0)
+square = describe (plain_document (4 ∷ 4 ∷ []) (2 ∷ 2 ∷ []) 0)
 
 abbrev middle_write_keys : List ℕ
 middle_write_keys = codes "key c/0/0 h0000000b\nkey c/0/1 h00000c00\nkey c/1/0 h000e0000\nkey c/1/1 h0f000000\n"
@@ -61,37 +62,37 @@ unfolding digits encode_with decode_pairs
 middle_write_bytes = refl
 
 -- the element past the shape stays
-past_the_shape : Example (describe (byte_document (5 ∷ []) (2 ∷ []) 0)) plain_options (codes "key c/2 h0709\nwrite 4..5 h2a") (codes "done\n") (codes "key c/2 h2a09\n")
+past_the_shape : Example (describe (plain_document (5 ∷ []) (2 ∷ []) 0)) plain_options (codes "key c/2 h0709\nwrite 4..5 h2a") (codes "done\n") (codes "key c/2 h2a09\n")
 unfolding digits encode_with decode_pairs
 past_the_shape = record { texts = refl; elements = refl; present = refl }
 
 -- regions without elements, and past the end
-empty_regions : Example (describe (byte_document (4 ∷ []) (2 ∷ []) 0)) plain_options (codes "read 4..4\nread 4..1\nread 5..5\nread 3..5")
+empty_regions : Example (describe (plain_document (4 ∷ []) (2 ∷ []) 0)) plain_options (codes "read 4..4\nread 4..1\nread 5..5\nread 3..5")
     (codes "ok\nok\nrefused SubsetOutOfBounds\nrefused SubsetOutOfBounds\n") []
 unfolding digits encode_with decode_pairs
 empty_regions = record { texts = refl; elements = refl; present = refl }
 
 -- no dimension
-no_dimension : Example (describe (byte_document [] [] 0)) plain_options (codes "read .\nwrite . h2a\nread .") (codes "ok h00\ndone\nok h2a\n") (codes "key c h2a")
+no_dimension : Example (describe (plain_document [] [] 0)) plain_options (codes "read .\nwrite . h2a\nread .") (codes "ok h00\ndone\nok h2a\n") (codes "key c h2a")
 unfolding digits encode_with decode_pairs
 no_dimension = record { texts = refl; elements = refl; present = refl }
 
 no_dimension_v2 : chunk_key (v2_keys 46) [] ≡ codes "0"
 no_dimension_v2 = refl
 
-no_dimension_erase : Example (describe (byte_document [] [] 0)) plain_options (codes "read .\nwrite . h2a\nread .\nerase .") (codes "ok h00\ndone\nok h2a\ndone\n") []
+no_dimension_erase : Example (describe (plain_document [] [] 0)) plain_options (codes "read .\nwrite . h2a\nread .\nerase .") (codes "ok h00\ndone\nok h2a\ndone\n") []
 unfolding digits encode_with decode_pairs
 no_dimension_erase = record { texts = refl; elements = refl; present = refl }
 
 -- a dimension of length 0
-empty_dimension : Example (describe (byte_document (0 ∷ 3 ∷ []) (2 ∷ 2 ∷ []) 0)) plain_options (codes "read 0..0,0..3\nwrite 0..0,0..3\nerase 0,0")
+empty_dimension : Example (describe (plain_document (0 ∷ 3 ∷ []) (2 ∷ 2 ∷ []) 0)) plain_options (codes "read 0..0,0..3\nwrite 0..0,0..3\nerase 0,0")
     (codes "ok\ndone\nrefused SubsetOutOfBounds\n") []
 unfolding digits encode_with decode_pairs
 empty_dimension = record { texts = refl; elements = refl; present = refl }
 
 -- strings
 abbrev strings : Description
-strings = describe (record (byte_document (2 ∷ []) (2 ∷ []) 0) { data_type = string_type; fill = of_bytes (97 ∷ []); to_bytes = vlen_codec })
+strings = describe (record (plain_document (2 ∷ []) (2 ∷ []) 0) { data_type = string_type; fill = of_bytes (97 ∷ []); to_bytes = vlen_codec })
 
 texts_stored : Example strings plain_options (codes "write 0..2 h6161 h\nread 0..2") (codes "done\nok h6161 h\n") (codes "key c/0 h0200000002000000616100000000")
 unfolding digits encode_with decode_pairs
@@ -107,7 +108,7 @@ texts_stored_short = record { texts = refl; elements = refl; present = refl }
 
 -- two optional levels
 abbrev optionals : Description
-optionals = describe (record (byte_document (3 ∷ []) (3 ∷ []) 0) {
+optionals = describe (record (plain_document (3 ∷ []) (3 ∷ []) 0) {
   data_type = optional_type (optional_type (uint_type 1));
   fill = null;
   to_bytes = optional_codec (optional_codec (bytes_codec little));
@@ -128,23 +129,23 @@ unfolding digits encode_with decode_pairs
 nested_optionals_short = record { texts = refl; elements = refl; present = refl }
 
 -- a chunk that holds the fill everywhere
-blank_chunk : Example (describe (byte_document (2 ∷ []) (2 ∷ []) 7)) plain_options (codes "key c/0 h0102\nwrite 0..2 h07 h07") (codes "done\n") []
+blank_chunk : Example (describe (plain_document (2 ∷ []) (2 ∷ []) 7)) plain_options (codes "key c/0 h0102\nwrite 0..2 h07 h07") (codes "done\n") []
 unfolding digits encode_with decode_pairs
 blank_chunk = record { texts = refl; elements = refl; present = refl }
 
-blank_chunk_stored : Example (describe (byte_document (2 ∷ []) (2 ∷ []) 7)) empty_options (codes "key c/0 h0102\nwrite 0..2 h07 h07") (codes "done\n") (codes "key c/0 h0707")
+blank_chunk_stored : Example (describe (plain_document (2 ∷ []) (2 ∷ []) 7)) empty_options (codes "key c/0 h0102\nwrite 0..2 h07 h07") (codes "done\n") (codes "key c/0 h0707")
 unfolding digits encode_with decode_pairs
 blank_chunk_stored = record { texts = refl; elements = refl; present = refl }
 
 -- big-endian numbers
-big_endian : Example (describe (record (byte_document (1 ∷ []) (1 ∷ []) 0) { data_type = int_type 2; fill = of_bytes (0 ∷ 0 ∷ []); to_bytes = bytes_codec big }))
+big_endian : Example (describe (record (plain_document (1 ∷ []) (1 ∷ []) 0) { data_type = int_type 2; fill = of_bytes (0 ∷ 0 ∷ []); to_bytes = bytes_codec big }))
     plain_options (codes "write 0..1 h0100") (codes "done\n") (codes "key c/0 h0001")
 unfolding digits encode_with decode_pairs
 big_endian = record { texts = refl; elements = refl; present = refl }
 
 -- an offset
 abbrev with_offset : Description
-with_offset = describe (record (byte_document (2 ∷ []) (2 ∷ []) 10) { array_codecs = offset (pos 250) ∷ [] })
+with_offset = describe (record (plain_document (2 ∷ []) (2 ∷ []) 10) { array_codecs = offset (pos 250) ∷ [] })
 
 less_offset_numbers : Example with_offset plain_options (codes "read 0..1\nwrite 0..1 h0b") (codes "ok h0a\ndone\n") (codes "key c/0 h0504")
 unfolding digits encode_with decode_pairs
@@ -152,7 +153,7 @@ less_offset_numbers = record { texts = refl; elements = refl; present = refl }
 
 -- a region too large to hold; from an array without keys
 abbrev huge : Description
-huge = describe (byte_document (4294967296 ∷ 4294967296 ∷ []) (1 ∷ 1 ∷ []) 0)
+huge = describe (plain_document (4294967296 ∷ 4294967296 ∷ []) (1 ∷ 1 ∷ []) 0)
 
 too_large : replies_text (replies huge (its_commands huge (codes "read 0..4294967296,0..4294967296\nread 0..1,0..1\nread 0..1")) (blank_array huge.shape huge.fill))
     ≡ codes "refused RegionTooLarge\nok h00\nrefused IncompatibleDimensionality\n"
@@ -182,36 +183,36 @@ lines_of_input : (input_lines [] ≡ [] ∷ []) × (input_lines (codes "\n") ≡
 lines_of_input = (refl, refl, refl, refl)
 
 -- a transposed chunk
-transposed : Example (describe (record (byte_document (2 ∷ 3 ∷ []) (2 ∷ 3 ∷ []) 0) { array_codecs = transpose (1 ∷ 0 ∷ []) ∷ [] }))
+transposed : Example (describe (record (plain_document (2 ∷ 3 ∷ []) (2 ∷ 3 ∷ []) 0) { array_codecs = transpose (1 ∷ 0 ∷ []) ∷ [] }))
     plain_options (codes "write 0..2,0..3 h01 h02 h03 h04 h05 h06\nread 0..2,1..2") (codes "done\nok h02 h05\n") (codes "key c/0/0 h010402050306")
 unfolding digits encode_with decode_pairs
 transposed = record { texts = refl; elements = refl; present = refl }
 
-transposed_cube : Example (describe (record (byte_document (2 ∷ 2 ∷ 2 ∷ []) (2 ∷ 2 ∷ 2 ∷ []) 0) { array_codecs = transpose (2 ∷ 0 ∷ 1 ∷ []) ∷ [] }))
+transposed_cube : Example (describe (record (plain_document (2 ∷ 2 ∷ 2 ∷ []) (2 ∷ 2 ∷ 2 ∷ []) 0) { array_codecs = transpose (2 ∷ 0 ∷ 1 ∷ []) ∷ [] }))
     plain_options (codes "write 0..2,0..2,0..2 h01 h02 h03 h04 h05 h06 h07 h08") (codes "done\n") (codes "key c/0/0/0 h0103050702040608")
 unfolding digits encode_with decode_pairs
 transposed_cube = record { texts = refl; elements = refl; present = refl }
 
 -- a grid of boundaries
-boundary_lengths : Example (describe (record (byte_document (5 ∷ []) (5 ∷ []) 0) { grid = boundaries ((2 ∷ 4 ∷ []) ∷ []) }))
+boundary_lengths : Example (describe (record (plain_document (5 ∷ []) (5 ∷ []) 0) { grid = boundaries ((2 ∷ 4 ∷ []) ∷ []) }))
     plain_options (codes "write 1..3 h01 h02") (codes "done\n") (codes "key c/0 h0001\nkey c/1 h02000000")
 unfolding digits encode_with decode_pairs
 boundary_lengths = record { texts = refl; elements = refl; present = refl }
 
 -- an empty middle dimension
-empty_middle : Example (describe (byte_document (2 ∷ 0 ∷ 3 ∷ []) (1 ∷ 1 ∷ 1 ∷ []) 0)) plain_options (codes "read 0..2,0..0,0..3\nread 2..2,0..0,3..3\nread 0..2,0..1,0..3")
+empty_middle : Example (describe (plain_document (2 ∷ 0 ∷ 3 ∷ []) (1 ∷ 1 ∷ 1 ∷ []) 0)) plain_options (codes "read 0..2,0..0,0..3\nread 2..2,0..0,3..3\nread 0..2,0..1,0..3")
     (codes "ok\nok\nrefused SubsetOutOfBounds\n") []
 unfolding digits encode_with decode_pairs
 empty_middle = record { texts = refl; elements = refl; present = refl }
 
 -- later key lines win
-later_key_wins : Example (describe (byte_document (4 ∷ []) (2 ∷ []) 0)) plain_options (codes "key c/0 h0102\nkey c/0 h0304\nkey c/9 hff\nread 0..2") (codes "ok h03 h04\n") (codes "key c/0 h0304\nkey c/9 hff")
+later_key_wins : Example (describe (plain_document (4 ∷ []) (2 ∷ []) 0)) plain_options (codes "key c/0 h0102\nkey c/0 h0304\nkey c/9 hff\nread 0..2") (codes "ok h03 h04\n") (codes "key c/0 h0304\nkey c/9 hff")
 unfolding digits encode_with decode_pairs
 later_key_wins = record { texts = refl; elements = refl; present = refl }
 
 -- a digest that is right, wrong, not looked at, and a value too short for one
 abbrev with_digest : Description
-with_digest = describe (record (byte_document (1 ∷ []) (1 ∷ []) 0) { data_type = raw_type 3; fill = of_bytes (0 ∷ 0 ∷ 0 ∷ []); byte_codecs = checksum ∷ [] })
+with_digest = describe (record (plain_document (1 ∷ []) (1 ∷ []) 0) { data_type = raw_type 3; fill = of_bytes (0 ∷ 0 ∷ 0 ∷ []); byte_codecs = checksum ∷ [] })
 
 abbrev unchecked_options : Options
 unchecked_options = record { store_empty_chunks = false; validate_checksums = false }

@@ -10,11 +10,12 @@ use Rattle.std.proofs.lemmas.Str.{utf8_valid_len-IsValidUpTo, is_utf8-from_IsUtf
 use Rattle.hex.specs.Hex.{encode_with, decode_pairs}
 use Rattle.zarr_model.specs.Element.{of_bytes}
 use Rattle.zarr_model.specs.ArrayBytes.{fixed_bytes}
-use Rattle.zarr_model.specs.Codec.{Options}
+use Rattle.zarr_model.specs.Key.{default_keys}
+use Rattle.zarr_model.specs.Codec.{Options, little}
 use Rattle.zarr_model.specs.Store.{Content, with_key, WhollyMeans, stored_array}
 use Rattle.zarr_model.specs.Command.{Command, elements, read, write, erase, Description, layout}
 use Rattle.zarr_model.specs.Session.{LeavesArray}
-use Rattle.zarr_array.specs.Document.{ArrayDocument, byte_document, describe}
+use Rattle.zarr_array.specs.Document.{ArrayDocument, describe}
 use Rattle.zarr_array.specs.Opening.{opened}
 use Rattle.zarr_model.specs.Cost.{command_chunks, asks_store, counted}
 use Rattle.zarr_model.specs.Outside.{Rose}
@@ -27,7 +28,7 @@ use Rattle.zarr_model.proofs.StoreLaws.{Means-from_whole}
 use Rattle.zarr_model.proofs.GridLaws.{regular_grid-covers}
 use Rattle.zarr_cli.proofs.ProgramLaws.{went_through, one_listing}
 use Rattle.zarr_cli.proofs.Worked.{holding}
-use Rattle.zarr_array.proofs.Documents.{document_text, square_opens, line_opens}
+use Rattle.zarr_array.proofs.Documents.{document_text, plain_document, square_opens, line_opens}
 
 abbrev nothing : Content
 nothing = λ key. None
@@ -44,7 +45,7 @@ at place value = slice_index (unwrap_or value []) place
 
 -- a read changes a stored element past the shape, by the keys that have to stay
 abbrev line_array : Description
-line_array = describe (byte_document (5 ∷ []) (2 ∷ []) 0)
+line_array = describe (plain_document (5 ∷ []) (2 ∷ []) 0)
 
 abbrev before : Content
 before = with_key (codes "c/2") (7 ∷ 9 ∷ []) nothing
@@ -64,15 +65,15 @@ past_the_shape_run : ¬ WentThrough writing_forms [] line_input nothing changed 
 unfolding digits encode_with decode_pairs
 past_the_shape_run went =
     let (output, runs, given) = went_through writing_forms [] line_input nothing changed (λ text. text ≡ codes "ok h07\n")
-    first_settings (byte_document (5 ∷ []) (2 ∷ []) 0) (read (record { start = 4; size = 1 } ∷ []) ∷ []) refl line_opens refl went in
+    first_settings (plain_document (5 ∷ []) (2 ∷ []) 0) (read (record { start = 4; size = 1 } ∷ []) ∷ []) refl line_opens refl went in
     past_the_shape runs.left
 
 -- a chunk of fill is left out though empty chunks are to be stored
 abbrev small_array : Description
-small_array = describe (byte_document (2 ∷ []) (2 ∷ []) 7)
+small_array = describe (plain_document (2 ∷ []) (2 ∷ []) 7)
 
 nothing_meant : (options : Options) → WhollyMeans (layout small_array options) nothing (stored_array (layout small_array options) nothing)
-nothing_meant options = byte_document-means (2 ∷ []) (2 ∷ []) 7 options nothing (omega arith, tt) (omega arith, tt) (λ chunk h. refl)
+nothing_meant options = byte_document-means (default_keys 47) little (2 ∷ []) (2 ∷ []) 7 options nothing (λ digit. absurd (omega (arith, digit.0))) (omega arith, tt) (omega arith, tt) (λ chunk h. refl)
 
 blank_left_out : ¬ LeavesArray small_array (options_with true) (write (record { start = 0; size = 2 } ∷ []) (fixed_bytes (7 ∷ 7 ∷ [])) ∷ []) nothing nothing
 unfolding digits
@@ -121,7 +122,7 @@ two_writes = write (record { start = 0; size = 1 } ∷ record { start = 0; size 
     ∷ write (record { start = 1; size = 2 } ∷ record { start = 1; size = 2 } ∷ []) (fixed_bytes (11 ∷ 12 ∷ 14 ∷ 15 ∷ [])) ∷ []
 
 abbrev square_array : Description
-square_array = describe (byte_document (4 ∷ 4 ∷ []) (2 ∷ 2 ∷ []) 0)
+square_array = describe (plain_document (4 ∷ 4 ∷ []) (2 ∷ 2 ∷ []) 0)
 
 asks_counted : AsksUpTo square_array two_writes 0 3 (Some (1, 1)) × IsPlace square_array two_writes (Some (1, 4))
 asks_counted = ((_, refl, inr (lit≤ tt, refl)), (_, refl, lit≤ tt))
@@ -169,19 +170,19 @@ earlier_line forms bad = let e : ◌≡◌ {A = ℕ} 2 3 = line_of_byte forms 2 
 abbrev square_input : List ℕ
 square_input = document_text (codes "[4,4]") (codes "[2,2]") (codes "0") ++ codes "\nread 3..4,3..4\n"
 
-square_meant : WhollyMeans (layout (describe (byte_document (4 ∷ 4 ∷ []) (2 ∷ 2 ∷ []) 0)) first_settings.options) nothing
-    (stored_array (layout (describe (byte_document (4 ∷ 4 ∷ []) (2 ∷ 2 ∷ []) 0)) first_settings.options) nothing)
-square_meant = byte_document-means (4 ∷ 4 ∷ []) (2 ∷ 2 ∷ []) 0 first_settings.options nothing (omega arith, (omega arith, tt)) (omega arith, (omega arith, tt)) (λ chunk h. refl)
+square_meant : WhollyMeans (layout (describe (plain_document (4 ∷ 4 ∷ []) (2 ∷ 2 ∷ []) 0)) first_settings.options) nothing
+    (stored_array (layout (describe (plain_document (4 ∷ 4 ∷ []) (2 ∷ 2 ∷ []) 0)) first_settings.options) nothing)
+square_meant = byte_document-means (default_keys 47) little (4 ∷ 4 ∷ []) (2 ∷ 2 ∷ []) 0 first_settings.options nothing (λ digit. absurd (omega (arith, digit.0))) (omega arith, (omega arith, tt)) (omega arith, (omega arith, tt)) (λ chunk h. refl)
 
 other_document : ¬ WentThrough writing_forms [] square_input nothing nothing (λ text. text ≡ codes "refused IncompatibleDimensionality\n")
 unfolding digits encode_with decode_pairs
 other_document went =
     let (output, runs, given) = went_through writing_forms [] square_input nothing nothing (λ text. text ≡ codes "refused IncompatibleDimensionality\n")
-    first_settings (byte_document (4 ∷ 4 ∷ []) (2 ∷ 2 ∷ []) 0) (read (record { start = 3; size = 1 } ∷ record { start = 3; size = 1 } ∷ []) ∷ []) refl square_opens refl went in
-    let (keys, dump, text) = runs.replied (stored_array (layout (describe (byte_document (4 ∷ 4 ∷ []) (2 ∷ 2 ∷ []) 0)) first_settings.options) nothing)
-    (Means-from_whole (layout (describe (byte_document (4 ∷ 4 ∷ []) (2 ∷ 2 ∷ []) 0)) first_settings.options)
+    first_settings (plain_document (4 ∷ 4 ∷ []) (2 ∷ 2 ∷ []) 0) (read (record { start = 3; size = 1 } ∷ record { start = 3; size = 1 } ∷ []) ∷ []) refl square_opens refl went in
+    let (keys, dump, text) = runs.replied (stored_array (layout (describe (plain_document (4 ∷ 4 ∷ []) (2 ∷ 2 ∷ []) 0)) first_settings.options) nothing)
+    (Means-from_whole (layout (describe (plain_document (4 ∷ 4 ∷ []) (2 ∷ 2 ∷ []) 0)) first_settings.options)
     (regular_grid-covers (4 ∷ 4 ∷ []) (2 ∷ 2 ∷ []) (omega arith, (omega arith, tt))) nothing
-    (stored_array (layout (describe (byte_document (4 ∷ 4 ∷ []) (2 ∷ 2 ∷ []) 0)) first_settings.options) nothing) square_meant) in
+    (stored_array (layout (describe (plain_document (4 ∷ 4 ∷ []) (2 ∷ 2 ∷ []) 0)) first_settings.options) nothing) square_meant) in
     let e : ◌≡◌ {A = ℕ} 114 111 = ap (λ line. slice_index line 0) (sym given ∙ (text ∙ ap (λ more. codes "ok h00\n" ++ more) dump)) in omega arith
 
 -- what is right is not refused: the line of that byte, and a run that reads the fill
@@ -199,7 +200,7 @@ later_line forms = inl (
   refl,
 )
 
-right_unmet : (key : List ℕ) → IsDamageMet (describe (byte_document (4 ∷ 4 ∷ []) (2 ∷ 2 ∷ []) 0)) first_settings.options
+right_unmet : (key : List ℕ) → IsDamageMet (describe (plain_document (4 ∷ 4 ∷ []) (2 ∷ 2 ∷ []) 0)) first_settings.options
     (read (record { start = 3; size = 1 } ∷ record { start = 3; size = 1 } ∷ []) ∷ []) (store_after_keys square_input nothing) key → ⊥
 unfolding digits encode_with decode_pairs is_utf8 chars encode
 right_unmet key (m, command, is, asks, chunk, met, its_key, none, damaged) = let gone : true ≡ false = ap is_some damaged in cc
@@ -209,7 +210,7 @@ unfolding digits encode_with decode_pairs is_utf8 chars encode
 right_run = (
   record {
     settings = first_settings;
-    document = byte_document (4 ∷ 4 ∷ []) (2 ∷ 2 ∷ []) 0;
+    document = plain_document (4 ∷ 4 ∷ []) (2 ∷ 2 ∷ []) 0;
     commands = read (record { start = 3; size = 1 } ∷ record { start = 3; size = 1 } ∷ []) ∷ [];
     are_words = (refl, refl);
     within = lit≤ tt;
@@ -242,7 +243,7 @@ bogus_line : IsBadLine writing_forms (document_text (codes "[4,4]") (codes "[2,2
 unfolding digits encode_with decode_pairs is_utf8 chars encode
 bogus_line = inr (
   IsUtf8-from_is_utf8 (document_text (codes "[4,4]") (codes "[2,2]") (codes "0") ++ codes "\nbogus\n") refl,
-  byte_document (4 ∷ 4 ∷ []) (2 ∷ 2 ∷ []) 0,
+  plain_document (4 ∷ 4 ∷ []) (2 ∷ 2 ∷ []) 0,
   square_opens,
   lit< tt,
   refl,

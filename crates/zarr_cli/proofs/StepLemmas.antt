@@ -7,7 +7,7 @@ use Rattle.zarr_model.specs.Store.{Content, with_key, with_keys}
 use Rattle.zarr_model.specs.Outside.{ReadsNext, PutsKey}
 use Rattle.zarr_model.proofs.FailureLaws.{same_bytes, bytes_eq-refl}
 use Rattle.zarr_array.specs.Opening.{opened}
-use Rattle.zarr_array.specs.Narrow.{open_narrow}
+use Rattle.zarr_array.specs.Registered.{open_builtin}
 use Rattle.zarr_array.specs.OpenArray.{documented}
 use Rattle.zarr_array.specs.declared.open.OpenArray.{OpenArray}
 use Rattle.zarr_cli_lines.specs.Text.{input_lines, good_lines}
@@ -106,13 +106,13 @@ pub form_fault : (error : LineError) (good : ℕ) (lines : List (List ℕ)) → 
 form_fault error good lines is fault = subst (λ e. IsLineFault e lines) is fault
 
 -- the first line out of form, of an input whose first line opens
-pub bad_line : (text line : List ℕ) (rest : List (List ℕ)) (array : OpenArray) (good : ℕ) → IsUtf8 text → input_lines text ≡ line ∷ rest → open_narrow line ≡ opened (documented array) →
+pub bad_line : (text line : List ℕ) (rest : List (List ℕ)) (array : OpenArray) (good : ℕ) → IsUtf8 text → input_lines text ≡ line ∷ rest → open_builtin line ≡ opened (documented array) →
     good ≡ good_lines command_line rest → good < length rest → IsBadLine known_forms text (good + 2)
 bad_line text line rest array good utf8 lines opens count below =
     inr (
       utf8,
       documented array,
-      subst (λ all. open_narrow (first_line all) ≡ opened (documented array)) (sym lines) opens,
+      subst (λ all. open_builtin (first_line all) ≡ opened (documented array)) (sym lines) opens,
       subst (λ all. good_lines command_line (drop 1 all) < length (drop 1 all)) (sym lines) (subst (λ n. n < length rest) count below),
       subst (λ all. good + 2 ≡ good_lines command_line (drop 1 all) + 2) (sym lines) (ap (λ n. n + 2) count),
     )

@@ -35,6 +35,6 @@ ending_of OutOfMemory = out_of_memory
 abbrev pub settings_view : Held.Settings → Settings
 settings_view settings = record { dump = settings.dump; options = options_of settings.options; make = None }
 
--- the forms that the program knows: its two words, narrow documents, and reads, writes and erases
+-- the forms that the program knows: its two words, documents by the built-in names, and reads, writes and erases
 abbrev pub known_forms : Forms
 known_forms = writing_forms

@@ -13,7 +13,7 @@ use Rattle.zarr_model.specs.Session.{LeavesArray}
 use Rattle.zarr_model.specs.Causes.{MeetsNoDamage}
 use Rattle.zarr_array.specs.Document.{ArrayDocument, describe}
 use Rattle.zarr_array.specs.Opening.{OpenAnswer, opened}
-use Rattle.zarr_array.specs.Narrow.{open_narrow}
+use Rattle.zarr_array.specs.Registered.{open_builtin}
 
 -- what the words of the command line set; with a number to make from, the input is not read
 pub record Settings : Type 0 where
@@ -51,12 +51,12 @@ pub record Forms : Type 0 where
 abbrev pub settings_of : Forms → List (List ℕ) → Option Settings
 settings_of forms words = with_words forms.knows false words first_settings
 
--- a program with two words, for narrow documents, that reads, writes and erases
+-- a program with two words, for documents by the built-in names, that reads, writes and erases
 abbrev pub knows_writing : List ℕ → Bool
 knows_writing word = if bytes_eq word (codes "--dump") then true else bytes_eq word (codes "--store-empty-chunks")
 
 abbrev pub writing_forms : Forms
-writing_forms = record { knows = knows_writing; opens = open_narrow; command = command_of }
+writing_forms = record { knows = knows_writing; opens = open_builtin; command = command_of }
 
 -- the greatest number of bytes that an input may have
 abbrev pub input_limit : ℕ

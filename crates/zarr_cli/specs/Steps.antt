@@ -10,7 +10,7 @@ use Rattle.zarr_model.specs.Outside.{Rose}
 use Rattle.zarr_model.specs.Causes.{IsDamageMet, MeetsNoDamage}
 use Rattle.zarr_array.specs.Document.{describe}
 use Rattle.zarr_array.specs.Opening.{OpenRefusal, OpenAnswer, opened, not_opened}
-use Rattle.zarr_array.specs.Narrow.{open_narrow}
+use Rattle.zarr_array.specs.Registered.{open_builtin}
 use Rattle.zarr_array.specs.OpenArray.{documented, open_refusal_of}
 use Rattle.zarr_array.specs.Command.{command_of}
 use Rattle.zarr_model.specs.Codec.{Options}
@@ -66,7 +66,7 @@ IsReadFault left before now Write = ⊥
 -- the input is in form, and says what was parsed
 pub record SaysInput (input : List ℕ) (parsed : ParsedInput) : Type 0 where
   pub is_text : IsUtf8 input
-  pub is_opened : open_narrow (document_line input) ≡ opened (documented parsed.array)
+  pub is_opened : open_builtin (document_line input) ≡ opened (documented parsed.array)
   pub entries_are : map entry_view parsed.entries.items ≡ first_entries (lines_after_document input)
   pub commands_are : commands_of command_line (lines_after_document input) ≡ Some (map command_of parsed.commands.items)
 
@@ -95,7 +95,7 @@ OpensLine (Err status) answer = IsOpenFault status answer
 -- the input is out of form
 abbrev pub IsInputFault : List ℕ → Status → Type 0
 IsInputFault input (BadInput line) = IsBadLine known_forms input line
-IsInputFault input (Document error) = IsUtf8 input × IsRefusal (open_refusal_of error) (open_narrow (document_line input))
+IsInputFault input (Document error) = IsUtf8 input × IsRefusal (open_refusal_of error) (open_builtin (document_line input))
 IsInputFault input OutOfMemory = Unit {0}
 IsInputFault input Done = ⊥
 IsInputFault input BadWords = ⊥

@@ -1,12 +1,13 @@
 //! What an input says.
 
 ghost use Rattle.std.specs.Prelude.{◌≡◌, ◌==◌, ◌+◌, ◌≤◌, IsUtf8, length, count_by, IfOk, IfErr};
-ghost use Rattle.zarr_array.specs.Narrow.{open_narrow};
+ghost use Rattle.zarr_array.specs.Registered.{open_builtin};
 ghost use Rattle.zarr_cli.specs.Program.{input_limit};
 ghost use Rattle.zarr_cli.specs.Steps.{SaysInput, OpensLine, IsInputFault};
 
 use crate::status::Status;
 use std::alloc::Global;
+use zarr_array::builtin_registries;
 use zarr_array::command::Command;
 use zarr_array::open::{OpenArray, OpenError};
 use zarr_cli_lines::entry::Entry;
@@ -29,11 +30,14 @@ fn line_after(bytes: &[u8]) -> u64
     bytes.iter().filter(|b| **b == b'\n').count() as u64 + 1
 }
 
-// The array of a first line.
+// The array of a first line, by the built-in names.
 fn open_line(alloc: Global, line: &str) -> Result<OpenArray, Status>
-    ensures { OpensLine result (open_narrow line.now) }
+    ensures { OpensLine result (open_builtin line.now) }
 {
-    match OpenArray::open(alloc, line) {
+    let Ok(registries) = builtin_registries(alloc) else {
+        return Err(Status::OutOfMemory);
+    };
+    match OpenArray::open(alloc, line, &registries) {
         Ok(array) => Ok(array),
         Err(OpenError::OutOfMemory) => Err(Status::OutOfMemory),
         Err(error) => Err(Status::Document(error)),

@@ -7,7 +7,5 @@ pub mod program;
 mod read;
 mod run;
 pub mod status;
-#[cfg(test)]
-mod tests;
 mod words;
 mod write;

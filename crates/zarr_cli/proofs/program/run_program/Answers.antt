@@ -2,7 +2,7 @@ use Rattle.std.proofs.Common.{subst}
 use Rattle.zarr_model.specs.Outside.{Rose}
 use Rattle.zarr_cli.specs.Ending.{IsGiven, IsGivenFront}
 use Rattle.zarr_cli.specs.Endings.{words_of}
-use Rattle.zarr_cli.proofs.EndLemmas.{went, did_asks, did_refused, not_long, not_bad, not_refused, told_chunk, told_input, told_document}
+use Rattle.zarr_cli.proofs.EndLemmas.{went, did_asks, did_refused, not_long, not_bad, not_refused, told_chunk, told_opening, told_input, told_document}
 use Rattle.zarr_cli.proofs.program.run_program.Goals as goal
 
 pub returns-then-write_text-clause-done : goal.returns-then-write_text-clause-done
@@ -72,3 +72,9 @@ returns-clause-exactly_document g c = λ input why e calm refused.
     told_document (words_of c.args.words.now) input (g.S.Store.content c.args.store.now) (Rose (g.R.Source.fault_count c.args.source.now) (g.R.Source.fault_count c.output_of.new.source))
     (g.S.Store.fault_count c.args.store.now) (g.S.Store.fault_count c.output_of.new.store) c.in-Err.status c.end_with.result why
     c.end_with.ensures.status (c.in-Err.ensures.told input e) calm refused
+
+pub returns-clause-document : goal.returns-clause-document
+returns-clause-document g c = λ input why is e.
+    told_opening (words_of c.args.words.now) input (g.S.Store.content c.args.store.now) (Rose (g.R.Source.fault_count c.args.source.now) (g.R.Source.fault_count c.output_of.new.source))
+    (g.S.Store.fault_count c.args.store.now) (g.S.Store.fault_count c.output_of.new.store) c.in-Err.status c.end_with.result why
+    c.end_with.ensures.status (c.in-Err.ensures.told input e) is

@@ -1,0 +1,115 @@
+-- The steps of opening, one after another.
+use Rattle.std.proofs.Common.{◌≡◌, ℕ, nat_le, ◌&&◌, zero, suc, ◌+◌, ◌<◌, Bool, true, false, if◌then◌else◌, List, [], ◌∷◌, ◌++◌, length, take, get_or, Option, Some, None, Result, Ok, Err, refl, ap, arith, add-one}
+use Rattle.std.specs.List.{list_all}
+use Rattle.std.specs.declared.num.NonZeroU64.{NonZeroU64}
+use Rattle.std.specs.Int.NonZero.{non_zero_u64_get}
+use Rattle.serde_json.specs.Data.{Data}
+use Rattle.serde_json.specs.Written.{has_float}
+use Rattle.zarr_model.specs.Codec.{ByteOrder}
+use Rattle.zarrs_plugin.specs.Registry.{Names}
+use Rattle.zarrs_metadata_ext.specs.MetadataV3.{extension_seen, extensions_seen}
+use Rattle.zarrs_metadata_ext.specs.Reading.{FailsBy as FailsToRead, from_json, or_invalid}
+use Rattle.zarrs_metadata_ext.specs.declared.v3.metadata.MetadataV3.{MetadataV3}
+use Rattle.zarrs_metadata_json.specs.declared.error.MetadataError.{MetadataError}
+use Rattle.zarrs_metadata_json.specs.declared.error.MetadataError.TheVariants.{InvalidJson, FloatNumber, InvalidMetadata, OutOfMemory}
+use Rattle.zarrs_metadata.specs.ArrayMetadata.{ArrayFields, array_of}
+use Rattle.zarr_basics.specs.RegularGrid.{nonzeros}
+use Rattle.zarr_basics.specs.Registries.{KnownNames}
+use Rattle.zarr_basics.specs.declared.registries.CodecKind.{CodecKind}
+use Rattle.zarr_array.specs.Document.{ArrayDocument}
+use Rattle.zarr_array.specs.Opening.{OpenRefusal, answer_of}
+use Rattle.zarr_array.specs.OpenArray.{open_refusal_of, documented, FailsBy, Opens, OpensAs, IsRefusedBy}
+use Rattle.zarr_array.specs.Refusing.{unread_as}
+use Rattle.zarr_array.specs.Registered.{◌>>=◌, codec_by, codecs_by, document_of, document_if, document_read}
+use Rattle.zarr_array.specs.declared.open.OpenArray.{OpenArray}
+use Rattle.zarr_array.specs.declared.open_error.OpenError.{OpenError}
+
+-- a step that fails is the failure of all
+pub fails_after : {A B : Type 0} (why : Option OpenRefusal) (o : Result A OpenRefusal) (f : A → Result B OpenRefusal) → FailsBy why o → FailsBy why (o >>= f)
+fails_after None o f fails = tt
+fails_after (Some why) o f fails = ap (λ r. r >>= f) fails
+
+-- an answer of opening from the last step
+pub opens_as : (result : Result OpenArray OpenError) (expected : Result ArrayDocument OpenRefusal) → Opens documented result expected → OpensAs result (answer_of expected)
+opens_as (Ok array) expected is = ap answer_of is
+opens_as (Err error) expected fails = refused (open_refusal_of error) expected fails
+  where
+    refused : (why : Option OpenRefusal) (expected : Result ArrayDocument OpenRefusal) → FailsBy why expected → IsRefusedBy why (answer_of expected)
+    refused None expected fails = tt
+    refused (Some why) expected fails = ap answer_of fails
+
+-- what is left to do with a document that was read
+abbrev fields_read : ArrayFields → Result ArrayFields MetadataError
+fields_read f = Ok f
+
+same_fields : (f g : ArrayFields) → fields_read f ≡ fields_read g → f ≡ g
+same_fields f g e = cc
+
+value_read : (names : KnownNames) (float : Bool) (o : Option ArrayFields) (fields : ArrayFields) → (if float then Err FloatNumber else or_invalid o) ≡ Ok fields → document_if names float o ≡ document_of names fields
+value_read names true o fields is = absurd cc
+value_read names false None fields is = absurd cc
+value_read names false (Some f) fields is = ap (document_of names) (same_fields f fields is)
+
+pub read_fields : (names : KnownNames) (o : Option Data) (fields : ArrayFields) → from_json array_of o ≡ Ok fields → (document_read names o) ≡ document_of names fields
+read_fields names None fields is = absurd cc
+read_fields names (Some d) fields is = value_read names (has_float d) (array_of d) fields is
+
+-- a document that was not read is refused by the same cause
+value_not_read : (names : KnownNames) (error : MetadataError) (float : Bool) (o : Option ArrayFields) → FailsToRead error (if float then Err FloatNumber else or_invalid o) →
+    FailsBy (open_refusal_of (unread_as error)) (document_if names float o)
+value_not_read names OutOfMemory float o fails = tt
+value_not_read names InvalidJson true o fails = absurd cc
+value_not_read names InvalidJson false None fails = absurd cc
+value_not_read names InvalidJson false (Some f) fails = absurd cc
+value_not_read names FloatNumber true o fails = refl
+value_not_read names FloatNumber false None fails = absurd cc
+value_not_read names FloatNumber false (Some f) fails = absurd cc
+value_not_read names InvalidMetadata true o fails = absurd cc
+value_not_read names InvalidMetadata false None fails = refl
+value_not_read names InvalidMetadata false (Some f) fails = absurd cc
+
+pub not_read : (names : KnownNames) (error : MetadataError) (o : Option Data) → FailsToRead error (from_json array_of o) → FailsBy (open_refusal_of (unread_as error)) (document_read names o)
+not_read names error (Some d) fails = value_not_read names error (has_float d) (array_of d) fails
+not_read names OutOfMemory None fails = tt
+not_read names InvalidJson None fails = refl
+not_read names FloatNumber None fails = absurd cc
+not_read names InvalidMetadata None fails = absurd cc
+
+-- one more codec of a list, and one that is refused
+abbrev codecs_are : List (Option ByteOrder) → Result (List (Option ByteOrder)) OpenRefusal
+codecs_are cs = Ok cs
+
+bind_ok : {A B : Type 0} (o : Result A OpenRefusal) (f : A → Result B OpenRefusal) (y : B) → (o >>= f) ≡ Ok y → (x : A) × (o ≡ Ok x) × (f x ≡ Ok y)
+bind_ok (Ok x) f y e = (x, refl, e)
+bind_ok (Err why) f y e = absurd cc
+
+more : (names : Names CodecKind) (ms : List MetadataV3) (i : ℕ) (m : MetadataV3) (cs : List (Option ByteOrder)) (c : Option ByteOrder) → i < length ms → m ≡ get_or ms i m
+    → codecs_by names (extensions_seen (take i ms)) ≡ Ok cs → codec_by names (extension_seen m) ≡ Ok c → codecs_by names (extensions_seen (take (suc i) ms)) ≡ Ok (cs ++ c ∷ [])
+more names [] i m cs c lt is front here = absurd (omega arith)
+more names (n ∷ ms) zero m [] c lt is front here = let it : codec_by names (extension_seen n) ≡ Ok c = rw (← is) here in rw it refl
+more names (n ∷ ms) zero m (d ∷ cs) c lt is front here = absurd cc
+more names (n ∷ ms) (suc i) m cs c lt is front here =
+    let a = bind_ok (codec_by names (extension_seen n)) (λ z. codecs_by names (extensions_seen (take i ms)) >>= λ zs. Ok (z ∷ zs)) cs front in
+    let b = bind_ok (codecs_by names (extensions_seen (take i ms))) (λ zs. Ok (a.0 ∷ zs)) cs a.2 in
+    let e : codecs_are (a.0 ∷ b.0) ≡ codecs_are cs = b.2 in
+    let whole : a.0 ∷ b.0 ≡ cs = cc in
+    rw (a.1, more names ms i m b.0 c (omega arith) is b.1 here) (ap (λ (o : List (Option ByteOrder)). codecs_are (o ++ c ∷ [])) whole)
+
+pub codecs_push : (names : Names CodecKind) (ms : List MetadataV3) (i : ℕ) (m : MetadataV3) (cs : List (Option ByteOrder)) (c : Option ByteOrder) → i < length ms → m ≡ get_or ms i m
+    → codecs_by names (extensions_seen (take i ms)) ≡ Ok cs → codec_by names (extension_seen m) ≡ Ok c → codecs_by names (extensions_seen (take (i + 1) ms)) ≡ Ok (cs ++ c ∷ [])
+codecs_push names ms i m cs c lt is front here = rw add-one (more names ms i m cs c lt is front here)
+
+pub codecs_fail : (names : Names CodecKind) (ms : List MetadataV3) (i : ℕ) (m : MetadataV3) (cs : List (Option ByteOrder)) (why : Option OpenRefusal) → i < length ms → m ≡ get_or ms i m
+    → codecs_by names (extensions_seen (take i ms)) ≡ Ok cs → FailsBy why (codec_by names (extension_seen m)) → FailsBy why (codecs_by names (extensions_seen ms))
+codecs_fail names [] i m cs why lt is front fails = absurd (omega arith)
+codecs_fail names (n ∷ ms) zero m cs why lt is front fails =
+    fails_after why (codec_by names (extension_seen n)) (λ z. codecs_by names (extensions_seen ms) >>= λ zs. Ok (z ∷ zs)) (rw (← is) fails)
+codecs_fail names (n ∷ ms) (suc i) m cs why lt is front fails =
+    let a = bind_ok (codec_by names (extension_seen n)) (λ z. codecs_by names (extensions_seen (take i ms)) >>= λ zs. Ok (z ∷ zs)) cs front in
+    let b = bind_ok (codecs_by names (extensions_seen (take i ms))) (λ zs. Ok (a.0 ∷ zs)) cs a.2 in
+    rw a.1 (fails_after why (codecs_by names (extensions_seen ms)) (λ zs. Ok (a.0 ∷ zs)) (codecs_fail names ms i m b.0 why (omega arith) is b.1 fails))
+
+-- a test of lengths that are not 0 is the test of their numbers
+pub all_nonzeros : (lengths : List NonZeroU64) → list_all (λ p. nat_le (non_zero_u64_get p) 65535) lengths ≡ list_all (λ p. nat_le p 65535) (nonzeros lengths)
+all_nonzeros [] = refl
+all_nonzeros (p ∷ lengths) = ap (λ rest. nat_le (non_zero_u64_get p) 65535 && rest) (all_nonzeros lengths)

@@ -1,0 +1,115 @@
+//! Why a document is not opened.
+
+ghost use Rattle.std.specs.Prelude.{◌≡◌};
+
+use std::alloc::{AllocError, AllocFailed};
+use thiserror::Error;
+use zarrs_metadata::MetadataError;
+
+/// Why a document is not opened, in the order in which it is tested: the first that applies. Names and configurations are
+/// tested extension by extension: the data type, the chunk grid, the chunk key encoding, and each codec.
+///
+/// `UnsupportedVersion`, `UnsupportedDataTypeCodec` and `EndiannessMissing` have no cause yet: documents of version 2 are
+/// `InvalidMetadata`, and elements of one byte are served in every byte order.
+#[derive(Clone, Copy, Debug, PartialEq, Eq, Error)]
+pub enum OpenError {
+    /// The text is not JSON.
+    #[error("the document is not JSON")]
+    InvalidJson,
+    /// The document holds a number that is no integer of 64 bits.
+    #[error("the document holds a float")]
+    FloatNumber,
+    /// The value is no version 3 array document.
+    #[error("the document is not a version 3 array document")]
+    InvalidMetadata,
+    /// The document is of a version of Zarr that is not supported.
+    #[error("the document is of an unsupported version")]
+    UnsupportedVersion,
+    /// An additional field must be understood, or there are storage transformers.
+    #[error("the document has a field that is not supported")]
+    UnsupportedField,
+    /// No entry of a registry goes by the name of an extension.
+    #[error("an extension is not supported")]
+    PluginUnsupportedError,
+    /// The configuration of an extension is not of its form, or the data type need not be understood.
+    #[error("an extension has a configuration that is not supported")]
+    PluginCreateError,
+    /// The fill value is no element of the data type.
+    #[error("the fill value is no element of the data type")]
+    DataTypeFillValueMetadataError,
+    /// The codecs are not one array-to-bytes codec between array-to-array and bytes-to-bytes ones.
+    #[error("the codecs are not a chain")]
+    ChainOrder,
+    /// A codec does not serve the data type.
+    #[error("a codec does not support the data type")]
+    UnsupportedDataTypeCodec,
+    /// The codec `bytes` has no byte order, and the data type needs one.
+    #[error("the codec bytes has no byte order")]
+    EndiannessMissing,
+    /// The array or its chunks are past the limits.
+    #[error("the array or its chunks are too large")]
+    ChunkTooLarge,
+    /// Memory ran out.
+    #[error("out of memory")]
+    OutOfMemory,
+}
+
+impl OpenError {
+    ghost use Rattle.zarr_array.specs.OpenArray.{open_error_name};
+
+    /// The name of the error.
+    pub fn name(&self) -> &'static str
+        ensures { result.now ≡ open_error_name self.now }
+    {
+        match self {
+            OpenError::InvalidJson => "InvalidJson",
+            OpenError::FloatNumber => "FloatNumber",
+            OpenError::InvalidMetadata => "InvalidMetadata",
+            OpenError::UnsupportedVersion => "UnsupportedVersion",
+            OpenError::UnsupportedField => "UnsupportedField",
+            OpenError::PluginUnsupportedError => "PluginUnsupportedError",
+            OpenError::PluginCreateError => "PluginCreateError",
+            OpenError::DataTypeFillValueMetadataError => "DataTypeFillValueMetadataError",
+            OpenError::ChainOrder => "ChainOrder",
+            OpenError::UnsupportedDataTypeCodec => "UnsupportedDataTypeCodec",
+            OpenError::EndiannessMissing => "EndiannessMissing",
+            OpenError::ChunkTooLarge => "ChunkTooLarge",
+            OpenError::OutOfMemory => "OutOfMemory",
+        }
+    }
+}
+
+impl From<AllocError> for OpenError {
+    ghost use Rattle.zarr_array.specs.declared.open_error.OpenError.TheVariants.{OutOfMemory};
+
+    ghost from_gives = { λ _ e. e ≡ OutOfMemory };
+
+    fn from(_error: AllocError) -> OpenError {
+        OpenError::OutOfMemory
+    }
+}
+
+impl<T: Drop> From<AllocFailed<T>> for OpenError {
+    ghost use Rattle.zarr_array.specs.declared.open_error.OpenError.TheVariants.{OutOfMemory};
+
+    ghost from_gives = { λ _ e. e ≡ OutOfMemory };
+
+    fn from(_error: AllocFailed<T>) -> OpenError {
+        OpenError::OutOfMemory
+    }
+}
+
+impl From<MetadataError> for OpenError {
+    ghost use Rattle.zarr_array.specs.Refusing.{unread_as};
+
+    ghost from_gives = { λ e opened. opened ≡ unread_as e };
+
+    fn from(error: MetadataError) -> OpenError {
+        match error {
+            MetadataError::InvalidJson => OpenError::InvalidJson,
+            MetadataError::FloatNumber => OpenError::FloatNumber,
+            MetadataError::InvalidMetadata => OpenError::InvalidMetadata,
+            MetadataError::OutOfMemory => OpenError::OutOfMemory,
+        }
+    }
+}

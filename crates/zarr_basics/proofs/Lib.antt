@@ -1,0 +1,4 @@
+pub mod LengthLaws
+pub mod RegularLaws
+pub mod ChunkTests
+pub mod ChunkKeyLaws

@@ -1,0 +1,20 @@
+//! The codec `bytes`: the elements one after another.
+
+ghost use Rattle.std.specs.Prelude.{◌≡◌};
+
+use zarrs_metadata_ext::Endianness;
+
+/// The codec `bytes`, which stores the elements of a chunk in row-major order, one after another.
+#[derive(Clone, Copy, Debug, PartialEq, Eq)]
+pub struct BytesCodec {
+    endianness: Option<Endianness>,
+}
+
+impl BytesCodec {
+    /// The codec with this order of the bytes of each component, if there is one.
+    pub fn new(endianness: Option<Endianness>) -> Self
+        ensures { result ≡ record { endianness = endianness } }
+    {
+        BytesCodec { endianness }
+    }
+}
