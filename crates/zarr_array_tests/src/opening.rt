@@ -138,6 +138,12 @@ fn documents_are_refused(rt: HostRuntime) -> Result<(), Fail> {
         ),
         ("[\"bytes\"]", "[]", "ChainOrder"),
         ("[\"bytes\"]", "[\"bytes\",\"bytes\"]", "ChainOrder"),
+        ("\"fill_value\":0", "\"fill_value\":0.0", "FloatNumber"),
+        (
+            "[4,4],\"data_type\":\"uint8\",\"chunk_grid\":{\"name\":\"regular\",\"configuration\":{\"chunk_shape\":[2,2]}}",
+            "[1,1,1],\"data_type\":\"uint8\",\"chunk_grid\":{\"name\":\"regular\",\"configuration\":{\"chunk_shape\":[1,1,1]}}",
+            "ChunkTooLarge",
+        ),
         ("[4,4]", "[4,65536]", "ChunkTooLarge"),
         ("[2,2]", "[2,65536]", "ChunkTooLarge"),
     ] {
