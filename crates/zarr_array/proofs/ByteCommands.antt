@@ -1,22 +1,13 @@
 -- Commands on arrays of one-byte elements: reads and writes as those of the model.
 use Rattle.std.proofs.Common.{◌≡◌, ℕ, ◌≤◌, List, [], ◌∷◌, length, slice_get, Some, None, IsSome, unwrap_or, sym, ap, ◌∙◌, subst}
 use Rattle.std.proofs.lemmas.List.{length-map}
-use Rattle.zarr_model.specs.Region.{Region, count}
-use Rattle.zarr_model.specs.Element.{Element}
-use Rattle.zarr_model.specs.ArrayBytes.{fixed_bytes}
-use Rattle.zarr_model.specs.Array.{Array, elements_in, written}
-use Rattle.zarr_model.specs.Grid.{chunks_meeting}
-use Rattle.zarr_model.specs.Codec.{Options}
-use Rattle.zarr_model.specs.Store.{Content, WhollyMeans, chunk_content}
-use Rattle.zarr_model.specs.Command.{read, write, kind, layout, refusal, answered, answered_done}
-use Rattle.zarr_model.specs.Cost.{counted}
-use Rattle.zarr_model.specs.Session.{LeavesKeys}
+use Rattle.zarr_model.specs.Prelude.{Region, count, Element, fixed_bytes, Array, elements_in, written, chunks_meeting, Options, WhollyMeans, chunk_content, Shown, read, write, kind, layout, refusal, answered, answered_done, counted, LeavesKeys}
 use Rattle.zarr_array.specs.declared.open.OpenArray.{OpenArray}
 use Rattle.zarr_array.specs.declared.error.SessionErrorKind.{SessionErrorKind}
 use Rattle.zarr_array.specs.OpenArray.{described}
 use Rattle.zarr_array.specs.Chunk.{byte_elements}
 use Rattle.zarr_array.specs.PartWay.{ChangedSome, FailsPartWay}
-use Rattle.zarr_array.specs.Ran.{HasRun}
+use Rattle.zarr_array.proofs.HasRun.{HasRun}
 use Rattle.zarr_array.specs.Session.{FailsAt}
 use Rattle.zarr_array.proofs.OneByteLaws.{meaning-bytes}
 use Rattle.zarr_array.proofs.ReadSteps.{described_covers, described_sound}
@@ -24,14 +15,14 @@ use Rattle.zarr_array.proofs.WriteLaws.{write_change, write-ran, write-keys, wri
 use Rattle.zarr_array.proofs.StepRuns.{read-ran}
 
 -- bytes that are the region of each array that the store means answer a read
-pub bytes-read : (array : OpenArray) (options : Options) (region : Region) (old new : Content) (asks_old asks_new taken_old taken_new faults_old faults_new : ℕ) (value : List ℕ) →
-    refusal (described array) (read region) ≡ None → ((key : List ℕ) → new key ≡ old key) →
-    ((k : ℕ) (chunk : List ℕ) → slice_get (chunks_meeting (described array).grid region) k ≡ Some chunk → IsSome (chunk_content (layout (described array) options) old chunk)) →
-    ((a : Array Element) → WhollyMeans (layout (described array) options) old a → byte_elements value ≡ elements_in region a) →
-    asks_new ≡ counted asks_old (length (chunks_meeting (described array).grid region)) → faults_old ≤ faults_new →
-    HasRun (described array) options (read region ∷ []) old new asks_old asks_new taken_old taken_new faults_old faults_new (answered (fixed_bytes value) ∷ [])
-bytes-read array options region old new asks_old asks_new taken_old taken_new faults_old faults_new value accepted same decode right asked later =
-    read-ran (described array) options region old new asks_old asks_new taken_old taken_new faults_old faults_new (fixed_bytes value) accepted same decode (λ a meant.
+pub bytes-read : (array : OpenArray) (options : Options) (region : Region) (old new : Shown) (value : List ℕ) →
+    refusal (described array) (read region) ≡ None → ((key : List ℕ) → new.content key ≡ old.content key) →
+    ((k : ℕ) (chunk : List ℕ) → slice_get (chunks_meeting (described array).grid region) k ≡ Some chunk → IsSome (chunk_content (layout (described array) options) old.content chunk)) →
+    ((a : Array Element) → WhollyMeans (layout (described array) options) old.content a → byte_elements value ≡ elements_in region a) →
+    new.asks ≡ counted old.asks (length (chunks_meeting (described array).grid region)) → old.faults ≤ new.faults →
+    HasRun (described array) options (read region ∷ []) old new (answered (fixed_bytes value) ∷ [])
+bytes-read array options region old new value accepted same decode right asked later =
+    read-ran (described array) options region old new (fixed_bytes value) accepted same decode (λ a meant.
     let is : byte_elements value ≡ elements_in region a = right a meant in
     let long : length value ≡ length (elements_in region a) = sym (length-map value _) ∙ ap length is in
     meaning-bytes (length (elements_in region a)) value long ∙ ap Some is) asked later
@@ -42,36 +33,36 @@ change-is : (array : OpenArray) (region : Region) (value : List ℕ) → length 
 change-is array region value long = ap (written region) (sym (ap (λ o. unwrap_or o []) (meaning-bytes (count region) value long)))
 
 module _ (array : OpenArray) (options : Options) (region : Region) (value : List ℕ) (accepted : refusal (described array) (write region (fixed_bytes value)) ≡ None) (long : length value ≡ count region)
-    (old new : Content) (asks_old asks_new taken_old taken_new faults_old faults_new : ℕ) where
-  as_model : (k : ℕ) → ChangedSome (described array) options (written region (byte_elements value)) (chunks_meeting (described array).grid region) k old new asks_old asks_new faults_old faults_new →
-      ChangedSome (described array) options (write_change (described array) region (fixed_bytes value)) (chunks_meeting (described array).grid region) k old new asks_old asks_new faults_old faults_new
+    (old new : Shown) where
+  as_model : (k : ℕ) → ChangedSome (described array) options (written region (byte_elements value)) (chunks_meeting (described array).grid region) k old new →
+      ChangedSome (described array) options (write_change (described array) region (fixed_bytes value)) (chunks_meeting (described array).grid region) k old new
   as_model k changed =
-      subst (λ change. ChangedSome (described array) options change (chunks_meeting (described array).grid region) k old new asks_old asks_new faults_old faults_new) (change-is array region value long) changed
+      subst (λ change. ChangedSome (described array) options change (chunks_meeting (described array).grid region) k old new) (change-is array region value long) changed
 
   fails_model : (k : ℕ) (kind : SessionErrorKind) →
-      FailsPartWay (described array) options (written region (byte_elements value)) (chunks_meeting (described array).grid region) k old new asks_old asks_new faults_old faults_new kind →
-      FailsPartWay (described array) options (write_change (described array) region (fixed_bytes value)) (chunks_meeting (described array).grid region) k old new asks_old asks_new faults_old faults_new kind
+      FailsPartWay (described array) options (written region (byte_elements value)) (chunks_meeting (described array).grid region) k old new kind →
+      FailsPartWay (described array) options (write_change (described array) region (fixed_bytes value)) (chunks_meeting (described array).grid region) k old new kind
   fails_model k kind fails =
-      subst (λ change. FailsPartWay (described array) options change (chunks_meeting (described array).grid region) k old new asks_old asks_new faults_old faults_new kind) (change-is array region value long) fails
+      subst (λ change. FailsPartWay (described array) options change (chunks_meeting (described array).grid region) k old new kind) (change-is array region value long) fails
 
-  pub bytes-written : ChangedSome (described array) options (written region (byte_elements value)) (chunks_meeting (described array).grid region) (length (chunks_meeting (described array).grid region)) old new asks_old asks_new faults_old faults_new →
-      HasRun (described array) options (write region (fixed_bytes value) ∷ []) old new asks_old asks_new taken_old taken_new faults_old faults_new (answered_done ∷ [])
+  pub bytes-written : ChangedSome (described array) options (written region (byte_elements value)) (chunks_meeting (described array).grid region) (length (chunks_meeting (described array).grid region)) old new →
+      HasRun (described array) options (write region (fixed_bytes value) ∷ []) old new (answered_done ∷ [])
   bytes-written changed = write-ran (described array) (described_covers array) options (described_sound array options) region (fixed_bytes value) accepted
-      old new asks_old asks_new taken_old taken_new faults_old faults_new (as_model (length (chunks_meeting (described array).grid region)) changed)
+      old new (as_model (length (chunks_meeting (described array).grid region)) changed)
 
-  pub bytes-written-keys : ChangedSome (described array) options (written region (byte_elements value)) (chunks_meeting (described array).grid region) (length (chunks_meeting (described array).grid region)) old new asks_old asks_new faults_old faults_new →
-      LeavesKeys (described array) options (write region (fixed_bytes value) ∷ []) old new
+  pub bytes-written-keys : ChangedSome (described array) options (written region (byte_elements value)) (chunks_meeting (described array).grid region) (length (chunks_meeting (described array).grid region)) old new →
+      LeavesKeys (described array) options (write region (fixed_bytes value) ∷ []) old.content new.content
   bytes-written-keys changed = write-keys (described array) (described_covers array) options (described_sound array options) region (fixed_bytes value) accepted
-      (length (chunks_meeting (described array).grid region)) old new asks_old asks_new faults_old faults_new (as_model (length (chunks_meeting (described array).grid region)) changed)
+      (length (chunks_meeting (described array).grid region)) old new (as_model (length (chunks_meeting (described array).grid region)) changed)
 
   pub bytes-fail : (k : ℕ) (kind : SessionErrorKind) →
-      FailsPartWay (described array) options (written region (byte_elements value)) (chunks_meeting (described array).grid region) k old new asks_old asks_new faults_old faults_new kind →
-      FailsAt (described array) options (write region (fixed_bytes value) ∷ []) old new asks_old asks_new faults_old faults_new (Some (0, k)) kind
+      FailsPartWay (described array) options (written region (byte_elements value)) (chunks_meeting (described array).grid region) k old new kind →
+      FailsAt (described array) options (write region (fixed_bytes value) ∷ []) old new (Some (0, k)) kind
   bytes-fail k kind fails = write-fails (described array) (described_covers array) options (described_sound array options) region (fixed_bytes value) accepted
-      k old new asks_old asks_new faults_old faults_new kind (fails_model k kind fails)
+      k old new kind (fails_model k kind fails)
 
   pub bytes-fail-keys : (k : ℕ) (kind : SessionErrorKind) →
-      FailsPartWay (described array) options (written region (byte_elements value)) (chunks_meeting (described array).grid region) k old new asks_old asks_new faults_old faults_new kind →
-      LeavesKeys (described array) options (write region (fixed_bytes value) ∷ []) old new
+      FailsPartWay (described array) options (written region (byte_elements value)) (chunks_meeting (described array).grid region) k old new kind →
+      LeavesKeys (described array) options (write region (fixed_bytes value) ∷ []) old.content new.content
   bytes-fail-keys k kind fails = write-fails-keys (described array) (described_covers array) options (described_sound array options) region (fixed_bytes value) accepted
-      k old new asks_old asks_new faults_old faults_new kind (fails_model k kind fails)
+      k old new kind (fails_model k kind fails)

@@ -1,11 +1,6 @@
 -- Chunks of bytes: their places, and what a value comes to.
 use Rattle.std.proofs.Common.{◌≡◌, ℕ, zero, suc, true, List, [], ◌∷◌, length, map, replicate, Option, Some, None, IsSome, option_map, refl, sym, ap, ap₂, ◌∙◌}
-use Rattle.zarr_model.specs.Region.{Region, count, starts, sizes}
-use Rattle.zarr_model.specs.Element.{of_bytes}
-use Rattle.zarr_model.specs.Key.{KeyEncoding}
-use Rattle.zarr_model.specs.Codec.{Options, ByteOrder}
-use Rattle.zarr_model.specs.Store.{Layout, box_content}
-use Rattle.zarr_model.specs.Command.{layout}
+use Rattle.zarr_model.specs.Prelude.{Region, count, starts, sizes, of_bytes, KeyEncoding, Options, ByteOrder, Layout, box_content, layout}
 use Rattle.zarrs_array_subset.specs.Boxes.{is_box, region_of}
 use Rattle.zarrs_array_subset.proofs.BoxLaws.{starts_region, sizes_region}
 use Rattle.zarr_array.specs.Document.{byte_document, describe}

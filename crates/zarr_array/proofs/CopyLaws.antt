@@ -5,7 +5,7 @@ use Rattle.std.proofs.lemmas.Bool.Decides.{nat_tests}
 use Rattle.std.proofs.lemmas.Nat.{div-mul-add, mod-mul-add, div_below}
 use Rattle.std.proofs.lemmas.List.{get_or_append_left, get_or-append_right, get_or-drop, get_or-take, length-drop, length-take-le, length-append, drop_all}
 use Rattle.std.proofs.Math.Nat.{div-add-mod', mod-lt, mul_comm, suc-mul, mul-le-mul_right}
-use Rattle.zarr_model.specs.Region.{Span, Region, count, contains, is_in, place, tuple_at}
+use Rattle.zarr_model.specs.Prelude.{Span, Region, count, contains, is_in, place, tuple_at}
 use Rattle.zarr_model.proofs.RegionLaws.{span_in, in_span, positive_factor, place_below}
 use Rattle.zarr_array.specs.Overlap.{span_at, shared_from, shared_size, with_run, Copied}
 

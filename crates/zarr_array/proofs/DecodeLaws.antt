@@ -2,14 +2,7 @@
 use Rattle.std.proofs.Common.{◌≡◌, ℕ, ◌+◌, ◌<◌, ◌≤◌, List, [], ◌∷◌, length, slice_get, Some, None, IsSome, refl, sym, ap, ap₂, ◌∙◌, subst, arith, ⊎_elim}
 use Rattle.std.proofs.Math.Nat.{eq-or-lt_of_le}
 use Rattle.std.proofs.lemmas.Option.{slice_get_within}
-use Rattle.zarr_model.specs.Region.{Region}
-use Rattle.zarr_model.specs.Element.{Element}
-use Rattle.zarr_model.specs.Grid.{chunks_meeting}
-use Rattle.zarr_model.specs.Store.{Content, Layout, box_content, chunk_content}
-use Rattle.zarr_model.specs.Codec.{Options}
-use Rattle.zarr_model.specs.Command.{read, Refusal, Description, layout, region_refusal}
-use Rattle.zarr_model.specs.Cost.{chunks_under}
-use Rattle.zarr_model.specs.Causes.{MeetsNoDamage}
+use Rattle.zarr_model.specs.Prelude.{Region, Element, chunks_meeting, Content, Layout, box_content, chunk_content, Options, read, Refusal, Description, layout, region_refusal, chunks_under, MeetsNoDamage}
 use Rattle.zarr_model.proofs.DamageLaws.{MeetsNoDamage-read}
 use Rattle.zarr_array.proofs.ReadCommand.{chunks-read}
 

@@ -4,12 +4,7 @@ use Rattle.std.specs.List.{AllByRecursion}
 use Rattle.std.proofs.lemmas.Bool.{and_parts}
 use Rattle.std.proofs.lemmas.Nat.{div_below}
 use Rattle.std.proofs.Math.Nat.{add-mul, one-mul, le-mul_of_pos_right}
-use Rattle.zarr_model.specs.Region.{whole, contains, is_in}
-use Rattle.zarr_model.specs.Grid.{regular_grid}
-use Rattle.zarr_model.specs.Key.{KeyEncoding, default_keys, v2_keys, chunk_key}
-use Rattle.zarr_model.specs.Codec.{Options, ByteOrder, KeepsCount}
-use Rattle.zarr_model.specs.Store.{Content, IsSound, IsHonest, WhollyMeans, stored_array}
-use Rattle.zarr_model.specs.Command.{layout}
+use Rattle.zarr_model.specs.Prelude.{whole, contains, is_in, regular_grid, KeyEncoding, default_keys, v2_keys, chunk_key, Options, ByteOrder, KeepsCount, Content, IsSound, IsHonest, WhollyMeans, stored_array, layout}
 use Rattle.zarr_array.specs.Document.{ArrayDocument, ArrayToArray, offset, transpose, grid_of, array_codec_of, describe, byte_document}
 use Rattle.zarr_model.proofs.GridLaws.{IsChunkShape, regular_grid-covers, first_index}
 use Rattle.zarr_model.proofs.ChainLaws.{decode_chain-counted, array_to_bytes-counted, offset-keeps_count, transpose-keeps_count}

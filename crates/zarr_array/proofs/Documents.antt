@@ -2,16 +2,15 @@
 use Rattle.std.proofs.Common.{◌≡◌, ℕ, List, [], ◌∷◌, ◌++◌, refl, codes}
 use Rattle.std.specs.Bool.{⊤}
 use Rattle.serde_json.proofs.OnLiterals.{serde_json_on_literals}
-use Rattle.zarr_model.specs.Key.{default_keys}
-use Rattle.zarr_model.specs.Codec.{little, big}
-use Rattle.zarrs_metadata_ext.specs.Reading.{object_or_empty, whole_numbers, is_number, is_text}
-use Rattle.zarrs_metadata_ext.specs.MetadataV3.{object_extension, extension_of, extensions_of}
+use Rattle.zarr_model.specs.Prelude.{default_keys, little, big}
+use Rattle.zarrs_metadata_parts.specs.Reading.{object_or_empty, whole_numbers, is_number, is_text}
+use Rattle.zarrs_metadata_parts.specs.MetadataV3.{object_extension, extension_of, extensions_of}
 use Rattle.zarrs_metadata.specs.AdditionalFields.{is_array_key}
-use Rattle.zarrs_metadata.specs.ArrayMetadata.{dimension_names, extensions_or_none, is_array, named_fields, required_fields, optional_fields, with_optional_fields, array_members}
+use Rattle.zarrs_metadata.specs.ArrayMetadata.{extensions_or_none, is_array, named_fields, required_fields, optional_fields, with_optional_fields, array_members}
+use Rattle.zarrs_metadata.specs.DimensionNames.{dimension_names}
 use Rattle.zarr_basics.specs.Configurations.{chunk_shape_in, given_separator, given_order}
 use Rattle.zarr_array.specs.Document.{ArrayDocument, byte_document}
-use Rattle.zarr_array.specs.Opening.{opened, not_opened, invalid_json, float_number, invalid_metadata, unsupported_field, plugin_unsupported, plugin_create, invalid_fill, chain_order, chunk_too_large}
-use Rattle.zarr_array.specs.Registered.{document_of, open_builtin}
+use Rattle.zarr_array.specs.Opening.{opened, not_opened, invalid_json, float_number, invalid_metadata, unsupported_field, plugin_unsupported, plugin_create, invalid_fill, chain_order, chunk_too_large, document_of, open_builtin}
 
 -- what opening a text computes by
 unfoldable pub opening : ⊤

@@ -2,17 +2,10 @@
 use Rattle.std.proofs.Common.{◌≡◌, ℕ, zero, suc, ◌-◌, ◌^◌, ◌≤◌, ◌&&◌, ◌||◌, ◌⊎◌, true, false, if◌then◌else◌, bytes_eq, List, [], ◌∷◌, slice_get, Option, Some, None, IsSome, is_some, refl, sym, ap, ◌∙◌, subst, arith, inl, inr, ⊎_elim}
 use Rattle.std.specs.List.{list_any}
 use Rattle.std.proofs.lemmas.Bool.{cases_Bool, cond-true, cond-false, true≢false, or_parts, or_from}
-use Rattle.zarr_model.specs.Grid.{IsChunk, CoversShape}
-use Rattle.zarr_model.specs.Codec.{Options}
-use Rattle.zarr_model.specs.Store.{Content, IsSound, box_content, chunk_content}
-use Rattle.zarr_model.specs.Command.{erase, Description, kind, layout, refusal, reply_of, array_of, after, answered_done, Matches}
-use Rattle.zarr_model.specs.Cost.{chunks_under, command_chunks, asks_store, is_among, present_in, present_under}
-use Rattle.zarr_model.specs.Causes.{erases_chunk, IsDamageMet, MeetsNoDamage, KeepsDamage, IsLeftAt}
-use Rattle.zarr_model.specs.Outside.{Rose, PutsKey, MayPutKey}
-use Rattle.zarr_model.specs.Session.{LeavesKeys, ServesWhole}
+use Rattle.zarr_model.specs.Prelude.{IsChunk, CoversShape, Options, Content, IsSound, box_content, chunk_content, Shown, erase, Description, kind, layout, refusal, reply_of, array_of, after, answered_done, Matches, chunks_under, command_chunks, asks_store, is_among, present_in, present_under, erases_chunk, IsDamageMet, MeetsNoDamage, KeepsDamage, IsLeftAt, Rose, PutsKey, MayPutKey, LeavesKeys, ServesWhole}
 use Rattle.zarr_model.proofs.FailureLaws.{same_bytes, bytes_eq-refl, listed_is_chunk, part_way-start, part_way-fails, erase-done}
 use Rattle.zarr_array.specs.declared.error.SessionErrorKind.TheVariants.{Store, OutOfMemory}
-use Rattle.zarr_array.specs.Ran.{HasRun}
+use Rattle.zarr_array.proofs.HasRun.{HasRun}
 use Rattle.zarr_array.specs.Session.{FailsAt}
 use Rattle.zarr_array.proofs.StepRuns.{command-starved}
 
@@ -89,46 +82,47 @@ module _ (description : Description) (covers : CoversShape description.shape des
           (erase-keys old new (MayPutKey-from old new (description.key chunk) None puts)).same_chunks other is_other none;
     }
 
-    -- an erase whose key is gone ran
-    pub erase-ran : (asks_old asks_new taken_old taken_new faults_old faults_new : ℕ) → asks_new ≡ asks_old → asks_old ≤ 2 ^ 64 - 1 → faults_old ≤ faults_new →
-        HasRun description options (erase chunk ∷ []) old new asks_old asks_new taken_old taken_new faults_old faults_new (answered_done ∷ [])
-    erase-ran asks_old asks_new taken_old taken_new faults_old faults_new asked fits later = record {
-      serves = erase-serves;
-      refusals = ap (λ why. why ∷ []) (sym accepted);
-      refused = λ all. absurd (true≢false (sym all ∙ ap (λ why. is_some why && true) accepted));
-      asks = omega (arith, asked, fits);
-      damage = KeepsDamage-erase;
-      met = MeetsNoDamage-erase description options chunk old;
-      later = later;
-    }
+  -- an erase whose key is gone ran
+  pub erase-ran : (before now : Shown) → PutsKey before.content now.content (description.key chunk) None → now.asks ≡ before.asks → before.asks ≤ 2 ^ 64 - 1 →
+      before.faults ≤ now.faults → HasRun description options (erase chunk ∷ []) before now (answered_done ∷ [])
+  erase-ran before now puts asked fits later = record {
+    serves = erase-serves before.content now.content puts;
+    refusals = ap (λ why. why ∷ []) (sym accepted);
+    refused = λ all. absurd (true≢false (sym all ∙ ap (λ why. is_some why && true) accepted));
+    asks = omega (arith, asked, fits);
+    damage = KeepsDamage-erase before.content now.content puts;
+    met = MeetsNoDamage-erase description options chunk before.content;
+    later = later;
+  }
 
-  -- the store failed in an erase: the chunk's key is old or absent
-  pub erase-fails : (old new : Content) (asks_old asks_new faults_old faults_new : ℕ) → MayPutKey old new (description.key chunk) None → Rose faults_old faults_new →
-      asks_new ≡ asks_old → asks_old ≤ 2 ^ 64 - 1 → FailsAt description options (erase chunk ∷ []) old new asks_old asks_new faults_old faults_new (Some (0, 0)) Store
-  erase-fails old new asks_old asks_new faults_old faults_new puts rose asked fits = record {
+  -- the store failed in an erase: the chunk's key is old.content or absent
+  pub erase-fails : (old new : Shown) → MayPutKey old.content new.content (description.key chunk) None → Rose old.faults new.faults →
+      new.asks ≡ old.asks → old.asks ≤ 2 ^ 64 - 1 → FailsAt description options (erase chunk ∷ []) old new (Some (0, 0)) Store
+  erase-fails old new puts rose asked fits = record {
     place = (erase chunk, refl, omega arith);
     asks = (erase chunk, refl, inl (omega (arith, asked, fits)));
+    keys = erase-keys old.content new.content puts;
     cause = (rose, refl, λ honest. left);
   }
     where
-      left : IsLeftAt description options (erase chunk ∷ []) old new true (Some (0, 0))
+      left : IsLeftAt description options (erase chunk ∷ []) old.content new.content true (Some (0, 0))
       left array meant = (
         erase chunk,
         refl,
-        part_way-fails description covers options sound (erase chunk) 0 chunk true array (after description (erase chunk) array) old new (ap (λ chunks. slice_get chunks 0) erase-listed)
-            (part_way-start description covers options sound (erase chunk) array old meant)
+        part_way-fails description covers options sound (erase chunk) 0 chunk true array (after description (erase chunk) array) old.content new.content (ap (λ chunks. slice_get chunks 0) erase-listed)
+            (part_way-start description covers options sound (erase chunk) array old.content meant)
             (⊎_elim
-            (λ (kept : new (description.key chunk) ≡ old (description.key chunk)). inl kept)
-            (λ (put : (new (description.key chunk) ≡ None) ⊎ (new (description.key chunk) ≡ None)). inr (inr (
+            (λ (kept : new.content (description.key chunk) ≡ old.content (description.key chunk)). inl kept)
+            (λ (put : (new.content (description.key chunk) ≡ None) ⊎ (new.content (description.key chunk) ≡ None)). inr (inr (
               refl,
               tt,
-              ⊎_elim (λ (gone : new (description.key chunk) ≡ None). gone) (λ (gone : new (description.key chunk) ≡ None). gone) put,
+              ⊎_elim (λ (gone : new.content (description.key chunk) ≡ None). gone) (λ (gone : new.content (description.key chunk) ≡ None). gone) put,
             )))
             puts.here)
             puts.others,
       )
 
 -- memory ran out before the call of an erase
-pub erase-starved : (description : Description) → CoversShape description.shape description.grid → (options : Options) (chunk : List ℕ) (store : Content) (asks faults : ℕ) → asks ≤ 2 ^ 64 - 1 →
-    FailsAt description options (erase chunk ∷ []) store store asks asks faults faults (Some (0, 0)) OutOfMemory
+pub erase-starved : (description : Description) → CoversShape description.shape description.grid → (options : Options) (chunk : List ℕ) (store : Shown) → store.asks ≤ 2 ^ 64 - 1 →
+    FailsAt description options (erase chunk ∷ []) store store (Some (0, 0)) OutOfMemory
 erase-starved description covers options chunk = command-starved description covers options (erase chunk)

@@ -14,6 +14,8 @@ pub mod OpenedLaws
 pub mod OpeningLaws
 pub mod PartWayLaws
 pub mod WriteLaws
+pub mod HasRun
 pub mod StepRuns
 pub mod EraseLaws
 pub mod ByteCommands
+pub mod RunsLaws

@@ -2,13 +2,7 @@
 use Rattle.std.proofs.Common.{◌≡◌, ℕ, ◌*◌, ◌<◌, Bool, true, false, ◌==◌, List, [], ◌∷◌, length, map, get_or, Some, None, IsSome, refl, sym, ap, ◌∙◌, subst, arith, if◌then◌else◌, eq-eqb, eqb-true}
 use Rattle.std.proofs.lemmas.List.{length-map, get_or-map, same_lists}
 use Rattle.std.proofs.lemmas.Bool.{cond-true}
-use Rattle.zarr_model.specs.Region.{Region, count, count_of, contains, tuples, place, tuple_at}
-use Rattle.zarr_model.specs.Element.{of_bytes, fixed}
-use Rattle.zarr_model.specs.ArrayBytes.{fixed_bytes, pieces, meaning}
-use Rattle.zarr_model.specs.Array.{Array, elements_in, written}
-use Rattle.zarr_model.specs.Key.{KeyEncoding}
-use Rattle.zarr_model.specs.Codec.{Options, ByteOrder, little, big, from_order}
-use Rattle.zarr_model.specs.Command.{layout}
+use Rattle.zarr_model.specs.Prelude.{Region, count, count_of, contains, tuples, place, tuple_at, of_bytes, fixed, fixed_bytes, pieces, meaning, Array, elements_in, written, KeyEncoding, Options, ByteOrder, little, big, from_order, layout}
 use Rattle.zarr_array.specs.Chunk.{byte_elements}
 use Rattle.zarr_array.specs.Document.{byte_document, describe}
 use Rattle.zarr_model.proofs.RegionLaws.{length-tuples, get_or-tuples}

@@ -5,38 +5,37 @@ use Rattle.std.specs.declared.num.NonZeroU64.{NonZeroU64}
 use Rattle.std.specs.Int.NonZero.{non_zero_u64_get}
 use Rattle.serde_json.specs.Data.{Data}
 use Rattle.serde_json.specs.Written.{has_float}
-use Rattle.zarr_model.specs.Codec.{ByteOrder}
+use Rattle.zarr_model.specs.Prelude.{ByteOrder}
 use Rattle.zarrs_plugin.specs.Registry.{Names}
-use Rattle.zarrs_metadata_ext.specs.MetadataV3.{extension_seen, extensions_seen}
-use Rattle.zarrs_metadata_ext.specs.Reading.{FailsBy as FailsToRead, from_json, or_invalid}
-use Rattle.zarrs_metadata_ext.specs.declared.v3.metadata.MetadataV3.{MetadataV3}
-use Rattle.zarrs_metadata_json.specs.declared.error.MetadataError.{MetadataError}
-use Rattle.zarrs_metadata_json.specs.declared.error.MetadataError.TheVariants.{InvalidJson, FloatNumber, InvalidMetadata, OutOfMemory}
+use Rattle.zarrs_metadata_parts.specs.MetadataV3.{extension_seen, extensions_seen}
+use Rattle.zarrs_metadata_parts.specs.Reading.{FailsBy as FailsToRead, from_json, or_invalid}
+use Rattle.zarrs_metadata_parts.specs.declared.v3.metadata.MetadataV3.{MetadataV3}
+use Rattle.zarrs_metadata_values.specs.declared.error.MetadataError.{MetadataError}
+use Rattle.zarrs_metadata_values.specs.declared.error.MetadataError.TheVariants.{InvalidJson, FloatNumber, InvalidMetadata, OutOfMemory}
 use Rattle.zarrs_metadata.specs.ArrayMetadata.{ArrayFields, array_of}
 use Rattle.zarr_basics.specs.RegularGrid.{nonzeros}
 use Rattle.zarr_basics.specs.Registries.{KnownNames}
 use Rattle.zarr_basics.specs.declared.registries.CodecKind.{CodecKind}
 use Rattle.zarr_array.specs.Document.{ArrayDocument}
-use Rattle.zarr_array.specs.Opening.{OpenRefusal, answer_of}
-use Rattle.zarr_array.specs.OpenArray.{open_refusal_of, documented, FailsBy, Opens, OpensAs, IsRefusedBy}
-use Rattle.zarr_array.specs.Refusing.{unread_as}
-use Rattle.zarr_array.specs.Registered.{◌>>=◌, codec_by, codecs_by, document_of, document_if, document_read}
+use Rattle.zarr_array.specs.Opening.{OpenRefusal, open_answer, ◌>>=◌, codec_by, codecs_by, document_of, document_if, document_read}
+use Rattle.zarr_array.specs.OpenError.{open_refusal_of, IsRefusedBy, unread_as}
+use Rattle.zarr_array.specs.OpenArray.{documented, StopsBy, Opens, OpensAs}
 use Rattle.zarr_array.specs.declared.open.OpenArray.{OpenArray}
 use Rattle.zarr_array.specs.declared.open_error.OpenError.{OpenError}
 
 -- a step that fails is the failure of all
-pub fails_after : {A B : Type 0} (why : Option OpenRefusal) (o : Result A OpenRefusal) (f : A → Result B OpenRefusal) → FailsBy why o → FailsBy why (o >>= f)
+pub fails_after : {A B : Type 0} (why : Option OpenRefusal) (o : Result A OpenRefusal) (f : A → Result B OpenRefusal) → StopsBy why o → StopsBy why (o >>= f)
 fails_after None o f fails = tt
 fails_after (Some why) o f fails = ap (λ r. r >>= f) fails
 
 -- an answer of opening from the last step
-pub opens_as : (result : Result OpenArray OpenError) (expected : Result ArrayDocument OpenRefusal) → Opens documented result expected → OpensAs result (answer_of expected)
-opens_as (Ok array) expected is = ap answer_of is
+pub opens_as : (result : Result OpenArray OpenError) (expected : Result ArrayDocument OpenRefusal) → Opens documented result expected → OpensAs result (open_answer expected)
+opens_as (Ok array) expected is = ap open_answer is
 opens_as (Err error) expected fails = refused (open_refusal_of error) expected fails
   where
-    refused : (why : Option OpenRefusal) (expected : Result ArrayDocument OpenRefusal) → FailsBy why expected → IsRefusedBy why (answer_of expected)
+    refused : (why : Option OpenRefusal) (expected : Result ArrayDocument OpenRefusal) → StopsBy why expected → IsRefusedBy why (open_answer expected)
     refused None expected fails = tt
-    refused (Some why) expected fails = ap answer_of fails
+    refused (Some why) expected fails = ap open_answer fails
 
 -- what is left to do with a document that was read
 abbrev fields_read : ArrayFields → Result ArrayFields MetadataError
@@ -56,7 +55,7 @@ read_fields names (Some d) fields is = value_read names (has_float d) (array_of 
 
 -- a document that was not read is refused by the same cause
 value_not_read : (names : KnownNames) (error : MetadataError) (float : Bool) (o : Option ArrayFields) → FailsToRead error (if float then Err FloatNumber else or_invalid o) →
-    FailsBy (open_refusal_of (unread_as error)) (document_if names float o)
+    StopsBy (open_refusal_of (unread_as error)) (document_if names float o)
 value_not_read names OutOfMemory float o fails = tt
 value_not_read names InvalidJson true o fails = absurd cc
 value_not_read names InvalidJson false None fails = absurd cc
@@ -68,7 +67,7 @@ value_not_read names InvalidMetadata true o fails = absurd cc
 value_not_read names InvalidMetadata false None fails = refl
 value_not_read names InvalidMetadata false (Some f) fails = absurd cc
 
-pub not_read : (names : KnownNames) (error : MetadataError) (o : Option Data) → FailsToRead error (from_json array_of o) → FailsBy (open_refusal_of (unread_as error)) (document_read names o)
+pub not_read : (names : KnownNames) (error : MetadataError) (o : Option Data) → FailsToRead error (from_json array_of o) → StopsBy (open_refusal_of (unread_as error)) (document_read names o)
 not_read names error (Some d) fails = value_not_read names error (has_float d) (array_of d) fails
 not_read names OutOfMemory None fails = tt
 not_read names InvalidJson None fails = refl
@@ -100,7 +99,7 @@ pub codecs_push : (names : Names CodecKind) (ms : List MetadataV3) (i : ℕ) (m 
 codecs_push names ms i m cs c lt is front here = rw add-one (more names ms i m cs c lt is front here)
 
 pub codecs_fail : (names : Names CodecKind) (ms : List MetadataV3) (i : ℕ) (m : MetadataV3) (cs : List (Option ByteOrder)) (why : Option OpenRefusal) → i < length ms → m ≡ get_or ms i m
-    → codecs_by names (extensions_seen (take i ms)) ≡ Ok cs → FailsBy why (codec_by names (extension_seen m)) → FailsBy why (codecs_by names (extensions_seen ms))
+    → codecs_by names (extensions_seen (take i ms)) ≡ Ok cs → StopsBy why (codec_by names (extension_seen m)) → StopsBy why (codecs_by names (extensions_seen ms))
 codecs_fail names [] i m cs why lt is front fails = absurd (omega arith)
 codecs_fail names (n ∷ ms) zero m cs why lt is front fails =
     fails_after why (codec_by names (extension_seen n)) (λ z. codecs_by names (extensions_seen ms) >>= λ zs. Ok (z ∷ zs)) (rw (← is) fails)

@@ -2,15 +2,11 @@
 use Rattle.std.proofs.Common.{◌≡◌, ℕ, zero, suc, ◌+◌, ◌<◌, Bool, true, false, if◌then◌else◌, List, [], ◌∷◌, length, map, get_or, slice_get, Some, refl, sym, ap, ap₂, ◌∙◌, subst, subst₂, arith, ⊎_elim}
 use Rattle.std.proofs.lemmas.Bool.{cases_Bool, cases_eq, cond-true, cond-false, true≢false}
 use Rattle.std.proofs.lemmas.List.{length-map, get_or-map, same_lists}
-use Rattle.zarr_model.specs.Region.{Region, count, contains, tuples, place, tuple_at, ends_within}
-use Rattle.zarr_model.specs.Array.{Array, elements_in}
-use Rattle.zarr_model.specs.Grid.{Grid, IsChunk, chunks_meeting, CoversShape}
+use Rattle.zarr_model.specs.Prelude.{Region, count, contains, tuples, place, tuple_at, ends_within, Array, elements_in, Grid, IsChunk, chunks_meeting, CoversShape, Element, of_bytes, Content, Layout, box_content, chunk_content}
 use Rattle.zarr_model.proofs.RegionLaws.{length-tuples, get_or-tuples, contains-tuple_at, place_below, tuple_at-place}
 use Rattle.zarr_model.proofs.ArrayLaws.{inside_shape}
 use Rattle.zarr_model.proofs.SessionLaws.{share_tuple-from}
 use Rattle.zarr_model.proofs.FailureLaws.{meets_at}
-use Rattle.zarr_model.specs.Element.{Element, of_bytes}
-use Rattle.zarr_model.specs.Store.{Content, Layout, box_content, chunk_content}
 use Rattle.zarr_array.specs.Chunk.{byte_elements}
 use Rattle.zarr_array.specs.Overlap.{Copied}
 

@@ -1,13 +1,7 @@
 -- The steps of reading a region.
 use Rattle.std.proofs.Common.{◌≡◌, ℕ, zero, suc, ◌+◌, ◌<◌, ◌≤◌, ◌⊎◌, true, List, [], ◌∷◌, length, get_or, slice_get, Some, sym, ap, ◌∙◌, subst, arith, inl, inr, ⊎_elim}
 use Rattle.std.proofs.lemmas.Option.{slice_get_within}
-use Rattle.zarr_model.specs.Region.{Region, count, tuples, tuple_at, ends_within}
-use Rattle.zarr_model.specs.Grid.{Grid, IsChunk, chunks_meeting, CoversShape}
-use Rattle.zarr_model.specs.Codec.{Options}
-use Rattle.zarr_model.specs.Store.{Content, IsSound, box_content, chunk_content}
-use Rattle.zarr_model.specs.Command.{Description, layout}
-use Rattle.zarr_model.specs.Cost.{counted}
-use Rattle.zarr_model.specs.Outside.{Rose}
+use Rattle.zarr_model.specs.Prelude.{Region, count, tuples, tuple_at, ends_within, Grid, IsChunk, chunks_meeting, CoversShape, Options, IsSound, box_content, chunk_content, Shown, Description, layout, counted, Rose}
 use Rattle.zarr_model.proofs.RegionLaws.{length-tuples, get_or-tuples}
 use Rattle.zarr_model.proofs.FailureLaws.{meeting_is}
 use Rattle.zarr_array.specs.declared.open.OpenArray.{OpenArray}
@@ -59,22 +53,22 @@ pub rose_later : (before mid now : ℕ) → before ≤ mid → Rose mid now → 
 rose_later before mid now later rose = omega (arith, rose)
 
 -- a chunk that could not be fetched stops the reading of its region
-pub stops_reading : (description : Description) (options : Options) (region : Region) (old mid : Content) (asks_old asks_mid asks_new faults_old faults_mid faults_new k : ℕ) (chunk : List ℕ) (kind : SessionErrorKind) →
+pub stops_reading : (description : Description) (options : Options) (region : Region) (k : ℕ) (old mid new : Shown) (chunk : List ℕ) (kind : SessionErrorKind) →
     slice_get (chunks_meeting description.grid region) k ≡ Some chunk → k ≤ length (chunks_meeting description.grid region) →
-    ((key : List ℕ) → mid key ≡ old key) → asks_mid ≡ counted asks_old k → ((asks_new ≡ asks_mid) ⊎ (asks_new ≡ counted asks_mid 1)) → faults_old ≤ faults_mid →
-    FailsToFetch (chunk_content (layout description options) mid chunk) (description.key chunk) faults_mid faults_new kind →
-    FailsToRead description options region old asks_old asks_new faults_old faults_new k kind
-stops_reading description options region old mid asks_old asks_mid asks_new faults_old faults_mid faults_new k chunk kind here few same asked more later fails = record {
+    ((key : List ℕ) → mid.content key ≡ old.content key) → mid.asks ≡ counted old.asks k → ((new.asks ≡ mid.asks) ⊎ (new.asks ≡ counted mid.asks 1)) → old.faults ≤ mid.faults →
+    FailsToFetch (chunk_content (layout description options) mid.content chunk) (description.key chunk) mid new kind →
+    FailsToRead description options region k old new kind
+stops_reading description options region k old mid new chunk kind here few same asked more later fails = record {
   few = few;
-  asks = ⊎_elim (λ (none : asks_new ≡ asks_mid). inl (none ∙ asked)) (λ (one : asks_new ≡ counted asks_mid 1). inr (slice_get_within (chunks_meeting description.grid region) k chunk here, counted_more asks_old asks_mid asks_new k 1 asked one)) more;
+  asks = ⊎_elim (λ (none : new.asks ≡ mid.asks). inl (none ∙ asked)) (λ (one : new.asks ≡ counted mid.asks 1). inr (slice_get_within (chunks_meeting description.grid region) k chunk here, counted_more old.asks mid.asks new.asks k 1 asked one)) more;
   cause = by_kind kind fails;
 }
   where
-    by_kind : (kind : SessionErrorKind) → FailsToFetch (chunk_content (layout description options) mid chunk) (description.key chunk) faults_mid faults_new kind →
-        HasReadCause description options region old k faults_old faults_new kind
+    by_kind : (kind : SessionErrorKind) → FailsToFetch (chunk_content (layout description options) mid.content chunk) (description.key chunk) mid new kind →
+        HasReadCause description options region k old new kind
     by_kind (NotOpened error) fails = fails
     by_kind (ChunkDecode key) fails = (chunk, here, sym fails.0, ap (box_content (layout description options) (description.grid.chunk_box chunk)) (sym (same (description.key chunk))) ∙ fails.1)
-    by_kind Store fails = rose_later faults_old faults_mid faults_new later fails
+    by_kind Store fails = rose_later old.faults mid.faults new.faults later fails
     by_kind OutOfMemory fails = tt
 
 pub ruleset of_regions = (served_region)

@@ -4,20 +4,16 @@ use Rattle.std.specs.List.{AllByRecursion, list_all}
 use Rattle.std.proofs.lemmas.Bool.{and_parts, and_from, leb-true, lt-ltb, false_from_ne_true}
 use Rattle.std.proofs.lemmas.Nat.{mul-le}
 use Rattle.std.proofs.Math.Nat.{div-add-mod', mul-le-mul_right}
-use Rattle.zarr_model.specs.Region.{Region, count, count_of, sizes, starts, whole, contains, is_in, ends_within}
-use Rattle.zarr_model.specs.Grid.{CoversShape, regular_grid, box_of_axes, regular_axes}
-use Rattle.zarr_model.specs.Codec.{Options, ByteOrder}
-use Rattle.zarr_model.specs.Store.{IsSound}
-use Rattle.zarr_model.specs.Command.{layout, is_too_large}
+use Rattle.zarr_model.specs.Prelude.{Region, count, count_of, sizes, starts, whole, contains, is_in, ends_within, CoversShape, regular_grid, box_of_axes, regular_axes, Options, ByteOrder, IsSound, layout, is_too_large}
 use Rattle.zarr_model.proofs.GridLaws.{IsChunkShape, regular_grid-covers, first_index}
 use Rattle.zarrs_array_subset.specs.Boxes.{is_box}
 use Rattle.zarr_array.specs.Document.{byte_document, describe}
-use Rattle.zarrs_metadata_ext.specs.declared.array.chunk_key_separator.ChunkKeySeparator.TheVariants.{Slash, Dot}
+use Rattle.zarrs_metadata_parts.specs.declared.array.chunk_key_separator.ChunkKeySeparator.TheVariants.{Slash, Dot}
 use Rattle.zarr_basics.specs.Configurations.{are_chunk_lengths}
 use Rattle.zarr_basics.specs.Keys.{keys_of}
 use Rattle.zarr_basics.specs.declared.chunk_key_encoding.ChunkKeyEncoding.{ChunkKeyEncoding}
 use Rattle.zarr_basics.specs.declared.chunk_key_encoding.ChunkKeyEncoding.TheVariants.{Default}
-use Rattle.zarr_array.specs.Registered.{are_within_limits, is_served}
+use Rattle.zarr_array.specs.Opening.{are_within_limits, is_served}
 use Rattle.zarr_array.proofs.DocumentLaws.{HasSeparator, regular_countable, describe-sound}
 
 small_lengths : (dims : List ℕ) → list_all (λ n. nat_le n 65535) dims ≡ true → AllByRecursion (λ n. n ≤ 2 ^ 64) dims

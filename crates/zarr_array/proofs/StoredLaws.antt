@@ -3,15 +3,7 @@ use Rattle.std.proofs.Common.{◌≡◌, ℕ, ◌<◌, ◌≤◌, ◌==◌, ◌&
 use Rattle.std.specs.List.{list_all}
 use Rattle.std.proofs.lemmas.Bool.{and_parts, and_from}
 use Rattle.std.proofs.lemmas.List.{length-map, get_or_default}
-use Rattle.zarr_model.specs.Region.{Region, count, sizes, contains, place, tuple_at}
-use Rattle.zarr_model.specs.Element.{Element, of_bytes, same_element}
-use Rattle.zarr_model.specs.Array.{Array, elements_in, written}
-use Rattle.zarr_model.specs.Key.{KeyEncoding}
-use Rattle.zarr_model.specs.Codec.{Options, ByteOrder}
-use Rattle.zarr_model.specs.Store.{Content, Layout, box_content, chunk_content}
-use Rattle.zarr_model.specs.Command.{Description, layout}
-use Rattle.zarr_model.specs.Failure.{ChunkHas}
-use Rattle.zarr_model.specs.Outside.{Rose, PutsKey, MayPutKey}
+use Rattle.zarr_model.specs.Prelude.{Region, count, sizes, contains, place, tuple_at, Element, of_bytes, same_element, Array, elements_in, written, KeyEncoding, Options, ByteOrder, Content, Layout, box_content, chunk_content, Shown, Description, layout, ChunkHas, Rose, PutsKey, MayPutKey}
 use Rattle.zarrs_storage.specs.Store.{IsFault}
 use Rattle.zarrs_storage.specs.declared.store.StorageError.{StorageError}
 use Rattle.zarrs_storage.specs.declared.store.StorageError.TheVariants as Storage
@@ -79,9 +71,9 @@ some_one : {A : Type 0} {a b : A} → Some a ≡ Some b → a ≡ b
 some_one e = cc
 
 -- a chunk of one-byte elements was fetched, a region's elements were put in, and it is to be stored
-module _ (keys : KeyEncoding) (order : ByteOrder) (shape chunk_shape : List ℕ) (fill : ℕ) (options : Options) (region box : Region) (chunk key elements part old value : List ℕ) (before : Content)
+module _ (keys : KeyEncoding) (order : ByteOrder) (shape chunk_shape : List ℕ) (fill : ℕ) (options : Options) (region box : Region) (chunk key elements part old value : List ℕ) (before : Shown)
     (whole : box ≡ (describe (byte_document keys order shape chunk_shape fill)).grid.chunk_box chunk) (its_key : key ≡ (describe (byte_document keys order shape chunk_shape fill)).key chunk)
-    (fetched : box_content (layout (describe (byte_document keys order shape chunk_shape fill)) options) box (before key) ≡ Some (byte_elements old))
+    (fetched : box_content (layout (describe (byte_document keys order shape chunk_shape fill)) options) box (before.content key) ≡ Some (byte_elements old))
     (long : length old ≡ count box) (elements_long : length elements ≡ count region) (part_is : part ≡ old) (copied : Copied box region elements part value) where
   abbrev description : Description
   description = describe (byte_document keys order shape chunk_shape fill)
@@ -89,14 +81,14 @@ module _ (keys : KeyEncoding) (order : ByteOrder) (shape chunk_shape : List ℕ)
   abbrev change : Array Element → Array Element
   change = written region (byte_elements elements)
 
-  was : (array : Array Element) → ChunkHas (layout description options) before array chunk → byte_elements old ≡ elements_in box array
+  was : (array : Array Element) → ChunkHas (layout description options) before.content array chunk → byte_elements old ≡ elements_in box array
   was array has =
-      some_one (sym fetched ∙ (ap₂ (λ b k. box_content (layout description options) b (before k)) whole its_key ∙ (has ∙ ap (λ b. Some (elements_in b array)) (sym whole))))
+      some_one (sym fetched ∙ (ap₂ (λ b k. box_content (layout description options) b (before.content k)) whole its_key ∙ (has ∙ ap (λ b. Some (elements_in b array)) (sym whole))))
 
   value_long : length value ≡ count box
   value_long = copied.as_long ∙ (ap length part_is ∙ long)
 
-  now_is : (array : Array Element) → ChunkHas (layout description options) before array chunk → byte_elements value ≡ elements_in box (change array)
+  now_is : (array : Array Element) → ChunkHas (layout description options) before.content array chunk → byte_elements value ≡ elements_in box (change array)
   now_is array has = put-elements region box elements old value array elements_long long (was array has) (subst (λ l. Copied box region elements l value) part_is copied)
 
   content_is : (after : Content) → after key ≡ stored_value options fill value → chunk_content (layout description options) after chunk ≡ Some (byte_elements value)
@@ -104,14 +96,14 @@ module _ (keys : KeyEncoding) (order : ByteOrder) (shape chunk_shape : List ℕ)
       ap₂ (λ b k. box_content (layout description options) b (after k)) (sym whole) (sym its_key)
       ∙ (ap (box_content (layout description options) box) is ∙ stored-content keys order shape chunk_shape fill options box value value_long)
 
-  has_now : (after : Content) (array : Array Element) → after key ≡ stored_value options fill value → ChunkHas (layout description options) before array chunk →
+  has_now : (after : Content) (array : Array Element) → after key ≡ stored_value options fill value → ChunkHas (layout description options) before.content array chunk →
       ChunkHas (layout description options) after (change array) chunk
   has_now after array is has = content_is after is ∙ ap Some (now_is array has ∙ ap (λ b. elements_in b (change array)) whole)
 
-  pub chunk-changed : (mid after : Content) → ((other : List ℕ) → mid other ≡ before other) → PutsKey mid after key (stored_value options fill value) →
-      ChangesChunk description options change chunk before after
+  pub chunk-changed : (mid after : Content) → ((other : List ℕ) → mid other ≡ before.content other) → PutsKey mid after key (stored_value options fill value) →
+      ChangesChunk description options change chunk before.content after
   chunk-changed mid after same puts = record {
-    decoded = subst IsSome (sym fetched ∙ ap₂ (λ b k. box_content (layout description options) b (before k)) whole its_key) refl;
+    decoded = subst IsSome (sym fetched ∙ ap₂ (λ b k. box_content (layout description options) b (before.content k)) whole its_key) refl;
     mended = subst IsSome (sym (content_is after puts.here)) refl;
     has = λ array filler has. has_now after array puts.here has;
     present = λ array filler has.
@@ -124,18 +116,19 @@ module _ (keys : KeyEncoding) (order : ByteOrder) (shape chunk_shape : List ℕ)
     others = λ other apart. puts.others other (λ e. apart (e ∙ its_key)) ∙ same other;
   }
 
-  pub chunk-stops : (mid after : Content) (error : StorageError) (faults_old faults_mid faults_now : ℕ) → ((other : List ℕ) → mid other ≡ before other) → MayPutKey mid after key (stored_value options fill value) →
-      (error ≡ Storage.OutOfMemory → (other : List ℕ) → after other ≡ mid other) → (IsFault error → Rose faults_mid faults_now) → faults_old ≤ faults_mid →
-      FailsToChange description options change chunk before after faults_old faults_now (storage_kind error)
-  chunk-stops mid after Storage.OutOfMemory faults_old faults_mid faults_now same puts memory rose later = λ other. memory refl other ∙ same other
-  chunk-stops mid after Storage.Failed faults_old faults_mid faults_now same puts memory rose later = (
+  pub chunk-stops : (mid now : Shown) (error : StorageError) → ((other : List ℕ) → mid.content other ≡ before.content other) →
+      MayPutKey mid.content now.content key (stored_value options fill value) →
+      (error ≡ Storage.OutOfMemory → (other : List ℕ) → now.content other ≡ mid.content other) → (IsFault error → Rose mid.faults now.faults) → before.faults ≤ mid.faults →
+      FailsToChange description options change chunk before now (storage_kind error)
+  chunk-stops mid now Storage.OutOfMemory same puts memory rose later = λ other. memory refl other ∙ same other
+  chunk-stops mid now Storage.Failed same puts memory rose later = (
     omega (arith, rose tt),
     record {
       here = λ array filler has. ⊎_elim
-          (λ (kept : after key ≡ mid key). inl (ap after (sym its_key) ∙ (kept ∙ (same key ∙ ap before its_key))))
-          (λ (other : (after key ≡ stored_value options fill value) ⊎ (after key ≡ None)). ⊎_elim
-          (λ (new : after key ≡ stored_value options fill value). inr (inl (has_now after array new has)))
-          (λ (gone : after key ≡ None). inr (inr (ap after (sym its_key) ∙ gone)))
+          (λ (kept : now.content key ≡ mid.content key). inl (ap now.content (sym its_key) ∙ (kept ∙ (same key ∙ ap before.content its_key))))
+          (λ (other : (now.content key ≡ stored_value options fill value) ⊎ (now.content key ≡ None)). ⊎_elim
+          (λ (new : now.content key ≡ stored_value options fill value). inr (inl (has_now now.content array new has)))
+          (λ (gone : now.content key ≡ None). inr (inr (ap now.content (sym its_key) ∙ gone)))
           other)
           puts.here;
       others = λ other apart. puts.others other (λ e. apart (e ∙ its_key)) ∙ same other;

@@ -3,24 +3,13 @@ use Rattle.std.proofs.Common.{◌≡◌, ℕ, zero, suc, ◌+◌, ◌<◌, ◌�
 use Rattle.std.proofs.lemmas.Bool.{cases_Bool, cond-true, cond-false, true≢false, or_parts}
 use Rattle.std.proofs.lemmas.List.Folds.{Any-from_list_any, list_any_at}
 use Rattle.std.proofs.lemmas.Option.{slice_get_within, slice_get-get_or, get_or_from_slice_get}
-use Rattle.zarr_model.specs.Region.{Region}
-use Rattle.zarr_model.specs.Element.{Element}
-use Rattle.zarr_model.specs.ArrayBytes.{ArrayBytes}
-use Rattle.zarr_model.specs.Array.{Array, written}
-use Rattle.zarr_model.specs.Grid.{IsChunk, chunks_meeting, CoversShape}
-use Rattle.zarr_model.specs.Codec.{Options}
-use Rattle.zarr_model.specs.Store.{Content, IsSound, WhollyMeans, chunk_content}
-use Rattle.zarr_model.specs.Command.{Command, write, Description, kind, layout, refusal, written_elements, reply_of, array_of, after, answered_done, Matches}
-use Rattle.zarr_model.specs.Cost.{chunks_under, command_chunks, is_among, is_blank, counted, present_in, present_under}
-use Rattle.zarr_model.specs.Failure.{ChunkHas, IsPartWay, IsCutShort}
-use Rattle.zarr_model.specs.Causes.{IsDamageMet, MeetsNoDamage, KeepsDamage, IsLeftAt}
-use Rattle.zarr_model.specs.Session.{LeavesKeys, ServesWhole}
+use Rattle.zarr_model.specs.Prelude.{Region, Element, ArrayBytes, Array, written, IsChunk, chunks_meeting, CoversShape, Options, Content, IsSound, WhollyMeans, chunk_content, Shown, Command, write, Description, kind, layout, refusal, written_elements, reply_of, array_of, after, answered_done, Matches, chunks_under, command_chunks, is_among, is_blank, counted, present_in, present_under, ChunkHas, IsPartWay, IsCutShort, IsDamageMet, MeetsNoDamage, KeepsDamage, IsLeftAt, LeavesKeys, ServesWhole}
 use Rattle.zarr_model.proofs.FailureLaws.{same_bytes, bytes_eq-refl, listed_is_chunk, chunks_under-once, part_way-end, part_way-fails}
 use Rattle.zarr_array.specs.declared.error.SessionErrorKind.{SessionErrorKind}
 use Rattle.zarr_array.specs.declared.error.SessionErrorKind.TheVariants.{NotOpened, ChunkDecode, Store, OutOfMemory}
 use Rattle.zarr_array.specs.Write.{StopsChunk}
 use Rattle.zarr_array.specs.PartWay.{ChangedSome, StopsBefore, FailsPartWay}
-use Rattle.zarr_array.specs.Ran.{HasRun}
+use Rattle.zarr_array.proofs.HasRun.{HasRun}
 use Rattle.zarr_array.specs.Session.{HasSessionCause, FailsAt}
 use Rattle.zarr_array.proofs.PartWayLaws.{content-same, changed-kept, changed-outside, met-chunks, met-once}
 
@@ -84,141 +73,141 @@ module _ (description : Description) (covers : CoversShape description.shape des
   in_command : (place : ℕ) (chunk : List ℕ) → slice_get (chunks_meeting description.grid region) place ≡ Some chunk → slice_get (command_chunks description (write region value)) place ≡ Some chunk
   in_command place chunk e = ap (λ chunks. slice_get chunks place) write-listed ∙ e
 
-  -- the first k chunks have the new array's elements, and the others the old one's
-  pub write-part_way : (k : ℕ) (old now : Content) (asks_old asks_now faults_old faults_now : ℕ) (array : Array Element) →
-      ChangedSome description options (write_change description region value) (chunks_meeting description.grid region) k old now asks_old asks_now faults_old faults_now → WhollyMeans (layout description options) old array →
-      IsPartWay description options (write region value) k array (after description (write region value) array) now
-  write-part_way k old now asks_old asks_now faults_old faults_now array changed meant = record {
-    finished = λ place chunk h e. subst (λ a. ChunkHas (layout description options) now a chunk) (sym (write-left array))
+  -- the first k chunks have the new.content array's elements, and the others the old.content one's
+  pub write-part_way : (k : ℕ) (old now : Shown) (array : Array Element) →
+      ChangedSome description options (write_change description region value) (chunks_meeting description.grid region) k old now → WhollyMeans (layout description options) old.content array →
+      IsPartWay description options (write region value) k array (after description (write region value) array) now.content
+  write-part_way k old now array changed meant = record {
+    finished = λ place chunk h e. subst (λ a. ChunkHas (layout description options) now.content a chunk) (sym (write-left array))
         (changed.has array place chunk meant.fill h (in_region place chunk e) (meant.each_chunk chunk (met-chunks description.grid region place chunk (in_region place chunk e))));
     others = λ chunk is_chunk apart.
-        content-same (layout description options) old now chunk
-        (changed-kept description options sound (write_change description region value) (chunks_meeting description.grid region) (met-chunks description.grid region) k old now asks_old asks_now faults_old faults_now chunk changed is_chunk
+        content-same (layout description options) old.content now.content chunk
+        (changed-kept description options sound (write_change description region value) (chunks_meeting description.grid region) (met-chunks description.grid region) k old now chunk changed is_chunk
         (λ place h e. apart place h (in_command place chunk e)))
         ∙ meant.each_chunk chunk is_chunk;
   }
 
   -- what is not among the write's chunks holds what it held
-  module _ (k : ℕ) (old now : Content) (asks_old asks_now faults_old faults_now : ℕ)
-      (changed : ChangedSome description options (write_change description region value) (chunks_meeting description.grid region) k old now asks_old asks_now faults_old faults_now) where
-    kept : (chunk : List ℕ) → IsChunk description.grid chunk → is_among (chunks_meeting description.grid region) chunk ≡ false → now (description.key chunk) ≡ old (description.key chunk)
-    kept chunk is_chunk outside = changed-kept description options sound (write_change description region value) (chunks_meeting description.grid region) (met-chunks description.grid region) k old now asks_old asks_now faults_old faults_now chunk
+  module _ (k : ℕ) (old now : Shown)
+      (changed : ChangedSome description options (write_change description region value) (chunks_meeting description.grid region) k old now) where
+    kept : (chunk : List ℕ) → IsChunk description.grid chunk → is_among (chunks_meeting description.grid region) chunk ≡ false → now.content (description.key chunk) ≡ old.content (description.key chunk)
+    kept chunk is_chunk outside = changed-kept description options sound (write_change description region value) (chunks_meeting description.grid region) (met-chunks description.grid region) k old now chunk
         changed is_chunk (λ place h. never-among (chunks_meeting description.grid region) chunk outside place)
 
-    pub write-keys : LeavesKeys description options (write region value ∷ []) old now
+    pub write-keys : LeavesKeys description options (write region value ∷ []) old.content now.content
     write-keys = record {
       same_chunks = λ chunk is_chunk none. kept chunk is_chunk
           (ap (λ chunks. is_among chunks chunk) (sym write-listed) ∙ (or_parts (is_among (command_chunks description (write region value)) chunk) false none).0);
       other_keys = λ key apart. changed-outside description options sound (write_change description region value) (chunks_meeting description.grid region) (met-chunks description.grid region) k old now
-          asks_old asks_now faults_old faults_now key changed (λ chunk is_chunk same. apart (chunk, is_chunk, same));
+          key changed (λ chunk is_chunk same. apart (chunk, is_chunk, same));
     }
 
-  module _ (old new : Content) (asks_old asks_new taken_old taken_new faults_old faults_new : ℕ)
-      (changed : ChangedSome description options (write_change description region value) (chunks_meeting description.grid region) (length (chunks_meeting description.grid region)) old new asks_old asks_new faults_old faults_new) where
+  module _ (old new : Shown)
+      (changed : ChangedSome description options (write_change description region value) (chunks_meeting description.grid region) (length (chunks_meeting description.grid region)) old new) where
     full : length (command_chunks description (write region value)) ≡ length (chunks_meeting description.grid region)
     full = ap length write-listed
 
     -- each of the write's chunks decoded, and decodes
-    decoded : (place : ℕ) (chunk : List ℕ) → slice_get (chunks_meeting description.grid region) place ≡ Some chunk → IsSome (chunk_content (layout description options) old chunk)
+    decoded : (place : ℕ) (chunk : List ℕ) → slice_get (chunks_meeting description.grid region) place ≡ Some chunk → IsSome (chunk_content (layout description options) old.content chunk)
     decoded place chunk e = changed.decoded place chunk (slice_get_within (chunks_meeting description.grid region) place chunk e) e
 
-    present : (array : Array Element) (chunk : List ℕ) → WhollyMeans (layout description options) old array → IsChunk description.grid chunk →
-        present_in description new chunk ≡ (if is_among (chunks_meeting description.grid region) chunk then options.store_empty_chunks || not (is_blank description (write_change description region value array) chunk) else present_in description old chunk)
+    present : (array : Array Element) (chunk : List ℕ) → WhollyMeans (layout description options) old.content array → IsChunk description.grid chunk →
+        present_in description new.content chunk ≡ (if is_among (chunks_meeting description.grid region) chunk then options.store_empty_chunks || not (is_blank description (write_change description region value array) chunk) else present_in description old.content chunk)
     present array chunk meant is_chunk = ⊎_elim
         (λ (inside : is_among (chunks_meeting description.grid region) chunk ≡ true).
         let (place, e) = at-among (chunks_meeting description.grid region) chunk inside in
         changed.present array place chunk meant.fill (slice_get_within (chunks_meeting description.grid region) place chunk e) e (meant.each_chunk chunk is_chunk)
         ∙ sym (cond-true (is_among (chunks_meeting description.grid region) chunk) _ _ inside))
         (λ (outside : is_among (chunks_meeting description.grid region) chunk ≡ false).
-        ap is_some (kept (length (chunks_meeting description.grid region)) old new asks_old asks_new faults_old faults_new changed chunk is_chunk outside)
+        ap is_some (kept (length (chunks_meeting description.grid region)) old new changed chunk is_chunk outside)
         ∙ sym (cond-false (is_among (chunks_meeting description.grid region) chunk) _ _ outside))
         (cases_Bool (is_among (chunks_meeting description.grid region) chunk))
 
-    pub write-serves : ServesWhole description options (write region value ∷ []) old new (answered_done ∷ [])
+    pub write-serves : ServesWhole description options (write region value ∷ []) old.content new.content (answered_done ∷ [])
     write-serves = record {
       answers_match = λ array meant. (subst (λ why. Matches (kind description) answered_done (reply_of why (write region value) array)) (sym accepted) tt, tt);
-      whole_chunks = λ array meant. part_way-end description covers options sound (write region value) array new meant.shape meant.fill
-          (subst (λ n. IsPartWay description options (write region value) n array (after description (write region value) array) new) (sym full)
-          (write-part_way (length (chunks_meeting description.grid region)) old new asks_old asks_new faults_old faults_new array changed meant));
+      whole_chunks = λ array meant. part_way-end description covers options sound (write region value) array new.content meant.shape meant.fill
+          (subst (λ n. IsPartWay description options (write region value) n array (after description (write region value) array) new.content) (sym full)
+          (write-part_way (length (chunks_meeting description.grid region)) old new array changed meant));
       presence = λ array chunk meant is_chunk. subst
-          (λ why. present_in description new chunk ≡ present_under description options why (write region value) (array_of description why (write region value) array) (present_in description old) chunk)
+          (λ why. present_in description new.content chunk ≡ present_under description options why (write region value) (array_of description why (write region value) array) (present_in description old.content) chunk)
           (sym accepted) (present array chunk meant is_chunk);
-      keys = write-keys (length (chunks_meeting description.grid region)) old new asks_old asks_new faults_old faults_new changed;
+      keys = write-keys (length (chunks_meeting description.grid region)) old new changed;
     }
 
-    write-damage : KeepsDamage description options (write region value ∷ []) old new
+    write-damage : KeepsDamage description options (write region value ∷ []) old.content new.content
     write-damage = record {
       each = λ chunk is_chunk. ⊎_elim
           (λ (inside : is_among (chunks_meeting description.grid region) chunk ≡ true).
           let (place, e) = at-among (chunks_meeting description.grid region) chunk inside in
           inl (changed.mended place chunk (slice_get_within (chunks_meeting description.grid region) place chunk e) e))
           (λ (outside : is_among (chunks_meeting description.grid region) chunk ≡ false).
-          inr (kept (length (chunks_meeting description.grid region)) old new asks_old asks_new faults_old faults_new changed chunk is_chunk outside, refl))
+          inr (kept (length (chunks_meeting description.grid region)) old new changed chunk is_chunk outside, refl))
           (cases_Bool (is_among (chunks_meeting description.grid region) chunk));
       stands = λ chunk is_chunk damaged none. ⊎_elim
           (λ (inside : is_among (chunks_meeting description.grid region) chunk ≡ true).
           let (place, e) = at-among (chunks_meeting description.grid region) chunk inside in
           absurd (true≢false (sym (subst IsSome damaged (decoded place chunk e)))))
           (λ (outside : is_among (chunks_meeting description.grid region) chunk ≡ false).
-          kept (length (chunks_meeting description.grid region)) old new asks_old asks_new faults_old faults_new changed chunk is_chunk outside)
+          kept (length (chunks_meeting description.grid region)) old new changed chunk is_chunk outside)
           (cases_Bool (is_among (chunks_meeting description.grid region) chunk));
     }
 
     -- a write all of whose chunks were changed ran
-    pub write-ran : HasRun description options (write region value ∷ []) old new asks_old asks_new taken_old taken_new faults_old faults_new (answered_done ∷ [])
+    pub write-ran : HasRun description options (write region value ∷ []) old new (answered_done ∷ [])
     write-ran = record {
       serves = write-serves;
       refusals = ap (λ why. why ∷ []) (sym accepted);
       refused = λ all. absurd (true≢false (sym all ∙ ap (λ why. is_some why && true) accepted));
       asks = omega (arith, changed.asks, full);
       damage = write-damage;
-      met = MeetsNoDamage-write description options region value old (λ place chunk e. decoded place chunk (in_region place chunk e));
+      met = MeetsNoDamage-write description options region value old.content (λ place chunk e. decoded place chunk (in_region place chunk e));
       later = changed.later;
     }
 
   -- a write that failed with k of its chunks changed
-  module _ (k : ℕ) (old new : Content) (asks_old asks_new faults_old faults_new : ℕ) (kind : SessionErrorKind)
-      (fails : FailsPartWay description options (write_change description region value) (chunks_meeting description.grid region) k old new asks_old asks_new faults_old faults_new kind) where
+  module _ (k : ℕ) (old new : Shown) (kind : SessionErrorKind)
+      (fails : FailsPartWay description options (write_change description region value) (chunks_meeting description.grid region) k old new kind) where
     -- the next chunk holds what it held at the start
-    next_kept : (chunk : List ℕ) → slice_get (chunks_meeting description.grid region) k ≡ Some chunk → fails.mid (description.key chunk) ≡ old (description.key chunk)
+    next_kept : (chunk : List ℕ) → slice_get (chunks_meeting description.grid region) k ≡ Some chunk → fails.mid.content (description.key chunk) ≡ old.content (description.key chunk)
     next_kept chunk here = changed-kept description options sound (write_change description region value) (chunks_meeting description.grid region) (met-chunks description.grid region) k old fails.mid
-        asks_old fails.asks_mid faults_old fails.faults_mid chunk fails.changed (met-chunks description.grid region k chunk here)
+        chunk fails.changed (met-chunks description.grid region k chunk here)
         (λ place h e. let same : place ≡ k = met-once description region place k chunk e here in absurd (omega (arith, h, same)))
 
     -- the array before and the one after, at the last finished chunk
-    part_way : (array : Array Element) → WhollyMeans (layout description options) old array →
-        IsPartWay description options (write region value) k array (after description (write region value) array) fails.mid
-    part_way array meant = write-part_way k old fails.mid asks_old fails.asks_mid faults_old fails.faults_mid array fails.changed meant
+    part_way : (array : Array Element) → WhollyMeans (layout description options) old.content array →
+        IsPartWay description options (write region value) k array (after description (write region value) array) fails.mid.content
+    part_way array meant = write-part_way k old fails.mid array fails.changed meant
 
     few : k ≤ length (command_chunks description (write region value))
     few = subst (λ chunks. k ≤ length chunks) (sym write-listed) fails.few
 
     -- with the store as the last finished chunk left it
-    stays : ((key : List ℕ) → new key ≡ fails.mid key) → IsLeftAt description options (write region value ∷ []) old new false (Some (0, k))
+    stays : ((key : List ℕ) → new.content key ≡ fails.mid.content key) → IsLeftAt description options (write region value ∷ []) old.content new.content false (Some (0, k))
     stays same array meant =
-        (write region value, refl, part_way-stays description covers options (write region value) k false array (after description (write region value) array) fails.mid new few (part_way array meant) same)
+        (write region value, refl, part_way-stays description covers options (write region value) k false array (after description (write region value) array) fails.mid.content new.content few (part_way array meant) same)
 
-    -- with the next chunk old, new or absent
-    stopped : (chunk : List ℕ) → slice_get (chunks_meeting description.grid region) k ≡ Some chunk → StopsChunk description options (write_change description region value) chunk fails.mid new →
-        IsLeftAt description options (write region value ∷ []) old new true (Some (0, k))
+    -- with the next chunk old.content, new.content or absent
+    stopped : (chunk : List ℕ) → slice_get (chunks_meeting description.grid region) k ≡ Some chunk → StopsChunk description options (write_change description region value) chunk fails.mid.content new.content →
+        IsLeftAt description options (write region value ∷ []) old.content new.content true (Some (0, k))
     stopped chunk here stops array meant = (
       write region value,
       refl,
-      part_way-fails description covers options sound (write region value) k chunk true array (after description (write region value) array) fails.mid new (in_command k chunk here) (part_way array meant)
+      part_way-fails description covers options sound (write region value) k chunk true array (after description (write region value) array) fails.mid.content new.content (in_command k chunk here) (part_way array meant)
           (⊎_elim
-          (λ (held : new (description.key chunk) ≡ fails.mid (description.key chunk)). inl held)
-          (λ (rest : ChunkHas (layout description options) new (write_change description region value array) chunk ⊎ (new (description.key chunk) ≡ None)). ⊎_elim
-          (λ (has : ChunkHas (layout description options) new (write_change description region value array) chunk).
-          inr (inl (subst (λ a. ChunkHas (layout description options) new a chunk) (sym (write-left array)) has)))
-          (λ (gone : new (description.key chunk) ≡ None). inr (inr (refl, tt, gone)))
+          (λ (held : new.content (description.key chunk) ≡ fails.mid.content (description.key chunk)). inl held)
+          (λ (rest : ChunkHas (layout description options) new.content (write_change description region value array) chunk ⊎ (new.content (description.key chunk) ≡ None)). ⊎_elim
+          (λ (has : ChunkHas (layout description options) new.content (write_change description region value array) chunk).
+          inr (inl (subst (λ a. ChunkHas (layout description options) new.content a chunk) (sym (write-left array)) has)))
+          (λ (gone : new.content (description.key chunk) ≡ None). inr (inr (refl, tt, gone)))
           rest)
           (stops.here array meant.fill
-          (content-same (layout description options) old fails.mid chunk (next_kept chunk here) ∙ meant.each_chunk chunk (met-chunks description.grid region k chunk here))))
+          (content-same (layout description options) old.content fails.mid.content chunk (next_kept chunk here) ∙ meant.each_chunk chunk (met-chunks description.grid region k chunk here))))
           stops.others,
     )
 
-    write-cause : (kind : SessionErrorKind) → StopsBefore description options (write_change description region value) (chunks_meeting description.grid region) k fails.mid new fails.faults_mid faults_new kind →
-        HasSessionCause description options (write region value ∷ []) old new faults_old faults_new (Some (0, k)) kind
+    write-cause : (kind : SessionErrorKind) → StopsBefore description options (write_change description region value) (chunks_meeting description.grid region) k fails.mid new kind →
+        HasSessionCause description options (write region value ∷ []) old new (Some (0, k)) kind
     write-cause (NotOpened error) (inl (memory, same)) = let none : NotOpened error ≡ OutOfMemory = memory in cc
     write-cause (NotOpened error) (inr (chunk, here, never)) = never
     write-cause (ChunkDecode key) (inl (memory, same)) = let none : ChunkDecode key ≡ OutOfMemory = memory in cc
@@ -229,42 +218,27 @@ module _ (description : Description) (covers : CoversShape description.shape des
       chunk,
       in_command k chunk here,
       its_key,
-      same key ∙ subst (λ key. fails.mid key ≡ old key) its_key (next_kept chunk here),
+      same key ∙ subst (λ key. fails.mid.content key ≡ old.content key) its_key (next_kept chunk here),
       refl,
-      sym (content-same (layout description options) old fails.mid chunk (next_kept chunk here)) ∙ damaged,
+      sym (content-same (layout description options) old.content fails.mid.content chunk (next_kept chunk here)) ∙ damaged,
     )
     write-cause Store (inl (memory, same)) = let none : Store ≡ OutOfMemory = memory in cc
     write-cause Store (inr (chunk, here, (rose, stops))) = (omega (arith, rose, fails.changed.later), refl, λ honest. stopped chunk here stops)
     write-cause OutOfMemory (inl (memory, same)) = λ honest. stays same
     write-cause OutOfMemory (inr (chunk, here, same)) = λ honest. stays same
 
-    pub write-fails : FailsAt description options (write region value ∷ []) old new asks_old asks_new faults_old faults_new (Some (0, k)) kind
-    write-fails = record {
-      place = (write region value, refl, few);
-      asks = (
-        write region value,
-        refl,
-        ⊎_elim
-            (λ (done : asks_new ≡ counted asks_old k). inl (omega (arith, done)))
-            (λ (next : (k < length (chunks_meeting description.grid region)) × (asks_new ≡ counted asks_old (k + 1))).
-            inr (subst (λ chunks. k < length chunks) (sym write-listed) next.0, omega (arith, next.1)))
-            fails.asks,
-      );
-      cause = write-cause kind fails.stops;
-    }
-
     -- the keys that such a write leaves
-    only_next : (kind : SessionErrorKind) → StopsBefore description options (write_change description region value) (chunks_meeting description.grid region) k fails.mid new fails.faults_mid faults_new kind →
-        (key : List ℕ) → ((chunk : List ℕ) → slice_get (chunks_meeting description.grid region) k ≡ Some chunk → ¬ (key ≡ description.key chunk)) → new key ≡ fails.mid key
+    only_next : (kind : SessionErrorKind) → StopsBefore description options (write_change description region value) (chunks_meeting description.grid region) k fails.mid new kind →
+        (key : List ℕ) → ((chunk : List ℕ) → slice_get (chunks_meeting description.grid region) k ≡ Some chunk → ¬ (key ≡ description.key chunk)) → new.content key ≡ fails.mid.content key
     only_next kind (inl (memory, same)) key apart = same key
     only_next (NotOpened error) (inr (chunk, here, never)) key apart = absurd never
     only_next (ChunkDecode own) (inr (chunk, here, (its_key, damaged, same))) key apart = same key
     only_next Store (inr (chunk, here, (rose, stops))) key apart = stops.others key (apart chunk here)
     only_next OutOfMemory (inr (chunk, here, same)) key apart = same key
 
-    pub write-fails-keys : LeavesKeys description options (write region value ∷ []) old new
+    pub write-fails-keys : LeavesKeys description options (write region value ∷ []) old.content new.content
     write-fails-keys =
-        let before = write-keys k old fails.mid asks_old fails.asks_mid faults_old fails.faults_mid fails.changed in
+        let before = write-keys k old fails.mid fails.changed in
         record {
           same_chunks = λ chunk is_chunk none.
               only_next kind fails.stops (description.key chunk) (λ next here same.
@@ -276,3 +250,19 @@ module _ (description : Description) (covers : CoversShape description.shape des
               only_next kind fails.stops key (λ next here same. apart (next, met-chunks description.grid region k next here, sym same))
               ∙ before.other_keys key apart;
         }
+
+    pub write-fails : FailsAt description options (write region value ∷ []) old new (Some (0, k)) kind
+    write-fails = record {
+      place = (write region value, refl, few);
+      asks = (
+        write region value,
+        refl,
+        ⊎_elim
+            (λ (done : new.asks ≡ counted old.asks k). inl (omega (arith, done)))
+            (λ (next : (k < length (chunks_meeting description.grid region)) × (new.asks ≡ counted old.asks (k + 1))).
+            inr (subst (λ chunks. k < length chunks) (sym write-listed) next.0, omega (arith, next.1)))
+            fails.asks,
+      );
+      keys = write-fails-keys;
+      cause = write-cause kind fails.stops;
+    }

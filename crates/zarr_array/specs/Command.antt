@@ -1,6 +1,6 @@
 -- What commands, replies and refusals stand for in the model of an array.
 use Rattle.zarr_model.specs.Command as Model
-use Rattle.zarr_model.specs.ArrayBytes.{fixed_bytes}
+use Rattle.zarr_model.specs.Prelude.{fixed_bytes}
 use Rattle.zarrs_array_subset.specs.ArraySubset.{region}
 use Rattle.zarr_array.specs.declared.command.Command.{Command}
 use Rattle.zarr_array.specs.declared.command.Command.TheVariants.{Read, Write, Erase}

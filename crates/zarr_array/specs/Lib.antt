@@ -1,7 +1,6 @@
 pub mod Document
 pub mod Opening
-pub mod Registered
-pub mod Refusing
+pub mod OpenError
 pub mod OpenArray
 pub mod Overlap
 pub mod Command
@@ -11,5 +10,6 @@ pub mod Session
 pub mod Read
 pub mod Write
 pub mod PartWay
-pub mod Ran
 pub mod CommandError
+pub mod Ended
+pub mod Runs

@@ -1,42 +1,53 @@
 -- What changing some chunks, one after another, does to a store.
 use Rattle.std.specs.Prelude.{◌≡◌, ◌+◌, ◌<◌, ◌≤◌, ◌||◌, ◌⊎◌, not, ℕ, List, length, slice_get, Some, IsSome}
-use Rattle.zarr_model.specs.Element.{Element}
-use Rattle.zarr_model.specs.Array.{Array}
-use Rattle.zarr_model.specs.Codec.{Options}
-use Rattle.zarr_model.specs.Store.{Content, chunk_content}
-use Rattle.zarr_model.specs.Command.{Description, layout}
-use Rattle.zarr_model.specs.Cost.{counted, present_in, is_blank}
-use Rattle.zarr_model.specs.Failure.{ChunkHas}
+use Rattle.zarr_model.specs.Prelude.{Element, Array, Options, chunk_content, Shown, Description, layout, counted, present_in, is_blank, ChunkHas}
 use Rattle.zarr_array.specs.declared.error.SessionErrorKind.{SessionErrorKind}
 use Rattle.zarr_array.specs.declared.error.SessionErrorKind.TheVariants.{OutOfMemory}
 use Rattle.zarr_array.specs.Write.{FailsToChange}
 
 -- the first k of some chunks were changed, with one reading call for each, and no other key was
-pub record ChangedSome (description : Description) (options : Options) (change : Array Element → Array Element) (chunks : List (List ℕ)) (k : ℕ) (old now : Content) (asks_old asks_now faults_old faults_now : ℕ) : Type 0 where
-  pub decoded : (place : ℕ) (chunk : List ℕ) → place < k → slice_get chunks place ≡ Some chunk → IsSome (chunk_content (layout description options) old chunk)
-  pub mended : (place : ℕ) (chunk : List ℕ) → place < k → slice_get chunks place ≡ Some chunk → IsSome (chunk_content (layout description options) now chunk)
-  pub has : (array : Array Element) (place : ℕ) (chunk : List ℕ) → array.fill ≡ description.fill → place < k → slice_get chunks place ≡ Some chunk →
-      ChunkHas (layout description options) old array chunk → ChunkHas (layout description options) now (change array) chunk
-  pub present : (array : Array Element) (place : ℕ) (chunk : List ℕ) → array.fill ≡ description.fill → place < k → slice_get chunks place ≡ Some chunk →
-      ChunkHas (layout description options) old array chunk →
-      present_in description now chunk ≡ (options.store_empty_chunks || not (is_blank description (change array) chunk))
-  pub others : (key : List ℕ) → ((place : ℕ) (chunk : List ℕ) → place < k → slice_get chunks place ≡ Some chunk → ¬ (key ≡ description.key chunk)) → now key ≡ old key
-  pub asks : asks_now ≡ counted asks_old k
-  pub later : faults_old ≤ faults_now
+pub record ChangedSome (description : Description) (options : Options) (change : Array Element →
+    Array Element)
+    (chunks : List (List ℕ)) (k : ℕ) (before now : Shown) : Type 0 where
+  pub decoded : (place : ℕ) (chunk : List ℕ) → place < k → slice_get chunks place ≡ Some chunk →
+      IsSome (chunk_content (layout description options) before.content chunk)
+  pub mended : (place : ℕ) (chunk : List ℕ) → place < k → slice_get chunks place ≡ Some chunk →
+      IsSome (chunk_content (layout description options) now.content chunk)
+  pub has : (array : Array Element) (place : ℕ) (chunk : List ℕ) → array.fill ≡ description.fill →
+      place < k →
+      slice_get chunks place ≡ Some chunk →
+      ChunkHas (layout description options) before.content array chunk →
+      ChunkHas (layout description options) now.content (change array) chunk
+  pub present : (array : Array Element) (place : ℕ) (chunk : List ℕ) →
+      array.fill ≡ description.fill → place < k →
+      slice_get chunks place ≡ Some chunk →
+      ChunkHas (layout description options) before.content array chunk →
+      present_in description now.content chunk
+      ≡ (options.store_empty_chunks || not (is_blank description (change array) chunk))
+  pub others : (key : List ℕ) → ((place : ℕ) (chunk : List ℕ) → place < k →
+      slice_get chunks place ≡ Some chunk →
+      ¬ (key ≡ description.key chunk)) → now.content key ≡ before.content key
+  pub asks : now.asks ≡ counted before.asks k
+  pub later : before.faults ≤ now.faults
 
 -- why the next chunk after k was not changed: memory ran out before it, or it could not be changed
-abbrev pub StopsBefore : Description → Options → (Array Element → Array Element) → List (List ℕ) → ℕ → Content → Content → ℕ → ℕ → SessionErrorKind → Type 0
-StopsBefore description options change chunks k old new faults_before faults_now kind =
-    ((kind ≡ OutOfMemory) × ((key : List ℕ) → new key ≡ old key))
-    ⊎ ((chunk : List ℕ) × (slice_get chunks k ≡ Some chunk) × FailsToChange description options change chunk old new faults_before faults_now kind)
+abbrev pub StopsBefore : Description → Options → (Array Element → Array Element) → List (List ℕ) →
+    ℕ → Shown → Shown →
+    SessionErrorKind → Type 0
+StopsBefore description options change chunks k before now kind =
+    ((kind ≡ OutOfMemory) × ((key : List ℕ) → now.content key ≡ before.content key))
+    ⊎ ((chunk : List ℕ) × (slice_get chunks k ≡ Some chunk)
+    × FailsToChange description options change chunk before now kind)
 
 -- changing some chunks failed with k of them done
-pub record FailsPartWay (description : Description) (options : Options) (change : Array Element → Array Element) (chunks : List (List ℕ)) (k : ℕ) (old new : Content) (asks_old asks_new faults_old faults_new : ℕ) (kind : SessionErrorKind) : Type 0 where
-  pub mid : Content
-  pub asks_mid : ℕ
-  pub faults_mid : ℕ
+pub record FailsPartWay (description : Description) (options : Options) (change : Array Element →
+    Array Element)
+    (chunks : List (List ℕ)) (k : ℕ) (before now : Shown) (kind : SessionErrorKind) : Type 0 where
+  -- the store once these were changed
+  pub mid : Shown
   pub few : k ≤ length chunks
-  pub changed : ChangedSome description options change chunks k old mid asks_old asks_mid faults_old faults_mid
-  pub stops : StopsBefore description options change chunks k mid new faults_mid faults_new kind
-  pub asks : (asks_new ≡ counted asks_old k) ⊎ ((k < length chunks) × (asks_new ≡ counted asks_old (k + 1)))
-  pub later : faults_mid ≤ faults_new
+  pub changed : ChangedSome description options change chunks k before mid
+  pub stops : StopsBefore description options change chunks k mid now kind
+  pub asks : (now.asks ≡ counted before.asks k)
+      ⊎ ((k < length chunks) × (now.asks ≡ counted before.asks (k + 1)))
+  pub later : mid.faults ≤ now.faults

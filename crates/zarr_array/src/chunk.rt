@@ -2,12 +2,7 @@
 
 ghost use Rattle.std.specs.Prelude.{◌≡◌, ◌<◌, ◌^◌, ◌==◌, ℕ, List, true, length, replicate, IfOk, IfSome, OnOk, OnErr, IsErrOf, Some, option_map};
 ghost use Rattle.std.specs.List.{list_all};
-ghost use Rattle.zarr_model.specs.Region.{count, sizes, tuples, tuple_at, ends_within};
-ghost use Rattle.zarr_model.specs.Grid.{IsChunk, chunks_meeting};
-ghost use Rattle.zarr_model.specs.Store.{box_content};
-ghost use Rattle.zarr_model.specs.Command.{layout};
-ghost use Rattle.zarr_model.specs.Cost.{counted};
-ghost use Rattle.zarr_model.specs.Outside.{HasCause, PutsKey, MayPutKey};
+ghost use Rattle.zarr_model.specs.Prelude.{count, sizes, tuples, tuple_at, ends_within, IsChunk, chunks_meeting, box_content, layout, counted, HasCause, PutsKey, MayPutKey};
 ghost use Rattle.zarrs_array_subset.specs.ArraySubset.{region};
 ghost use Rattle.zarr_array.specs.Options.{options_of};
 ghost use Rattle.zarrs_storage.specs.Store.{IsFault};
@@ -62,7 +57,8 @@ impl OpenArray {
         subset: &ArraySubset,
     ) -> Result<ArraySubset, AllocError>
         requires inside { ends_within (region subset.now) (described self.now).shape ≡ true }
-        ensures chunks { IfOk result (λ chunks. tuples (region chunks) ≡ chunks_meeting (described self.now).grid (region subset.now)) }
+        ensures chunks { IfOk result (λ chunks.
+            tuples (region chunks) ≡ chunks_meeting (described self.now).grid (region subset.now)) }
         ensures few { IfOk result (λ chunks. count (region chunks) < 2 ^ 64) }
     {
         let chunks = self.grid.chunks_in_array_subset(alloc, subset)?;
@@ -77,7 +73,8 @@ impl OpenArray {
         chunk_indices: &[u64],
     ) -> Result<ArraySubset, AllocError>
         requires { IsChunk (described self.now).grid chunk_indices.now }
-        ensures whole { IfOk result (λ subset. region subset ≡ (described self.now).grid.chunk_box chunk_indices.now) }
+        ensures whole { IfOk result (λ subset.
+            region subset ≡ (described self.now).grid.chunk_box chunk_indices.now) }
         ensures few { IfOk result (λ subset. count (region subset) < 2 ^ 64) }
     {
         let subset = self.grid.subset(alloc, chunk_indices)?;
@@ -105,7 +102,9 @@ impl OpenArray {
         _options: &CodecOptions,
     ) -> Option<Vec<u8>>
         requires few { count (region subset.now) < 2 ^ 64 }
-        ensures elements { option_map (λ v. byte_elements v.items) result ≡ (layout (described self.now) (options_of _options.now)).decode (sizes (region subset.now)) value.items }
+        ensures elements { option_map (λ v. byte_elements v.items) result
+            ≡ (layout (described self.now) (options_of _options.now)).decode
+            (sizes (region subset.now)) value.items }
         ensures as_long { IfSome result (λ v. length v.items ≡ count (region subset.now)) }
     {
         if value.len() as u64 == subset.num_elements() {
@@ -127,11 +126,16 @@ impl OpenArray {
         options: &CodecOptions,
     ) -> Result<Option<Vec<u8>>, StorageError>
         requires few { count (region subset.now) < 2 ^ 64 }
-        ensures elements { IfOk result (λ elements. option_map (λ v. byte_elements v.items) elements ≡ box_content (layout (described self.now) (options_of options.now)) (region subset.now) (S.content store.old key.now)) }
-        ensures as_long { IfOk result (λ elements. IfSome elements (λ v. length v.items ≡ count (region subset.now))) }
-        ensures same { (other : List ℕ) → S.content store.new other ≡ S.content store.old other }
-        ensures asks { S.ask_count store.new ≡ counted (S.ask_count store.old) 1 }
-        ensures cause { HasCause IsFault (S.fault_count store.old) (S.fault_count store.new) result }
+        ensures elements { IfOk result (λ elements. option_map (λ v. byte_elements v.items) elements
+            ≡ box_content (layout (described self.now) (options_of options.now)) (region subset.now)
+            ((S.shown store.old).content key.now)) }
+        ensures as_long { IfOk result (λ elements.
+            IfSome elements (λ v. length v.items ≡ count (region subset.now))) }
+        ensures same { (other : List ℕ) → (S.shown store.new).content other
+            ≡ (S.shown store.old).content other }
+        ensures asks { (S.shown store.new).asks ≡ counted (S.shown store.old).asks 1 }
+        ensures cause { HasCause IsFault (S.shown store.old).faults (S.shown store.new).faults
+            result }
     {
         match store.get(alloc, key) {
             Ok(Some(value)) => Ok(self.decode_chunk(value, subset, options)),
@@ -156,11 +160,18 @@ impl OpenArray {
         store: &mut S,
         options: &CodecOptions,
     ) -> Result<(), StorageError>
-        ensures ok { OnOk result (PutsKey (S.content store.old) (S.content store.new) key.now (stored_value (options_of options.now) self.now.fill elements.now)) }
-        ensures failed { OnErr result (MayPutKey (S.content store.old) (S.content store.new) key.now (stored_value (options_of options.now) self.now.fill elements.now)) }
-        ensures memory { IsErrOf result StorageError.OutOfMemory → (other : List ℕ) → S.content store.new other ≡ S.content store.old other }
-        ensures asks { S.ask_count store.new ≡ S.ask_count store.old }
-        ensures cause { HasCause IsFault (S.fault_count store.old) (S.fault_count store.new) result }
+        ensures ok { OnOk result (PutsKey (S.shown store.old).content (S.shown store.new).content
+            key.now
+            (stored_value (options_of options.now) self.now.fill elements.now)) }
+        ensures failed { OnErr result (MayPutKey (S.shown store.old).content
+            (S.shown store.new).content key.now
+            (stored_value (options_of options.now) self.now.fill elements.now)) }
+        ensures memory { IsErrOf result StorageError.OutOfMemory →
+            (other : List ℕ) → (S.shown store.new).content other
+            ≡ (S.shown store.old).content other }
+        ensures asks { (S.shown store.new).asks ≡ (S.shown store.old).asks }
+        ensures cause { HasCause IsFault (S.shown store.old).faults (S.shown store.new).faults
+            result }
     {
         if !options.store_empty_chunks() && self.is_fill(elements) {
             store.erase(key)

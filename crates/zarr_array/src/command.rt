@@ -8,8 +8,8 @@ use zarrs_array_subset::{ArrayIndices, ArraySubset};
 pub enum Command {
     /// Reads the elements of a region.
     Read(ArraySubset),
-    /// Writes elements to a region, in its row-major order; each is one byte. Where it fails, the chunks that are
-    /// finished stay written.
+    /// Writes elements to a region, in its row-major order; each is one byte. Where the store
+    /// fails or memory is wanting, the chunks that are finished stay written in a store that was honest.
     Write(ArraySubset, Vec<u8>),
     /// Erases the chunk of these indices: all its elements are the fill value then.
     Erase(ArrayIndices),

@@ -3,17 +3,16 @@
 ghost use Rattle.std.specs.Prelude.{◌≡◌, IsTrue, IfOk, map};
 ghost use Rattle.zarrs_metadata.specs.AdditionalFields.{additional_fields_seen};
 ghost use Rattle.zarrs_metadata.specs.ArrayMetadata.{array_seen};
-ghost use Rattle.zarrs_metadata_ext.specs.FillValueMetadata.{byte, fill_view};
-ghost use Rattle.zarrs_metadata_ext.specs.MetadataV3.{extension_seen, extensions_seen};
+ghost use Rattle.zarrs_metadata_parts.specs.FillValueMetadata.{byte, fill_view};
+ghost use Rattle.zarrs_metadata_parts.specs.MetadataV3.{extension_seen, extensions_seen};
 ghost use Rattle.zarrs_plugin.specs.Registry.{registry_of};
 ghost use Rattle.zarr_basics.specs.BytesCodec.{named_order};
 ghost use Rattle.zarr_basics.specs.Configurations.{are_chunk_lengths};
 ghost use Rattle.zarr_basics.specs.Keys.{keys_of};
 ghost use Rattle.zarr_basics.specs.RegularGrid.{nonzeros};
 ghost use Rattle.zarr_array.specs.OpenArray.{Opens};
-ghost use Rattle.zarr_array.specs.Opening.{invalid_fill};
-ghost use Rattle.zarr_array.specs.Refusing.{unmade_as};
-ghost use Rattle.zarr_array.specs.Registered.{or_refused, has_required_field, expect_known_fields, expect_data_type, chunk_shape_by, keys_by, codec_by, codecs_by, only_codec};
+ghost use Rattle.zarr_array.specs.Opening.{invalid_fill, or_refused, has_required_field, expect_known_fields, expect_data_type, chunk_shape_by, keys_by, codec_by, codecs_by, only_codec};
+ghost use Rattle.zarr_array.specs.OpenError.{unmade_as};
 
 use crate::open_error::OpenError;
 use std::alloc::Global;
@@ -65,7 +64,8 @@ pub(crate) fn expect_data_type(
     metadata: &MetadataV3,
     registry: &Registry<DataTypeKind>,
 ) -> Result<(), OpenError>
-    ensures { Opens (λ _. tt) result (expect_data_type (registry_of registry.now) (extension_seen metadata.now)) }
+    ensures { Opens (λ _. tt) result (expect_data_type (registry_of registry.now)
+        (extension_seen metadata.now)) }
 {
     if !metadata.must_understand() {
         return Err(OpenError::PluginCreateError);
@@ -84,8 +84,10 @@ pub(crate) fn chunk_shape_by(
     metadata: &MetadataV3,
     registry: &Registry<GridKind>,
 ) -> Result<ChunkShape, OpenError>
-    ensures made { Opens (λ v. nonzeros v.items) result (chunk_shape_by (registry_of registry.now) array_shape.now (extension_seen metadata.now)) }
-    ensures lengths { IfOk result (λ v. IsTrue (are_chunk_lengths array_shape.now (nonzeros v.items))) }
+    ensures made { Opens (λ v. nonzeros v.items) result
+        (chunk_shape_by (registry_of registry.now) array_shape.now (extension_seen metadata.now)) }
+    ensures lengths { IfOk result (λ v.
+        IsTrue (are_chunk_lengths array_shape.now (nonzeros v.items))) }
 {
     match registry.find(metadata.name()) {
         Some(GridKind::Regular) => match read_chunk_shape(alloc, array_shape, metadata) {
@@ -101,7 +103,8 @@ pub(crate) fn keys_by(
     metadata: &MetadataV3,
     registry: &Registry<ChunkKeyKind>,
 ) -> Result<ChunkKeyEncoding, OpenError>
-    ensures { Opens keys_of result (keys_by (registry_of registry.now) (extension_seen metadata.now)) }
+    ensures { Opens keys_of result (keys_by (registry_of registry.now)
+        (extension_seen metadata.now)) }
 {
     match registry.find(metadata.name()) {
         Some(ChunkKeyKind::Default) => match read_separator(metadata) {
@@ -113,7 +116,8 @@ pub(crate) fn keys_by(
 }
 
 fn codec_by(metadata: &MetadataV3, registry: &Registry<CodecKind>) -> Result<BytesCodec, OpenError>
-    ensures { Opens named_order result (codec_by (registry_of registry.now) (extension_seen metadata.now)) }
+    ensures { Opens named_order result (codec_by (registry_of registry.now)
+        (extension_seen metadata.now)) }
 {
     match registry.find(metadata.name()) {
         Some(CodecKind::Bytes) => match read_bytes_codec(metadata) {
@@ -130,7 +134,8 @@ pub(crate) fn codecs_by(
     extensions: &[MetadataV3],
     registry: &Registry<CodecKind>,
 ) -> Result<Vec<BytesCodec>, OpenError>
-    ensures { Opens (λ v. map named_order v.items) result (codecs_by (registry_of registry.now) (extensions_seen extensions.now)) }
+    ensures { Opens (λ v. map named_order v.items) result
+        (codecs_by (registry_of registry.now) (extensions_seen extensions.now)) }
 {
     let mut codecs = Vec::with_capacity(alloc, extensions.len())?;
     for extension in extensions {

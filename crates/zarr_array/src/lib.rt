@@ -16,6 +16,12 @@ pub mod session;
 mod step;
 mod write;
 
+pub use command::{Command, Reply};
+pub use error::{SessionError, SessionErrorKind};
+pub use open::{OpenArray, OpenError};
+pub use options::CodecOptions;
+pub use refusal::Refusal;
+pub use session::run_session;
 pub use zarr_basics::{
     ChunkKeyKind, CodecKind, DataTypeKind, GridKind, Registries, builtin_registries,
 };

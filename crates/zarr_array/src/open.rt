@@ -5,14 +5,14 @@
 ghost use Rattle.std.specs.Prelude.{◌≡◌, IsTrue, nat_le};
 ghost use Rattle.std.specs.Int.NonZero.{non_zero_u64_get};
 ghost use Rattle.std.specs.List.{list_all};
-ghost use Rattle.serde_json.specs.Read.{read};
+ghost use Rattle.serde_json.specs.Read.{read as read_json};
 ghost use Rattle.zarrs_metadata.specs.ArrayMetadata.{array_seen};
 ghost use Rattle.zarr_basics.specs.BytesCodec.{named_order};
 ghost use Rattle.zarr_basics.specs.Configurations.{are_chunk_lengths};
 ghost use Rattle.zarr_basics.specs.Keys.{keys_of};
 ghost use Rattle.zarr_basics.specs.Registries.{names_of};
 ghost use Rattle.zarr_basics.specs.RegularGrid.{nonzeros};
-ghost use Rattle.zarr_array.specs.Registered.{are_within_limits, is_served, within_limits, document_of, document_read, open_document};
+ghost use Rattle.zarr_array.specs.Opening.{are_within_limits, is_served, within_limits, document_of, document_read, open_document};
 
 use crate::extensions::{
     chunk_shape_by, codecs_by, expect_data_type, expect_known_fields, fill_byte, keys_by,
@@ -33,7 +33,8 @@ pub struct OpenArray {
     pub(crate) keys: ChunkKeyEncoding,
     pub(crate) codec: BytesCodec,
     pub(crate) fill: u8,
-    ghost within_limits: { IsTrue (is_served grid.array_shape.items (nonzeros grid.chunk_shape.items)) },
+    ghost within_limits: { IsTrue (is_served grid.array_shape.items
+        (nonzeros grid.chunk_shape.items)) },
 }
 
 fn are_small(lengths: &[u64]) -> bool
@@ -69,7 +70,8 @@ impl OpenArray {
         fill: u8,
     ) -> Result<OpenArray, OpenError>
         requires { IsTrue (are_chunk_lengths shape.items (nonzeros chunk_shape.items)) }
-        ensures { Opens documented result (within_limits (keys_of keys) (named_order codec) shape.items (nonzeros chunk_shape.items) fill) }
+        ensures { Opens documented result (within_limits (keys_of keys) (named_order codec)
+            shape.items (nonzeros chunk_shape.items) fill) }
     {
         if !are_within_limits(&shape, &chunk_shape) {
             return Err(OpenError::ChunkTooLarge);
@@ -84,13 +86,14 @@ impl OpenArray {
     }
 
     // The array that the fields of a document describe.
-    #[tactic(auto, unfolding(crate::specs::Registered::document_of), using(crate::proofs::OpeningLaws::fails_after))]
+    #[tactic(auto, unfolding(crate::specs::Opening::document_of), using(crate::proofs::OpeningLaws::fails_after))]
     fn from_metadata(
         alloc: Global,
         metadata: &ArrayMetadataV3,
         registries: &Registries,
     ) -> Result<OpenArray, OpenError>
-        ensures { Opens documented result (document_of (names_of registries.now) (array_seen metadata.now)) }
+        ensures { Opens documented result (document_of (names_of registries.now)
+            (array_seen metadata.now)) }
     {
         expect_known_fields(metadata)?;
         expect_data_type(&metadata.data_type, &registries.data_types)?;
@@ -111,7 +114,8 @@ impl OpenArray {
     // The array that a text describes.
     #[tactic(auto, using(crate::proofs::OpeningLaws::read_fields, crate::proofs::OpeningLaws::not_read))]
     fn from_text(alloc: Global, text: &str, registries: &Registries) -> Result<OpenArray, OpenError>
-        ensures { Opens documented result (document_read (names_of registries.now) (read text.now)) }
+        ensures { Opens documented result (document_read (names_of registries.now)
+            (read_json text.now)) }
     {
         let metadata = ArrayMetadataV3::try_from_text(alloc, text)?;
         Self::from_metadata(alloc, &metadata, registries)

@@ -55,7 +55,7 @@ pub enum OpenError {
 }
 
 impl OpenError {
-    ghost use Rattle.zarr_array.specs.OpenArray.{open_error_name};
+    ghost use Rattle.zarr_array.specs.OpenError.{open_error_name};
 
     /// The name of the error.
     pub fn name(&self) -> &'static str
@@ -100,7 +100,7 @@ impl<T: Drop> From<AllocFailed<T>> for OpenError {
 }
 
 impl From<MetadataError> for OpenError {
-    ghost use Rattle.zarr_array.specs.Refusing.{unread_as};
+    ghost use Rattle.zarr_array.specs.OpenError.{unread_as};
 
     ghost from_gives = { λ e opened. opened ≡ unread_as e };
 

@@ -1,7 +1,7 @@
 //! Copies of what two boxes share.
 
 ghost use Rattle.std.specs.Prelude.{◌≡◌, ◌≤◌, ◌<◌, ◌+◌, ◌/◌, ◌^◌, drop, length};
-ghost use Rattle.zarr_model.specs.Region.{count};
+ghost use Rattle.zarr_model.specs.Prelude.{count};
 ghost use Rattle.zarr_array.specs.Overlap.{span_at, shared_from, shared_size, with_run, Copied};
 ghost use Rattle.zarrs_array_subset.specs.ArraySubset.{region};
 
@@ -18,11 +18,14 @@ struct SharedSpan {
 fn shared_span(target_subset: &ArraySubset, source_subset: &ArraySubset, axis: usize) -> SharedSpan
     requires target_axis { axis < length (region target_subset.now) }
     requires source_axis { axis < length (region source_subset.now) }
-    ensures target { result.target_at ≡ shared_from (span_at (region target_subset.now) axis) (span_at (region source_subset.now) axis) }
-    ensures source { result.source_at ≡ shared_from (span_at (region source_subset.now) axis) (span_at (region target_subset.now) axis) }
+    ensures target { result.target_at ≡ shared_from (span_at (region target_subset.now) axis)
+        (span_at (region source_subset.now) axis) }
+    ensures source { result.source_at ≡ shared_from (span_at (region source_subset.now) axis)
+        (span_at (region target_subset.now) axis) }
     ensures target_end { result.target_at + result.len < 2 ^ 64 }
     ensures source_end { result.source_at + result.len < 2 ^ 64 }
-    ensures len { result.len ≡ shared_size (span_at (region target_subset.now) axis) (span_at (region source_subset.now) axis) }
+    ensures len { result.len ≡ shared_size (span_at (region target_subset.now) axis)
+        (span_at (region source_subset.now) axis) }
 {
     let (target_start, target_size) = (target_subset.start()[axis], target_subset.shape()[axis]);
     let (source_start, source_size) = (source_subset.start()[axis], source_subset.shape()[axis]);
@@ -50,7 +53,8 @@ fn row_len(elements: &[u8], subset: &ArraySubset, axis: usize) -> usize
 fn copy_run(target: &mut [u8], source: &[u8], shared: SharedSpan)
     requires target_within { shared.target_at + shared.len ≤ length target.old }
     requires source_within { shared.source_at + shared.len ≤ length source.now }
-    ensures { target.new ≡ with_run target.old shared.target_at source.now shared.source_at shared.len }
+    ensures { target.new ≡ with_run target.old shared.target_at source.now shared.source_at
+        shared.len }
 {
     let run = &source[shared.source_at..shared.source_at + shared.len];
     target[shared.target_at..shared.target_at + shared.len].copy_from_slice(run);
@@ -70,7 +74,8 @@ pub fn copy_shared(
     requires axis { axis ≤ length (region target_subset.now) }
     requires target_count { length target.old ≡ count (drop axis (region target_subset.now)) }
     requires source_count { length source.now ≡ count (drop axis (region source_subset.now)) }
-    ensures { Copied (drop axis (region target_subset.now)) (drop axis (region source_subset.now)) source.now target.old target.new }
+    ensures { Copied (drop axis (region target_subset.now)) (drop axis (region source_subset.now))
+        source.now target.old target.new }
 {
     let rank = target_subset.dimensionality();
     if axis == rank {

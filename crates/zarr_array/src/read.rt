@@ -1,14 +1,7 @@
 //! Reading a region, chunk by chunk.
 
-ghost use Rattle.std.specs.Prelude.{◌≡◌, ◌≤◌, ◌<◌, ◌^◌, ◌⊎◌, ℕ, List, true, None, Some, length, slice_get, IsSome, IfOk, IfErr, OnOk, OnErr};
-ghost use Rattle.zarr_model.specs.Region.{count, tuples, tuple_at, ends_within};
-ghost use Rattle.zarr_model.specs.Element.{Element};
-ghost use Rattle.zarr_model.specs.Array.{Array, elements_in};
-ghost use Rattle.zarr_model.specs.Grid.{IsChunk, chunks_meeting};
-ghost use Rattle.zarr_model.specs.Store.{WhollyMeans, chunk_content};
-ghost use Rattle.zarr_model.specs.Command.{layout};
-ghost use Rattle.zarr_model.specs.Failure.{ChunkHas};
-ghost use Rattle.zarr_model.specs.Cost.{counted};
+ghost use Rattle.std.specs.Prelude.{◌≡◌, ◌≤◌, ◌<◌, ◌^◌, ◌⊎◌, ℕ, List, true, Some, length, slice_get, IsSome, IfOk, IfErr, OnOk, OnErr};
+ghost use Rattle.zarr_model.specs.Prelude.{count, tuples, tuple_at, ends_within, Element, Array, elements_in, IsChunk, chunks_meeting, WhollyMeans, chunk_content, layout, ChunkHas, counted};
 ghost use Rattle.zarrs_array_subset.specs.ArraySubset.{region};
 ghost use Rattle.zarr_array.specs.Options.{options_of};
 ghost use Rattle.zarr_array.specs.Overlap.{Copied};
@@ -38,18 +31,31 @@ impl OpenArray {
         options: &CodecOptions,
     ) -> Result<(), SessionErrorKind>
         requires chunk { IsChunk (described self.now).grid chunk_indices.now }
-        requires rank { length (region subset.now) ≡ length ((described self.now).grid.chunk_box chunk_indices.now) }
+        requires rank { length (region subset.now)
+            ≡ length ((described self.now).grid.chunk_box chunk_indices.now) }
         requires as_long { length elements.old ≡ count (region subset.now) }
-        ensures copied { OnOk result ((array : Array Element) → ChunkHas (layout (described self.now) (options_of options.now)) (S.content store.old) array chunk_indices.now →
-            Copied (region subset.now) ((described self.now).grid.chunk_box chunk_indices.now) (elements_in ((described self.now).grid.chunk_box chunk_indices.now) array) (byte_elements elements.old) (byte_elements elements.new)) }
-        ensures decodes { OnOk result (IsSome (chunk_content (layout (described self.now) (options_of options.now)) (S.content store.old) chunk_indices.now)) }
+        ensures copied { let chunk_box = (described self.now).grid.chunk_box chunk_indices.now in
+            OnOk result ((array : Array Element) →
+            ChunkHas (layout (described self.now) (options_of options.now))
+            (S.shown store.old).content
+            array chunk_indices.now →
+            Copied (region subset.now) chunk_box (elements_in chunk_box array)
+            (byte_elements elements.old) (byte_elements elements.new)) }
+        ensures decodes { OnOk result (IsSome (chunk_content
+            (layout (described self.now) (options_of options.now)) (S.shown store.old).content
+            chunk_indices.now)) }
         ensures kept_length { length elements.new ≡ length elements.old }
-        ensures same { (key : List ℕ) → S.content store.new key ≡ S.content store.old key }
-        ensures asks { OnOk result (S.ask_count store.new ≡ counted (S.ask_count store.old) 1) }
-        ensures asks_err { OnErr result ((S.ask_count store.new ≡ S.ask_count store.old) ⊎ (S.ask_count store.new ≡ counted (S.ask_count store.old) 1)) }
-        ensures later { S.fault_count store.old ≤ S.fault_count store.new }
-        ensures failed { IfErr result (FailsToFetch (chunk_content (layout (described self.now) (options_of options.now)) (S.content store.old) chunk_indices.now)
-            ((described self.now).key chunk_indices.now) (S.fault_count store.old) (S.fault_count store.new)) }
+        ensures same { (key : List ℕ) → (S.shown store.new).content key
+            ≡ (S.shown store.old).content key }
+        ensures asks { OnOk result ((S.shown store.new).asks ≡ counted (S.shown store.old).asks 1) }
+        ensures asks_err { OnErr result (((S.shown store.new).asks ≡ (S.shown store.old).asks)
+            ⊎ ((S.shown store.new).asks ≡ counted (S.shown store.old).asks 1)) }
+        ensures later { (S.shown store.old).faults ≤ (S.shown store.new).faults }
+        ensures failed { IfErr result (FailsToFetch
+            (chunk_content (layout (described self.now) (options_of options.now))
+            (S.shown store.old).content
+            chunk_indices.now) ((described self.now).key chunk_indices.now)
+            (S.shown store.old) (S.shown store.new)) }
     {
         let chunk_subset = self.chunk_subset(alloc, chunk_indices)?;
         let key = self.chunk_key(alloc, chunk_indices)?;
@@ -74,18 +80,33 @@ impl OpenArray {
         requires few { count (region chunks.now) < 2 ^ 64 }
         requires below { number < count (region chunks.now) }
         requires chunk { IsChunk (described self.now).grid (tuple_at (region chunks.now) number) }
-        requires rank { length (region subset.now) ≡ length ((described self.now).grid.chunk_box (tuple_at (region chunks.now) number)) }
+        requires rank { length (region subset.now)
+            ≡ length ((described self.now).grid.chunk_box (tuple_at (region chunks.now) number)) }
         requires as_long { length elements.old ≡ count (region subset.now) }
-        ensures copied { OnOk result ((array : Array Element) → ChunkHas (layout (described self.now) (options_of options.now)) (S.content store.old) array (tuple_at (region chunks.now) number) →
-            Copied (region subset.now) ((described self.now).grid.chunk_box (tuple_at (region chunks.now) number)) (elements_in ((described self.now).grid.chunk_box (tuple_at (region chunks.now) number)) array) (byte_elements elements.old) (byte_elements elements.new)) }
-        ensures decodes { OnOk result (IsSome (chunk_content (layout (described self.now) (options_of options.now)) (S.content store.old) (tuple_at (region chunks.now) number))) }
+        ensures copied { let chunk_box = (described self.now).grid.chunk_box
+            (tuple_at (region chunks.now) number) in
+            OnOk result ((array : Array Element) →
+            ChunkHas (layout (described self.now) (options_of options.now))
+            (S.shown store.old).content
+            array (tuple_at (region chunks.now) number) →
+            Copied (region subset.now) chunk_box (elements_in chunk_box array)
+            (byte_elements elements.old) (byte_elements elements.new)) }
+        ensures decodes { OnOk result (IsSome (chunk_content
+            (layout (described self.now) (options_of options.now)) (S.shown store.old).content
+            (tuple_at (region chunks.now) number))) }
         ensures kept_length { length elements.new ≡ length elements.old }
-        ensures same { (key : List ℕ) → S.content store.new key ≡ S.content store.old key }
-        ensures asks { OnOk result (S.ask_count store.new ≡ counted (S.ask_count store.old) 1) }
-        ensures asks_err { OnErr result ((S.ask_count store.new ≡ S.ask_count store.old) ⊎ (S.ask_count store.new ≡ counted (S.ask_count store.old) 1)) }
-        ensures later { S.fault_count store.old ≤ S.fault_count store.new }
-        ensures failed { IfErr result (FailsToFetch (chunk_content (layout (described self.now) (options_of options.now)) (S.content store.old) (tuple_at (region chunks.now) number))
-            ((described self.now).key (tuple_at (region chunks.now) number)) (S.fault_count store.old) (S.fault_count store.new)) }
+        ensures same { (key : List ℕ) → (S.shown store.new).content key
+            ≡ (S.shown store.old).content key }
+        ensures asks { OnOk result ((S.shown store.new).asks ≡ counted (S.shown store.old).asks 1) }
+        ensures asks_err { OnErr result (((S.shown store.new).asks ≡ (S.shown store.old).asks)
+            ⊎ ((S.shown store.new).asks ≡ counted (S.shown store.old).asks 1)) }
+        ensures later { (S.shown store.old).faults ≤ (S.shown store.new).faults }
+        ensures failed { IfErr result (FailsToFetch
+            (chunk_content (layout (described self.now) (options_of options.now))
+            (S.shown store.old).content
+            (tuple_at (region chunks.now) number))
+            ((described self.now).key (tuple_at (region chunks.now) number))
+            (S.shown store.old) (S.shown store.new)) }
     {
         let chunk_indices = indices_at(alloc, chunks, number, chunks.num_elements())?;
         self.read_chunk(
@@ -108,20 +129,30 @@ impl OpenArray {
         store: &mut S,
         options: &CodecOptions,
     ) -> Result<(), CommandError>
-        requires listed { tuples (region chunks.now) ≡ chunks_meeting (described self.now).grid (region subset.now) }
+        requires listed { tuples (region chunks.now)
+            ≡ chunks_meeting (described self.now).grid (region subset.now) }
         requires few { count (region chunks.now) < 2 ^ 64 }
         requires inside { ends_within (region subset.now) (described self.now).shape ≡ true }
         requires as_long { length elements.old ≡ count (region subset.now) }
-        ensures elements { OnOk result ((array : Array Element) → WhollyMeans (layout (described self.now) (options_of options.now)) (S.content store.old) array →
+        ensures elements { OnOk result ((array : Array Element) →
+            WhollyMeans (layout (described self.now) (options_of options.now))
+            (S.shown store.old).content array →
             byte_elements elements.new ≡ elements_in (region subset.now) array) }
-        ensures decodes { OnOk result ((k : ℕ) (chunk : List ℕ) → slice_get (chunks_meeting (described self.now).grid (region subset.now)) k ≡ Some chunk →
-            IsSome (chunk_content (layout (described self.now) (options_of options.now)) (S.content store.old) chunk)) }
+        ensures decodes { OnOk result ((k : ℕ) (chunk : List ℕ) →
+            slice_get (chunks_meeting (described self.now).grid (region subset.now)) k
+            ≡ Some chunk →
+            IsSome (chunk_content (layout (described self.now) (options_of options.now))
+            (S.shown store.old).content chunk)) }
         ensures kept_length { length elements.new ≡ length elements.old }
-        ensures same { (key : List ℕ) → S.content store.new key ≡ S.content store.old key }
-        ensures asks { OnOk result (S.ask_count store.new ≡ counted (S.ask_count store.old) (length (chunks_meeting (described self.now).grid (region subset.now)))) }
-        ensures later { S.fault_count store.old ≤ S.fault_count store.new }
-        ensures failed { IfErr result (λ error. FailsToRead (described self.now) (options_of options.now) (region subset.now) (S.content store.old)
-            (S.ask_count store.old) (S.ask_count store.new) (S.fault_count store.old) (S.fault_count store.new) error.chunks_done error.kind) }
+        ensures same { (key : List ℕ) → (S.shown store.new).content key
+            ≡ (S.shown store.old).content key }
+        ensures asks { OnOk result ((S.shown store.new).asks ≡ counted (S.shown store.old).asks
+            (length (chunks_meeting (described self.now).grid (region subset.now)))) }
+        ensures later { (S.shown store.old).faults ≤ (S.shown store.new).faults }
+        ensures failed { IfErr result (λ error.
+            FailsToRead (described self.now) (options_of options.now)
+            (region subset.now) error.chunks_done (S.shown store.old) (S.shown store.new)
+            error.kind) }
     {
         let num_chunks = chunks.num_elements();
         for number in 0..num_chunks {
@@ -148,16 +179,26 @@ impl OpenArray {
         options: &CodecOptions,
     ) -> Result<Vec<u8>, CommandError>
         requires inside { ends_within (region subset.now) (described self.now).shape ≡ true }
-        ensures elements { IfOk result (λ elements. (array : Array Element) → WhollyMeans (layout (described self.now) (options_of options.now)) (S.content store.old) array →
+        ensures elements { IfOk result (λ elements. (array : Array Element) →
+            WhollyMeans (layout (described self.now) (options_of options.now))
+            (S.shown store.old).content array →
             byte_elements elements.items ≡ elements_in (region subset.now) array) }
-        ensures decodes { OnOk result ((k : ℕ) (chunk : List ℕ) → slice_get (chunks_meeting (described self.now).grid (region subset.now)) k ≡ Some chunk →
-            IsSome (chunk_content (layout (described self.now) (options_of options.now)) (S.content store.old) chunk)) }
-        ensures as_long { IfOk result (λ elements. length elements.items ≡ count (region subset.now)) }
-        ensures same { (key : List ℕ) → S.content store.new key ≡ S.content store.old key }
-        ensures asks { OnOk result (S.ask_count store.new ≡ counted (S.ask_count store.old) (length (chunks_meeting (described self.now).grid (region subset.now)))) }
-        ensures later { S.fault_count store.old ≤ S.fault_count store.new }
-        ensures failed { IfErr result (λ error. FailsToRead (described self.now) (options_of options.now) (region subset.now) (S.content store.old)
-            (S.ask_count store.old) (S.ask_count store.new) (S.fault_count store.old) (S.fault_count store.new) error.chunks_done error.kind) }
+        ensures decodes { OnOk result ((k : ℕ) (chunk : List ℕ) →
+            slice_get (chunks_meeting (described self.now).grid (region subset.now)) k
+            ≡ Some chunk →
+            IsSome (chunk_content (layout (described self.now) (options_of options.now))
+            (S.shown store.old).content chunk)) }
+        ensures as_long { IfOk result (λ elements. length elements.items
+            ≡ count (region subset.now)) }
+        ensures same { (key : List ℕ) → (S.shown store.new).content key
+            ≡ (S.shown store.old).content key }
+        ensures asks { OnOk result ((S.shown store.new).asks ≡ counted (S.shown store.old).asks
+            (length (chunks_meeting (described self.now).grid (region subset.now)))) }
+        ensures later { (S.shown store.old).faults ≤ (S.shown store.new).faults }
+        ensures failed { IfErr result (λ error.
+            FailsToRead (described self.now) (options_of options.now)
+            (region subset.now) error.chunks_done (S.shown store.old) (S.shown store.new)
+            error.kind) }
     {
         let mut elements = filled(alloc, self.fill, subset.num_elements())?;
         let chunks = self.chunks_meeting(alloc, subset)?;

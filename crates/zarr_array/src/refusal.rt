@@ -1,8 +1,7 @@
 //! Why a command is refused.
 
 ghost use Rattle.std.specs.Prelude.{◌≡◌, option_map};
-ghost use Rattle.zarr_model.specs.ArrayBytes.{fixed_bytes};
-ghost use Rattle.zarr_model.specs.Command.{write, erase, region_refusal, refusal, refusal_name};
+ghost use Rattle.zarr_model.specs.Prelude.{fixed_bytes, write, erase, region_refusal, refusal, refusal_name};
 ghost use Rattle.zarrs_array_subset.specs.ArraySubset.{region};
 
 use crate::open::OpenArray;
@@ -42,7 +41,8 @@ impl OpenArray {
     /// Why a region of the array is refused, if it is: its rank is tested first, and then its end.
     #[tactic(auto, using(crate::proofs::ServedLaws::small_enough))]
     pub(crate) fn region_refusal(&self, subset: &ArraySubset) -> Option<Refusal>
-        ensures { option_map refusal_of result ≡ region_refusal (described self.now) (region subset.now) }
+        ensures { option_map refusal_of result
+            ≡ region_refusal (described self.now) (region subset.now) }
     {
         if subset.dimensionality() != self.grid.array_shape.len() {
             return Some(Refusal::IncompatibleDimensionality);
@@ -55,7 +55,8 @@ impl OpenArray {
 
     /// Why a write is refused, if it is: its region is tested first, and then how many elements there are.
     pub(crate) fn write_refusal(&self, subset: &ArraySubset, elements: &[u8]) -> Option<Refusal>
-        ensures { option_map refusal_of result ≡ refusal (described self.now) (write (region subset.now) (fixed_bytes elements.now)) }
+        ensures { option_map refusal_of result
+            ≡ refusal (described self.now) (write (region subset.now) (fixed_bytes elements.now)) }
     {
         let refusal = self.region_refusal(subset);
         if refusal.is_some() {
@@ -69,7 +70,8 @@ impl OpenArray {
 
     /// Why an erase is refused, if it is: no chunk of the grid has these indices.
     pub(crate) fn erase_refusal(&self, chunk_indices: &[u64]) -> Option<Refusal>
-        ensures { option_map refusal_of result ≡ refusal (described self.now) (erase chunk_indices.now) }
+        ensures { option_map refusal_of result
+            ≡ refusal (described self.now) (erase chunk_indices.now) }
     {
         if chunk_indices.len() != self.grid.grid_shape.len() {
             return Some(Refusal::IncompatibleDimensionality);

@@ -1,14 +1,12 @@
 //! One command of a session.
 
-ghost use Rattle.std.specs.Prelude.{◌≡◌, ◌≤◌, ℕ, List, [], ◌∷◌, Some, IsOk, IfOk, IfErr};
-ghost use Rattle.zarr_model.specs.ArrayBytes.{fixed_bytes};
-ghost use Rattle.zarr_model.specs.Command.{read, write, erase};
-ghost use Rattle.zarr_model.specs.Session.{LeavesKeys, AreRefused, IsUntouched};
+ghost use Rattle.std.specs.Prelude.{◌≡◌, ℕ, List, [], ◌∷◌, IsOk};
+ghost use Rattle.zarr_model.specs.Prelude.{fixed_bytes, read, write, erase, AreRefused};
 ghost use Rattle.zarrs_array_subset.specs.ArraySubset.{region};
-ghost use Rattle.zarr_array.specs.Command.{command_of, answer_of};
+ghost use Rattle.zarr_array.specs.Command.{command_of};
 ghost use Rattle.zarr_array.specs.Options.{options_of};
-ghost use Rattle.zarr_array.specs.Ran.{HasRun};
-ghost use Rattle.zarr_array.specs.Session.{FailsAt};
+ghost use Rattle.zarr_array.specs.Ended.{ended_step};
+ghost use Rattle.zarr_array.specs.Runs.{Runs};
 
 use crate::command::{Command, Reply};
 use crate::error::{CommandError, SessionErrorKind};
@@ -29,15 +27,13 @@ impl OpenArray {
         store: &mut S,
         options: &CodecOptions,
     ) -> Result<Reply, CommandError>
-        ensures ran { IfOk result (λ reply. HasRun (described self.now) (options_of options.now) (read (region subset.now) ∷ []) (S.content store.old) (S.content store.new)
-            (S.ask_count store.old) (S.ask_count store.new) (S.taken_count store.old) (S.taken_count store.new) (S.fault_count store.old) (S.fault_count store.new) (answer_of reply ∷ [])) }
-        ensures refused { AreRefused (described self.now) (read (region subset.now) ∷ []) →
-            IsUntouched (S.content store.old) (S.content store.new) (S.ask_count store.old) (S.ask_count store.new) (S.taken_count store.old) (S.taken_count store.new) × IsOk result }
-        ensures keys { LeavesKeys (described self.now) (options_of options.now) (read (region subset.now) ∷ []) (S.content store.old) (S.content store.new) }
-        ensures same { (key : List ℕ) → S.content store.new key ≡ S.content store.old key }
-        ensures later { S.fault_count store.old ≤ S.fault_count store.new }
-        ensures failed { IfErr result (λ error. FailsAt (described self.now) (options_of options.now) (read (region subset.now) ∷ []) (S.content store.old) (S.content store.new)
-            (S.ask_count store.old) (S.ask_count store.new) (S.fault_count store.old) (S.fault_count store.new) (Some (0, error.chunks_done)) error.kind) }
+        ensures runs { Runs (described self.now) (options_of options.now)
+            (read (region subset.now) ∷ [])
+            (S.shown store.old) (S.shown store.new) (ended_step result) }
+        ensures answered { AreRefused (described self.now)
+            (read (region subset.now) ∷ []) → IsOk result }
+        ensures same { (key : List ℕ) →
+            (S.shown store.new).content key ≡ (S.shown store.old).content key }
     {
         if let Some(refusal) = self.region_refusal(subset) {
             return Ok(Reply::Refused(refusal));
@@ -55,14 +51,11 @@ impl OpenArray {
         store: &mut S,
         options: &CodecOptions,
     ) -> Result<Reply, CommandError>
-        ensures ran { IfOk result (λ reply. HasRun (described self.now) (options_of options.now) (write (region subset.now) (fixed_bytes elements.now) ∷ []) (S.content store.old) (S.content store.new)
-            (S.ask_count store.old) (S.ask_count store.new) (S.taken_count store.old) (S.taken_count store.new) (S.fault_count store.old) (S.fault_count store.new) (answer_of reply ∷ [])) }
-        ensures refused { AreRefused (described self.now) (write (region subset.now) (fixed_bytes elements.now) ∷ []) →
-            IsUntouched (S.content store.old) (S.content store.new) (S.ask_count store.old) (S.ask_count store.new) (S.taken_count store.old) (S.taken_count store.new) × IsOk result }
-        ensures keys { LeavesKeys (described self.now) (options_of options.now) (write (region subset.now) (fixed_bytes elements.now) ∷ []) (S.content store.old) (S.content store.new) }
-        ensures later { S.fault_count store.old ≤ S.fault_count store.new }
-        ensures failed { IfErr result (λ error. FailsAt (described self.now) (options_of options.now) (write (region subset.now) (fixed_bytes elements.now) ∷ []) (S.content store.old) (S.content store.new)
-            (S.ask_count store.old) (S.ask_count store.new) (S.fault_count store.old) (S.fault_count store.new) (Some (0, error.chunks_done)) error.kind) }
+        ensures runs { Runs (described self.now) (options_of options.now)
+            (write (region subset.now) (fixed_bytes elements.now) ∷ [])
+            (S.shown store.old) (S.shown store.new) (ended_step result) }
+        ensures answered { AreRefused (described self.now)
+            (write (region subset.now) (fixed_bytes elements.now) ∷ []) → IsOk result }
     {
         if let Some(refusal) = self.write_refusal(subset, elements) {
             return Ok(Reply::Refused(refusal));
@@ -79,14 +72,11 @@ impl OpenArray {
         store: &mut S,
         options: &CodecOptions,
     ) -> Result<Reply, CommandError>
-        ensures ran { IfOk result (λ reply. HasRun (described self.now) (options_of options.now) (erase chunk_indices.now ∷ []) (S.content store.old) (S.content store.new)
-            (S.ask_count store.old) (S.ask_count store.new) (S.taken_count store.old) (S.taken_count store.new) (S.fault_count store.old) (S.fault_count store.new) (answer_of reply ∷ [])) }
-        ensures refused { AreRefused (described self.now) (erase chunk_indices.now ∷ []) →
-            IsUntouched (S.content store.old) (S.content store.new) (S.ask_count store.old) (S.ask_count store.new) (S.taken_count store.old) (S.taken_count store.new) × IsOk result }
-        ensures keys { LeavesKeys (described self.now) (options_of options.now) (erase chunk_indices.now ∷ []) (S.content store.old) (S.content store.new) }
-        ensures later { S.fault_count store.old ≤ S.fault_count store.new }
-        ensures failed { IfErr result (λ error. FailsAt (described self.now) (options_of options.now) (erase chunk_indices.now ∷ []) (S.content store.old) (S.content store.new)
-            (S.ask_count store.old) (S.ask_count store.new) (S.fault_count store.old) (S.fault_count store.new) (Some (0, error.chunks_done)) error.kind) }
+        ensures runs { Runs (described self.now) (options_of options.now)
+            (erase chunk_indices.now ∷ [])
+            (S.shown store.old) (S.shown store.new) (ended_step result) }
+        ensures answered { AreRefused (described self.now)
+            (erase chunk_indices.now ∷ []) → IsOk result }
     {
         if let Some(refusal) = self.erase_refusal(chunk_indices) {
             return Ok(Reply::Refused(refusal));
@@ -110,14 +100,11 @@ impl OpenArray {
         store: &mut S,
         options: &CodecOptions,
     ) -> Result<Reply, CommandError>
-        ensures ran { IfOk result (λ reply. HasRun (described self.now) (options_of options.now) (command_of command.now ∷ []) (S.content store.old) (S.content store.new)
-            (S.ask_count store.old) (S.ask_count store.new) (S.taken_count store.old) (S.taken_count store.new) (S.fault_count store.old) (S.fault_count store.new) (answer_of reply ∷ [])) }
-        ensures refused { AreRefused (described self.now) (command_of command.now ∷ []) →
-            IsUntouched (S.content store.old) (S.content store.new) (S.ask_count store.old) (S.ask_count store.new) (S.taken_count store.old) (S.taken_count store.new) × IsOk result }
-        ensures keys { LeavesKeys (described self.now) (options_of options.now) (command_of command.now ∷ []) (S.content store.old) (S.content store.new) }
-        ensures later { S.fault_count store.old ≤ S.fault_count store.new }
-        ensures failed { IfErr result (λ error. FailsAt (described self.now) (options_of options.now) (command_of command.now ∷ []) (S.content store.old) (S.content store.new)
-            (S.ask_count store.old) (S.ask_count store.new) (S.fault_count store.old) (S.fault_count store.new) (Some (0, error.chunks_done)) error.kind) }
+        ensures runs { Runs (described self.now) (options_of options.now)
+            (command_of command.now ∷ [])
+            (S.shown store.old) (S.shown store.new) (ended_step result) }
+        ensures answered { AreRefused (described self.now)
+            (command_of command.now ∷ []) → IsOk result }
     {
         match command {
             Command::Read(subset) => self.run_read(alloc, subset, store, options),

@@ -1,10 +1,7 @@
 //! Writing to a region, chunk by chunk.
 
-ghost use Rattle.std.specs.Prelude.{◌≡◌, ◌≤◌, ◌<◌, ◌^◌, ◌⊎◌, ℕ, List, true, length, OnOk, OnErr, IfErr};
-ghost use Rattle.zarr_model.specs.Region.{count, tuples, tuple_at, ends_within};
-ghost use Rattle.zarr_model.specs.Array.{written};
-ghost use Rattle.zarr_model.specs.Grid.{IsChunk, chunks_meeting};
-ghost use Rattle.zarr_model.specs.Cost.{counted};
+ghost use Rattle.std.specs.Prelude.{◌≡◌, ◌≤◌, ◌<◌, ◌^◌, ◌⊎◌, true, length, OnOk, OnErr, IfErr};
+ghost use Rattle.zarr_model.specs.Prelude.{count, tuples, tuple_at, ends_within, written, IsChunk, chunks_meeting, counted};
 ghost use Rattle.zarrs_array_subset.specs.ArraySubset.{region};
 ghost use Rattle.zarr_array.specs.Options.{options_of};
 ghost use Rattle.zarr_array.specs.Chunk.{byte_elements};
@@ -31,7 +28,8 @@ fn put_elements(
     requires rank { length (region subset.now) ≡ length (region chunk_subset.now) }
     requires chunk_count { length chunk.old.items ≡ count (region chunk_subset.now) }
     requires count { length elements.now ≡ count (region subset.now) }
-    ensures { Copied (region chunk_subset.now) (region subset.now) elements.now chunk.old.items chunk.new.items }
+    ensures { Copied (region chunk_subset.now) (region subset.now) elements.now
+        chunk.old.items chunk.new.items }
 {
     copy_shared(chunk.as_mut_slice(), chunk_subset, elements, subset, 0);
 }
@@ -51,14 +49,19 @@ impl OpenArray {
         options: &CodecOptions,
     ) -> Result<(), SessionErrorKind>
         requires chunk { IsChunk (described self.now).grid chunk_indices.now }
-        requires rank { length (region subset.now) ≡ length ((described self.now).grid.chunk_box chunk_indices.now) }
+        requires rank { length (region subset.now)
+            ≡ length ((described self.now).grid.chunk_box chunk_indices.now) }
         requires as_long { length elements.now ≡ count (region subset.now) }
-        ensures changed { OnOk result (ChangesChunk (described self.now) (options_of options.now) (written (region subset.now) (byte_elements elements.now)) chunk_indices.now (S.content store.old) (S.content store.new)) }
-        ensures asks { OnOk result (S.ask_count store.new ≡ counted (S.ask_count store.old) 1) }
-        ensures asks_err { OnErr result ((S.ask_count store.new ≡ S.ask_count store.old) ⊎ (S.ask_count store.new ≡ counted (S.ask_count store.old) 1)) }
-        ensures later { S.fault_count store.old ≤ S.fault_count store.new }
-        ensures failed { IfErr result (FailsToChange (described self.now) (options_of options.now) (written (region subset.now) (byte_elements elements.now)) chunk_indices.now
-            (S.content store.old) (S.content store.new) (S.fault_count store.old) (S.fault_count store.new)) }
+        ensures changed { OnOk result (ChangesChunk (described self.now) (options_of options.now)
+            (written (region subset.now) (byte_elements elements.now)) chunk_indices.now
+            (S.shown store.old).content (S.shown store.new).content) }
+        ensures asks { OnOk result ((S.shown store.new).asks ≡ counted (S.shown store.old).asks 1) }
+        ensures asks_err { OnErr result (((S.shown store.new).asks ≡ (S.shown store.old).asks)
+            ⊎ ((S.shown store.new).asks ≡ counted (S.shown store.old).asks 1)) }
+        ensures later { (S.shown store.old).faults ≤ (S.shown store.new).faults }
+        ensures failed { IfErr result (FailsToChange (described self.now) (options_of options.now)
+            (written (region subset.now) (byte_elements elements.now)) chunk_indices.now
+            (S.shown store.old) (S.shown store.new)) }
     {
         let chunk_subset = self.chunk_subset(alloc, chunk_indices)?;
         let key = self.chunk_key(alloc, chunk_indices)?;
@@ -84,14 +87,21 @@ impl OpenArray {
         requires few { count (region chunks.now) < 2 ^ 64 }
         requires below { number < count (region chunks.now) }
         requires chunk { IsChunk (described self.now).grid (tuple_at (region chunks.now) number) }
-        requires rank { length (region subset.now) ≡ length ((described self.now).grid.chunk_box (tuple_at (region chunks.now) number)) }
+        requires rank { length (region subset.now)
+            ≡ length ((described self.now).grid.chunk_box (tuple_at (region chunks.now) number)) }
         requires as_long { length elements.now ≡ count (region subset.now) }
-        ensures changed { OnOk result (ChangesChunk (described self.now) (options_of options.now) (written (region subset.now) (byte_elements elements.now)) (tuple_at (region chunks.now) number) (S.content store.old) (S.content store.new)) }
-        ensures asks { OnOk result (S.ask_count store.new ≡ counted (S.ask_count store.old) 1) }
-        ensures asks_err { OnErr result ((S.ask_count store.new ≡ S.ask_count store.old) ⊎ (S.ask_count store.new ≡ counted (S.ask_count store.old) 1)) }
-        ensures later { S.fault_count store.old ≤ S.fault_count store.new }
-        ensures failed { IfErr result (FailsToChange (described self.now) (options_of options.now) (written (region subset.now) (byte_elements elements.now)) (tuple_at (region chunks.now) number)
-            (S.content store.old) (S.content store.new) (S.fault_count store.old) (S.fault_count store.new)) }
+        ensures changed { OnOk result (ChangesChunk (described self.now) (options_of options.now)
+            (written (region subset.now) (byte_elements elements.now))
+            (tuple_at (region chunks.now) number)
+            (S.shown store.old).content (S.shown store.new).content) }
+        ensures asks { OnOk result ((S.shown store.new).asks ≡ counted (S.shown store.old).asks 1) }
+        ensures asks_err { OnErr result (((S.shown store.new).asks ≡ (S.shown store.old).asks)
+            ⊎ ((S.shown store.new).asks ≡ counted (S.shown store.old).asks 1)) }
+        ensures later { (S.shown store.old).faults ≤ (S.shown store.new).faults }
+        ensures failed { IfErr result (FailsToChange (described self.now) (options_of options.now)
+            (written (region subset.now) (byte_elements elements.now))
+            (tuple_at (region chunks.now) number)
+            (S.shown store.old) (S.shown store.new)) }
     {
         let chunk_indices = indices_at(alloc, chunks, number, chunks.num_elements())?;
         self.write_chunk(
@@ -114,14 +124,21 @@ impl OpenArray {
         store: &mut S,
         options: &CodecOptions,
     ) -> Result<(), CommandError>
-        requires listed { tuples (region chunks.now) ≡ chunks_meeting (described self.now).grid (region subset.now) }
+        requires listed { tuples (region chunks.now)
+            ≡ chunks_meeting (described self.now).grid (region subset.now) }
         requires few { count (region chunks.now) < 2 ^ 64 }
         requires inside { ends_within (region subset.now) (described self.now).shape ≡ true }
         requires as_long { length elements.now ≡ count (region subset.now) }
-        ensures changed { OnOk result (ChangedSome (described self.now) (options_of options.now) (written (region subset.now) (byte_elements elements.now)) (chunks_meeting (described self.now).grid (region subset.now))
-            (length (chunks_meeting (described self.now).grid (region subset.now))) (S.content store.old) (S.content store.new) (S.ask_count store.old) (S.ask_count store.new) (S.fault_count store.old) (S.fault_count store.new)) }
-        ensures failed { IfErr result (λ error. FailsPartWay (described self.now) (options_of options.now) (written (region subset.now) (byte_elements elements.now)) (chunks_meeting (described self.now).grid (region subset.now))
-            error.chunks_done (S.content store.old) (S.content store.new) (S.ask_count store.old) (S.ask_count store.new) (S.fault_count store.old) (S.fault_count store.new) error.kind) }
+        ensures changed { let chunks = chunks_meeting (described self.now).grid (region subset.now)
+            in
+            OnOk result (ChangedSome (described self.now) (options_of options.now)
+            (written (region subset.now) (byte_elements elements.now)) chunks (length chunks)
+            (S.shown store.old) (S.shown store.new)) }
+        ensures failed { IfErr result (λ error.
+            FailsPartWay (described self.now) (options_of options.now)
+            (written (region subset.now) (byte_elements elements.now))
+            (chunks_meeting (described self.now).grid (region subset.now)) error.chunks_done
+            (S.shown store.old) (S.shown store.new) error.kind) }
     {
         let num_chunks = chunks.num_elements();
         for number in 0..num_chunks {
@@ -138,7 +155,7 @@ impl OpenArray {
     }
 
     /// Writes elements to an accepted region. Each chunk that the region meets is asked for once, and then stored or
-    /// erased by one call.
+    /// erased.
     #[tactic(auto, using(crate::proofs::ReadSteps::of_regions))]
     pub(crate) fn write_elements<S: Store>(
         &self,
@@ -150,10 +167,16 @@ impl OpenArray {
     ) -> Result<(), CommandError>
         requires inside { ends_within (region subset.now) (described self.now).shape ≡ true }
         requires as_long { length elements.now ≡ count (region subset.now) }
-        ensures changed { OnOk result (ChangedSome (described self.now) (options_of options.now) (written (region subset.now) (byte_elements elements.now)) (chunks_meeting (described self.now).grid (region subset.now))
-            (length (chunks_meeting (described self.now).grid (region subset.now))) (S.content store.old) (S.content store.new) (S.ask_count store.old) (S.ask_count store.new) (S.fault_count store.old) (S.fault_count store.new)) }
-        ensures failed { IfErr result (λ error. FailsPartWay (described self.now) (options_of options.now) (written (region subset.now) (byte_elements elements.now)) (chunks_meeting (described self.now).grid (region subset.now))
-            error.chunks_done (S.content store.old) (S.content store.new) (S.ask_count store.old) (S.ask_count store.new) (S.fault_count store.old) (S.fault_count store.new) error.kind) }
+        ensures changed { let chunks = chunks_meeting (described self.now).grid (region subset.now)
+            in
+            OnOk result (ChangedSome (described self.now) (options_of options.now)
+            (written (region subset.now) (byte_elements elements.now)) chunks (length chunks)
+            (S.shown store.old) (S.shown store.new)) }
+        ensures failed { IfErr result (λ error.
+            FailsPartWay (described self.now) (options_of options.now)
+            (written (region subset.now) (byte_elements elements.now))
+            (chunks_meeting (described self.now).grid (region subset.now)) error.chunks_done
+            (S.shown store.old) (S.shown store.new) error.kind) }
     {
         let chunks = self.chunks_meeting(alloc, subset)?;
         self.write_chunks(alloc, &chunks, subset, elements, store, options)

@@ -3,7 +3,7 @@ use Rattle.std.proofs.Common.{◌≡◌, ℕ, suc, ◌^◌, ◌<◌, not, ◌==�
 use Rattle.std.specs.List.{AllByRecursion}
 use Rattle.std.proofs.lemmas.Bool.{ne_eqb}
 use Rattle.std.proofs.lemmas.Fmt.{decimal_nonempty}
-use Rattle.zarr_model.specs.Key.{is_store_key}
+use Rattle.zarr_model.specs.Prelude.{is_store_key}
 use Rattle.zarr_model.proofs.KeyLaws.{IsDigit, AreIndices, decimal_digits}
 
 -- the last byte of a text that begins with this byte is no slash

@@ -2,7 +2,7 @@
 use Rattle.std.proofs.Common.{◌≡◌, ℕ, ◌+◌, ◌<◌, ◌&&◌, Bool, true, false, nat_le, nat_lt, List, [], ◌∷◌, length, zip, refl, sym, ap₂, arith}
 use Rattle.std.specs.List.{list_all}
 use Rattle.std.proofs.lemmas.Bool.{false_from_ne_true, and_parts, lt-ltb, ltb-true}
-use Rattle.zarr_model.specs.Region.{Span, whole, contains, is_in}
+use Rattle.zarr_model.specs.Prelude.{Span, whole, contains, is_in}
 use Rattle.zarr_model.proofs.RegionLaws.{span_in}
 
 same_test : (a b : Bool) → (a ≡ true → b ≡ true) → (b ≡ true → a ≡ true) → a ≡ b

@@ -5,8 +5,7 @@ use Rattle.std.specs.Int.NonZero.{non_zero_u64_get}
 use Rattle.std.proofs.lemmas.Bool.{and_parts, and_from, leb-true, ltb-true, le-leb, lt-ltb, true≢false}
 use Rattle.std.proofs.lemmas.Nat.{le-div, div_below, mul-le, div-mul-add}
 use Rattle.std.proofs.Math.Nat.{suc-mul, div-add-mod', mod-lt, mul-le-mul_right, mul_comm, zero-mul, add-mul}
-use Rattle.zarr_model.specs.Region.{Span, Region, count, whole, contains, is_in, ends_within, share_tuple, starts, sizes, tuples}
-use Rattle.zarr_model.specs.Grid.{box_of_axes, regular_axes, regular_grid, chunks_meeting}
+use Rattle.zarr_model.specs.Prelude.{Span, Region, count, whole, contains, is_in, ends_within, share_tuple, starts, sizes, tuples, box_of_axes, regular_axes, regular_grid, chunks_meeting}
 use Rattle.zarr_model.proofs.RegionLaws.{span_in}
 use Rattle.zarr_model.proofs.MeetingLaws.{AreMeeting, tuples-meeting, chunks_meeting-empty, tuples-empty}
 use Rattle.zarrs_array_subset.specs.Boxes.{region_of, is_box, ends}

@@ -1,5 +1,5 @@
 -- What a `RegularGrid` stands for.
-use Rattle.zarr_model.specs.Grid.{Grid, regular_grid}
+use Rattle.zarr_model.specs.Prelude.{Grid, regular_grid}
 use Rattle.zarr_basics.specs.RegularGrid.{nonzeros}
 use Rattle.zarr_basics.specs.declared.regular_grid.RegularGrid.{RegularGrid}
 

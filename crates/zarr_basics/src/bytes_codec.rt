@@ -2,7 +2,7 @@
 
 ghost use Rattle.std.specs.Prelude.{◌≡◌};
 
-use zarrs_metadata_ext::Endianness;
+use zarrs_metadata_parts::Endianness;
 
 /// The codec `bytes`, which stores the elements of a chunk in row-major order, one after another.
 #[derive(Clone, Copy, Debug, PartialEq, Eq)]

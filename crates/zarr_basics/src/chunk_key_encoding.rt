@@ -3,12 +3,12 @@
 //! See <https://zarr-specs.readthedocs.io/en/latest/v3/core/index.html#chunk-key-encoding>.
 
 ghost use Rattle.std.specs.Prelude.{◌≡◌, IfOk};
-ghost use Rattle.zarr_model.specs.Key.{default_keys, chunk_key};
-ghost use Rattle.zarrs_metadata_ext.specs.Names.{separator_code};
+ghost use Rattle.zarr_model.specs.Prelude.{default_keys, chunk_key};
+ghost use Rattle.zarrs_metadata_parts.specs.Names.{separator_code};
 
 use std::alloc::{AllocError, Global};
 use std::fmt::Write;
-use zarrs_metadata_ext::ChunkKeySeparator;
+use zarrs_metadata_parts::ChunkKeySeparator;
 use zarrs_storage::store_key::StoreKey;
 
 /// How the indices of a chunk become the key that it is stored under.
@@ -37,7 +37,8 @@ fn default_chunk_key(
     separator: ChunkKeySeparator,
     chunk_indices: &[u64],
 ) -> Result<StoreKey, AllocError>
-    ensures { IfOk result (λ key. key ≡ chunk_key (default_keys (separator_code separator)) chunk_indices.now) }
+    ensures { IfOk result (λ key. key ≡ chunk_key (default_keys (separator_code separator))
+        chunk_indices.now) }
 {
     let mut text = String::from_str(alloc, "c")?;
     for index in chunk_indices {

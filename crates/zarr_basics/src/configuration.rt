@@ -4,10 +4,10 @@
 ghost use Rattle.std.specs.Prelude.{◌≡◌, IsTrue, IfOk, IfSome, IfNone, false, nat_le};
 ghost use Rattle.std.specs.List.{list_all};
 ghost use Rattle.serde_json.specs.View.{view};
-ghost use Rattle.zarrs_metadata_ext.specs.Configuration.{configuration_seen};
-ghost use Rattle.zarrs_metadata_ext.specs.MetadataV3.{extension_seen};
-ghost use Rattle.zarrs_metadata_ext.specs.Names.{separator_code};
-ghost use Rattle.zarrs_metadata_ext.specs.Reading.{Reads};
+ghost use Rattle.zarrs_metadata_parts.specs.Configuration.{configuration_seen};
+ghost use Rattle.zarrs_metadata_parts.specs.MetadataV3.{extension_seen};
+ghost use Rattle.zarrs_metadata_parts.specs.Names.{separator_code};
+ghost use Rattle.zarrs_metadata_parts.specs.Reading.{Reads};
 ghost use Rattle.zarr_basics.specs.RegularGrid.{nonzeros};
 ghost use Rattle.zarr_basics.specs.BytesCodec.{named_order};
 ghost use Rattle.zarr_basics.specs.Configurations.{only_member, are_chunk_lengths, if_chunk_lengths, chunk_shape_in, separator_named, given_separator, separator_in, order_named, order_or_null, given_order, order_in};
@@ -17,12 +17,15 @@ use serde_json::Value;
 use std::alloc::{AllocError, Global};
 use std::num::NonZeroU64;
 use zarrs_array_subset::ChunkShape;
-use zarrs_metadata_ext::json::{read_text, read_whole_numbers};
-use zarrs_metadata_ext::{ChunkKeySeparator, Configuration, Endianness, MetadataError, MetadataV3};
+use zarrs_metadata_parts::json::{read_text, read_whole_numbers};
+use zarrs_metadata_parts::{
+    ChunkKeySeparator, Configuration, Endianness, MetadataError, MetadataV3,
+};
 
 // The configuration of an extension that must have one.
 fn configured(metadata: &MetadataV3) -> Result<&Configuration, MetadataError>
-    ensures { Reads (λ c. configuration_seen c.now) result (extension_seen metadata.now).configuration }
+    ensures { Reads (λ c. configuration_seen c.now) result
+        (extension_seen metadata.now).configuration }
 {
     match metadata.configuration() {
         Some(configuration) => Ok(configuration),
@@ -32,7 +35,8 @@ fn configured(metadata: &MetadataV3) -> Result<&Configuration, MetadataError>
 
 // The value of the only member, which must have this name.
 fn only_member<'a>(configuration: &'a Configuration, name: &str) -> Result<&'a Value, MetadataError>
-    ensures { Reads (λ v. view v.now) result (only_member name.now (configuration_seen configuration.now)) }
+    ensures { Reads (λ v. view v.now) result
+        (only_member name.now (configuration_seen configuration.now)) }
 {
     let mut members = configuration.as_map().iter();
     let Some((key, value)) = members.next() else {
@@ -65,7 +69,8 @@ fn are_chunk_lengths(array_shape: &[u64], lengths: &[u64]) -> bool
 #[tactic(auto, using(crate::proofs::LengthLaws::zero_length))]
 fn positive_lengths(alloc: Global, lengths: &[u64]) -> Result<Option<ChunkShape>, AllocError>
     ensures some { IfOk result (λ shape. IfSome shape (λ v. nonzeros v.items ≡ lengths.now)) }
-    ensures none { IfOk result (λ shape. IfNone shape (list_all (λ p. nat_le 1 p) lengths.now ≡ false)) }
+    ensures none { IfOk result (λ shape.
+        IfNone shape (list_all (λ p. nat_le 1 p) lengths.now ≡ false)) }
 {
     let mut shape = Vec::with_capacity(alloc, lengths.len())?;
     for length in lengths {
@@ -83,8 +88,10 @@ fn chunk_lengths(
     array_shape: &[u64],
     lengths: &[u64],
 ) -> Result<ChunkShape, MetadataError>
-    ensures reads { Reads (λ v. nonzeros v.items) result (if_chunk_lengths array_shape.now lengths.now) }
-    ensures lengths { IfOk result (λ v. IsTrue (are_chunk_lengths array_shape.now (nonzeros v.items))) }
+    ensures reads { Reads (λ v. nonzeros v.items) result
+        (if_chunk_lengths array_shape.now lengths.now) }
+    ensures lengths { IfOk result (λ v.
+        IsTrue (are_chunk_lengths array_shape.now (nonzeros v.items))) }
 {
     let Some(shape) = positive_lengths(alloc, lengths)? else {
         return Err(MetadataError::InvalidMetadata);
@@ -107,8 +114,10 @@ pub fn read_chunk_shape(
     array_shape: &[u64],
     metadata: &MetadataV3,
 ) -> Result<ChunkShape, MetadataError>
-    ensures reads { Reads (λ v. nonzeros v.items) result (chunk_shape_in array_shape.now (extension_seen metadata.now).configuration) }
-    ensures lengths { IfOk result (λ v. IsTrue (are_chunk_lengths array_shape.now (nonzeros v.items))) }
+    ensures reads { Reads (λ v. nonzeros v.items) result
+        (chunk_shape_in array_shape.now (extension_seen metadata.now).configuration) }
+    ensures lengths { IfOk result (λ v.
+        IsTrue (are_chunk_lengths array_shape.now (nonzeros v.items))) }
 {
     let value = only_member(configured(metadata)?, "chunk_shape")?;
     let lengths = read_whole_numbers(alloc, value)?;
@@ -127,7 +136,8 @@ fn separator_named(text: &str) -> Result<ChunkKeySeparator, MetadataError>
 
 #[tactic(auto, unfolding(crate::specs::Configurations::given_separator))]
 fn given_separator(metadata: &MetadataV3) -> Result<ChunkKeySeparator, MetadataError>
-    ensures { Reads separator_code result (given_separator (extension_seen metadata.now).configuration) }
+    ensures { Reads separator_code result
+        (given_separator (extension_seen metadata.now).configuration) }
 {
     let value = only_member(configured(metadata)?, "separator")?;
     separator_named(read_text(value)?)
@@ -139,7 +149,8 @@ fn given_separator(metadata: &MetadataV3) -> Result<ChunkKeySeparator, MetadataE
 /// `InvalidMetadata` exactly where there is a configuration, and it is neither empty nor exactly a `separator` that is
 /// `/` or `.`.
 pub fn read_separator(metadata: &MetadataV3) -> Result<ChunkKeySeparator, MetadataError>
-    ensures { Reads separator_code result (separator_in (extension_seen metadata.now).configuration) }
+    ensures { Reads separator_code result
+        (separator_in (extension_seen metadata.now).configuration) }
 {
     if metadata.configuration_is_none_or_empty() {
         Ok(ChunkKeySeparator::Slash)

@@ -51,7 +51,8 @@ pub struct Registries {
 
 // A registry with one built-in name.
 fn registry_with<K: Drop>(alloc: Global, name: &str, kind: K) -> Result<Registry<K>, AllocError>
-    ensures { IfOk result (λ r. registry_of r ≡ record { registered = []; builtin = (exact name.now, kind) ∷ [] }) }
+    ensures { IfOk result (λ r. registry_of r
+        ≡ record { registered = []; builtin = (exact name.now, kind) ∷ [] }) }
 {
     let name = String::from_str(alloc, name)?;
     let mut entries = Vec::with_capacity(alloc, 1)?;

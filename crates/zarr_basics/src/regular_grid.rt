@@ -4,8 +4,7 @@
 
 ghost use Rattle.std.specs.Prelude.{◌≡◌, ◌≤◌, ◌<◌, nat_lt, true, length, zip, IfOk};
 ghost use Rattle.std.specs.List.{list_all};
-ghost use Rattle.zarr_model.specs.Region.{count, whole, contains, tuples, ends_within};
-ghost use Rattle.zarr_model.specs.Grid.{IsChunk, chunks_meeting, regular_grid};
+ghost use Rattle.zarr_model.specs.Prelude.{count, whole, contains, tuples, ends_within, IsChunk, chunks_meeting, regular_grid};
 ghost use Rattle.zarrs_array_subset.specs.ArraySubset.{region};
 ghost use Rattle.zarr_basics.specs.RegularGrid.{BoxFits, nonzeros, quotients_up, quotients, lasts, products, counts_between, chunk_region};
 
@@ -23,7 +22,8 @@ pub struct RegularGrid {
     /// How many chunks there are in each dimension.
     pub grid_shape: Vec<u64>,
     ghost rank: { length array_shape.items ≡ length chunk_shape.items },
-    ghost counts: { grid_shape.items ≡ (regular_grid array_shape.items (nonzeros chunk_shape.items)).grid_shape },
+    ghost counts: { grid_shape.items ≡ (regular_grid array_shape.items
+        (nonzeros chunk_shape.items)).grid_shape },
 }
 
 // How many chunks cover each length.
@@ -140,7 +140,8 @@ impl RegularGrid {
 
     /// Whether a chunk of the grid has these indices.
     pub fn has_chunk(&self, chunk_indices: &[u64]) -> bool
-        ensures { result ≡ contains (whole (grid_of_regular self.now).grid_shape) chunk_indices.now }
+        ensures { result ≡ contains (whole (grid_of_regular self.now).grid_shape)
+            chunk_indices.now }
     {
         chunk_indices.len() == self.grid_shape.len() && are_below(chunk_indices, &self.grid_shape)
     }
@@ -149,7 +150,8 @@ impl RegularGrid {
     pub fn subset(&self, alloc: Global, chunk_indices: &[u64]) -> Result<ArraySubset, AllocError>
         requires chunk { IsChunk (grid_of_regular self.now) chunk_indices.now }
         requires fits { BoxFits (grid_of_regular self.now) chunk_indices.now }
-        ensures { IfOk result (λ s. region s ≡ (grid_of_regular self.now).chunk_box chunk_indices.now) }
+        ensures { IfOk result (λ s. region s
+            ≡ (grid_of_regular self.now).chunk_box chunk_indices.now) }
     {
         let start = products(alloc, chunk_indices, &self.chunk_shape)?;
         let shape = numbers(alloc, &self.chunk_shape)?;
@@ -167,7 +169,8 @@ impl RegularGrid {
         array_subset: &ArraySubset,
     ) -> Result<ArraySubset, AllocError>
         requires inside { ends_within (region array_subset.now) self.now.array_shape.items ≡ true }
-        ensures chunks { IfOk result (λ s. tuples (region s) ≡ chunks_meeting (grid_of_regular self.now) (region array_subset.now)) }
+        ensures chunks { IfOk result (λ s. tuples (region s)
+            ≡ chunks_meeting (grid_of_regular self.now) (region array_subset.now)) }
         ensures few { IfOk result (λ s. count (region s) ≤ count (region array_subset.now)) }
     {
         if array_subset.is_empty() {

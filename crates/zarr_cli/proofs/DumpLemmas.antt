@@ -4,17 +4,15 @@ use Rattle.std.specs.Ordering.{nat_cmp}
 use Rattle.std.specs.Cmp.Lexicographic.{slice_cmp}
 use Rattle.std.specs.List.Sorted.{IsStrictlySortedBy}
 use Rattle.std.proofs.lemmas.List.{length-map}
-use Rattle.zarr_model.specs.Store.{Content}
-use Rattle.zarr_model.specs.Outside.{Rose}
-use Rattle.zarr_model.specs.Cost.{counted}
+use Rattle.zarr_model.specs.Prelude.{Content, Shown, Rose, counted}
 use Rattle.zarrs_storage.specs.Store.{ListsKeys, IsFault}
 use Rattle.zarrs_storage.specs.declared.store.StorageError.{StorageError}
 use Rattle.zarrs_storage.specs.declared.store.StorageError.TheVariants.{Failed}
 use Rattle.zarrs_storage.specs.declared.store.StorageError.TheVariants as Storage
 use Rattle.zarrs_storage.proofs.ListLemmas.{AreEntriesOf, is_sorted-entries, find-listed}
 use Rattle.zarr_cli_lines.specs.Text.{entries_text}
-use Rattle.zarr_cli.specs.Program.{ListsStore}
-use Rattle.zarr_cli.specs.Steps.{Dumps, IsDumpFault, entries_at, dump_status}
+use Rattle.zarr_cli.specs.Run.{ListsStore}
+use Rattle.zarr_cli.specs.Steps.{Dumps, IsDumpFault, entries_at, storage_status}
 use Rattle.zarr_cli.specs.declared.status.Status.{Status}
 use Rattle.zarr_cli.specs.declared.status.Status.TheVariants.{Done, BadWords, BadInput, Document, Chunk, Store, Read, Write, TooLong, OutOfMemory}
 
@@ -50,33 +48,33 @@ pub counted_more : (n mid now a b : ℕ) → mid ≡ counted n a → now ≡ cou
 counted_more n mid now a b first second = omega (arith, first, second)
 
 -- the list of keys and their lines are a dump
-dumped : (old mid new : Content) (keys : List (List ℕ)) (asks_before asks_mid asks_now : ℕ) (before now : List ℕ) → ListsKeys old keys → mid ≡ old → new ≡ mid →
-    asks_mid ≡ counted asks_before 1 → asks_now ≡ counted asks_mid (length keys) → now ≡ before ++ entries_text (entries_at mid keys) → Dumps true old new asks_before asks_now before now
-dumped old mid new keys asks_before asks_mid asks_now before now lists same kept first second text =
-    let here : ListsStore new (entries_at old keys) = subst (λ content. ListsStore content (entries_at old keys)) (sym (kept ∙ same)) (lists_store old keys lists) in
-    let many : length (entries_at old keys) ≡ length keys = length-map keys (λ key. (key, unwrap_or (old key) [])) in
+dumped : (before mid now : Shown) (keys : List (List ℕ)) (text new_text : List ℕ) → ListsKeys before.content keys → mid.content ≡ before.content → now.content ≡ mid.content →
+    mid.asks ≡ counted before.asks 1 → now.asks ≡ counted mid.asks (length keys) → new_text ≡ text ++ entries_text (entries_at mid.content keys) → Dumps true before now text new_text
+dumped before mid now keys text new_text lists same kept first second lines =
+    let here : ListsStore now.content (entries_at before.content keys) = subst (λ content. ListsStore content (entries_at before.content keys)) (sym (kept ∙ same)) (lists_store before.content keys lists) in
+    let many : length (entries_at before.content keys) ≡ length keys = length-map keys (λ key. (key, unwrap_or (before.content key) [])) in
     record {
-      text = (entries_text (entries_at old keys), (entries_at old keys, here, refl), text ∙ ap (λ content. before ++ entries_text (entries_at content keys)) same);
+      text = (entries_text (entries_at before.content keys), (entries_at before.content keys, here, refl), lines ∙ ap (λ content. text ++ entries_text (entries_at content keys)) same);
       same = kept ∙ same;
-      asks = (length (entries_at old keys) + 1, (entries_at old keys, here, refl), omega (arith, first, second, many));
+      asks = (length (entries_at before.content keys) + 1, (entries_at before.content keys, here, refl), omega (arith, first, second, many));
     }
 
-pub store_dumped : {T : Type 0} (old mid new : Content) (keys : List (List ℕ)) (asks_before asks_mid asks_now : ℕ) (before now : List ℕ) (result : Result T Status) → ListsKeys old keys → mid ≡ old → new ≡ mid →
-    asks_mid ≡ counted asks_before 1 → OnOk result (asks_now ≡ counted asks_mid (length keys)) → OnOk result (now ≡ before ++ entries_text (entries_at mid keys)) →
-    OnOk result (Dumps true old new asks_before asks_now before now)
-store_dumped old mid new keys asks_before asks_mid asks_now before now (Ok value) lists same kept first second text = dumped old mid new keys asks_before asks_mid asks_now before now lists same kept first second text
-store_dumped old mid new keys asks_before asks_mid asks_now before now (Err status) lists same kept first second text = tt
+pub store_dumped : {T : Type 0} (before mid now : Shown) (keys : List (List ℕ)) (text new_text : List ℕ) (result : Result T Status) → ListsKeys before.content keys → mid.content ≡ before.content → now.content ≡ mid.content →
+    mid.asks ≡ counted before.asks 1 → OnOk result (now.asks ≡ counted mid.asks (length keys)) → OnOk result (new_text ≡ text ++ entries_text (entries_at mid.content keys)) →
+    OnOk result (Dumps true before now text new_text)
+store_dumped before mid now keys text new_text (Ok value) lists same kept first second lines = dumped before mid now keys text new_text lists same kept first second lines
+store_dumped before mid now keys text new_text (Err status) lists same kept first second lines = tt
 
 -- no dump
-pub none_dumped : (content : Content) (asks : ℕ) (text : List ℕ) → asks ≤ 2 ^ 64 - 1 → Dumps false content content asks asks text text
-none_dumped content asks text fits = record { text = ([], refl, sym (append-nil text)); same = refl; asks = (0, refl, counted_none asks fits) }
+pub none_dumped : (store : Shown) (text : List ℕ) → store.asks ≤ 2 ^ 64 - 1 → Dumps false store store text text
+none_dumped store text fits = record { text = ([], refl, sym (append-nil text)); same = refl; asks = (0, refl, counted_none store.asks fits) }
 
 -- faults of a dump
-pub status_fault : (error : StorageError) (before now : ℕ) → (IsFault error → Rose before now) → IsDumpFault before now (dump_status error)
+pub status_fault : (error : StorageError) (before now : Shown) → (IsFault error → Rose before.faults now.faults) → IsDumpFault before now (storage_status error)
 status_fault Failed before now cause = cause tt
 status_fault Storage.OutOfMemory before now cause = tt
 
-fault_earlier : (before mid now : ℕ) (status : Status) → before ≤ mid → IsDumpFault mid now status → IsDumpFault before now status
+fault_earlier : (before mid now : Shown) (status : Status) → before.faults ≤ mid.faults → IsDumpFault mid now status → IsDumpFault before now status
 fault_earlier before mid now Store later fault = omega (arith, later, fault)
 fault_earlier before mid now OutOfMemory later fault = tt
 fault_earlier before mid now Done later fault = fault
@@ -88,6 +86,6 @@ fault_earlier before mid now Read later fault = fault
 fault_earlier before mid now Write later fault = fault
 fault_earlier before mid now TooLong later fault = fault
 
-pub dump_fault-earlier : {T : Type 0} (before mid now : ℕ) (result : Result T Status) → before ≤ mid → IfErr result (λ status. IsDumpFault mid now status) → IfErr result (λ status. IsDumpFault before now status)
+pub dump_fault-earlier : {T : Type 0} (before mid now : Shown) (result : Result T Status) → before.faults ≤ mid.faults → IfErr result (λ status. IsDumpFault mid now status) → IfErr result (λ status. IsDumpFault before now status)
 dump_fault-earlier before mid now (Ok value) later fault = tt
 dump_fault-earlier before mid now (Err status) later fault = fault_earlier before mid now status later fault

@@ -3,20 +3,12 @@ use Rattle.std.proofs.Common.{◌≡◌, ℕ, List, [], ◌∷◌, refl, codes, 
 use Rattle.std.specs.Fmt.{digits}
 use Rattle.sha2.specs.Sha256.{sha256, digest_bytes, hash_after, compress, rounds, schedule, first_words}
 use Rattle.hex.specs.Hex.{encode_with, decode_pairs}
-use Rattle.zarr_model.specs.Region.{whole, tuple_at, linear_index}
-use Rattle.zarr_model.specs.Cover.{linear_indices}
-use Rattle.zarr_cli.specs.Program.{Settings, IsDump, with_words, first_settings, settings_of, writing_forms}
+use Rattle.zarr_model.specs.Prelude.{whole, tuple_at, linear_index, linear_indices, undamaged, blank_array, of_bytes, null, some, fixed, variable, optional, fixed_size, fill_element, int_type, uint_type, raw_type, string_type, optional_type, fixed_bytes, variable_bytes, optional_bytes, default_keys, v2_keys, chunk_key, Options, offset_codec, bytes_codec, vlen_codec, optional_codec, little, big, decode_array_to_bytes, decode_bytes, decode_levels, Description, layout, write, refusal, bytes_refusal, is_too_large, has_long_step, invalid_variable_sized_array_offsets, invalid_mask, expected_optional_bytes, replies, all_asks, all_bytes, present_in}
+use Rattle.zarr_cli.specs.Words.{Settings, with_words, first_settings, settings_of}
+use Rattle.zarr_cli.specs.Run.{IsDump}
 use Rattle.zarr_array.specs.Opening.{chain_order}
 use Rattle.zarr_cli.specs.Ending.{bad_input, refused_document, damaged_chunk, write_fault, ending_line}
-use Rattle.zarr_model.specs.Failure.{undamaged}
-use Rattle.zarr_model.specs.Array.{blank_array}
-use Rattle.zarr_model.specs.Element.{of_bytes, null, some, fixed, variable, optional, fixed_size, fill_element, int_type, uint_type, raw_type, string_type, optional_type}
-use Rattle.zarr_model.specs.ArrayBytes.{fixed_bytes, variable_bytes, optional_bytes}
-use Rattle.zarr_model.specs.Key.{default_keys, v2_keys, chunk_key}
-use Rattle.zarr_model.specs.Codec.{Options, offset_codec, bytes_codec, vlen_codec, optional_codec, little, big, decode_array_to_bytes, decode_bytes, decode_levels}
-use Rattle.zarr_model.specs.Command.{Description, layout, write, refusal, bytes_refusal, is_too_large, has_long_step, invalid_variable_sized_array_offsets, invalid_mask, expected_optional_bytes, replies}
-use Rattle.zarr_cli_lines.specs.Text.{input_lines, first_entries, command_of, replies_text, good_lines}
-use Rattle.zarr_model.specs.Cost.{all_asks, all_bytes, present_in}
+use Rattle.zarr_cli_lines.specs.Text.{input_lines, first_entries, line_command, replies_text, good_lines}
 use Rattle.zarr_array.specs.Document.{boundaries, offset, transpose, checksum, describe}
 use Rattle.zarr_array.proofs.Documents.{plain_document}
 use Rattle.zarr_cli.proofs.Worked.{reply_lines, left_in_chunks, kept_in_chunks, left_chunks, kept_chunks, its_commands, first_array, empty_store, store_of, holding}
@@ -167,7 +159,7 @@ short_write = record { texts = refl; elements = refl; present = refl }
 
 -- lines out of form, by how many good ones come before them
 abbrev good : List ℕ → ℕ
-good input = good_lines (command_of (fixed 1)) (input_lines input)
+good input = good_lines (line_command (fixed 1)) (input_lines input)
 
 late_key_line : good (codes "read 0..4,0..4\nkey c/0/0 h00") ≡ 1
 unfolding digits encode_with decode_pairs
@@ -291,13 +283,13 @@ unfolding digits
 numbers_read = (refl, refl, refl, refl, refl)
 
 -- the words and the command lines that a program knows
-known_words : (settings_of writing_forms [] ≡ Some first_settings) × (settings_of writing_forms (codes "-dump" ∷ []) ≡ None)
-    × (settings_of writing_forms (codes "--dump" ∷ []) ≡ Some (record first_settings { dump = true }))
-    × (settings_of writing_forms (codes "--no-checksums" ∷ []) ≡ None) × (settings_of writing_forms (codes "--make" ∷ codes "5" ∷ []) ≡ None)
+known_words : (settings_of [] ≡ Some first_settings) × (settings_of (codes "-dump" ∷ []) ≡ None)
+    × (settings_of (codes "--dump" ∷ []) ≡ Some (record first_settings { dump = true }))
+    × (settings_of (codes "--no-checksums" ∷ []) ≡ None) × (settings_of (codes "--make" ∷ codes "5" ∷ []) ≡ None)
 known_words = (refl, refl, refl, refl, refl)
 
-known_commands : (good_lines (writing_forms.command (fixed 1)) (codes "key c/0 h01" ∷ codes "read 0..1" ∷ codes "write 0..1 00" ∷ []) ≡ 2)
-    × (good_lines (writing_forms.command (fixed 1)) (codes "key c/0 h01" ∷ codes "read 0..1" ∷ codes "write 0..1 h00" ∷ []) ≡ 3)
+known_commands : (good_lines (line_command (fixed 1)) (codes "key c/0 h01" ∷ codes "read 0..1" ∷ codes "write 0..1 00" ∷ []) ≡ 2)
+    × (good_lines (line_command (fixed 1)) (codes "key c/0 h01" ∷ codes "read 0..1" ∷ codes "write 0..1 h00" ∷ []) ≡ 3)
 unfolding digits encode_with decode_pairs
 known_commands = (refl, refl)
 

@@ -9,3 +9,7 @@ mod OutcomeLemmas
 mod EndLemmas
 mod WordLemmas
 mod DumpLemmas
+mod RefusingLemmas
+mod EndingLemmas
+mod AnswerLemmas
+mod KeysLaws

@@ -2,28 +2,27 @@
 use Rattle.std.proofs.Common.{◌≡◌, ℕ, ◌+◌, ◌<◌, ◌≤◌, false, List, length, map, Option, Some, None, is_some, IsUtf8, inl, inr, refl, sym, ap, ◌∙◌, subst, arith}
 use Rattle.std.specs.Str.{IsValidUpTo}
 use Rattle.std.proofs.lemmas.Str.{utf8_valid_len-IsUtf8, utf8_valid_len-IsValidUpTo}
-use Rattle.zarr_model.specs.Store.{Content, IsHonest, IsChunkKey, with_keys}
-use Rattle.zarr_model.specs.Command.{layout}
-use Rattle.zarr_model.specs.Session.{AreRefused, IsUntouched}
+use Rattle.zarr_model.specs.Prelude.{Content, IsHonest, with_keys, Shown, layout, AreRefused, IsUntouched}
 use Rattle.zarr_array.specs.Document.{ArrayDocument, describe}
-use Rattle.zarr_array.specs.Opening.{OpenRefusal, opened, not_opened}
-use Rattle.zarr_array.specs.OpenArray.{documented, described, open_refusal_of}
+use Rattle.zarr_array.specs.Opening.{OpenRefusal, opened, not_opened, open_builtin}
+use Rattle.zarr_array.specs.OpenArray.{documented, described}
+use Rattle.zarr_array.specs.OpenError.{open_refusal_of}
 use Rattle.zarr_array.specs.Command.{command_of}
 use Rattle.zarr_cli_lines.specs.Text.{good_lines, line_at}
 use Rattle.zarr_cli_lines.specs.Parts.{entry_view}
 use Rattle.zarr_cli_lines.proofs.TextLaws.{good_lines_all}
-use Rattle.zarr_cli.specs.Program.{Settings, Forms, ReadsBy, Run, input_limit, command_grammar, document_line, lines_after_document, store_after_keys}
-use Rattle.zarr_cli.specs.Ending.{IsBadLine, SameKeysElsewhere, IsRunnable}
-use Rattle.zarr_cli.specs.Endings.{known_forms}
-use Rattle.zarr_cli.specs.Steps.{SaysInput, RunsAll, DidRun, IsRunFault, IsInputFault, IsRefusal, IsRefusedBy, IsToldFault, IsKeyOf}
+use Rattle.zarr_cli.specs.Words.{Settings, ReadsBy}
+use Rattle.zarr_cli.specs.Run.{Run, IsRunnable}
+use Rattle.zarr_cli.specs.Input.{input_limit, command_grammar, document_line, lines_after_document, store_after_keys, with_entries, IsBadLine}
+use Rattle.zarr_cli.specs.Steps.{SaysInput, PrintsAll, PrintsInput, IsRunFault, IsInputFault, IsRefusal, RefusesInput, IsToldFault}
 use Rattle.zarr_cli.proofs.ProgramLaws.{one_run}
 use Rattle.zarr_cli.specs.declared.input.ParsedInput.{ParsedInput}
 use Rattle.zarr_cli.specs.declared.status.Status.{Status}
 use Rattle.zarr_cli.specs.declared.status.Status.TheVariants.{Done, BadWords, BadInput, Document, Chunk, Store, Read, Write, TooLong, OutOfMemory}
 
 -- the run of an input in form under words in form
-abbrev pub its_run : (words : List (List ℕ)) (settings : Settings) (input : List ℕ) (parsed : ParsedInput) → ReadsBy known_forms words settings → length input ≤ input_limit → SaysInput input parsed →
-    Run known_forms words input
+abbrev pub its_run : (words : List (List ℕ)) (settings : Settings) (input : List ℕ) (parsed : ParsedInput) → ReadsBy words settings → length input ≤ input_limit → SaysInput input parsed →
+    Run words input
 its_run words settings input parsed reads within says = record {
   settings = settings;
   document = documented parsed.array;
@@ -35,49 +34,41 @@ its_run words settings input parsed reads within says = record {
   are_commands = says.commands_are;
 }
 
-pub did_run : (words : List (List ℕ)) (settings : Settings) (input : List ℕ) (parsed : ParsedInput) (old new : Content) (asks_before asks_now taken_before taken_now : ℕ) (text : List ℕ) →
-    ReadsBy known_forms words settings → length input ≤ input_limit → SaysInput input parsed →
-    RunsAll (described parsed.array) settings (map command_of parsed.commands.items) (with_keys (map entry_view parsed.entries.items) old) new asks_before asks_now text →
-    (AreRefused (described parsed.array) (map command_of parsed.commands.items) → settings.dump ≡ false → IsUntouched (with_keys (map entry_view parsed.entries.items) old) new asks_before asks_now taken_before taken_now) →
-    DidRun words input old new asks_before asks_now taken_before taken_now text
-did_run words settings input parsed old new asks_before asks_now taken_before taken_now text reads within says ran refused =
-    let runs = subst (λ entries. RunsAll (described parsed.array) settings (map command_of parsed.commands.items) (with_keys entries old) new asks_before asks_now text) says.entries_are ran in
+pub did_run : (words : List (List ℕ)) (settings : Settings) (input : List ℕ) (parsed : ParsedInput) (before now : Shown) (text : List ℕ) →
+    ReadsBy words settings → length input ≤ input_limit → SaysInput input parsed →
+    PrintsAll (described parsed.array) settings (map command_of parsed.commands.items) (with_entries (map entry_view parsed.entries.items) before) now text →
+    (AreRefused (described parsed.array) (map command_of parsed.commands.items) → settings.dump ≡ false → IsUntouched (with_entries (map entry_view parsed.entries.items) before) now) →
+    PrintsInput words input before now text
+did_run words settings input parsed before now text reads within says ran refused =
+    let runs = subst (λ entries. PrintsAll (described parsed.array) settings (map command_of parsed.commands.items) (with_entries entries before) now text) says.entries_are ran in
     record {
       run = its_run words settings input parsed reads within says;
-      runs = record { replied = runs.replied; left = runs.left; undamaged = runs.undamaged; dumped = runs.dumped };
+      prints = runs.prints;
       asks = runs.asks;
-      refused = λ all none. subst (λ entries. IsUntouched (with_keys entries old) new asks_before asks_now taken_before taken_now) says.entries_are (refused all none);
+      refused = λ all none. subst (λ entries. IsUntouched (with_entries entries before) now) says.entries_are (refused all none);
     }
 
-pub run_told : (words : List (List ℕ)) (settings : Settings) (input : List ℕ) (parsed : ParsedInput) (old : Content) (before now : ℕ) → ReadsBy known_forms words settings → length input ≤ input_limit → SaysInput input parsed →
-    (status : Status) → IsRunFault (described parsed.array) settings.options (map command_of parsed.commands.items) (with_keys (map entry_view parsed.entries.items) old) before now status →
-    IsToldFault words input old ⊥ before now status
-run_told words settings input parsed old before now reads within says (Chunk key) fault = (
-  its_run words settings input parsed reads within says,
-  subst (λ entries. IsRunFault (described parsed.array) settings.options (map command_of parsed.commands.items) (with_keys entries old) before now (Chunk key)) says.entries_are fault,
-)
-run_told words settings input parsed old before now reads within says Store fault = (its_run words settings input parsed reads within says, fault)
-run_told words settings input parsed old before now reads within says OutOfMemory fault = tt
-run_told words settings input parsed old before now reads within says Done fault = absurd fault
-run_told words settings input parsed old before now reads within says BadWords fault = absurd fault
-run_told words settings input parsed old before now reads within says (BadInput line) fault = absurd fault
-run_told words settings input parsed old before now reads within says (Document error) fault = absurd fault
-run_told words settings input parsed old before now reads within says Read fault = absurd fault
-run_told words settings input parsed old before now reads within says Write fault = absurd fault
-run_told words settings input parsed old before now reads within says TooLong fault = absurd fault
-
-pub kept_elsewhere : (words : List (List ℕ)) (settings : Settings) (input : List ℕ) (parsed : ParsedInput) (old new : Content) → ReadsBy known_forms words settings → length input ≤ input_limit → SaysInput input parsed →
-    ((key : List ℕ) → ¬ IsKeyOf (map entry_view parsed.entries.items) key → ¬ IsChunkKey (layout (described parsed.array) settings.options) key → new key ≡ old key) →
-    SameKeysElsewhere known_forms words input old new
-kept_elsewhere words settings input parsed old new reads within says kept key free =
-    let none = free (its_run words settings input parsed reads within says) in
-    kept key (subst (λ entries. ¬ IsKeyOf entries key) (sym says.entries_are) none.0) none.1
+pub run_told : (words : List (List ℕ)) (settings : Settings) (input : List ℕ) (parsed : ParsedInput) (before now : Shown) → ReadsBy words settings → length input ≤ input_limit → SaysInput input parsed →
+    (status : Status) → IsRunFault (described parsed.array) settings.options (map command_of parsed.commands.items) (with_entries (map entry_view parsed.entries.items) before) now status →
+    IsToldFault words input ⊥ before now status
+run_told words settings input parsed before now reads within says (Chunk key) fault =
+    let met = subst (λ entries. IsRunFault (described parsed.array) settings.options (map command_of parsed.commands.items) (with_entries entries before) now (Chunk key)) says.entries_are fault in
+    ((its_run words settings input parsed reads within says, met.0), met.1)
+run_told words settings input parsed before now reads within says Store fault = (its_run words settings input parsed reads within says, fault)
+run_told words settings input parsed before now reads within says OutOfMemory fault = tt
+run_told words settings input parsed before now reads within says Done fault = absurd fault
+run_told words settings input parsed before now reads within says BadWords fault = absurd fault
+run_told words settings input parsed before now reads within says (BadInput line) fault = absurd fault
+run_told words settings input parsed before now reads within says (Document error) fault = absurd fault
+run_told words settings input parsed before now reads within says Read fault = absurd fault
+run_told words settings input parsed before now reads within says Write fault = absurd fault
+run_told words settings input parsed before now reads within says TooLong fault = absurd fault
 
 -- a run in form is that of the parsed input
-pub runnable : (words : List (List ℕ)) (settings : Settings) (input : List ℕ) (parsed : ParsedInput) (old : Content) → ReadsBy known_forms words settings → SaysInput input parsed → IsRunnable known_forms words input old →
+pub runnable : (words : List (List ℕ)) (settings : Settings) (input : List ℕ) (parsed : ParsedInput) (old : Content) → ReadsBy words settings → SaysInput input parsed → IsRunnable words input old →
     IsHonest (layout (described parsed.array) settings.options) (with_keys (map entry_view parsed.entries.items) old)
 runnable words settings input parsed old reads says (run, honest) =
-    let same = one_run known_forms words input settings (documented parsed.array) (map command_of parsed.commands.items) reads.0 says.is_opened says.commands_are run in
+    let same = one_run words input settings (documented parsed.array) (map command_of parsed.commands.items) reads.0 says.is_opened says.commands_are run in
     subst (λ entries. IsHonest (layout (described parsed.array) settings.options) (with_keys entries old)) (sym says.entries_are)
     (subst (λ document. IsHonest (layout (describe document) settings.options) (store_after_keys input old)) same.1
     (subst (λ set. IsHonest (layout (describe run.document) set.options) (store_after_keys input old)) same.0 honest))
@@ -92,60 +83,60 @@ one_opened : (a b : ArrayDocument) → opened a ≡ opened b → a ≡ b
 one_opened a b e = cc
 
 -- a run in form has no line out of form
-pub run_not_bad : (forms : Forms) (words : List (List ℕ)) (input : List ℕ) (line : ℕ) → Run forms words input → IsBadLine forms input line → ⊥
-run_not_bad forms words input line run (inl (n, upto, e)) = valid_up_to-not input n run.is_text upto
-run_not_bad forms words input line run (inr (utf8, document, opens, below, e)) =
+pub run_not_bad : (words : List (List ℕ)) (input : List ℕ) (line : ℕ) → Run words input → IsBadLine input line → ⊥
+run_not_bad words input line run (inl (n, upto, e)) = valid_up_to-not input n run.is_text upto
+run_not_bad words input line run (inr (utf8, document, opens, below, e)) =
     let same : document ≡ run.document = one_opened document run.document (sym opens ∙ run.is_opened) in
-    let full : good_lines (command_grammar forms run.document) (lines_after_document input) ≡ length (lines_after_document input) =
-    (good_lines_all (command_grammar forms run.document) (lines_after_document input)).0 (ap is_some run.are_commands) in
-    let few : good_lines (command_grammar forms run.document) (lines_after_document input) < length (lines_after_document input) =
-    subst (λ d. good_lines (command_grammar forms d) (lines_after_document input) < length (lines_after_document input)) same below in
+    let full : good_lines (command_grammar run.document) (lines_after_document input) ≡ length (lines_after_document input) =
+    (good_lines_all (command_grammar run.document) (lines_after_document input)).0 (ap is_some run.are_commands) in
+    let few : good_lines (command_grammar run.document) (lines_after_document input) < length (lines_after_document input) =
+    subst (λ d. good_lines (command_grammar d) (lines_after_document input) < length (lines_after_document input)) same below in
     omega arith
 
 -- nor a refused document
-pub run_not_refused : (forms : Forms) (words : List (List ℕ)) (input : List ℕ) (why : OpenRefusal) → Run forms words input → forms.opens (document_line input) ≡ not_opened why → ⊥
-run_not_refused forms words input why run refused = let both : opened run.document ≡ not_opened why = sym run.is_opened ∙ refused in cc
+pub run_not_refused : (words : List (List ℕ)) (input : List ℕ) (why : OpenRefusal) → Run words input → open_builtin (document_line input) ≡ not_opened why → ⊥
+run_not_refused words input why run refused = let both : opened run.document ≡ not_opened why = sym run.is_opened ∙ refused in cc
 
 -- an input with a refused document has no line out of form
-pub refused_not_bad : (forms : Forms) (input : List ℕ) (line : ℕ) (why : OpenRefusal) → IsUtf8 input → forms.opens (document_line input) ≡ not_opened why → IsBadLine forms input line → ⊥
-refused_not_bad forms input line why utf8 refused (inl (n, upto, e)) = valid_up_to-not input n utf8 upto
-refused_not_bad forms input line why utf8 refused (inr (again, document, opens, below, e)) = let both : opened document ≡ not_opened why = sym opens ∙ refused in cc
+pub refused_not_bad : (input : List ℕ) (line : ℕ) (why : OpenRefusal) → IsUtf8 input → open_builtin (document_line input) ≡ not_opened why → IsBadLine input line → ⊥
+refused_not_bad input line why utf8 refused (inl (n, upto, e)) = valid_up_to-not input n utf8 upto
+refused_not_bad input line why utf8 refused (inr (again, document, opens, below, e)) = let both : opened document ≡ not_opened why = sym opens ∙ refused in cc
 
 -- there is one first line out of form
-pub one_bad_line : (forms : Forms) (input : List ℕ) (a b : ℕ) → IsBadLine forms input a → IsBadLine forms input b → a ≡ b
-one_bad_line forms input a b (inl (n, first, e)) (inl (m, second, k)) =
+pub one_bad_line : (input : List ℕ) (a b : ℕ) → IsBadLine input a → IsBadLine input b → a ≡ b
+one_bad_line input a b (inl (n, first, e)) (inl (m, second, k)) =
     e ∙ (ap (line_at input) (sym (utf8_valid_len-IsValidUpTo input n first) ∙ utf8_valid_len-IsValidUpTo input m second) ∙ sym k)
-one_bad_line forms input a b (inl (n, first, e)) (inr (utf8, document, opens, below, k)) = absurd (valid_up_to-not input n utf8 first)
-one_bad_line forms input a b (inr (utf8, document, opens, below, e)) (inl (m, second, k)) = absurd (valid_up_to-not input m utf8 second)
-one_bad_line forms input a b (inr (utf8, document, opens, below, e)) (inr (again, other, opens_other, below_other, k)) =
+one_bad_line input a b (inl (n, first, e)) (inr (utf8, document, opens, below, k)) = absurd (valid_up_to-not input n utf8 first)
+one_bad_line input a b (inr (utf8, document, opens, below, e)) (inl (m, second, k)) = absurd (valid_up_to-not input m utf8 second)
+one_bad_line input a b (inr (utf8, document, opens, below, e)) (inr (again, other, opens_other, below_other, k)) =
     let same : document ≡ other = one_opened document other (sym opens ∙ opens_other) in
-    e ∙ (ap (λ d. good_lines (command_grammar forms d) (lines_after_document input) + 2) same ∙ sym k)
+    e ∙ (ap (λ d. good_lines (command_grammar d) (lines_after_document input) + 2) same ∙ sym k)
 
 -- an input out of form: its cause, and that it cannot be run
-refused_by : (words : List (List ℕ)) (settings : Settings) (input : List ℕ) (why : Option OpenRefusal) → ReadsBy known_forms words settings → length input ≤ input_limit → IsUtf8 input →
-    IsRefusal why (known_forms.opens (document_line input)) → IsRefusedBy words input why
+refused_by : (words : List (List ℕ)) (settings : Settings) (input : List ℕ) (why : Option OpenRefusal) → ReadsBy words settings → length input ≤ input_limit → IsUtf8 input →
+    IsRefusal why (open_builtin (document_line input)) → RefusesInput words input why
 refused_by words settings input None reads within utf8 refused = refused
 refused_by words settings input (Some why) reads within utf8 refused = ((settings, reads), within, utf8, refused)
 
-pub input_told : (words : List (List ℕ)) (settings : Settings) (input : List ℕ) (old : Content) (before now : ℕ) → ReadsBy known_forms words settings → length input ≤ input_limit →
-    (status : Status) → IsInputFault input status → IsToldFault words input old ⊥ before now status
-input_told words settings input old before now reads within (BadInput line) fault = ((settings, reads), within, fault)
-input_told words settings input old before now reads within (Document error) fault = refused_by words settings input (open_refusal_of error) reads within fault.0 fault.1
-input_told words settings input old before now reads within OutOfMemory fault = tt
-input_told words settings input old before now reads within Done fault = absurd fault
-input_told words settings input old before now reads within BadWords fault = absurd fault
-input_told words settings input old before now reads within (Chunk key) fault = absurd fault
-input_told words settings input old before now reads within Store fault = absurd fault
-input_told words settings input old before now reads within Read fault = absurd fault
-input_told words settings input old before now reads within Write fault = absurd fault
-input_told words settings input old before now reads within TooLong fault = absurd fault
+pub input_told : (words : List (List ℕ)) (settings : Settings) (input : List ℕ) (before now : Shown) → ReadsBy words settings → length input ≤ input_limit →
+    (status : Status) → IsInputFault input status → IsToldFault words input ⊥ before now status
+input_told words settings input before now reads within (BadInput line) fault = ((settings, reads), within, fault)
+input_told words settings input before now reads within (Document error) fault = refused_by words settings input (open_refusal_of error) reads within fault.0 fault.1
+input_told words settings input before now reads within OutOfMemory fault = tt
+input_told words settings input before now reads within Done fault = absurd fault
+input_told words settings input before now reads within BadWords fault = absurd fault
+input_told words settings input before now reads within (Chunk key) fault = absurd fault
+input_told words settings input before now reads within Store fault = absurd fault
+input_told words settings input before now reads within Read fault = absurd fault
+input_told words settings input before now reads within Write fault = absurd fault
+input_told words settings input before now reads within TooLong fault = absurd fault
 
-never_refused : (words : List (List ℕ)) (input : List ℕ) (why : Option OpenRefusal) → Run known_forms words input → IsRefusal why (known_forms.opens (document_line input)) → ⊥
+never_refused : (words : List (List ℕ)) (input : List ℕ) (why : Option OpenRefusal) → Run words input → IsRefusal why (open_builtin (document_line input)) → ⊥
 never_refused words input None run refused = refused
-never_refused words input (Some why) run refused = run_not_refused known_forms words input why run refused
+never_refused words input (Some why) run refused = run_not_refused words input why run refused
 
-pub only_memory : (words : List (List ℕ)) (input : List ℕ) (status : Status) → Run known_forms words input → IsInputFault input status → status ≡ OutOfMemory
-only_memory words input (BadInput line) run fault = absurd (run_not_bad known_forms words input line run fault)
+pub only_memory : (words : List (List ℕ)) (input : List ℕ) (status : Status) → Run words input → IsInputFault input status → status ≡ OutOfMemory
+only_memory words input (BadInput line) run fault = absurd (run_not_bad words input line run fault)
 only_memory words input (Document error) run fault = absurd (never_refused words input (open_refusal_of error) run fault.1)
 only_memory words input OutOfMemory run fault = refl
 only_memory words input Done run fault = absurd fault

@@ -8,20 +8,13 @@ use lib.Utf8.{encode}
 use Rattle.std.specs.Str.Lossy.{utf8_valid_len}
 use Rattle.std.proofs.lemmas.Str.{utf8_valid_len-IsValidUpTo, is_utf8-from_IsUtf8, IsUtf8-from_is_utf8}
 use Rattle.hex.specs.Hex.{encode_with, decode_pairs}
-use Rattle.zarr_model.specs.Element.{of_bytes}
-use Rattle.zarr_model.specs.ArrayBytes.{fixed_bytes}
-use Rattle.zarr_model.specs.Key.{default_keys}
-use Rattle.zarr_model.specs.Codec.{Options, little}
-use Rattle.zarr_model.specs.Store.{Content, with_key, WhollyMeans, stored_array}
-use Rattle.zarr_model.specs.Command.{Command, elements, read, write, erase, Description, layout}
-use Rattle.zarr_model.specs.Session.{LeavesArray}
+use Rattle.zarr_model.specs.Prelude.{of_bytes, fixed_bytes, default_keys, Options, little, Content, with_key, WhollyMeans, stored_array, Command, elements, read, write, erase, Description, layout, LeavesArray, command_chunks, asks_store, counted, Rose, Shown, Given, IsPlace, AsksUpTo, IsUndecoded, IsStopped, erases_chunk, IsDamageMet}
 use Rattle.zarr_array.specs.Document.{ArrayDocument, describe}
-use Rattle.zarr_array.specs.Opening.{opened}
-use Rattle.zarr_model.specs.Cost.{command_chunks, asks_store, counted}
-use Rattle.zarr_model.specs.Outside.{Rose}
-use Rattle.zarr_model.specs.Causes.{IsPlace, AsksUpTo, IsUndecoded, IsStopped, erases_chunk, IsDamageMet}
-use Rattle.zarr_cli.specs.Program.{input_limit, ListsStore, IsDump, IsDumpAsks, first_settings, Forms, writing_forms, document_line, lines_after_document, store_after_keys, command_grammar}
-use Rattle.zarr_cli.specs.Ending.{bad_words, ending_line, IsGivenFront, IsGivenLine, IsBadLine, WentThrough}
+use Rattle.zarr_array.specs.Opening.{opened, open_builtin}
+use Rattle.zarr_cli.specs.Input.{input_limit, document_line, lines_after_document, store_after_keys, command_grammar, IsBadLine}
+use Rattle.zarr_cli.specs.Run.{ListsStore, IsDump, IsDumpAsks, WentThrough}
+use Rattle.zarr_cli.specs.Words.{first_settings}
+use Rattle.zarr_cli.specs.Ending.{bad_words, ending_line, IsGivenFront, IsGivenLine}
 use Rattle.zarr_cli_lines.specs.Text.{line_at, good_lines, replies_text, entries_text}
 use Rattle.zarr_array.proofs.DocumentLaws.{byte_document-means}
 use Rattle.zarr_model.proofs.StoreLaws.{Means-from_whole}
@@ -61,10 +54,10 @@ past_the_shape left = let e : ◌≡◌ {A = ℕ} 0 9 = ap (at 1) (left.keys.sam
 abbrev line_input : List ℕ
 line_input = document_text (codes "[5]") (codes "[2]") (codes "0") ++ codes "\nkey c/2 h0709\nread 4..5\n"
 
-past_the_shape_run : ¬ WentThrough writing_forms [] line_input nothing changed (λ text. text ≡ codes "ok h07\n")
+past_the_shape_run : ¬ WentThrough [] line_input nothing changed (λ text. text ≡ codes "ok h07\n")
 unfolding digits encode_with decode_pairs
 past_the_shape_run went =
-    let (output, runs, given) = went_through writing_forms [] line_input nothing changed (λ text. text ≡ codes "ok h07\n")
+    let (output, runs, given) = went_through [] line_input nothing changed (λ text. text ≡ codes "ok h07\n")
     first_settings (plain_document (5 ∷ []) (2 ∷ []) 0) (read (record { start = 4; size = 1 } ∷ []) ∷ []) refl line_opens refl went in
     past_the_shape runs.left
 
@@ -113,8 +106,8 @@ damage_erased : ¬ IsDamageMet small_array (options_with false) (erase (0 ∷ []
 damage_erased (m, command, which, asks, chunk, (k, below, here), its_key, unerased, damage) = erased_first m command chunk k which asks below here unerased
 
 -- a fault of the store at no command
-fault_nowhere : (commands : List Command) (old new : Content) → ¬ IsStopped small_array (options_with false) commands old new 0 1 None
-fault_nowhere commands old new (rose, there, left) = let e : false ≡ true = there in cc
+fault_nowhere : (commands : List Command) (before now : Shown) → ¬ IsStopped small_array (options_with false) commands before now None
+fault_nowhere commands before now (rose, there, left) = let e : false ≡ true = there in cc
 
 -- the asks of a run that failed in its second write after one chunk, and a place at its end
 abbrev two_writes : List Command
@@ -153,18 +146,18 @@ not_text : is_utf8 bad_byte ≡ false
 unfolding is_utf8 chars encode
 not_text = refl
 
-line_of_byte : (forms : Forms) (line : ℕ) → IsBadLine forms bad_byte line → line ≡ 3
-line_of_byte forms line bad = ⊎_elim
+line_of_byte : (line : ℕ) → IsBadLine bad_byte line → line ≡ 3
+line_of_byte line bad = ⊎_elim
     (λ (byte : (n : ℕ) × IsValidUpTo bad_byte n × (line ≡ line_at bad_byte n)).
     byte.2 ∙ ap (line_at bad_byte) (sym (utf8_valid_len-IsValidUpTo bad_byte byte.0 byte.1) ∙ first_bad_byte))
-    (λ (form : IsUtf8 bad_byte × (document : ArrayDocument) × (forms.opens (document_line bad_byte) ≡ opened document)
-    × (good_lines (command_grammar forms document) (lines_after_document bad_byte) < length (lines_after_document bad_byte))
-    × (line ≡ good_lines (command_grammar forms document) (lines_after_document bad_byte) + 2)).
+    (λ (form : IsUtf8 bad_byte × (document : ArrayDocument) × (open_builtin (document_line bad_byte) ≡ opened document)
+    × (good_lines (command_grammar document) (lines_after_document bad_byte) < length (lines_after_document bad_byte))
+    × (line ≡ good_lines (command_grammar document) (lines_after_document bad_byte) + 2)).
     let e : false ≡ true = sym not_text ∙ is_utf8-from_IsUtf8 bad_byte form.0 in cc)
     bad
 
-earlier_line : (forms : Forms) → ¬ IsBadLine forms bad_byte 2
-earlier_line forms bad = let e : ◌≡◌ {A = ℕ} 2 3 = line_of_byte forms 2 bad in omega arith
+earlier_line : ¬ IsBadLine bad_byte 2
+earlier_line bad = let e : ◌≡◌ {A = ℕ} 2 3 = line_of_byte 2 bad in omega arith
 
 -- a run by another document than the one in line 1
 abbrev square_input : List ℕ
@@ -174,10 +167,10 @@ square_meant : WhollyMeans (layout (describe (plain_document (4 ∷ 4 ∷ []) (2
     (stored_array (layout (describe (plain_document (4 ∷ 4 ∷ []) (2 ∷ 2 ∷ []) 0)) first_settings.options) nothing)
 square_meant = byte_document-means (default_keys 47) little (4 ∷ 4 ∷ []) (2 ∷ 2 ∷ []) 0 first_settings.options nothing (λ digit. absurd (omega (arith, digit.0))) (omega arith, (omega arith, tt)) (omega arith, (omega arith, tt)) (λ chunk h. refl)
 
-other_document : ¬ WentThrough writing_forms [] square_input nothing nothing (λ text. text ≡ codes "refused IncompatibleDimensionality\n")
+other_document : ¬ WentThrough [] square_input nothing nothing (λ text. text ≡ codes "refused IncompatibleDimensionality\n")
 unfolding digits encode_with decode_pairs
 other_document went =
-    let (output, runs, given) = went_through writing_forms [] square_input nothing nothing (λ text. text ≡ codes "refused IncompatibleDimensionality\n")
+    let (output, runs, given) = went_through [] square_input nothing nothing (λ text. text ≡ codes "refused IncompatibleDimensionality\n")
     first_settings (plain_document (4 ∷ 4 ∷ []) (2 ∷ 2 ∷ []) 0) (read (record { start = 3; size = 1 } ∷ record { start = 3; size = 1 } ∷ []) ∷ []) refl square_opens refl went in
     let (keys, dump, text) = runs.replied (stored_array (layout (describe (plain_document (4 ∷ 4 ∷ []) (2 ∷ 2 ∷ []) 0)) first_settings.options) nothing)
     (Means-from_whole (layout (describe (plain_document (4 ∷ 4 ∷ []) (2 ∷ 2 ∷ []) 0)) first_settings.options)
@@ -186,9 +179,9 @@ other_document went =
     let e : ◌≡◌ {A = ℕ} 114 111 = ap (λ line. slice_index line 0) (sym given ∙ (text ∙ ap (λ more. codes "ok h00\n" ++ more) dump)) in omega arith
 
 -- what is right is not refused: the line of that byte, and a run that reads the fill
-later_line : (forms : Forms) → IsBadLine forms bad_byte 3
+later_line : IsBadLine bad_byte 3
 unfolding is_utf8 chars encode
-later_line forms = inl (
+later_line = inl (
   10,
   record {
     short = lit< tt;
@@ -205,7 +198,7 @@ right_unmet : (key : List ℕ) → IsDamageMet (describe (plain_document (4 ∷ 
 unfolding digits encode_with decode_pairs is_utf8 chars encode
 right_unmet key (m, command, is, asks, chunk, met, its_key, none, damaged) = let gone : true ≡ false = ap is_some damaged in cc
 
-right_run : WentThrough writing_forms [] square_input nothing nothing (λ text. text ≡ codes "ok h00\n")
+right_run : WentThrough [] square_input nothing nothing (λ text. text ≡ codes "ok h00\n")
 unfolding digits encode_with decode_pairs is_utf8 chars encode
 right_run = (
   record {
@@ -239,7 +232,7 @@ right_run = (
 )
 
 -- the line of a command out of form
-bogus_line : IsBadLine writing_forms (document_text (codes "[4,4]") (codes "[2,2]") (codes "0") ++ codes "\nbogus\n") 2
+bogus_line : IsBadLine (document_text (codes "[4,4]") (codes "[2,2]") (codes "0") ++ codes "\nbogus\n") 2
 unfolding digits encode_with decode_pairs is_utf8 chars encode
 bogus_line = inr (
   IsUtf8-from_is_utf8 (document_text (codes "[4,4]") (codes "[2,2]") (codes "0") ++ codes "\nbogus\n") refl,
@@ -249,12 +242,16 @@ bogus_line = inr (
   refl,
 )
 
+-- what a sink shows that was given these bytes
+abbrev shows : ℕ → List ℕ → Given
+shows faults bytes = record { bytes = Some bytes; faults = faults }
+
 -- a line, a front of it, the calls of a dump and the limit
-lines_given : (IsGivenLine (ending_line bad_words) 0 0 (Some (codes "x")) (Some (codes "xwords\n")))
-    × (IsGivenLine (ending_line bad_words) 0 1 (Some (codes "x")) (Some (codes "xwor"))) × (IsDumpAsks true nothing 1) × (input_limit ≡ 2 ^ 26)
+lines_given : (IsGivenLine (ending_line bad_words) (shows 0 (codes "x")) (shows 0 (codes "xwords\n")))
+    × (IsGivenLine (ending_line bad_words) (shows 0 (codes "x")) (shows 1 (codes "xwor"))) × (IsDumpAsks true nothing 1) × (input_limit ≡ 2 ^ 26)
 lines_given = (inl refl, inr (lit≤ tt, (3, refl)), ([], record { in_order = refl; held = λ key. refl }, refl), refl)
 
-front_unexplained : ¬ IsGivenLine (ending_line bad_words) 0 0 (Some (codes "x")) (Some (codes "xwor"))
+front_unexplained : ¬ IsGivenLine (ending_line bad_words) (shows 0 (codes "x")) (shows 0 (codes "xwor"))
 front_unexplained given = ⊎_elim
     (λ (all : Some (codes "xwor") ≡ Some (codes "xwords\n")). let e : ◌≡◌ {A = ℕ} 4 7 = ap length (one_value all) in omega arith)
     (λ (front : Rose 0 0 × IsGivenFront (codes "words\n") (Some (codes "x")) (Some (codes "xwor"))). let e : 1 ≤ 0 = front.0 in omega arith)

@@ -1,18 +1,11 @@
 -- Commands that ran, and their text.
 use Rattle.std.proofs.Common.{◌≡◌, ℕ, ◌≤◌, List, [], ◌∷◌, ◌++◌, map, Option, Some, None, IsSome, Result, Ok, Err, IfErr, refl, sym, ap, ap₂, ◌∙◌, subst, arith}
 use Rattle.std.specs.List.{AllZip}
-use Rattle.zarr_model.specs.Element.{Element, fixed}
-use Rattle.zarr_model.specs.Array.{Array}
-use Rattle.zarr_model.specs.Store.{Content, IsHonest, WhollyMeans}
+use Rattle.zarr_model.specs.Prelude.{Element, fixed, Array, Content, IsHonest, WhollyMeans, Command, Description, layout, replies, Matches, all_asks, counted, LeavesKeys, LeavesArray, ServesArray, IsDamageMet, MeetsNoDamage, Shown, Options}
 use Rattle.zarr_model.specs.Command as Model
-use Rattle.zarr_model.specs.Command.{Command, Description, layout, replies, Matches}
-use Rattle.zarr_model.specs.Cost.{all_asks, counted}
-use Rattle.zarr_model.specs.Session.{LeavesKeys, LeavesArray, ServesArray}
-use Rattle.zarr_model.specs.Causes.{MeetsNoDamage}
 use Rattle.zarr_model.proofs.FailureLaws.{undecoded-met}
 use Rattle.zarr_array.specs.OpenArray.{described}
 use Rattle.zarr_array.specs.Command.{answer_of}
-use Rattle.zarr_model.specs.Codec.{Options}
 use Rattle.zarr_array.specs.Session.{HasSessionCause}
 use Rattle.zarr_array.specs.declared.open.OpenArray.{OpenArray}
 use Rattle.zarr_array.specs.declared.command.Reply.{Reply}
@@ -21,8 +14,8 @@ use Rattle.zarr_array.specs.declared.error.SessionErrorKind.TheVariants.{NotOpen
 use Rattle.zarr_array.specs.declared.error.SessionErrorKind.TheVariants as Kind
 use Rattle.zarr_cli_lines.specs.Text.{line_of, replies_text}
 use Rattle.zarr_cli_lines.proofs.ReplyLemmas.{answered_text}
-use Rattle.zarr_cli.specs.Steps.{answers_text, RunsCommands, RunsAll, Dumps, IsRunFault, IsDumpFault, status_of}
-use Rattle.zarr_cli.specs.Program.{Settings}
+use Rattle.zarr_cli.specs.Steps.{answers_text, RepliesTo, PrintsAll, Dumps, IsRunFault, IsDumpFault, session_status}
+use Rattle.zarr_cli.specs.Words.{Settings}
 use Rattle.zarr_cli.proofs.DumpLemmas.{counted_more}
 use Rattle.zarr_cli.specs.declared.status.Status.{Status}
 use Rattle.zarr_cli.specs.declared.status.Status.TheVariants.{Done, BadWords, BadInput, Document, Chunk, Store, Read, Write, TooLong, OutOfMemory}
@@ -37,16 +30,17 @@ answers_match (reply ∷ held) (answer ∷ answers) h = ap₂ (λ text rest. lin
 wholly_honest : (description : Description) (options : Options) (store : Content) (array : Array Element) → WhollyMeans (layout description options) store array → IsHonest (layout description options) store
 wholly_honest description options store array meant chunk is_chunk = subst IsSome (sym (meant.each_chunk chunk is_chunk)) refl
 
-pub ran_commands : (array : OpenArray) (options : Options) (commands : List Command) (old new : Content) (asks_before asks_now : ℕ) (held : List Reply) (text : List ℕ) →
-    (IsHonest (layout (described array) options) old → ServesArray (described array) options commands old new (map answer_of held)) →
-    LeavesKeys (described array) options commands old new → MeetsNoDamage (described array) options commands old → asks_now ≡ counted asks_before (all_asks (described array) commands) →
-    text ≡ answers_text held → RunsCommands (described array) options commands old new asks_before asks_now text
-ran_commands array options commands old new asks_before asks_now held text serves keys undamaged asks is = record {
+pub ran_commands : (array : OpenArray) (options : Options) (commands : List Command) (before now : Shown) (held : List Reply) (text : List ℕ) →
+    (IsHonest (layout (described array) options) before.content → ServesArray (described array) options commands before.content now.content (map answer_of held)) →
+    LeavesKeys (described array) options commands before.content now.content → MeetsNoDamage (described array) options commands before.content →
+    now.asks ≡ counted before.asks (all_asks (described array) commands) →
+    text ≡ answers_text held → RepliesTo (described array) options commands before now text
+ran_commands array options commands before now held text serves keys undamaged asks is = record {
   replied = λ meant means. is ∙ answers_match held (replies (described array) commands meant) ((serves means.honest).answers_match meant means);
   left = record {
     array_left = λ meant means. (serves means.honest).left.array_left meant means;
-    whole_chunks = λ meant means. (serves (wholly_honest (described array) options old meant means)).left.whole_chunks meant means;
-    presence = λ meant chunk means is_chunk. (serves (wholly_honest (described array) options old meant means)).left.presence meant chunk means is_chunk;
+    whole_chunks = λ meant means. (serves (wholly_honest (described array) options before.content meant means)).left.whole_chunks meant means;
+    presence = λ meant chunk means is_chunk. (serves (wholly_honest (described array) options before.content meant means)).left.presence meant chunk means is_chunk;
     keys = keys;
   };
   undamaged = undamaged;
@@ -54,55 +48,58 @@ ran_commands array options commands old new asks_before asks_now held text serve
 }
 
 -- why commands ended early
-pub run_fault : (description : Description) (options : Options) (commands : List Command) (old new : Content) (before now : ℕ) (at : Option (ℕ × ℕ)) (kind : SessionErrorKind) →
-    HasSessionCause description options commands old new before now at kind → IsRunFault description options commands old before now (status_of kind)
-run_fault description options commands old new before now at (NotOpened error) cause = absurd cause
-run_fault description options commands old new before now None (ChunkDecode key) cause = absurd cause
-run_fault description options commands old new before now (Some place) (ChunkDecode key) cause = undecoded-met description options commands old new key place.0 place.1 cause
-run_fault description options commands old new before now at Kind.Store cause = cause.0
-run_fault description options commands old new before now at Kind.OutOfMemory cause = tt
+pub run_fault : (description : Description) (options : Options) (commands : List Command) (before now : Shown) (at : Option (ℕ × ℕ)) (kind : SessionErrorKind) →
+    HasSessionCause description options commands before now at kind → IsRunFault description options commands before now (session_status kind)
+run_fault description options commands before now at (NotOpened error) cause = absurd cause
+run_fault description options commands before now None (ChunkDecode key) cause = absurd cause
+run_fault description options commands before now (Some place) (ChunkDecode key) cause = (undecoded-met description options commands before.content now.content key place.0 place.1 cause, cause.6)
+run_fault description options commands before now at Kind.Store cause = cause.0
+run_fault description options commands before now at Kind.OutOfMemory cause = tt
 
 -- the same seen from before the key lines were set
-pub run_fault-earlier : (description : Description) (options : Options) (commands : List Command) (mid old : Content) (before between now : ℕ) → mid ≡ old → before ≤ between → (status : Status) →
-    IsRunFault description options commands mid between now status → IsRunFault description options commands old before now status
-run_fault-earlier description options commands mid old before between now same later (Chunk key) fault = subst (λ content. IsRunFault description options commands content before now (Chunk key)) same fault
-run_fault-earlier description options commands mid old before between now same later Store fault = omega (arith, fault)
-run_fault-earlier description options commands mid old before between now same later OutOfMemory fault = tt
-run_fault-earlier description options commands mid old before between now same later Done fault = fault
-run_fault-earlier description options commands mid old before between now same later BadWords fault = fault
-run_fault-earlier description options commands mid old before between now same later (BadInput line) fault = fault
-run_fault-earlier description options commands mid old before between now same later (Document error) fault = fault
-run_fault-earlier description options commands mid old before between now same later Read fault = fault
-run_fault-earlier description options commands mid old before between now same later Write fault = fault
-run_fault-earlier description options commands mid old before between now same later TooLong fault = fault
+run_fault-earlier : (description : Description) (options : Options) (commands : List Command) (before mid now : Shown) → mid.content ≡ before.content → before.faults ≤ mid.faults → (status : Status) →
+    IsRunFault description options commands mid now status → IsRunFault description options commands before now status
+run_fault-earlier description options commands before mid now same later (Chunk key) fault =
+    subst (λ content. IsDamageMet description options commands content key × (now.content key ≡ content key)) same fault
+run_fault-earlier description options commands before mid now same later Store fault = omega (arith, fault)
+run_fault-earlier description options commands before mid now same later OutOfMemory fault = tt
+run_fault-earlier description options commands before mid now same later Done fault = fault
+run_fault-earlier description options commands before mid now same later BadWords fault = fault
+run_fault-earlier description options commands before mid now same later (BadInput line) fault = fault
+run_fault-earlier description options commands before mid now same later (Document error) fault = fault
+run_fault-earlier description options commands before mid now same later Read fault = fault
+run_fault-earlier description options commands before mid now same later Write fault = fault
+run_fault-earlier description options commands before mid now same later TooLong fault = fault
 
-pub earlier_fault : {T : Type 0} (description : Description) (options : Options) (commands : List Command) (mid old : Content) (before between now : ℕ) → mid ≡ old → before ≤ between → (result : Result T Status) →
-    IfErr result (λ status. IsRunFault description options commands mid between now status) → IfErr result (λ status. IsRunFault description options commands old before now status)
-earlier_fault description options commands mid old before between now same later (Ok value) fault = tt
-earlier_fault description options commands mid old before between now same later (Err status) fault = run_fault-earlier description options commands mid old before between now same later status fault
+pub earlier_fault : {T : Type 0} (description : Description) (options : Options) (commands : List Command) (before mid now : Shown) → mid.content ≡ before.content → before.faults ≤ mid.faults → (result : Result T Status) →
+    IfErr result (λ status. IsRunFault description options commands mid now status) → IfErr result (λ status. IsRunFault description options commands before now status)
+earlier_fault description options commands before mid now same later (Ok value) fault = tt
+earlier_fault description options commands before mid now same later (Err status) fault = run_fault-earlier description options commands before mid now same later status fault
 
 -- commands that ran, and then a dump
-pub ran_all : (description : Description) (settings : Settings) (commands : List Command) (old mid new : Content) (asks_before asks_mid asks_now : ℕ) (replied text : List ℕ) →
-    RunsCommands description settings.options commands old mid asks_before asks_mid replied → Dumps settings.dump mid new asks_mid asks_now replied text →
-    RunsAll description settings commands old new asks_before asks_now text
-ran_all description settings commands old mid new asks_before asks_mid asks_now replied text ran dumps = record {
-  replied = λ array means. (dumps.text.0, dumps.text.1, dumps.text.2 ∙ ap (λ front. front ++ dumps.text.0) (ran.replied array means));
-  left = subst (λ content. LeavesArray description settings.options commands old content) (sym dumps.same) ran.left;
-  undamaged = ran.undamaged;
-  dumped = (replied, dumps.text.0, dumps.text.1, dumps.text.2);
-  asks = (dumps.asks.0, dumps.asks.1, counted_more asks_before asks_mid asks_now (all_asks description commands) dumps.asks.0 ran.asks dumps.asks.2);
+pub ran_all : (description : Description) (settings : Settings) (commands : List Command) (before mid now : Shown) (replied text : List ℕ) →
+    RepliesTo description settings.options commands before mid replied → Dumps settings.dump mid now replied text →
+    PrintsAll description settings commands before now text
+ran_all description settings commands before mid now replied text ran dumps = record {
+  prints = record {
+    replied = λ array means. (dumps.text.0, dumps.text.1, dumps.text.2 ∙ ap (λ front. front ++ dumps.text.0) (ran.replied array means));
+    left = subst (λ content. LeavesArray description settings.options commands before.content content) (sym dumps.same) ran.left;
+    undamaged = ran.undamaged;
+    dumped = (replied, dumps.text.0, dumps.text.1, dumps.text.2);
+  };
+  asks = (dumps.asks.0, dumps.asks.1, counted_more before.asks mid.asks now.asks (all_asks description commands) dumps.asks.0 ran.asks dumps.asks.2);
 }
 
 -- a fault of the dump is one of the run
-pub dump_run_fault : (description : Description) (options : Options) (commands : List Command) (old : Content) (before mid now : ℕ) (status : Status) → before ≤ mid →
-    IsDumpFault mid now status → IsRunFault description options commands old before now status
-dump_run_fault description options commands old before mid now Store later fault = omega (arith, later, fault)
-dump_run_fault description options commands old before mid now OutOfMemory later fault = tt
-dump_run_fault description options commands old before mid now Done later fault = fault
-dump_run_fault description options commands old before mid now BadWords later fault = fault
-dump_run_fault description options commands old before mid now (BadInput line) later fault = fault
-dump_run_fault description options commands old before mid now (Document error) later fault = fault
-dump_run_fault description options commands old before mid now (Chunk key) later fault = absurd fault
-dump_run_fault description options commands old before mid now Read later fault = fault
-dump_run_fault description options commands old before mid now Write later fault = fault
-dump_run_fault description options commands old before mid now TooLong later fault = fault
+pub dump_run_fault : (description : Description) (options : Options) (commands : List Command) (before mid now : Shown) (status : Status) → before.faults ≤ mid.faults →
+    IsDumpFault mid now status → IsRunFault description options commands before now status
+dump_run_fault description options commands before mid now Store later fault = omega (arith, later, fault)
+dump_run_fault description options commands before mid now OutOfMemory later fault = tt
+dump_run_fault description options commands before mid now Done later fault = fault
+dump_run_fault description options commands before mid now BadWords later fault = fault
+dump_run_fault description options commands before mid now (BadInput line) later fault = fault
+dump_run_fault description options commands before mid now (Document error) later fault = fault
+dump_run_fault description options commands before mid now (Chunk key) later fault = absurd fault
+dump_run_fault description options commands before mid now Read later fault = fault
+dump_run_fault description options commands before mid now Write later fault = fault
+dump_run_fault description options commands before mid now TooLong later fault = fault

@@ -2,14 +2,9 @@
 use Rattle.std.proofs.Common.{◌≡◌, ℕ, ◌+◌, ◌-◌, ◌*◌, Bool, not, ◌==◌, ◌&&◌, ◌||◌, nat_le, if◌then◌else◌, List, [], ◌∷◌, length, take, drop, refl, codes, Option, Some, None, is_some, unwrap_or, map}
 use Rattle.std.specs.List.{list_all}
 use Rattle.hex.specs.Hex.{encode_with, decode_pairs}
-use Rattle.zarr_model.specs.Region.{whole, place, count_of}
-use Rattle.zarr_model.specs.Element.{Element, of_bytes, uint_type}
-use Rattle.zarr_model.specs.Array.{elements_in}
-use Rattle.zarr_model.specs.Grid.{Grid, chunks, regular_grid}
-use Rattle.zarr_model.specs.Codec.{Level, Chain, decode_chain, decode_array_to_bytes, bytes_codec, little, number_of_bytes}
-use Rattle.zarr_model.specs.Store.{Layout, Content, chunk_content, stored_array}
+use Rattle.zarr_model.specs.Prelude.{whole, place, count_of, Element, of_bytes, uint_type, elements_in, Grid, chunks, regular_grid, Level, Chain, decode_chain, decode_array_to_bytes, bytes_codec, little, number_of_bytes, Layout, Content, chunk_content, stored_array}
 use Rattle.zarr_cli_lines.specs.Text.{hex_of}
-use Rattle.zarr_cli.specs.Program.{first_settings}
+use Rattle.zarr_cli.specs.Words.{first_settings}
 
 -- the inner chunks as a layout, each under its own indices
 abbrev inner_layout : Chain → List ℕ → Level → Layout Element

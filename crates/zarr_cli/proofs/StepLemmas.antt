@@ -3,11 +3,9 @@ use Rattle.std.proofs.Common.{◌≡◌, ℕ, ◌+◌, ◌^◌, ◌<◌, ◌≤�
 use Rattle.std.proofs.Math.Path.{fun_ext}
 use Rattle.std.proofs.Math.Seq.{drop-cons}
 use Rattle.std.proofs.lemmas.List.{get_or-map, length-map}
-use Rattle.zarr_model.specs.Store.{Content, with_key, with_keys}
-use Rattle.zarr_model.specs.Outside.{ReadsNext, PutsKey}
+use Rattle.zarr_model.specs.Prelude.{Content, with_key, with_keys, ReadsNext, PutsKey}
 use Rattle.zarr_model.proofs.FailureLaws.{same_bytes, bytes_eq-refl}
-use Rattle.zarr_array.specs.Opening.{opened}
-use Rattle.zarr_array.specs.Registered.{open_builtin}
+use Rattle.zarr_array.specs.Opening.{opened, open_builtin}
 use Rattle.zarr_array.specs.OpenArray.{documented}
 use Rattle.zarr_array.specs.declared.open.OpenArray.{OpenArray}
 use Rattle.zarr_cli_lines.specs.Text.{input_lines, good_lines}
@@ -15,9 +13,7 @@ use Rattle.zarr_cli_lines.specs.Parts.{command_line, IsLineFault}
 use Rattle.zarr_cli_lines.specs.declared.parse.LineError.{LineError}
 use Rattle.zarr_cli_lines.specs.declared.parse.LineError.TheVariants.{OutOfForm}
 use Rattle.zarr_cli_lines.proofs.SplitLemmas.{few_lines}
-use Rattle.zarr_cli.specs.Program.{input_limit, first_line}
-use Rattle.zarr_cli.specs.Ending.{IsBadLine}
-use Rattle.zarr_cli.specs.Endings.{known_forms}
+use Rattle.zarr_cli.specs.Input.{input_limit, first_line, IsBadLine}
 use Rattle.zarr_cli.specs.Steps.{HasTaken, IsKeyOf}
 
 -- nothing was taken yet
@@ -107,7 +103,7 @@ form_fault error good lines is fault = subst (λ e. IsLineFault e lines) is faul
 
 -- the first line out of form, of an input whose first line opens
 pub bad_line : (text line : List ℕ) (rest : List (List ℕ)) (array : OpenArray) (good : ℕ) → IsUtf8 text → input_lines text ≡ line ∷ rest → open_builtin line ≡ opened (documented array) →
-    good ≡ good_lines command_line rest → good < length rest → IsBadLine known_forms text (good + 2)
+    good ≡ good_lines command_line rest → good < length rest → IsBadLine text (good + 2)
 bad_line text line rest array good utf8 lines opens count below =
     inr (
       utf8,

@@ -3,14 +3,8 @@ use Rattle.std.proofs.Common.{ℕ, List, [], map, filter, Option, Some, None, op
 use Rattle.std.specs.Cmp.Lexicographic.{slice_cmp}
 use Rattle.std.specs.Ordering.{nat_cmp}
 use Rattle.std.specs.FinMap.{find}
-use Rattle.zarr_model.specs.Element.{Element}
-use Rattle.zarr_model.specs.Array.{Array, elements_in}
-use Rattle.zarr_model.specs.Grid.{chunks}
-use Rattle.zarr_model.specs.Store.{Content, with_keys, stored_array, chunk_content}
-use Rattle.zarr_model.specs.Codec.{Options}
-use Rattle.zarr_model.specs.Command.{Command, Description, kind, layout, replies, array_after}
-use Rattle.zarr_model.specs.Cost.{present_in, present_after}
-use Rattle.zarr_cli_lines.specs.Text.{input_lines, first_entries, command_of, commands_of, replies_text}
+use Rattle.zarr_model.specs.Prelude.{Element, Array, elements_in, chunks, Content, with_keys, stored_array, chunk_content, Options, Command, Description, kind, layout, replies, array_after, present_in, present_after}
+use Rattle.zarr_cli_lines.specs.Text.{input_lines, first_entries, line_command, commands_of, replies_text}
 
 abbrev pub empty_store : Content
 empty_store = λ key. None
@@ -28,12 +22,12 @@ abbrev pub first_array : Description → Options → List ℕ → Array Element
 first_array description options input = stored_array (layout description options) (store_of input)
 
 abbrev pub its_commands : Description → List ℕ → List Command
-its_commands description input = unwrap_or (commands_of (command_of (kind description)) (input_lines input)) []
+its_commands description input = unwrap_or (commands_of (line_command (kind description)) (input_lines input)) []
 
 -- the text of the replies
 abbrev pub reply_lines : Description → Options → List ℕ → Option (List ℕ)
 reply_lines description options input =
-    option_map (λ commands. replies_text (replies description commands (first_array description options input))) (commands_of (command_of (kind description)) (input_lines input))
+    option_map (λ commands. replies_text (replies description commands (first_array description options input))) (commands_of (line_command (kind description)) (input_lines input))
 
 -- the elements of each chunk that are left, and those that the keys of a dump decode to
 abbrev pub left_in_chunks : Description → Options → List ℕ → List (Option (List Element))

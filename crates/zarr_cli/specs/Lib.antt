@@ -1,4 +1,8 @@
-pub mod Program
+pub mod Words
+pub mod Input
+pub mod Run
 pub mod Ending
-pub mod Endings
+pub mod Status
+pub mod Seen
+pub mod Answers
 pub mod Steps

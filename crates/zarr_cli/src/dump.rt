@@ -1,10 +1,9 @@
 //! The lines of the final keys.
 
 ghost use Rattle.std.specs.Prelude.{◌≡◌, ◌++◌, ◌≤◌, ℕ, List, [], true, false, IsSome, IfErr, OnOk, Contains, length, unwrap_or};
-ghost use Rattle.zarr_model.specs.Cost.{counted};
-ghost use Rattle.zarr_model.specs.Session.{IsUntouched};
+ghost use Rattle.zarr_model.specs.Prelude.{counted, IsUntouched};
 ghost use Rattle.zarr_cli_lines.specs.Text.{entry_text, entries_text, line_of};
-ghost use Rattle.zarr_cli.specs.Steps.{Dumps, IsDumpFault, entries_at, dump_status};
+ghost use Rattle.zarr_cli.specs.Steps.{Dumps, IsDumpFault, entries_at, storage_status};
 
 use crate::status::Status;
 use std::alloc::Global;
@@ -13,8 +12,8 @@ use zarrs_storage::store::{StorageError, Store};
 use zarrs_storage::store_key::StoreKey;
 
 // The status of a call of the store that gave no answer.
-fn status_of(error: StorageError) -> Status
-    ensures { result ≡ dump_status error }
+fn storage_status(error: StorageError) -> Status
+    ensures { result ≡ storage_status error }
 {
     match error {
         StorageError::Failed => Status::Store,
@@ -29,17 +28,19 @@ fn push_key<S: Store>(
     key: &StoreKey,
     store: &mut S,
 ) -> Result<(), Status>
-    requires { IsSome (S.content store.now key.now) }
-    ensures line { OnOk result (text.new.items ≡ text.old.items ++ line_of (entry_text (key.now, unwrap_or (S.content store.old key.now) []))) }
-    ensures same { S.content store.new ≡ S.content store.old }
-    ensures asks { OnOk result (S.ask_count store.new ≡ counted (S.ask_count store.old) 1) }
-    ensures later { S.fault_count store.old ≤ S.fault_count store.new }
-    ensures fault { IfErr result (λ status. IsDumpFault (S.fault_count store.old) (S.fault_count store.new) status) }
+    requires { IsSome ((S.shown store.now).content key.now) }
+    ensures line { OnOk result (text.new.items ≡ text.old.items
+        ++ line_of (entry_text (key.now, unwrap_or ((S.shown store.old).content key.now) []))) }
+    ensures same { (S.shown store.new).content ≡ (S.shown store.old).content }
+    ensures asks { OnOk result ((S.shown store.new).asks ≡ counted (S.shown store.old).asks 1) }
+    ensures later { (S.shown store.old).faults ≤ (S.shown store.new).faults }
+    ensures fault { IfErr result (λ status.
+        IsDumpFault (S.shown store.old) (S.shown store.new) status) }
 {
     match store.get(alloc, key) {
         Ok(Some(value)) => Ok(push_entry(text, key, &value)?),
         Ok(None) => unreachable!(),
-        Err(error) => Err(status_of(error)),
+        Err(error) => Err(storage_status(error)),
     }
 }
 
@@ -50,12 +51,15 @@ fn push_keys<S: Store>(
     keys: &[StoreKey],
     store: &mut S,
 ) -> Result<(), Status>
-    requires { (key : List ℕ) → Contains keys.now key → IsSome (S.content store.now key) }
-    ensures lines { OnOk result (text.new.items ≡ text.old.items ++ entries_text (entries_at (S.content store.old) keys.now)) }
-    ensures same { S.content store.new ≡ S.content store.old }
-    ensures asks { OnOk result (S.ask_count store.new ≡ counted (S.ask_count store.old) (length keys.now)) }
-    ensures later { S.fault_count store.old ≤ S.fault_count store.new }
-    ensures fault { IfErr result (λ status. IsDumpFault (S.fault_count store.old) (S.fault_count store.new) status) }
+    requires { (key : List ℕ) → Contains keys.now key → IsSome ((S.shown store.now).content key) }
+    ensures lines { OnOk result (text.new.items ≡ text.old.items
+        ++ entries_text (entries_at (S.shown store.old).content keys.now)) }
+    ensures same { (S.shown store.new).content ≡ (S.shown store.old).content }
+    ensures asks { OnOk result
+        ((S.shown store.new).asks ≡ counted (S.shown store.old).asks (length keys.now)) }
+    ensures later { (S.shown store.old).faults ≤ (S.shown store.new).faults }
+    ensures fault { IfErr result (λ status.
+        IsDumpFault (S.shown store.old) (S.shown store.new) status) }
 {
     for key in keys {
         push_key(alloc, text, key, store)?;
@@ -65,14 +69,16 @@ fn push_keys<S: Store>(
 
 // Appends the lines of all keys of the store, in the order of the keys' bytes.
 fn push_store<S: Store>(alloc: Global, text: &mut Vec<u8>, store: &mut S) -> Result<(), Status>
-    ensures dumped { OnOk result (Dumps true (S.content store.old) (S.content store.new) (S.ask_count store.old) (S.ask_count store.new) text.old.items text.new.items) }
-    ensures same { S.content store.new ≡ S.content store.old }
-    ensures later { S.fault_count store.old ≤ S.fault_count store.new }
-    ensures fault { IfErr result (λ status. IsDumpFault (S.fault_count store.old) (S.fault_count store.new) status) }
+    ensures dumped { OnOk result (Dumps true (S.shown store.old) (S.shown store.new)
+        text.old.items text.new.items) }
+    ensures same { (S.shown store.new).content ≡ (S.shown store.old).content }
+    ensures later { (S.shown store.old).faults ≤ (S.shown store.new).faults }
+    ensures fault { IfErr result (λ status.
+        IsDumpFault (S.shown store.old) (S.shown store.new) status) }
 {
     match store.list(alloc) {
         Ok(keys) => push_keys(alloc, text, &keys, store),
-        Err(error) => Err(status_of(error)),
+        Err(error) => Err(storage_status(error)),
     }
 }
 
@@ -84,11 +90,13 @@ pub(crate) fn push_dump<S: Store>(
     text: &mut Vec<u8>,
     store: &mut S,
 ) -> Result<(), Status>
-    ensures dumped { OnOk result (Dumps dump (S.content store.old) (S.content store.new) (S.ask_count store.old) (S.ask_count store.new) text.old.items text.new.items) }
-    ensures same { S.content store.new ≡ S.content store.old }
-    ensures still { dump ≡ false → IsUntouched (S.content store.old) (S.content store.new) (S.ask_count store.old) (S.ask_count store.new) (S.taken_count store.old) (S.taken_count store.new) }
-    ensures later { S.fault_count store.old ≤ S.fault_count store.new }
-    ensures fault { IfErr result (λ status. IsDumpFault (S.fault_count store.old) (S.fault_count store.new) status) }
+    ensures dumped { OnOk result (Dumps dump (S.shown store.old) (S.shown store.new)
+        text.old.items text.new.items) }
+    ensures same { (S.shown store.new).content ≡ (S.shown store.old).content }
+    ensures still { dump ≡ false → IsUntouched (S.shown store.old) (S.shown store.new) }
+    ensures later { (S.shown store.old).faults ≤ (S.shown store.new).faults }
+    ensures fault { IfErr result (λ status.
+        IsDumpFault (S.shown store.old) (S.shown store.new) status) }
 {
     if dump {
         push_store(alloc, text, store)

@@ -1,8 +1,8 @@
 //! What an input says.
 
-ghost use Rattle.std.specs.Prelude.{◌≡◌, ◌==◌, ◌+◌, ◌≤◌, IsUtf8, length, count_by, IfOk, IfErr};
-ghost use Rattle.zarr_array.specs.Registered.{open_builtin};
-ghost use Rattle.zarr_cli.specs.Program.{input_limit};
+ghost use Rattle.std.specs.Prelude.{◌≡◌, ◌==◌, ◌+◌, ◌≤◌, length, count_by, IfOk, IfErr};
+ghost use Rattle.zarr_array.specs.Opening.{open_builtin};
+ghost use Rattle.zarr_cli.specs.Input.{input_limit};
 ghost use Rattle.zarr_cli.specs.Steps.{SaysInput, OpensLine, IsInputFault};
 
 use crate::status::Status;

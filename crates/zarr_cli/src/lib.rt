@@ -9,3 +9,6 @@ mod run;
 pub mod status;
 mod words;
 mod write;
+
+pub use program::run_program;
+pub use status::Status;

@@ -1,8 +1,8 @@
 //! Reading the input.
 
 ghost use Rattle.std.specs.Prelude.{◌≡◌, ◌≤◌, ◌↔◌, ◌++◌, List, ℕ, [], length, take, Some, IsSome, IfOk, IfErr, OnOk};
-ghost use Rattle.zarr_model.specs.Outside.{ReadsNext};
-ghost use Rattle.zarr_cli.specs.Program.{input_limit};
+ghost use Rattle.zarr_model.specs.Prelude.{ReadsNext};
+ghost use Rattle.zarr_cli.specs.Input.{input_limit};
 ghost use Rattle.zarr_cli.specs.Steps.{IsPieceFault, IsReadFault};
 
 use crate::status::Status;
@@ -22,11 +22,16 @@ fn read_piece<R: Source>(
 ) -> Result<usize, Status>
     ensures room { length buffer.new ≡ length buffer.old }
     ensures within { IfOk result (λ got. got ≤ length buffer.new) }
-    ensures appended { IfOk result (λ got. input.new.items ≡ input.old.items ++ take got buffer.new) }
-    ensures tells { OnOk result (IsSome (R.left source.new) ↔ IsSome (R.left source.old)) }
-    ensures next { IfOk result (λ got. (before now : List ℕ) → R.left source.old ≡ Some before → R.left source.new ≡ Some now → ReadsNext before now got buffer.new) }
-    ensures later { R.fault_count source.old ≤ R.fault_count source.new }
-    ensures fault { IfErr result (λ status. IsPieceFault (R.fault_count source.old) (R.fault_count source.new) status) }
+    ensures appended { IfOk result (λ got. input.new.items ≡ input.old.items
+        ++ take got buffer.new) }
+    ensures tells { OnOk result (IsSome (R.shown source.new).left ↔ IsSome
+        (R.shown source.old).left) }
+    ensures next { IfOk result (λ got. (before now : List ℕ) →
+        (R.shown source.old).left ≡ Some before →
+        (R.shown source.new).left ≡ Some now → ReadsNext before now got buffer.new) }
+    ensures later { (R.shown source.old).faults ≤ (R.shown source.new).faults }
+    ensures fault { IfErr result (λ status.
+        IsPieceFault (R.shown source.old) (R.shown source.new) status) }
 {
     match source.read(buffer) {
         Ok(got) => {
@@ -39,9 +44,11 @@ fn read_piece<R: Source>(
 
 /// Reads a source to its end. No byte is taken beyond the first that makes the input too long.
 pub(crate) fn read_input<R: Source>(alloc: Global, source: &mut R) -> Result<Vec<u8>, Status>
-    ensures whole { (left : List ℕ) → R.left source.old ≡ Some left → IfOk result (λ input. (input.items ≡ left) × (R.left source.new ≡ Some [])) }
+    ensures whole { (left : List ℕ) → (R.shown source.old).left ≡ Some left →
+        IfOk result (λ input. (input.items ≡ left) × ((R.shown source.new).left ≡ Some [])) }
     ensures within { IfOk result (λ input. length input.items ≤ input_limit) }
-    ensures fault { IfErr result (λ status. IsReadFault (R.left source.old) (R.fault_count source.old) (R.fault_count source.new) status) }
+    ensures fault { IfErr result (λ status.
+        IsReadFault (R.shown source.old) (R.shown source.new) status) }
 {
     let mut input = Vec::new(alloc);
     let mut buffer = [0; PIECE_SIZE];

@@ -1,17 +1,16 @@
 //! Running the commands of an input over a store.
 
 ghost use Rattle.std.specs.Prelude.{◌≡◌, ◌≤◌, false, map, List, ℕ, IfOk, IfErr, OnOk};
-ghost use Rattle.zarr_model.specs.Outside.{Rose, HasCause};
-ghost use Rattle.zarr_model.specs.Store.{IsHonest, IsChunkKey, SameOtherKeys, with_keys};
-ghost use Rattle.zarr_model.specs.Command.{layout};
-ghost use Rattle.zarr_model.specs.Session.{AreRefused, IsUntouched};
+ghost use Rattle.zarr_model.specs.Prelude.{Rose, HasCause, IsHonest, with_keys, layout, AreRefused, IsUntouched};
 ghost use Rattle.zarrs_storage.specs.Store.{IsFault as IsStoreFault};
 ghost use Rattle.zarr_array.specs.OpenArray.{described};
 ghost use Rattle.zarr_array.specs.Command.{command_of};
 ghost use Rattle.zarr_array.specs.Options.{options_of};
 ghost use Rattle.zarr_cli_lines.specs.Parts.{entry_view};
-ghost use Rattle.zarr_cli.specs.Endings.{settings_view};
-ghost use Rattle.zarr_cli.specs.Steps.{answers_text, RunsCommands, RunsAll, IsRunFault, IsKeyOf, status_of};
+ghost use Rattle.zarr_cli.specs.Input.{with_entries};
+ghost use Rattle.zarr_cli.specs.Run.{IsChangedKey};
+ghost use Rattle.zarr_cli.specs.Status.{settings_view};
+ghost use Rattle.zarr_cli.specs.Steps.{answers_text, RepliesTo, PrintsAll, IsRunFault, IsKeyOf, IsUnasked, session_status};
 
 use crate::dump::push_dump;
 use crate::input::ParsedInput;
@@ -32,11 +31,14 @@ fn set_entries<S: Store>(
     entries: &[Entry],
     store: &mut S,
 ) -> Result<(), StorageError>
-    ensures set { OnOk result (S.content store.new ≡ with_keys (map entry_view entries.now) (S.content store.old)) }
-    ensures elsewhere { (key : List ℕ) → ¬ IsKeyOf (map entry_view entries.now) key → S.content store.new key ≡ S.content store.old key }
-    ensures asks { S.ask_count store.new ≡ S.ask_count store.old }
-    ensures taken { S.taken_count store.new ≡ S.taken_count store.old }
-    ensures cause { HasCause IsStoreFault (S.fault_count store.old) (S.fault_count store.new) result }
+    ensures set { OnOk result ((S.shown store.new).content
+        ≡ with_keys (map entry_view entries.now) (S.shown store.old).content) }
+    ensures elsewhere { (key : List ℕ) → ¬ IsKeyOf (map entry_view entries.now) key →
+        (S.shown store.new).content key ≡ (S.shown store.old).content key }
+    ensures asks { (S.shown store.new).asks ≡ (S.shown store.old).asks }
+    ensures taken { (S.shown store.new).taken ≡ (S.shown store.old).taken }
+    ensures cause { HasCause IsStoreFault (S.shown store.old).faults (S.shown store.new).faults
+        result }
 {
     for entry in entries {
         store.set(alloc, &entry.key, &entry.value)?;
@@ -45,7 +47,7 @@ fn set_entries<S: Store>(
 }
 
 // The lines of replies.
-fn replies_text(alloc: Global, replies: &[Reply]) -> Result<Vec<u8>, AllocError>
+fn text_of_replies(alloc: Global, replies: &[Reply]) -> Result<Vec<u8>, AllocError>
     ensures { IfOk result (λ text. text.items ≡ answers_text replies.now) }
 {
     let mut text = Vec::new(alloc);
@@ -56,8 +58,8 @@ fn replies_text(alloc: Global, replies: &[Reply]) -> Result<Vec<u8>, AllocError>
 }
 
 // The status of a session that ended early.
-fn status_of(kind: SessionErrorKind) -> Status
-    ensures { result ≡ status_of kind }
+fn session_status(kind: SessionErrorKind) -> Status
+    ensures { result ≡ session_status kind }
 {
     match kind {
         SessionErrorKind::NotOpened(error) => Status::Document(error),
@@ -68,46 +70,59 @@ fn status_of(kind: SessionErrorKind) -> Status
 }
 
 // Runs commands over a store, and gives the text of their replies.
-fn run_commands<S: Store>(
+fn text_of_commands<S: Store>(
     alloc: Global,
     array: &OpenArray,
     commands: &[Command],
     store: &mut S,
     options: &CodecOptions,
 ) -> Result<Vec<u8>, Status>
-    ensures ran { IfOk result (λ text. RunsCommands (described array.now) (options_of options.now) (map command_of commands.now) (S.content store.old) (S.content store.new) (S.ask_count store.old) (S.ask_count store.new) text.items) }
+    ensures ran { IfOk result (λ text. RepliesTo (described array.now) (options_of options.now)
+        (map command_of commands.now) (S.shown store.old) (S.shown store.new) text.items) }
     ensures refused { AreRefused (described array.now) (map command_of commands.now) →
-        IsUntouched (S.content store.old) (S.content store.new) (S.ask_count store.old) (S.ask_count store.new) (S.taken_count store.old) (S.taken_count store.new) }
-    ensures keys { SameOtherKeys (layout (described array.now) (options_of options.now)) (S.content store.old) (S.content store.new) }
-    ensures later { S.fault_count store.old ≤ S.fault_count store.new }
-    ensures fault { IfErr result (λ status. IsRunFault (described array.now) (options_of options.now) (map command_of commands.now) (S.content store.old) (S.fault_count store.old) (S.fault_count store.new) status) }
-    ensures complete { IsHonest (layout (described array.now) (options_of options.now)) (S.content store.old) → ¬ Rose (S.fault_count store.old) (S.fault_count store.new) →
+        IsUntouched (S.shown store.old) (S.shown store.new) }
+    ensures unchanged { (key : List ℕ) →
+        ¬ IsChangedKey (described array.now) (map command_of commands.now) key →
+        (S.shown store.new).content key ≡ (S.shown store.old).content key }
+    ensures later { (S.shown store.old).faults ≤ (S.shown store.new).faults }
+    ensures fault { IfErr result (λ status.
+        IsRunFault (described array.now) (options_of options.now)
+        (map command_of commands.now) (S.shown store.old) (S.shown store.new) status) }
+    ensures complete { IsHonest (layout (described array.now) (options_of options.now))
+        (S.shown store.old).content →
+        ¬ Rose (S.shown store.old).faults (S.shown store.new).faults →
         IfErr result (λ status. status ≡ Status.OutOfMemory) }
 {
     match array.run_commands(alloc, commands, store, options) {
-        Ok(replies) => Ok(replies_text(alloc, &replies)?),
-        Err(error) => Err(status_of(error.kind)),
+        Ok(replies) => Ok(text_of_replies(alloc, &replies)?),
+        Err(error) => Err(session_status(error.kind)),
     }
 }
 
 // Runs commands over a store, and gives the text of their replies and of the keys that are asked for.
-fn run_all<S: Store>(
+fn text_of_all<S: Store>(
     alloc: Global,
     settings: &Settings,
     array: &OpenArray,
     commands: &[Command],
     store: &mut S,
 ) -> Result<Vec<u8>, Status>
-    ensures ran { IfOk result (λ text. RunsAll (described array.now) (settings_view settings.now) (map command_of commands.now) (S.content store.old) (S.content store.new) (S.ask_count store.old) (S.ask_count store.new) text.items) }
-    ensures refused { AreRefused (described array.now) (map command_of commands.now) → settings.now.dump ≡ false →
-        IsUntouched (S.content store.old) (S.content store.new) (S.ask_count store.old) (S.ask_count store.new) (S.taken_count store.old) (S.taken_count store.new) }
-    ensures keys { SameOtherKeys (layout (described array.now) (options_of settings.now.options)) (S.content store.old) (S.content store.new) }
-    ensures later { S.fault_count store.old ≤ S.fault_count store.new }
-    ensures fault { IfErr result (λ status. IsRunFault (described array.now) (options_of settings.now.options) (map command_of commands.now) (S.content store.old) (S.fault_count store.old) (S.fault_count store.new) status) }
-    ensures complete { IsHonest (layout (described array.now) (options_of settings.now.options)) (S.content store.old) → ¬ Rose (S.fault_count store.old) (S.fault_count store.new) →
+    ensures ran { IfOk result (λ text. PrintsAll (described array.now) (settings_view settings.now)
+        (map command_of commands.now) (S.shown store.old) (S.shown store.new) text.items) }
+    ensures refused { AreRefused (described array.now) (map command_of commands.now) →
+        settings.now.dump ≡ false → IsUntouched (S.shown store.old) (S.shown store.new) }
+    ensures unchanged { (key : List ℕ) →
+        ¬ IsChangedKey (described array.now) (map command_of commands.now) key →
+        (S.shown store.new).content key ≡ (S.shown store.old).content key }
+    ensures later { (S.shown store.old).faults ≤ (S.shown store.new).faults }
+    ensures fault { IfErr result (λ status.
+        IsRunFault (described array.now) (options_of settings.now.options)
+        (map command_of commands.now) (S.shown store.old) (S.shown store.new) status) }
+    ensures complete { IsHonest (layout (described array.now) (options_of settings.now.options))
+        (S.shown store.old).content → ¬ Rose (S.shown store.old).faults (S.shown store.new).faults →
         IfErr result (λ status. status ≡ Status.OutOfMemory) }
 {
-    match run_commands(alloc, array, commands, store, &settings.options) {
+    match text_of_commands(alloc, array, commands, store, &settings.options) {
         Ok(mut text) => match push_dump(alloc, settings.dump, &mut text, store) {
             Ok(()) => Ok(text),
             Err(status) => Err(status),
@@ -124,20 +139,35 @@ pub(crate) fn run_input<S: Store>(
     parsed: &ParsedInput,
     store: &mut S,
 ) -> Result<Vec<u8>, Status>
-    ensures ran { IfOk result (λ text. RunsAll (described parsed.now.array) (settings_view settings.now) (map command_of parsed.now.commands.items)
-        (with_keys (map entry_view parsed.now.entries.items) (S.content store.old)) (S.content store.new) (S.ask_count store.old) (S.ask_count store.new) text.items) }
-    ensures refused { OnOk result (AreRefused (described parsed.now.array) (map command_of parsed.now.commands.items) → settings.now.dump ≡ false →
-        IsUntouched (with_keys (map entry_view parsed.now.entries.items) (S.content store.old)) (S.content store.new)
-        (S.ask_count store.old) (S.ask_count store.new) (S.taken_count store.old) (S.taken_count store.new)) }
-    ensures elsewhere { (key : List ℕ) → ¬ IsKeyOf (map entry_view parsed.now.entries.items) key → ¬ IsChunkKey (layout (described parsed.now.array) (options_of settings.now.options)) key →
-        S.content store.new key ≡ S.content store.old key }
-    ensures fault { IfErr result (λ status. IsRunFault (described parsed.now.array) (options_of settings.now.options) (map command_of parsed.now.commands.items)
-        (with_keys (map entry_view parsed.now.entries.items) (S.content store.old)) (S.fault_count store.old) (S.fault_count store.new) status) }
-    ensures complete { IsHonest (layout (described parsed.now.array) (options_of settings.now.options)) (with_keys (map entry_view parsed.now.entries.items) (S.content store.old)) →
-        ¬ Rose (S.fault_count store.old) (S.fault_count store.new) → IfErr result (λ status. status ≡ Status.OutOfMemory) }
+    ensures ran { IfOk result (λ text. PrintsAll (described parsed.now.array)
+        (settings_view settings.now)
+        (map command_of parsed.now.commands.items)
+        (with_entries (map entry_view parsed.now.entries.items) (S.shown store.old))
+        (S.shown store.new) text.items) }
+    ensures refused { OnOk result (
+        AreRefused (described parsed.now.array) (map command_of parsed.now.commands.items) →
+        settings.now.dump ≡ false →
+        IsUntouched (with_entries (map entry_view parsed.now.entries.items) (S.shown store.old))
+        (S.shown store.new)) }
+    ensures unasked { AreRefused (described parsed.now.array)
+        (map command_of parsed.now.commands.items) → settings.now.dump ≡ false →
+        IsUnasked (S.shown store.old) (S.shown store.new) }
+    ensures unchanged { (key : List ℕ) → ¬ IsKeyOf (map entry_view parsed.now.entries.items) key →
+        ¬ IsChangedKey (described parsed.now.array) (map command_of parsed.now.commands.items) key →
+        (S.shown store.new).content key ≡ (S.shown store.old).content key }
+    ensures fault { IfErr result (λ status.
+        IsRunFault (described parsed.now.array) (options_of settings.now.options)
+        (map command_of parsed.now.commands.items)
+        (with_entries (map entry_view parsed.now.entries.items) (S.shown store.old))
+        (S.shown store.new) status) }
+    ensures complete { IsHonest (layout (described parsed.now.array)
+        (options_of settings.now.options))
+        (with_entries (map entry_view parsed.now.entries.items) (S.shown store.old)).content →
+        ¬ Rose (S.shown store.old).faults (S.shown store.new).faults →
+        IfErr result (λ status. status ≡ Status.OutOfMemory) }
 {
     match set_entries(alloc, &parsed.entries, store) {
-        Ok(()) => run_all(alloc, settings, &parsed.array, &parsed.commands, store),
+        Ok(()) => text_of_all(alloc, settings, &parsed.array, &parsed.commands, store),
         Err(StorageError::Failed) => Err(Status::Store),
         Err(StorageError::OutOfMemory) => Err(Status::OutOfMemory),
     }

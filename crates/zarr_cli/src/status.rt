@@ -2,7 +2,7 @@
 
 ghost use Rattle.std.specs.Prelude.{◌≡◌};
 ghost use Rattle.zarr_cli.specs.Ending.{ending_code};
-ghost use Rattle.zarr_cli.specs.Endings.{ending_of};
+ghost use Rattle.zarr_cli.specs.Status.{ending_of};
 
 use std::alloc::AllocError;
 use zarr_array::open::OpenError;

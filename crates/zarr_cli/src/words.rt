@@ -1,8 +1,8 @@
 //! The words of the command line.
 
 ghost use Rattle.std.specs.Prelude.{◌≡◌, None, if◌then◌else◌, option_map};
-ghost use Rattle.zarr_cli.specs.Program.{knows_writing, with_word, settings_of};
-ghost use Rattle.zarr_cli.specs.Endings.{known_forms, words_of, settings_view};
+ghost use Rattle.zarr_cli.specs.Words.{is_known, with_word, settings_of};
+ghost use Rattle.zarr_cli.specs.Status.{words_of, settings_view};
 
 use zarr_array::options::CodecOptions;
 
@@ -17,7 +17,8 @@ pub(crate) struct Settings {
 
 // The settings after one more word, if it is known.
 fn after_word(word: &str, settings: Settings) -> Option<Settings>
-    ensures { option_map settings_view result ≡ (if knows_writing word.now then with_word word.now (settings_view settings) else None) }
+    ensures { option_map settings_view result
+        ≡ (if is_known word.now then with_word word.now (settings_view settings) else None) }
 {
     match word {
         "--dump" => Some(Settings {
@@ -34,7 +35,7 @@ fn after_word(word: &str, settings: Settings) -> Option<Settings>
 
 /// The settings of a list of words, if each is known. They may come in any order and number.
 pub(crate) fn parse_words(words: &[String]) -> Option<Settings>
-    ensures { option_map settings_view result ≡ settings_of known_forms (words_of words.now) }
+    ensures { option_map settings_view result ≡ settings_of (words_of words.now) }
 {
     let mut settings = Settings {
         dump: false,

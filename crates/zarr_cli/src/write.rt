@@ -1,9 +1,9 @@
 //! Writing the output.
 
 ghost use Rattle.std.specs.Prelude.{◌≡◌, ◌⊎◌, true, false, Some, IfOk, IfSome, string_bytes};
-ghost use Rattle.zarr_model.specs.Outside.{Rose};
+ghost use Rattle.zarr_model.specs.Prelude.{Rose};
 ghost use Rattle.zarr_cli.specs.Ending.{IsGiven, IsGivenFront, IsGivenLine, ending_line};
-ghost use Rattle.zarr_cli.specs.Endings.{ending_of};
+ghost use Rattle.zarr_cli.specs.Status.{ending_of};
 
 use crate::status::Status;
 use std::alloc::{AllocError, Global};
@@ -12,8 +12,10 @@ use zarrs_storage::sink::Sink;
 
 /// Writes a text piece by piece. False says that the sink failed.
 pub(crate) fn write_text<W: Sink>(sink: &mut W, text: &[u8]) -> bool
-    ensures whole { result ≡ true → IsGiven text.now (W.given sink.old) (W.given sink.new) }
-    ensures front { result ≡ false → Rose (W.fault_count sink.old) (W.fault_count sink.new) × IsGivenFront text.now (W.given sink.old) (W.given sink.new) }
+    ensures whole { result ≡ true → IsGiven text.now (W.shown sink.old).bytes
+        (W.shown sink.new).bytes }
+    ensures front { result ≡ false → Rose (W.shown sink.old).faults (W.shown sink.new).faults
+        × IsGivenFront text.now (W.shown sink.old).bytes (W.shown sink.new).bytes }
 {
     let mut done = 0;
     'pieces: while done < text.len() {
@@ -29,7 +31,8 @@ pub(crate) fn write_text<W: Sink>(sink: &mut W, text: &[u8]) -> bool
 
 // The line that stands in place of the replies.
 fn status_line(alloc: Global, status: &Status) -> Result<String, AllocError>
-    ensures { IfOk result (λ line. IfSome (ending_line (ending_of status.now)) (λ text. string_bytes line ≡ text)) }
+    ensures { IfOk result (λ line. IfSome (ending_line (ending_of status.now))
+        (λ text. string_bytes line ≡ text)) }
 {
     match status {
         Status::Done | Status::Write | Status::OutOfMemory => Ok(String::new(alloc)),
@@ -46,7 +49,7 @@ fn status_line(alloc: Global, status: &Status) -> Result<String, AllocError>
 
 // Writes a line, whether the sink takes all of it or not.
 fn write_line<W: Sink>(sink: &mut W, line: &str)
-    ensures { IsGivenLine (Some line.now) (W.fault_count sink.old) (W.fault_count sink.new) (W.given sink.old) (W.given sink.new) }
+    ensures { IsGivenLine (Some line.now) (W.shown sink.old) (W.shown sink.new) }
 {
     let _ = write_text(sink, line.as_bytes());
 }
@@ -54,7 +57,8 @@ fn write_line<W: Sink>(sink: &mut W, line: &str)
 /// Writes the line of a status in place of replies, and answers the status, or want of memory where the line found none.
 pub(crate) fn end_with<W: Sink>(alloc: Global, status: Status, sink: &mut W) -> Status
     ensures status { (result ≡ status) ⊎ (result ≡ Status.OutOfMemory) }
-    ensures line { IsGivenLine (ending_line (ending_of result)) (W.fault_count sink.old) (W.fault_count sink.new) (W.given sink.old) (W.given sink.new) }
+    ensures line { IsGivenLine (ending_line (ending_of result)) (W.shown sink.old)
+        (W.shown sink.new) }
 {
     let Ok(line) = status_line(alloc, &status) else {
         return Status::OutOfMemory;

@@ -4,8 +4,7 @@ use Rattle.std.specs.Result.{result_ok}
 use Rattle.hex.specs.Hex.{encode_with, encode_lower, lower_digits, decode_of, decode_sized}
 use Rattle.hex.specs.declared.error.FromHexError.{FromHexError}
 use Rattle.hex.proofs.HexLemmas.{decode_of-ok, decode_sized-twice}
-use Rattle.zarr_model.specs.Element.{fixed, of_bytes}
-use Rattle.zarr_model.specs.ArrayBytes.{bytes_of}
+use Rattle.zarr_model.specs.Prelude.{fixed, of_bytes, bytes_of}
 use Rattle.zarr_array.specs.Chunk.{byte_elements}
 use Rattle.zarr_cli_lines.specs.Text.{fixed_element, element_of, hex_text}
 

@@ -1,7 +1,7 @@
 -- Lines parsed one after another.
 use Rattle.std.proofs.Common.{◌≡◌, ℕ, ◌+◌, ◌<◌, Bool, true, false, List, [], ◌∷◌, ◌++◌, length, map, drop, Option, Some, None, option_map, refl, sym, ap, ◌∙◌, arith, cond, bytes_eq, codes, append_assoc}
 use Rattle.std.proofs.lemmas.List.{drop-drop}
-use Rattle.zarr_model.specs.Element.{fixed}
+use Rattle.zarr_model.specs.Prelude.{fixed}
 use Rattle.zarr_model.proofs.FailureLaws.{same_bytes}
 use Rattle.zarr_cli_lines.specs.Text.{split_at, all_some, box_of, command_of_words, write_of, entry_of_line, entries_onto, first_entries, element_of}
 use Rattle.zarr_cli_lines.proofs.SplitLemmas.{split_nonempty}

@@ -1,8 +1,6 @@
 -- The text of a reply, from the bytes of its elements.
 use Rattle.std.proofs.Common.{◌≡◌, ℕ, List, [], ◌∷◌, ◌++◌, length, flat_map, Option, Some, None, IsSome, codes, refl, sym, ap, ◌∙◌, append_assoc, rules}
-use Rattle.zarr_model.specs.Element.{Element, fixed}
-use Rattle.zarr_model.specs.ArrayBytes.{fixed_bytes, meaning}
-use Rattle.zarr_model.specs.Command.{Reply, elements, done, refused, Refusal, answered, answered_done, answered_refused, Matches, refusal_name}
+use Rattle.zarr_model.specs.Prelude.{Element, fixed, fixed_bytes, meaning, Reply, elements, done, refused, Refusal, answered, answered_done, answered_refused, Matches, refusal_name}
 use Rattle.zarr_array.specs.Chunk.{byte_elements}
 use Rattle.zarr_array.proofs.OneByteLaws.{meaning-bytes, bytes_meaning_length}
 use Rattle.zarr_cli_lines.specs.Text.{element_text, hex_text, reply_text, line_of}

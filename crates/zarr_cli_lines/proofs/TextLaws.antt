@@ -7,8 +7,7 @@ use Rattle.std.proofs.lemmas.Fmt.{decimal_is_IsNumeral}
 use Rattle.std.proofs.lemmas.Bool.{and_parts, and_from, lt-ltb, ltb-true, cond-true}
 use Rattle.hex.specs.Hex.{IsBytes}
 use Rattle.hex.proofs.HexLemmas.{decode_of-encode_lower}
-use Rattle.zarr_model.specs.Element.{Element, of_bytes, null, some, Kind, fixed, variable, optional, IsOfKind}
-use Rattle.zarr_model.specs.Command.{Command}
+use Rattle.zarr_model.specs.Prelude.{Element, of_bytes, null, some, Kind, fixed, variable, optional, IsOfKind, Command}
 use Rattle.zarr_cli_lines.specs.Text.{number_of, hex_of, hex_text, fixed_element, element_of, element_text, all_some, first_entries, lines_after_entries, commands_of, good_lines, entry_of_line, entries_onto}
 use Rattle.zarr_model.proofs.FailureLaws.{same_bytes, bytes_eq-refl}
 use Rattle.zarr_model.proofs.BytesLaws.{when_some}

@@ -3,14 +3,12 @@ use Rattle.std.specs.Prelude.{◌≡◌, ℕ, ◌-◌, ◌<◌, List, [], ◌∷
 use Rattle.std.specs.Option.{option_map_or}
 use Rattle.std.specs.Borrow.{Bor}
 use Rattle.std.specs.declared.ops.Range.{Range}
-use Rattle.zarr_model.specs.Region.{Span}
-use Rattle.zarr_model.specs.Element.{fixed}
-use Rattle.zarr_model.specs.Command.{Command, Matches, refusal_name}
+use Rattle.zarr_model.specs.Prelude.{Span, fixed, Command, Matches, refusal_name}
 use Rattle.zarr_model.specs.Command as Model
 use Rattle.zarr_array.specs.declared.command.Reply.{Reply}
 use Rattle.zarr_array.specs.declared.command.Reply.TheVariants.{Elements, Done, Refused}
 use Rattle.zarr_array.specs.Command.{answer_of, refusal_of}
-use Rattle.zarr_cli_lines.specs.Text.{split_at, command_of, good_lines, hex_text, line_of, reply_text}
+use Rattle.zarr_cli_lines.specs.Text.{split_at, line_command, good_lines, hex_text, line_of, reply_text}
 use Rattle.zarr_cli_lines.specs.declared.lines.Lines.{Lines}
 use Rattle.zarr_cli_lines.specs.declared.entry.Entry.{Entry}
 use Rattle.zarr_cli_lines.specs.declared.parse.LineError.{LineError}
@@ -44,7 +42,7 @@ entry_view entry = (entry.key, entry.value.items)
 
 -- the commands of arrays whose elements are one byte each
 abbrev pub command_line : List ℕ → Option Command
-command_line line = command_of (fixed 1) line
+command_line line = line_command (fixed 1) line
 
 -- lines are out of form after so many good ones, or memory ran out
 abbrev pub IsLineFault : LineError → List (List ℕ) → Type 0
@@ -63,4 +61,5 @@ answer_text (Refused why) = codes "refused " ++ refusal_name (refusal_of why)
 
 -- the line of a reply was appended to a text, for each reply of the model that this one is
 abbrev pub AppendsReply : Reply → List ℕ → List ℕ → Type 0
-AppendsReply reply before now = (answer : Model.Reply) → Matches (fixed 1) (answer_of reply) answer → now ≡ before ++ line_of (reply_text answer)
+AppendsReply reply before now = (answer : Model.Reply) →
+    Matches (fixed 1) (answer_of reply) answer → now ≡ before ++ line_of (reply_text answer)

@@ -4,11 +4,7 @@ use Rattle.std.specs.List.{slice_split, prefix_len}
 use Rattle.std.specs.Result.{result_ok}
 use Rattle.std.specs.Str.Parse.{digits_value}
 use Rattle.hex.specs.Hex.{encode_lower, decode_of}
-use Rattle.zarr_model.specs.Region.{Region, Span}
-use Rattle.zarr_model.specs.Element.{Element, of_bytes, null, some, Kind, fixed, variable, optional}
-use Rattle.zarr_model.specs.ArrayBytes.{array_bytes}
-use Rattle.zarr_model.specs.Key.{is_store_key}
-use Rattle.zarr_model.specs.Command.{Command, read, write, erase, Reply, elements, done, refused, refusal_name}
+use Rattle.zarr_model.specs.Prelude.{Region, Span, Element, of_bytes, null, some, Kind, fixed, variable, optional, array_bytes, is_store_key, Command, read, write, erase, Reply, elements, done, refused, refusal_name}
 
 -- the parts of a text between the bytes that are this one
 abbrev pub split_at : ℕ → List ℕ → List (List ℕ)
@@ -31,16 +27,19 @@ span_between from None = None
 span_between from (Some to) = Some (record { start = from; size = to - from })
 
 abbrev pub span_of : List (List ℕ) → Option Span
-span_of (from ∷ [] ∷ to ∷ []) = option_and_then (λ number. span_between number (number_of to)) (number_of from)
+span_of (from ∷ [] ∷ to ∷ []) = option_and_then (λ number. span_between number (number_of to))
+    (number_of from)
 span_of _ = None
 
 -- a box: `.` at rank 0, else ranges joined by commas
 abbrev pub box_of : List ℕ → Option Region
-box_of line = if bytes_eq line (codes ".") then Some [] else all_some (map (λ range. span_of (split_at 46 range)) (split_at 44 line))
+box_of line = if bytes_eq line (codes ".") then Some []
+    else all_some (map (λ range. span_of (split_at 46 range)) (split_at 44 line))
 
 -- the indices of a chunk: `.` at rank 0, else numbers joined by commas
 abbrev pub indices_of : List ℕ → Option (List ℕ)
-indices_of line = if bytes_eq line (codes ".") then Some [] else all_some (map number_of (split_at 44 line))
+indices_of line = if bytes_eq line (codes ".") then Some []
+    else all_some (map number_of (split_at 44 line))
 
 -- bytes: `h` and hexadecimal, in either case
 abbrev pub hex_of : List ℕ → Option (List ℕ)
@@ -57,14 +56,16 @@ element_of (fixed n) line = option_and_then (fixed_element n) (hex_of line)
 element_of variable line = option_map of_bytes (hex_of line)
 element_of (optional kind) [] = None
 element_of (optional kind) (b ∷ []) = if b == 45 then Some null else None
-element_of (optional kind) (b ∷ c ∷ line) = if b == 43 then option_map some (element_of kind (c ∷ line)) else None
+element_of (optional kind) (b ∷ c ∷ line) = if b == 43
+    then option_map some (element_of kind (c ∷ line)) else None
 
 -- the write command of a region and some elements, if all are there
 abbrev pub write_of : Kind → Option Region → Option (List Element) → Option Command
 write_of kind (Some region) (Some list) = Some (write region (array_bytes kind list))
 write_of kind _ _ = None
 
--- a command, by its words: `read` and a box, `write` with a box and elements, or `erase` and indices
+-- a command, by its words: `read` and a box, `write` with a box and elements, or `erase` and
+-- indices
 abbrev pub command_of_words : Kind → List (List ℕ) → Option Command
 command_of_words kind [] = None
 command_of_words kind (word ∷ []) = None
@@ -74,11 +75,12 @@ command_of_words kind (word ∷ box ∷ []) =
     else if bytes_eq word (codes "erase") then option_map erase (indices_of box)
     else None
 command_of_words kind (word ∷ box ∷ first ∷ rest) =
-    if bytes_eq word (codes "write") then write_of kind (box_of box) (all_some (map (element_of kind) (first ∷ rest))) else None
+    if bytes_eq word (codes "write") then write_of kind (box_of box)
+    (all_some (map (element_of kind) (first ∷ rest))) else None
 
 -- a command line; one space separates its words
-abbrev pub command_of : Kind → List ℕ → Option Command
-command_of kind line = command_of_words kind (split_at 32 line)
+abbrev pub line_command : Kind → List ℕ → Option Command
+line_command kind line = command_of_words kind (split_at 32 line)
 
 -- a key with its value, if the key is a store key
 abbrev pub entry_of : List ℕ → Option (List ℕ) → Option (List ℕ × List ℕ)
@@ -87,13 +89,15 @@ entry_of key (Some value) = if is_store_key key then Some (key, value) else None
 
 -- a key line: `key`, a key, and its value in hexadecimal
 abbrev pub entry_of_words : List (List ℕ) → Option (List ℕ × List ℕ)
-entry_of_words (word ∷ key ∷ value ∷ []) = if bytes_eq word (codes "key") then entry_of key (hex_of value) else None
+entry_of_words (word ∷ key ∷ value ∷ []) = if bytes_eq word (codes "key")
+    then entry_of key (hex_of value) else None
 entry_of_words _ = None
 
 abbrev pub entry_of_line : List ℕ → Option (List ℕ × List ℕ)
 entry_of_line line = entry_of_words (split_at 32 line)
 
--- the lines of the input: each ends with a newline, which the last one may lack; empty input is one empty line
+-- the lines of the input: each ends with a newline, which the last one may lack; empty input is one
+-- empty line
 abbrev pub without_last_empty : List (List ℕ) → List (List ℕ)
 without_last_empty [] = []
 without_last_empty (line ∷ []) = line ∷ []
@@ -122,7 +126,8 @@ commands_of grammar lines = all_some (map grammar (lines_after_entries lines))
 
 -- how many lines come before the first one that is neither a key line at the front nor a command
 abbrev pub good_lines : (List ℕ → Option Command) → List (List ℕ) → ℕ
-good_lines grammar lines = length (first_entries lines) + prefix_len (λ line. is_some (grammar line)) (lines_after_entries lines)
+good_lines grammar lines = length (first_entries lines) + prefix_len
+    (λ line. is_some (grammar line)) (lines_after_entries lines)
 
 -- the number of the line that has the byte at a place, from 1 on
 abbrev pub line_at : List ℕ → ℕ → ℕ

@@ -27,7 +27,8 @@ fn parse_range(text: &str) -> Option<Range<u64>>
 
 // Ranges joined by commas.
 fn parse_ranges(alloc: Global, text: &str) -> Result<Option<Vec<Range<u64>>>, AllocError>
-    ensures { IfOk result (λ ranges. option_map (λ v. region_of_ranges v.items) ranges ≡ all_some (map (λ range. span_of (split_at 46 range)) (split_at 44 text.now))) }
+    ensures { IfOk result (λ ranges. option_map (λ v. region_of_ranges v.items) ranges
+        ≡ all_some (map (λ range. span_of (split_at 46 range)) (split_at 44 text.now))) }
 {
     let mut ranges = Vec::new(alloc);
     let mut left = Some(text);

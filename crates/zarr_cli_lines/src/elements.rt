@@ -1,7 +1,7 @@
 //! The elements of a write: `h` and two hexadecimal digits for each, and a space between two.
 
 ghost use Rattle.std.specs.Prelude.{◌≡◌, [], ◌∷◌, map, IfOk, option_map};
-ghost use Rattle.zarr_model.specs.Element.{fixed, of_bytes};
+ghost use Rattle.zarr_model.specs.Prelude.{fixed, of_bytes};
 ghost use Rattle.zarr_array.specs.Chunk.{byte_elements};
 ghost use Rattle.zarr_cli_lines.specs.Text.{all_some, element_of};
 ghost use Rattle.zarr_cli_lines.specs.Parts.{words_left};
@@ -26,7 +26,8 @@ pub(crate) fn parse_elements(
     alloc: Global,
     text: Option<&str>,
 ) -> Result<Option<Vec<u8>>, AllocError>
-    ensures { IfOk result (λ value. option_map (λ v. byte_elements v.items) value ≡ all_some (map (element_of (fixed 1)) (words_left text.entry))) }
+    ensures { IfOk result (λ value. option_map (λ v. byte_elements v.items) value
+        ≡ all_some (map (element_of (fixed 1)) (words_left text.entry))) }
 {
     let room = text.map_or(0, |text| text.len() / 4 + 1);
     let mut value = Vec::with_capacity(alloc, room)?;

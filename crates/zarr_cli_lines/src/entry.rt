@@ -67,7 +67,8 @@ fn push_hex(text: &mut Vec<u8>, value: &[u8]) -> Result<(), AllocError>
 ///
 /// An error comes only for want of memory; the text may then have a part of the line.
 pub fn push_entry(text: &mut Vec<u8>, key: &StoreKey, value: &[u8]) -> Result<(), AllocError>
-    ensures { OnOk result (text.new.items ≡ text.old.items ++ line_of (entry_text (key.now, value.now))) }
+    ensures { OnOk result (text.new.items ≡ text.old.items
+        ++ line_of (entry_text (key.now, value.now))) }
 {
     let room = key
         .as_str()

@@ -10,7 +10,8 @@ use zarrs_array_subset::ArrayIndices;
 
 // Numbers joined by commas.
 fn parse_numbers(alloc: Global, text: &str) -> Result<Option<Vec<u64>>, AllocError>
-    ensures { IfOk result (λ numbers. option_map (λ v. v.items) numbers ≡ all_some (map number_of (split_at 44 text.now))) }
+    ensures { IfOk result (λ numbers. option_map (λ v. v.items) numbers
+        ≡ all_some (map number_of (split_at 44 text.now))) }
 {
     let mut numbers = Vec::new(alloc);
     let mut left = Some(text);

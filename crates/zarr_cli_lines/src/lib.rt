@@ -10,5 +10,8 @@ mod number;
 pub mod parse;
 mod parts;
 pub mod reply_text;
-#[cfg(test)]
-mod tests;
+
+pub use entry::{Entry, parse_key_line, push_entry};
+pub use lines::Lines;
+pub use parse::{LineError, ParsedLines, parse_command_line, parse_lines};
+pub use reply_text::push_reply;

@@ -2,7 +2,7 @@
 
 ghost use Rattle.std.specs.Prelude.{◌≡◌, ◌<◌, ◌^◌, ℕ, map, length, Some, is_some, IfOk, IfErr, option_map};
 ghost use Rattle.std.specs.List.{prefix_len};
-ghost use Rattle.zarr_model.specs.Element.{fixed};
+ghost use Rattle.zarr_model.specs.Prelude.{fixed};
 ghost use Rattle.zarr_array.specs.Command.{command_of};
 ghost use Rattle.zarr_cli_lines.specs.Text.{first_entries, lines_after_entries, commands_of, all_some, box_of, element_of, write_of};
 ghost use Rattle.zarr_cli_lines.specs.Parts.{lines_left, words_left, entry_view, command_line, IsLineFault};
@@ -67,7 +67,9 @@ fn parse_write(
     region: &str,
     elements: Option<&str>,
 ) -> Result<Option<Command>, AllocError>
-    ensures { IfOk result (λ command. option_map command_of command ≡ write_of (fixed 1) (box_of region.now) (all_some (map (element_of (fixed 1)) (words_left elements.entry)))) }
+    ensures { IfOk result (λ command. option_map command_of command
+        ≡ write_of (fixed 1) (box_of region.now)
+        (all_some (map (element_of (fixed 1)) (words_left elements.entry)))) }
 {
     let Some(region) = parse_box(alloc, region)? else {
         return Ok(None);
@@ -103,8 +105,10 @@ pub fn parse_command_line(alloc: Global, line: &str) -> Result<Option<Command>, 
 
 // Takes the key lines off the front.
 fn take_entries(alloc: Global, lines: &mut Lines) -> Result<Vec<Entry>, AllocError>
-    ensures entries { IfOk result (λ entries. map entry_view entries.items ≡ first_entries (lines_left lines.old)) }
-    ensures rest { IfOk result (λ entries. lines_left lines.new ≡ lines_after_entries (lines_left lines.old)) }
+    ensures entries { IfOk result (λ entries. map entry_view entries.items
+        ≡ first_entries (lines_left lines.old)) }
+    ensures rest { IfOk result (λ entries. lines_left lines.new
+        ≡ lines_after_entries (lines_left lines.old)) }
 {
     let mut entries = Vec::new(alloc);
     'entries: while let Some((line, rest)) = lines.split_first() {
@@ -119,10 +123,13 @@ fn take_entries(alloc: Global, lines: &mut Lines) -> Result<Vec<Entry>, AllocErr
 
 // The commands of lines, or how many come before the first that is none.
 fn parse_commands(alloc: Global, lines: Lines) -> Result<Vec<Command>, LineError>
-    ensures ok { IfOk result (λ commands. all_some (map command_line (lines_left lines.entry)) ≡ Some (map command_of commands.items)) }
+    ensures ok { IfOk result (λ commands. all_some (map command_line (lines_left lines.entry))
+        ≡ Some (map command_of commands.items)) }
     ensures fault { IfErr result (λ error. (good : ℕ) → error ≡ LineError.OutOfForm good →
-        (good ≡ prefix_len (λ line. is_some (command_line line)) (lines_left lines.entry)) × (good < length (lines_left lines.entry))) }
-    ensures small { IfErr result (λ error. (good : ℕ) → error ≡ LineError.OutOfForm good → good < 2 ^ 63) }
+        (good ≡ prefix_len (λ line. is_some (command_line line)) (lines_left lines.entry))
+        × (good < length (lines_left lines.entry))) }
+    ensures small { IfErr result (λ error. (good : ℕ) → error ≡ LineError.OutOfForm good →
+        good < 2 ^ 63) }
 {
     let mut commands = Vec::new(alloc);
     let mut left = lines;
@@ -138,10 +145,17 @@ fn parse_commands(alloc: Global, lines: Lines) -> Result<Vec<Command>, LineError
     Ok(commands)
 }
 
-/// Parses the lines after the document, each once, or says how many come before the first that is out of form.
+/// Parses the lines after the document, each once.
+///
+/// # Errors
+///
+/// [`LineError::OutOfForm`] where a line is out of form: how many come before the first such line.
+/// [`LineError::OutOfMemory`] for want of memory.
 pub fn parse_lines(alloc: Global, lines: Lines) -> Result<ParsedLines, LineError>
-    ensures entries { IfOk result (λ parsed. map entry_view parsed.entries.items ≡ first_entries (lines_left lines.entry)) }
-    ensures commands { IfOk result (λ parsed. commands_of command_line (lines_left lines.entry) ≡ Some (map command_of parsed.commands.items)) }
+    ensures entries { IfOk result (λ parsed. map entry_view parsed.entries.items
+        ≡ first_entries (lines_left lines.entry)) }
+    ensures commands { IfOk result (λ parsed. commands_of command_line (lines_left lines.entry)
+        ≡ Some (map command_of parsed.commands.items)) }
     ensures fault { IfErr result (λ error. IsLineFault error (lines_left lines.entry)) }
 {
     let mut left = lines;

@@ -8,7 +8,8 @@ ghost use Rattle.zarr_cli_lines.specs.Parts.{three_of, two_of};
 /// What stands before the first `separator`, and what stands after it, if it is there.
 pub(crate) fn cut(text: &str, separator: char) -> (&str, Option<&str>)
     requires { separator < 128 }
-    ensures parts { split_at separator text.now ≡ result.0.now ∷ option_map_or (λ rest. split_at separator rest.now) result.1 [] }
+    ensures parts { split_at separator text.now
+        ≡ result.0.now ∷ option_map_or (λ rest. split_at separator rest.now) result.1 [] }
     ensures shorter { IfSome result.1 (λ rest. length rest.now < length text.now) }
 {
     match text.split_once(separator) {
@@ -33,7 +34,8 @@ pub(crate) fn two_parts(text: &str, separator: char) -> Option<(&str, &str)>
 /// The three parts of a text, if it has exactly two of `separator`.
 pub(crate) fn three_parts(text: &str, separator: char) -> Option<(&str, &str, &str)>
     requires { separator < 128 }
-    ensures { option_map (λ p. (p.0.now, p.1.now, p.2.now)) result ≡ three_of (split_at separator text.now) }
+    ensures { option_map (λ p. (p.0.now, p.1.now, p.2.now)) result
+        ≡ three_of (split_at separator text.now) }
 {
     let (first, rest) = cut(text, separator);
     let (second, third) = two_parts(rest?, separator)?;

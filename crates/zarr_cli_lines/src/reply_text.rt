@@ -3,7 +3,7 @@
 ghost use Rattle.std.specs.Prelude.{◌≡◌, [], ◌∷◌, ◌++◌, codes, OnOk};
 ghost use Rattle.hex.specs.Hex.{encode_lower};
 ghost use Rattle.zarr_array.specs.Command.{refusal_of};
-ghost use Rattle.zarr_model.specs.Command.{refusal_name};
+ghost use Rattle.zarr_model.specs.Prelude.{refusal_name};
 ghost use Rattle.zarr_cli_lines.specs.Text.{line_of};
 ghost use Rattle.zarr_cli_lines.specs.Parts.{bytes_text, answer_text, AppendsReply};
 
@@ -36,7 +36,8 @@ fn push_elements(text: &mut Vec<u8>, elements: &[u8]) -> Result<(), AllocError>
 
 // Appends `ok` and the elements. The room for them is taken first.
 fn push_ok(text: &mut Vec<u8>, elements: &[u8]) -> Result<(), AllocError>
-    ensures { OnOk result (text.new.items ≡ text.old.items ++ (codes "ok" ++ bytes_text elements.now)) }
+    ensures { OnOk result (text.new.items ≡ text.old.items
+        ++ (codes "ok" ++ bytes_text elements.now)) }
 {
     text.reserve(elements.len().saturating_mul(4).saturating_add(3))?;
     text.extend_from_slice(b"ok")?;
@@ -44,7 +45,8 @@ fn push_ok(text: &mut Vec<u8>, elements: &[u8]) -> Result<(), AllocError>
 }
 
 fn push_refused(text: &mut Vec<u8>, refusal: Refusal) -> Result<(), AllocError>
-    ensures { OnOk result (text.new.items ≡ text.old.items ++ (codes "refused " ++ refusal_name (refusal_of refusal))) }
+    ensures { OnOk result (text.new.items ≡ text.old.items
+        ++ (codes "refused " ++ refusal_name (refusal_of refusal))) }
 {
     text.extend_from_slice(b"refused ")?;
     text.extend_from_slice(refusal.name().as_bytes())
@@ -66,7 +68,8 @@ fn push_answer(text: &mut Vec<u8>, reply: &Reply) -> Result<(), AllocError>
 /// An error comes only for want of memory; the text may then have a part of the line.
 pub fn push_reply(text: &mut Vec<u8>, reply: &Reply) -> Result<(), AllocError>
     ensures reply { OnOk result (AppendsReply reply.now text.old.items text.new.items) }
-    ensures text { OnOk result (text.new.items ≡ text.old.items ++ line_of (answer_text reply.now)) }
+    ensures text { OnOk result (text.new.items ≡ text.old.items
+        ++ line_of (answer_text reply.now)) }
 {
     push_answer(text, reply)?;
     text.push(b'\n')?;

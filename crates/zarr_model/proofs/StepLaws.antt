@@ -12,6 +12,7 @@ use Rattle.zarr_model.specs.Store.{Content, Layout, IsHonest, WhollyMeans, box_c
 use Rattle.zarr_model.specs.Command.{Command, read, Refusal, Description, kind, layout, refusal, reply_of, array_of, after, Answer, answered_refused, Matches, elements, array_after}
 use Rattle.zarr_model.specs.Cost.{command_chunks, asks_store, all_asks, counted, present_in, present_under}
 use Rattle.zarr_model.specs.Failure.{ChunkHas, IsCutShort, FailedAt}
+use Rattle.zarr_model.specs.Shown.{Shown}
 use Rattle.zarr_model.specs.Causes.{IsPlace, AsksUpTo, IsLeftAt, erases_chunk, IsUndecoded, IsStopped, IsStarved, KeepsDamage}
 use Rattle.zarr_model.specs.Session.{LeavesKeys, ServesWhole}
 use Rattle.zarr_model.proofs.RunLaws.{array_after-append}
@@ -175,11 +176,11 @@ module _ (description : Description) (options : Options) (commands : List Comman
                 (subst (λ c. IsCutShort description options c k by_store (array_after description (take m commands) array) (after description command (array_after description (take m commands) array)) new) same cut),
           )
 
-  pub stopped-lifts : (old mid new : Content) (faults_old faults_mid faults_new k : ℕ) → faults_old ≤ faults_mid →
-      ((array : Array Element) → WhollyMeans (layout description options) old array → WhollyMeans (layout description options) mid (array_after description (take m commands) array)) →
-      IsStopped description options (command ∷ []) mid new faults_mid faults_new (Some (0, k)) → IsStopped description options commands old new faults_old faults_new (Some (m, k))
-  stopped-lifts old mid new faults_old faults_mid faults_new k later so_far (rose, some, single) =
-      (omega (arith, rose), refl, λ honest. left-lifts old mid new true k so_far single)
+  pub stopped-lifts : (before mid now : Shown) (k : ℕ) → before.faults ≤ mid.faults →
+      ((array : Array Element) → WhollyMeans (layout description options) before.content array → WhollyMeans (layout description options) mid.content (array_after description (take m commands) array)) →
+      IsStopped description options (command ∷ []) mid now (Some (0, k)) → IsStopped description options commands before now (Some (m, k))
+  stopped-lifts before mid now k later so_far (rose, some, single) =
+      (omega (arith, rose), refl, λ honest. left-lifts before.content mid.content now.content true k so_far single)
 
   pub starved-lifts : (old mid new : Content) (k : ℕ) →
       ((array : Array Element) → WhollyMeans (layout description options) old array → WhollyMeans (layout description options) mid (array_after description (take m commands) array)) →

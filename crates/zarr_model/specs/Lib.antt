@@ -14,3 +14,5 @@ pub mod Outside
 pub mod Session
 pub mod Causes
 pub mod Laws
+pub mod Shown
+pub mod Prelude

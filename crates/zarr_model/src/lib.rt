@@ -2,10 +2,16 @@
 //! law of them: its contract is the law, and its body is empty.
 #![tactic(auto)]
 
-ghost use Rattle.zarr_model.specs.Region.{Region};
-ghost use Rattle.zarr_model.specs.Element.{Kind};
-ghost use Rattle.zarr_model.specs.Command.{Description};
+ghost use Rattle.zarr_model.specs.Prelude.{Region, Kind, Description};
 ghost use Rattle.zarr_model.specs.Laws.{ListsRegion, ReadsWhatWasWritten, EachStoreMeansOne, RunsCompose, BytesMean, CutShortIsHonest, EachStoreMends};
+
+use std::num::NonZeroU64;
+
+/// The length of each dimension of an array, which may be 0.
+pub type ArrayShape = Vec<u64>;
+
+/// The length of each dimension of a chunk, which is never 0.
+pub type ChunkShape = Vec<NonZeroU64>;
 
 /// The row-major list of a region has exactly its tuples, each once, in rising order.
 pub fn row_major_list()

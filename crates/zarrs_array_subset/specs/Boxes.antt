@@ -26,7 +26,8 @@ is_rising (s ∷ start) [] = false
 -- the same with ends that are included: the next number still fits 64 bits
 abbrev pub is_rising_inc : List ℕ → List ℕ → Bool
 is_rising_inc [] [] = true
-is_rising_inc (s ∷ start) (e ∷ end) = (nat_le s e && nat_lt (e + 1) (2 ^ 64)) && is_rising_inc start end
+is_rising_inc (s ∷ start) (e ∷ end) =
+    (nat_le s e && nat_lt (e + 1) (2 ^ 64)) && is_rising_inc start end
 is_rising_inc [] (e ∷ end) = false
 is_rising_inc (s ∷ start) [] = false
 
@@ -37,7 +38,8 @@ region_between _ _ = []
 
 -- the region from these starts to these ends, which are included
 abbrev pub region_through : List ℕ → List ℕ → Region
-region_through (s ∷ start) (e ∷ end) = record { start = s; size = e + 1 - s } ∷ region_through start end
+region_through (s ∷ start) (e ∷ end) =
+    record { start = s; size = e + 1 - s } ∷ region_through start end
 region_through _ _ = []
 
 -- the length from each start to the end there, and this much more; an end below its start is at it
@@ -56,16 +58,20 @@ overlap_of _ _ = []
 
 -- a region cut at an end in each dimension
 abbrev pub cut_at : Region → List ℕ → Region
-cut_at (span ∷ region) (e ∷ end) = record { start = min span.start e; size = min (span.start + span.size) e - min span.start e } ∷ cut_at region end
+cut_at (span ∷ region) (e ∷ end) =
+    record { start = min span.start e; size = min (span.start + span.size) e - min span.start e }
+    ∷ cut_at region end
 cut_at _ _ = []
 
 -- a region with an offset added, or taken off
 abbrev pub moved : Region → List ℕ → Region
-moved (span ∷ region) (o ∷ offset) = record { start = span.start + o; size = span.size } ∷ moved region offset
+moved (span ∷ region) (o ∷ offset) =
+    record { start = span.start + o; size = span.size } ∷ moved region offset
 moved _ _ = []
 
 abbrev pub moved_back : Region → List ℕ → Region
-moved_back (span ∷ region) (o ∷ offset) = record { start = span.start - o; size = span.size } ∷ moved_back region offset
+moved_back (span ∷ region) (o ∷ offset) =
+    record { start = span.start - o; size = span.size } ∷ moved_back region offset
 moved_back _ _ = []
 
 -- an offset of the same rank that may be taken off
@@ -78,7 +84,8 @@ starts_past (span ∷ region) [] = false
 -- an offset of the same rank that may be added
 abbrev pub ends_fit : Region → List ℕ → Bool
 ends_fit [] [] = true
-ends_fit (span ∷ region) (o ∷ offset) = nat_lt (span.start + o + span.size) (2 ^ 64) && ends_fit region offset
+ends_fit (span ∷ region) (o ∷ offset) =
+    nat_lt (span.start + o + span.size) (2 ^ 64) && ends_fit region offset
 ends_fit [] (o ∷ offset) = false
 ends_fit (span ∷ region) [] = false
 
@@ -100,19 +107,25 @@ maxes xs ys = map (λ p. max p.0 p.1) (zip xs ys)
 abbrev pub mins : List ℕ → List ℕ → List ℕ
 mins xs ys = map (λ p. min p.0 p.1) (zip xs ys)
 
--- tests of three lists, place by place, as a chain makes them. They are closed, so that a lemma applies to them by its name
+-- tests of three lists, place by place, as a chain makes them. They are closed, so that a lemma
+-- applies to them by its name
 unfoldable pub are_in : List ℕ → List ℕ → List ℕ → Bool
-are_in start shape indices = list_all (λ p. nat_le p.0.0 p.1 && nat_lt p.1 (min (p.0.0 + p.0.1) (2 ^ 64 - 1))) (zip (zip start shape) indices)
+are_in start shape indices =
+    list_all (λ p. nat_le p.0.0 p.1 && nat_lt p.1 (min (p.0.0 + p.0.1) (2 ^ 64 - 1)))
+    (zip (zip start shape) indices)
 
 unfoldable pub end_in : List ℕ → List ℕ → List ℕ → Bool
-end_in start shape bounds = list_all (λ p. nat_le (min (p.0.0 + p.0.1) (2 ^ 64 - 1)) p.1) (zip (zip start shape) bounds)
+end_in start shape bounds =
+    list_all (λ p. nat_le (min (p.0.0 + p.0.1) (2 ^ 64 - 1)) p.1) (zip (zip start shape) bounds)
 
 unfoldable pub can_move : List ℕ → List ℕ → List ℕ → Bool
-can_move start shape offset = list_all (λ p. nat_lt (p.0.0 + p.1 + p.0.1) (2 ^ 64)) (zip (zip start shape) offset)
+can_move start shape offset =
+    list_all (λ p. nat_lt (p.0.0 + p.1 + p.0.1) (2 ^ 64)) (zip (zip start shape) offset)
 
 -- the region of ranges; one whose end is below its start has length 0
 abbrev pub region_of_ranges : List (Range ℕ) → Region
-region_of_ranges ranges = map (λ range. record { start = range.start; size = range.end - range.start }) ranges
+region_of_ranges ranges =
+    map (λ range. record { start = range.start; size = range.end - range.start }) ranges
 
 -- the last index of each dimension of a region whose lengths are not 0
 abbrev pub last_indices : Region → List ℕ
@@ -122,13 +135,19 @@ last_indices region = map (λ span. span.start + span.size - 1) region
 abbrev pub ranges_of : Region → List (Range ℕ)
 ranges_of region = map (λ span. record { start = span.start; end = span.start + span.size }) region
 
--- whether a region is within another of its rank: each start at least, and each end at most the other's
+-- whether a region is within another of its rank: each start at least, and each end at most the
+-- other's
 abbrev pub is_within : Region → Region → Bool
 is_within [] [] = true
-is_within (a ∷ region) (b ∷ other) = (nat_le b.start a.start && nat_le (a.start + a.size) (b.start + b.size)) && is_within region other
+is_within (a ∷ region) (b ∷ other) =
+    (nat_le b.start a.start && nat_le (a.start + a.size) (b.start + b.size))
+    && is_within region other
 is_within [] (b ∷ other) = false
 is_within (a ∷ region) [] = false
 
 -- tests of four lists, and of ranges, as a chain makes them
 unfoldable pub box_in : List ℕ → List ℕ → List ℕ → List ℕ → Bool
-box_in start shape other_start other_shape = list_all (λ p. nat_le p.0.1 p.0.0.0 && nat_le (min (p.0.0.0 + p.0.0.1) (2 ^ 64 - 1)) (min (p.0.1 + p.1) (2 ^ 64 - 1))) (zip (zip (zip start shape) other_start) other_shape)
+box_in start shape other_start other_shape =
+    list_all (λ p. nat_le p.0.1 p.0.0.0
+    && nat_le (min (p.0.0.0 + p.0.0.1) (2 ^ 64 - 1)) (min (p.0.1 + p.1) (2 ^ 64 - 1)))
+    (zip (zip (zip start shape) other_start) other_shape)

@@ -1,6 +1,6 @@
 //! An array subset: a start and a shape.
 
-ghost use Rattle.std.specs.Prelude.{◌⊎◌, replicate, ◌≡◌, ◌<◌, ◌^◌, IsTrue, IfOk, IfErr, true, false, length, nat_eq};
+ghost use Rattle.std.specs.Prelude.{replicate, ◌≡◌, ◌<◌, IsTrue, IfOk, IfErr, true, false, length, nat_eq};
 ghost use Rattle.zarr_model.specs.Region.{starts, sizes, whole, count};
 ghost use Rattle.zarrs_array_subset.specs.Boxes.{is_box, is_rising, is_rising_inc, region_of, region_between, region_through, region_of_ranges};
 
@@ -9,13 +9,14 @@ mod display;
 mod extents;
 mod numbers;
 
-use crate::error::{ArrayIndices, ArrayShape, ArraySubsetError};
+use crate::error::{ArrayIndices, ArraySubsetError};
 pub use numbers::shape_product;
 use numbers::{
     ends_of, fits, has_zero, no_lengths, rises, rises_inc, starts_of, to_lengths, zeros,
 };
 use std::alloc::{AllocError, Global};
 use std::ops::Range;
+use zarr_model::ArrayShape;
 
 /// A box of an array: a start and a length in each dimension, whose ends fit `u64`.
 #[derive(PartialEq, Eq, PartialOrd, Ord, Hash, Debug, Drop)]
@@ -30,6 +31,9 @@ impl ArraySubset {
     ghost use Rattle.zarrs_array_subset.specs.ArraySubset.{region};
 
     /// The subset of these ranges. One whose end is below its start has length 0.
+    ///
+    /// # Errors
+    /// [`AllocError`] where there is not enough memory.
     #[tactic(auto, using(crate::proofs::BoxLaws::of_ranges))]
     pub fn new_with_ranges(alloc: Global, ranges: &[Range<u64>]) -> Result<Self, AllocError>
         ensures ok { IfOk result (λ s. region s ≡ region_of_ranges ranges.now) }
@@ -62,6 +66,9 @@ impl ArraySubset {
     }
 
     /// All of an array of this shape.
+    ///
+    /// # Errors
+    /// [`AllocError`] where there is not enough memory.
     #[tactic(auto, using(crate::proofs::BoxLaws::of_wholes))]
     pub fn new_with_shape(alloc: Global, shape: ArrayShape) -> Result<Self, AllocError>
         ensures ok { IfOk result (λ s. region s ≡ whole shape.items) }
@@ -71,13 +78,17 @@ impl ArraySubset {
     }
 
     /// The subset with this start and this shape.
+    ///
+    /// # Errors
+    /// [`ArraySubsetError`] where the two have another dimensionality, or an end is past `u64`.
     pub fn new_with_start_shape(
         start: ArrayIndices,
         shape: ArrayShape,
     ) -> Result<Self, ArraySubsetError>
         ensures ok { IfOk result (λ s. (is_box start.items shape.items ≡ true)
             × (region s ≡ region_of start.items shape.items)) }
-        ensures refused { IfErr result (λ e. (e ≡ ArraySubsetError.IncompatibleStartShape start shape)
+        ensures refused { IfErr result
+            (λ e. (e ≡ ArraySubsetError.IncompatibleStartShape start shape)
             × (is_box start.items shape.items ≡ false)) }
     {
         if fits(&start, &shape) {
@@ -88,6 +99,9 @@ impl ArraySubset {
     }
 
     /// The subset of this dimensionality whose starts and lengths are all 0.
+    ///
+    /// # Errors
+    /// [`AllocError`] where there is not enough memory.
     pub fn new_empty(alloc: Global, dimensionality: usize) -> Result<Self, AllocError>
         ensures ok { IfOk result (λ s. region s ≡ whole (replicate dimensionality 0)) }
     {
@@ -96,6 +110,9 @@ impl ArraySubset {
     }
 
     /// From a start to an end that is not included.
+    ///
+    /// # Errors
+    /// [`ArraySubsetError`] where the two have another dimensionality, or an end is below its start.
     #[tactic(auto, using(crate::proofs::BoxLaws::of_rising))]
     pub fn new_with_start_end_exc(
         start: ArrayIndices,
@@ -103,7 +120,8 @@ impl ArraySubset {
     ) -> Result<Self, ArraySubsetError>
         ensures ok { IfOk result (λ s. (is_rising start.items end.items ≡ true)
             × (region s ≡ region_between start.items end.items)) }
-        ensures refused { IfErr result (λ e. (e ≡ ArraySubsetError.IncompatibleStartEnd start end false)
+        ensures refused { IfErr result
+            (λ e. (e ≡ ArraySubsetError.IncompatibleStartEnd start end false)
             × (is_rising start.items end.items ≡ false)) }
     {
         if !rises(&start, &end) {
@@ -117,6 +135,10 @@ impl ArraySubset {
     }
 
     /// From a start to an end that is included.
+    ///
+    /// # Errors
+    /// [`ArraySubsetError`] where the two have another dimensionality, an end is below its start, or
+    /// an end is the greatest `u64`.
     #[tactic(auto, using(crate::proofs::BoxLaws::of_rising))]
     pub fn new_with_start_end_inc(
         start: ArrayIndices,
@@ -124,7 +146,8 @@ impl ArraySubset {
     ) -> Result<Self, ArraySubsetError>
         ensures ok { IfOk result (λ s. (is_rising_inc start.items end.items ≡ true)
             × (region s ≡ region_through start.items end.items)) }
-        ensures refused { IfErr result (λ e. (e ≡ ArraySubsetError.IncompatibleStartEnd start end true)
+        ensures refused { IfErr result
+            (λ e. (e ≡ ArraySubsetError.IncompatibleStartEnd start end true)
             × (is_rising_inc start.items end.items ≡ false)) }
     {
         if !rises_inc(&start, &end) {

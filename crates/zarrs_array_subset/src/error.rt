@@ -3,17 +3,11 @@
 ghost use Rattle.std.specs.Prelude.{◌≡◌};
 
 use std::alloc::{AllocError, AllocFailed};
-use std::num::NonZeroU64;
 use thiserror::Error;
+use zarr_model::ArrayShape;
 
 /// The index of an element, a number for each dimension.
 pub type ArrayIndices = Vec<u64>;
-
-/// The length of an array in each dimension.
-pub type ArrayShape = Vec<u64>;
-
-/// The length of a chunk in each dimension.
-pub type ChunkShape = Vec<NonZeroU64>;
 
 /// Two things that were used together have another number of dimensions.
 #[derive(PartialEq, Eq, Clone, Copy, Debug, Error)]

@@ -7,9 +7,7 @@ mod laws;
 mod ravel;
 
 pub use array_subset::{ArraySubset, shape_product};
-pub use error::{
-    ArrayIndices, ArrayShape, ArraySubsetError, ChunkShape, IncompatibleDimensionalityError,
-    IndexerError,
-};
+pub use error::{ArrayIndices, ArraySubsetError, IncompatibleDimensionalityError, IndexerError};
 pub use laws::{offset_undoes, overlap_contains, ravel_inverse};
 pub use ravel::{ArrayIndicesTinyVec, push_tuple, ravel_indices, unravel_index};
+pub use zarr_model::{ArrayShape, ChunkShape};

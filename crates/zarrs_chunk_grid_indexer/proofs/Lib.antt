@@ -1,5 +1,4 @@
 pub mod ByteFacts
 pub mod Boxes
 pub mod Ranges
-pub mod Gathered
 pub mod Items

@@ -4,9 +4,10 @@ pub use Rattle.zarrs_array_subset.specs.Errors
 pub use Rattle.zarrs_array_subset.specs.Ravel
 pub use Rattle.zarrs_chunk_grid_iterators.specs.Places
 pub use Rattle.zarrs_chunk_grid_iterators.specs.Yields
+pub use Rattle.zarrs_chunk_grid_iterators.specs.Ends
 pub use Rattle.zarrs_chunk_grid_iterators.specs.Runs
 pub use Rattle.zarrs_chunk_grid_iterators.specs.Iterators
+pub use Rattle.zarrs_chunk_grid_iterators.specs.ListIterators
 pub use Rattle.zarrs_chunk_grid_iterators.specs.Lists
 pub mod Bytes
 pub mod RangeTests
-pub mod ListIterators

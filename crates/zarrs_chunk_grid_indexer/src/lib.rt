@@ -4,7 +4,7 @@
 mod indexer;
 
 pub use indexer::{
-    ByteRuns, GatheredTuples, IndexSlice, Indexer, IndexerIterator, IndexerList, RangeSlice,
-    SingleRuns, append_contiguous_linearised_indices, append_indices, append_linearised_indices,
+    ByteRuns, IndexSlice, Indexer, IndexerIterator, IndexerList, RangeSlice,
+    append_contiguous_linearised_indices, append_indices, append_linearised_indices,
     collect_indices,
 };

@@ -1,9 +1,12 @@
-//! Worked examples of `zarrs_chunk_grid_indexer`: what each kind of indexer lists.
+//! Worked examples of lists and indexers, and callers that are proved from `zarrs_chunk_grid` alone.
 #![tactic(auto)]
 
+mod callers;
 #[cfg(test)]
-mod boxes;
+mod indexers;
 #[cfg(test)]
-mod indexer;
+mod lists;
 #[cfg(test)]
-mod kinds;
+mod texts;
+
+pub use callers::{last_of, last_of_subset, lent_indices, owned_indices};

@@ -5,3 +5,4 @@ pub mod RunShapes
 pub mod Always
 pub mod BoxFacts
 pub mod ListFacts
+pub mod Ends

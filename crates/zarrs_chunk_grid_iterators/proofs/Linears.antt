@@ -4,7 +4,7 @@ use Rattle.std.proofs.lemmas.Bool.{and_parts, leb-true}
 use Rattle.std.proofs.lemmas.Nat.{mul-le}
 use Rattle.zarr_model.specs.Region.{Region, count, count_of, whole, ends_within, tuple_at, linear_index}
 use Rattle.zarrs_array_subset.specs.Boxes.{region_of, is_box}
-use Rattle.zarrs_array_subset.proofs.Ravels.{rest_count, count_region, row_below, factors, tail_is}
+use Rattle.zarrs_array_subset.proofs.Ravels.{rest_count, count_region, row_below, tail_is}
 use Rattle.zarr_model.proofs.RegionLaws.{place_below, contains-tuple_at, length-tuples, get_or-tuples}
 use Rattle.zarr_model.specs.Region.{tuples}
 use Rattle.zarr_model.specs.Cover.{linear_indices}

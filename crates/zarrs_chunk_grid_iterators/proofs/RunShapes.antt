@@ -4,7 +4,7 @@ use Rattle.std.proofs.lemmas.Bool.{and_parts, and_from, lt-ltb, ltb-true, ne_eqb
 use Rattle.std.proofs.lemmas.List.{length-map}
 use Rattle.zarr_model.specs.Region.{Region, count, count_of, sizes}
 use Rattle.zarrs_array_subset.specs.Boxes.{region_of, is_box}
-use Rattle.zarrs_array_subset.proofs.BoxLaws.{region_parts, sizes_region, length_region, same_rank}
+use Rattle.zarrs_array_subset.proofs.BoxLaws.{region_parts, length_region, same_rank}
 use Rattle.zarrs_chunk_grid_iterators.specs.Runs.{is_whole, first_of, run_box, run_length, runs, tuple_runs}
 use Rattle.zarrs_chunk_grid_iterators.specs.RunTests.{whole_in}
 use Rattle.zarrs_chunk_grid_iterators.proofs.RunCover.{run_box_within, no_tuples}

@@ -47,20 +47,26 @@ abbrev pub linear_of : LinearisedIndices → List ℕ
 linear_of s = map (linear_at s.array_shape.items (region s.subset)) (places 0 s.total)
 
 abbrev pub linear_lent : LinearisedIndicesIterator → List ℕ
-linear_lent s = map (linear_at s.indices.now.array_shape.items (region s.indices.now.subset)) (places s.start s.end)
+linear_lent s =
+    map (linear_at s.indices.now.array_shape.items (region s.indices.now.subset))
+    (places s.start s.end)
 
 abbrev pub linear_left : LinearisedIndicesIntoIterator → List ℕ
-linear_left s = map (linear_at s.indices.array_shape.items (region s.indices.subset)) (places s.start s.end)
+linear_left s =
+    map (linear_at s.indices.array_shape.items (region s.indices.subset)) (places s.start s.end)
 
 -- runs of linear indices
 abbrev pub runs_of : ContiguousLinearisedIndices → List Span
-runs_of s = map (λ index. record { start = index; size = s.contiguous_elements }) (linear_of s.starts)
+runs_of s =
+    map (λ index. record { start = index; size = s.contiguous_elements }) (linear_of s.starts)
 
 abbrev pub runs_lent : ContiguousLinearisedIndicesIterator → List Span
-runs_lent s = map (λ index. record { start = index; size = s.contiguous_elements }) (linear_lent s.starts)
+runs_lent s =
+    map (λ index. record { start = index; size = s.contiguous_elements }) (linear_lent s.starts)
 
 abbrev pub runs_left : ContiguousLinearisedIndicesIntoIterator → List Span
-runs_left s = map (λ index. record { start = index; size = s.contiguous_elements }) (linear_left s.starts)
+runs_left s =
+    map (λ index. record { start = index; size = s.contiguous_elements }) (linear_left s.starts)
 
 -- runs by the tuples at which they begin
 abbrev pub tuple_runs_of : ContiguousIndices → List (List ℕ × ℕ)

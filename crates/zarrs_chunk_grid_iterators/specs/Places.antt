@@ -37,11 +37,17 @@ IsTuple tuple item = IfOk item (λ v. v.items ≡ tuple) × (length tuple ≤ 4 
 
 -- the same of a tuple at which a run begins, and the run's length
 abbrev pub IsRun : List ℕ × ℕ → Result (SmallVec ℕ × ℕ) AllocError → Type 0
-IsRun run item = IfOk item (λ p. (p.0.items ≡ run.0) × (p.1 ≡ run.1)) × (length run.0 ≤ 4 → IsOk item)
+IsRun run item =
+    IfOk item (λ p. (p.0.items ≡ run.0) × (p.1 ≡ run.1)) × (length run.0 ≤ 4 → IsOk item)
 
 -- an item that R relates to the first that was left, or to the last
-abbrev pub YieldsOne : {S A B : Type 0} → (B → A → Type 0) → (S → List B) → (S → B) → S → Option A → S → Type 0
-YieldsOne R left first s r t = MatchOption r ((left s ≡ []) × (left t ≡ [])) (λ x. (left s ≡ first s ∷ left t) × R (first s) x)
+abbrev pub YieldsOne : {S A B : Type 0} → (B → A → Type 0) → (S → List B) → (S → B) → S → Option A
+    → S → Type 0
+YieldsOne R left first s r t =
+    MatchOption r ((left s ≡ []) × (left t ≡ [])) (λ x. (left s ≡ first s ∷ left t) × R (first s) x)
 
-abbrev pub YieldsOneBack : {S A B : Type 0} → (B → A → Type 0) → (S → List B) → (S → B) → S → Option A → S → Type 0
-YieldsOneBack R left last s r t = MatchOption r ((left s ≡ []) × (left t ≡ [])) (λ x. (left s ≡ left t ++ last s ∷ []) × R (last s) x)
+abbrev pub YieldsOneBack : {S A B : Type 0} → (B → A → Type 0) → (S → List B) → (S → B) → S
+    → Option A → S → Type 0
+YieldsOneBack R left last s r t =
+    MatchOption r ((left s ≡ []) × (left t ≡ []))
+    (λ x. (left s ≡ left t ++ last s ∷ []) × R (last s) x)

@@ -8,7 +8,8 @@ use Rattle.zarr_model.specs.Cover.{IsLeastCover, linear_indices}
 -- a region is the whole of a shape
 abbrev pub is_whole : List ℕ → Region → Bool
 is_whole [] [] = true
-is_whole (n ∷ shape) (span ∷ region) = (nat_eq span.start 0 && nat_eq span.size n) && is_whole shape region
+is_whole (n ∷ shape) (span ∷ region) =
+    (nat_eq span.start 0 && nat_eq span.size n) && is_whole shape region
 is_whole [] (span ∷ region) = false
 is_whole (n ∷ shape) [] = false
 
@@ -18,17 +19,22 @@ first_of region = map (λ span. record { start = span.start; size = 1 }) region
 
 -- where runs begin: the dimensions that a run passes through have one index
 abbrev pub run_box : List ℕ → Region → Region
-run_box (n ∷ shape) (span ∷ region) = if is_whole shape region then first_of (span ∷ region) else span ∷ run_box shape region
+run_box (n ∷ shape) (span ∷ region) =
+    if is_whole shape region then first_of (span ∷ region) else span ∷ run_box shape region
 run_box _ _ = []
 
 -- how many indices each run has
 abbrev pub run_length : List ℕ → Region → ℕ
-run_length (n ∷ shape) (span ∷ region) = if is_whole shape region then span.size * count region else run_length shape region
+run_length (n ∷ shape) (span ∷ region) =
+    if is_whole shape region then span.size * count region else run_length shape region
 run_length _ _ = 1
 
 -- the runs, in rising order; none where the region has no tuple
 abbrev pub runs : List ℕ → Region → List Span
-runs shape region = if nat_eq (count region) 0 then [] else map (λ index. record { start = index; size = run_length shape region }) (linear_indices shape (run_box shape region))
+runs shape region =
+    if nat_eq (count region) 0 then []
+    else map (λ index. record { start = index; size = run_length shape region })
+    (linear_indices shape (run_box shape region))
 
 -- the numbers of intervals, one after another
 abbrev pub joined : List Span → List ℕ
@@ -38,7 +44,8 @@ joined intervals = flat_map (λ interval. range_with_len interval.start interval
 abbrev pub is_linear_index : List ℕ → Region → ℕ → Bool
 is_linear_index shape region n = list_any (nat_eq n) (linear_indices shape region)
 
--- the runs of a region inside a shape are its linear indices in order, which rise, and are a least cover of them
+-- the runs of a region inside a shape are its linear indices in order, which rise, and are a least
+-- cover of them
 pub record CoversLeast (shape : List ℕ) (region : Region) : Type 0 where
   pub in_order : joined (runs shape region) ≡ linear_indices shape region
   pub rising : IsStrictlyIncreasing (linear_indices shape region)
@@ -46,7 +53,9 @@ pub record CoversLeast (shape : List ℕ) (region : Region) : Type 0 where
 
 -- the runs by the tuples at which they begin, each with its length
 abbrev pub tuple_runs : List ℕ → Region → List (List ℕ × ℕ)
-tuple_runs shape region = if nat_eq (count region) 0 then [] else map (λ tuple. (tuple, run_length shape region)) (tuples (run_box shape region))
+tuple_runs shape region =
+    if nat_eq (count region) 0 then []
+    else map (λ tuple. (tuple, run_length shape region)) (tuples (run_box shape region))
 
 -- the length of every run, and 0 where there is none
 abbrev pub run_size : List ℕ → Region → ℕ

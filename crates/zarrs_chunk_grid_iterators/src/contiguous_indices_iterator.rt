@@ -1,4 +1,5 @@
-//! Runs of neighbours of an array subset inside an array's shape, by the indices at which they begin.
+//! Runs of neighbours of an array subset inside an array's shape, by the indices at which they
+//! begin.
 
 ghost use Rattle.std.specs.Prelude.{⊤, ◌≡◌, ◌<◌, ◌^◌, true, false, ℕ, List, length, Some, IfOk, IfErr, IfSome, nat_eq};
 ghost use Rattle.std.specs.Iterator.{item_count, MakesProgress, UpTo};
@@ -14,21 +15,26 @@ use crate::runs::run_starts;
 use std::alloc::{AllocError, Global};
 use zarrs_array_subset::{ArrayIndicesTinyVec, ArraySubset, IndexerError};
 
-/// The runs of an array subset as [`ContiguousLinearisedIndices`](crate::ContiguousLinearisedIndices)
+/// The runs of an array subset as
+/// [`ContiguousLinearisedIndices`](crate::ContiguousLinearisedIndices)
 /// has them, each as the indices of its first element and its length.
 ///
 /// In a 4x3 array the lower right 2x2 subset has ((2, 1), 2), ((3, 1), 2), and the lower two rows
 /// are ((2, 0), 6).
-#[derive(Debug, Drop)]
+#[derive(Drop)]
 pub struct ContiguousIndices {
     starts: Indices,
     contiguous_elements: u64,
 }
 
 impl ContiguousIndices {
-    ghost use Rattle.zarrs_chunk_grid_iterators.specs.Iterators.{tuple_runs_of, tuple_runs_lent, tuple_runs_left};
+    ghost use Rattle.zarrs_chunk_grid_iterators.specs.Iterators.{tuple_runs_of, tuple_runs_lent};
 
     /// The runs of a subset that lies in the shape.
+    ///
+    /// # Errors
+    /// [`IndexerError`] of another dimensionality than the shape's, or else of an end past it, or where
+    /// there is not enough memory.
     #[tactic(auto, using(crate::proofs::RunShapes::of_new))]
     pub fn new(
         alloc: Global,
@@ -37,8 +43,10 @@ impl ContiguousIndices {
     ) -> Result<Self, IndexerError>
         requires { count_of array_shape.now < 2 ^ 64 }
         ensures inside { IfOk result (λ it. ends_within (region subset) array_shape.now ≡ true) }
-        ensures lists { IfOk result (λ it. tuple_runs_of it ≡ tuple_runs array_shape.now (region subset)) }
-        ensures each { IfOk result (λ it. it.contiguous_elements ≡ run_size array_shape.now (region subset)) }
+        ensures lists { IfOk result
+            (λ it. tuple_runs_of it ≡ tuple_runs array_shape.now (region subset)) }
+        ensures each { IfOk result
+            (λ it. it.contiguous_elements ≡ run_size array_shape.now (region subset)) }
         ensures refused { IfErr result (RefusesShape (region subset) array_shape.now) }
     {
         let (got, expected) = (subset.dimensionality(), array_shape.len());
@@ -103,18 +111,6 @@ impl ContiguousIndices {
             contiguous_elements,
         }
     }
-
-    /// The runs, from both ends.
-    pub fn into_iter(self) -> ContiguousIndicesIntoIterator
-        ensures lists { tuple_runs_left result ≡ tuple_runs_of self }
-        ensures each { result.contiguous_elements ≡ self.contiguous_elements }
-    {
-        let (starts, contiguous_elements) = (self.starts.into_iter(), self.contiguous_elements);
-        ContiguousIndicesIntoIterator {
-            starts,
-            contiguous_elements,
-        }
-    }
 }
 
 // A start that came, with the run's length.
@@ -145,8 +141,42 @@ fn out_of_bounds(alloc: Global, subset: &ArraySubset, array_shape: &[u64]) -> In
     IndexerError::OutOfBounds(end, shape)
 }
 
+impl IntoIterator for ContiguousIndices {
+    ghost use Rattle.zarrs_chunk_grid_iterators.specs.Iterators.{tuple_runs_of, tuple_runs_left};
+
+    type Item = Result<(ArrayIndicesTinyVec, u64), AllocError>;
+
+    type IntoIter = ContiguousIndicesIntoIterator;
+
+    ghost into_iter_gives = { λ s it. (tuple_runs_left it ≡ tuple_runs_of s)
+        × (it.contiguous_elements ≡ s.contiguous_elements) };
+
+    fn into_iter(self) -> ContiguousIndicesIntoIterator {
+        let (starts, contiguous_elements) = (self.starts.into_iter(), self.contiguous_elements);
+        ContiguousIndicesIntoIterator {
+            starts,
+            contiguous_elements,
+        }
+    }
+}
+
+impl<'a> IntoIterator for &'a ContiguousIndices {
+    ghost use Rattle.zarrs_chunk_grid_iterators.specs.Iterators.{tuple_runs_of, tuple_runs_lent};
+
+    type Item = Result<(ArrayIndicesTinyVec, u64), AllocError>;
+
+    type IntoIter = ContiguousIndicesIterator<'a>;
+
+    ghost into_iter_gives = { λ s it. (tuple_runs_lent it ≡ tuple_runs_of s.now)
+        × (it.contiguous_elements ≡ s.now.contiguous_elements) };
+
+    fn into_iter(self) -> ContiguousIndicesIterator<'a> {
+        self.iter()
+    }
+}
+
 /// The runs of a subset that are left.
-#[derive(Debug, Drop)]
+#[derive(Drop)]
 pub struct ContiguousIndicesIterator<'a> {
     starts: IndicesIterator<'a>,
     contiguous_elements: u64,
@@ -179,7 +209,8 @@ impl Iterator for ContiguousIndicesIterator<'_> {
 
     fn next(&mut self) -> Option<Result<(ArrayIndicesTinyVec, u64), AllocError>>
         ensures steps { YieldsOne IsRun tuple_runs_lent first_run_lent self.old result self.new }
-        ensures goes { MakesProgress (λ _. ⊤) (item_count tuple_runs_lent) self.old result self.new }
+        ensures goes { MakesProgress (λ _. ⊤)
+            (item_count tuple_runs_lent) self.old result self.new }
         ensures each { self.new.contiguous_elements ≡ self.old.contiguous_elements }
     {
         let start = self.starts.next()?;
@@ -204,7 +235,8 @@ impl DoubleEndedIterator for ContiguousIndicesIterator<'_> {
 
     fn next_back(&mut self) -> Option<Result<(ArrayIndicesTinyVec, u64), AllocError>>
         ensures steps { YieldsOneBack IsRun tuple_runs_lent last_run_lent self.old result self.new }
-        ensures goes { MakesProgress (λ _. ⊤) (item_count tuple_runs_lent) self.old result self.new }
+        ensures goes { MakesProgress (λ _. ⊤)
+            (item_count tuple_runs_lent) self.old result self.new }
         ensures each { self.new.contiguous_elements ≡ self.old.contiguous_elements }
     {
         let start = self.starts.next_back()?;
@@ -220,7 +252,7 @@ impl ExactSizeIterator for ContiguousIndicesIterator<'_> {
 }
 
 /// The runs of a subset that are left, with the subset.
-#[derive(Debug, Drop)]
+#[derive(Drop)]
 pub struct ContiguousIndicesIntoIterator {
     starts: IndicesIntoIterator,
     contiguous_elements: u64,
@@ -253,7 +285,8 @@ impl Iterator for ContiguousIndicesIntoIterator {
 
     fn next(&mut self) -> Option<Result<(ArrayIndicesTinyVec, u64), AllocError>>
         ensures steps { YieldsOne IsRun tuple_runs_left first_run_left self.old result self.new }
-        ensures goes { MakesProgress (λ _. ⊤) (item_count tuple_runs_left) self.old result self.new }
+        ensures goes { MakesProgress (λ _. ⊤)
+            (item_count tuple_runs_left) self.old result self.new }
         ensures each { self.new.contiguous_elements ≡ self.old.contiguous_elements }
     {
         let start = self.starts.next()?;
@@ -278,7 +311,8 @@ impl DoubleEndedIterator for ContiguousIndicesIntoIterator {
 
     fn next_back(&mut self) -> Option<Result<(ArrayIndicesTinyVec, u64), AllocError>>
         ensures steps { YieldsOneBack IsRun tuple_runs_left last_run_left self.old result self.new }
-        ensures goes { MakesProgress (λ _. ⊤) (item_count tuple_runs_left) self.old result self.new }
+        ensures goes { MakesProgress (λ _. ⊤)
+            (item_count tuple_runs_left) self.old result self.new }
         ensures each { self.new.contiguous_elements ≡ self.old.contiguous_elements }
     {
         let start = self.starts.next_back()?;

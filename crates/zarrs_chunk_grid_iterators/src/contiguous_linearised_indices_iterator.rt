@@ -26,16 +26,20 @@ use zarrs_array_subset::{ArrayShape, ArraySubset, IndexerError};
 /// 9  10  11
 /// ```
 /// the lower right 2x2 subset has (7, 2), (10, 2), and the lower two rows are (6, 6).
-#[derive(Debug, Drop)]
+#[derive(Drop)]
 pub struct ContiguousLinearisedIndices {
     starts: LinearisedIndices,
     contiguous_elements: u64,
 }
 
 impl ContiguousLinearisedIndices {
-    ghost use Rattle.zarrs_chunk_grid_iterators.specs.Iterators.{runs_of, runs_lent, runs_left};
+    ghost use Rattle.zarrs_chunk_grid_iterators.specs.Iterators.{runs_of, runs_lent};
 
     /// The runs of a subset that lies in the shape.
+    ///
+    /// # Errors
+    /// [`IndexerError`] of another dimensionality than the shape's, or else of an end past it, or where
+    /// there is not enough memory.
     #[tactic(auto, using(crate::proofs::RunShapes::of_new))]
     pub fn new(
         alloc: Global,
@@ -45,7 +49,8 @@ impl ContiguousLinearisedIndices {
         requires { count_of array_shape.items < 2 ^ 64 }
         ensures inside { IfOk result (λ it. ends_within (region subset) array_shape.items ≡ true) }
         ensures lists { IfOk result (λ it. runs_of it ≡ runs array_shape.items (region subset)) }
-        ensures each { IfOk result (λ it. it.contiguous_elements ≡ run_size array_shape.items (region subset)) }
+        ensures each { IfOk result
+            (λ it. it.contiguous_elements ≡ run_size array_shape.items (region subset)) }
         ensures refused { IfErr result (RefusesShape (region subset) array_shape.items) }
     {
         let (got, expected) = (subset.dimensionality(), array_shape.len());
@@ -110,12 +115,19 @@ impl ContiguousLinearisedIndices {
             contiguous_elements,
         }
     }
+}
 
-    /// The runs, from both ends.
-    pub fn into_iter(self) -> ContiguousLinearisedIndicesIntoIterator
-        ensures lists { runs_left result ≡ runs_of self }
-        ensures each { result.contiguous_elements ≡ self.contiguous_elements }
-    {
+impl IntoIterator for ContiguousLinearisedIndices {
+    ghost use Rattle.zarrs_chunk_grid_iterators.specs.Iterators.{runs_of, runs_left};
+
+    type Item = (u64, u64);
+
+    type IntoIter = ContiguousLinearisedIndicesIntoIterator;
+
+    ghost into_iter_gives = { λ s it. (runs_left it ≡ runs_of s)
+        × (it.contiguous_elements ≡ s.contiguous_elements) };
+
+    fn into_iter(self) -> ContiguousLinearisedIndicesIntoIterator {
         let (starts, contiguous_elements) = (self.starts.into_iter(), self.contiguous_elements);
         ContiguousLinearisedIndicesIntoIterator {
             starts,
@@ -124,8 +136,23 @@ impl ContiguousLinearisedIndices {
     }
 }
 
+impl<'a> IntoIterator for &'a ContiguousLinearisedIndices {
+    ghost use Rattle.zarrs_chunk_grid_iterators.specs.Iterators.{runs_of, runs_lent};
+
+    type Item = (u64, u64);
+
+    type IntoIter = ContiguousLinearisedIndicesIterator<'a>;
+
+    ghost into_iter_gives = { λ s it. (runs_lent it ≡ runs_of s.now)
+        × (it.contiguous_elements ≡ s.now.contiguous_elements) };
+
+    fn into_iter(self) -> ContiguousLinearisedIndicesIterator<'a> {
+        self.iter()
+    }
+}
+
 /// The runs of a subset that are left.
-#[derive(Debug, Drop)]
+#[derive(Drop)]
 pub struct ContiguousLinearisedIndicesIterator<'a> {
     starts: LinearisedIndicesIterator<'a>,
     contiguous_elements: u64,
@@ -199,7 +226,7 @@ impl ExactSizeIterator for ContiguousLinearisedIndicesIterator<'_> {
 }
 
 /// The runs of a subset that are left, with the subset.
-#[derive(Debug, Drop)]
+#[derive(Drop)]
 pub struct ContiguousLinearisedIndicesIntoIterator {
     starts: LinearisedIndicesIntoIterator,
     contiguous_elements: u64,

@@ -23,7 +23,7 @@ use zarrs_array_subset::{ArrayIndicesTinyVec, ArraySubset, push_tuple};
 /// (3, 0)  (3, 1)  (3, 2)
 /// ```
 /// the lower right 2x2 subset has (2, 1), (2, 2), (3, 1), (3, 2).
-#[derive(Debug, Drop)]
+#[derive(Drop)]
 pub struct Indices {
     subset: ArraySubset,
     total: u64,
@@ -35,7 +35,7 @@ pub struct Indices {
 
 #[tactic(auto, using(crate::proofs::Linears::of_all))]
 impl Indices {
-    ghost use Rattle.zarrs_chunk_grid_iterators.specs.Iterators.{tuples_of, tuples_lent, tuples_left, indices_of};
+    ghost use Rattle.zarrs_chunk_grid_iterators.specs.Iterators.{tuples_of, tuples_lent, indices_of};
 
     /// All indices of a subset.
     pub fn new(subset: ArraySubset) -> Self
@@ -54,9 +54,12 @@ impl Indices {
     /// The indices at a range of places of the subset's list. An end past the list is its end.
     pub fn new_with_start_end<R: RangeBounds<usize>>(subset: ArraySubset, range: R) -> Self
         requires { count (region subset) < 2 ^ 64 }
-        ensures lists { R.has_bounds range → tuples_of result ≡ indices_of (region subset) (first_place (R.start_bound range)) (end_place (R.end_bound range) (count (region subset))) }
+        ensures lists { R.has_bounds range
+            → tuples_of result ≡ indices_of (region subset) (first_place (R.start_bound range))
+            (end_place (R.end_bound range) (count (region subset))) }
         ensures start { R.has_bounds range → result.start ≡ first_place (R.start_bound range) }
-        ensures end { R.has_bounds range → result.end ≡ end_place (R.end_bound range) (count (region subset)) }
+        ensures end { R.has_bounds range
+            → result.end ≡ end_place (R.end_bound range) (count (region subset)) }
     {
         let total = subset.num_elements();
         let start = first_of(range.start_bound());
@@ -92,18 +95,6 @@ impl Indices {
             indices: self,
             start: self.start,
             end: self.end,
-        }
-    }
-
-    /// The indices, from both ends.
-    pub fn into_iter(self) -> IndicesIntoIterator
-        ensures { tuples_left result ≡ tuples_of self }
-    {
-        let (start, end) = (self.start, self.end);
-        IndicesIntoIterator {
-            indices: self,
-            start,
-            end,
         }
     }
 
@@ -156,8 +147,41 @@ fn tuple_of_place(
     Ok(tuple)
 }
 
+impl IntoIterator for Indices {
+    ghost use Rattle.zarrs_chunk_grid_iterators.specs.Iterators.{tuples_of, tuples_left};
+
+    type Item = Result<ArrayIndicesTinyVec, AllocError>;
+
+    type IntoIter = IndicesIntoIterator;
+
+    ghost into_iter_gives = { λ s it. tuples_left it ≡ tuples_of s };
+
+    fn into_iter(self) -> IndicesIntoIterator {
+        let (start, end) = (self.start, self.end);
+        IndicesIntoIterator {
+            indices: self,
+            start,
+            end,
+        }
+    }
+}
+
+impl<'a> IntoIterator for &'a Indices {
+    ghost use Rattle.zarrs_chunk_grid_iterators.specs.Iterators.{tuples_of, tuples_lent};
+
+    type Item = Result<ArrayIndicesTinyVec, AllocError>;
+
+    type IntoIter = IndicesIterator<'a>;
+
+    ghost into_iter_gives = { λ s it. tuples_lent it ≡ tuples_of s.now };
+
+    fn into_iter(self) -> IndicesIterator<'a> {
+        self.iter()
+    }
+}
+
 /// The indices of a subset that are left.
-#[derive(Debug, Drop)]
+#[derive(Drop)]
 pub struct IndicesIterator<'a> {
     indices: &'a Indices,
     start: u64,
@@ -220,7 +244,7 @@ impl ExactSizeIterator for IndicesIterator<'_> {
 }
 
 /// The indices of a subset that are left, with the subset.
-#[derive(Debug, Drop)]
+#[derive(Drop)]
 pub struct IndicesIntoIterator {
     indices: Indices,
     start: u64,

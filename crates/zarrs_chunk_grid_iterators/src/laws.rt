@@ -19,22 +19,32 @@ ghost use Rattle.zarrs_chunk_grid_iterators.specs.declared.contiguous_linearised
 /// The runs of a region inside a shape are its linear indices in order, and no cover of these has
 /// fewer intervals.
 pub fn runs_cover()
-    ensures { (shape : List ℕ) (region : Region) → ends_within region shape ≡ true → CoversLeast shape region }
+    ensures { (shape : List ℕ) (region : Region) → ends_within region shape ≡ true
+        → CoversLeast shape region }
 {}
 
 /// The tuples of runs are those at which the runs of linear indices begin.
 pub fn runs_begin()
-    ensures { (shape : List ℕ) (region : Region) → map (span_at shape) (tuple_runs shape region) ≡ runs shape region }
+    ensures { (shape : List ℕ) (region : Region)
+        → map (span_at shape) (tuple_runs shape region) ≡ runs shape region }
 {}
 
 /// Each iterator gives what it has left, item by item, and then ends.
 pub fn iterators_end()
-    ensures tuples_lent { (s : IndicesIterator) → AlwaysGives (YieldsOne IsTuple tuples_lent first_lent) IsTuple s (tuples_lent s) }
-    ensures tuples { (s : IndicesIntoIterator) → AlwaysGives (YieldsOne IsTuple tuples_left first_left) IsTuple s (tuples_left s) }
-    ensures linear_lent { (s : LinearisedIndicesIterator) → AlwaysYields (YieldsFirst linear_lent) (λ x. x) s (linear_lent s) }
-    ensures linear { (s : LinearisedIndicesIntoIterator) → AlwaysYields (YieldsFirst linear_left) (λ x. x) s (linear_left s) }
-    ensures runs_lent { (s : ContiguousLinearisedIndicesIterator) → AlwaysYields (YieldsFirstBy span_of runs_lent) span_of s (runs_lent s) }
-    ensures runs { (s : ContiguousLinearisedIndicesIntoIterator) → AlwaysYields (YieldsFirstBy span_of runs_left) span_of s (runs_left s) }
-    ensures tuple_runs_lent { (s : ContiguousIndicesIterator) → AlwaysGives (YieldsOne IsRun tuple_runs_lent first_run_lent) IsRun s (tuple_runs_lent s) }
-    ensures tuple_runs { (s : ContiguousIndicesIntoIterator) → AlwaysGives (YieldsOne IsRun tuple_runs_left first_run_left) IsRun s (tuple_runs_left s) }
+    ensures tuples_lent { (s : IndicesIterator)
+        → AlwaysGives (YieldsOne IsTuple tuples_lent first_lent) IsTuple s (tuples_lent s) }
+    ensures tuples { (s : IndicesIntoIterator)
+        → AlwaysGives (YieldsOne IsTuple tuples_left first_left) IsTuple s (tuples_left s) }
+    ensures linear_lent { (s : LinearisedIndicesIterator)
+        → AlwaysYields (YieldsFirst linear_lent) (λ x. x) s (linear_lent s) }
+    ensures linear { (s : LinearisedIndicesIntoIterator)
+        → AlwaysYields (YieldsFirst linear_left) (λ x. x) s (linear_left s) }
+    ensures runs_lent { (s : ContiguousLinearisedIndicesIterator)
+        → AlwaysYields (YieldsFirstBy span_of runs_lent) span_of s (runs_lent s) }
+    ensures runs { (s : ContiguousLinearisedIndicesIntoIterator)
+        → AlwaysYields (YieldsFirstBy span_of runs_left) span_of s (runs_left s) }
+    ensures tuple_runs_lent { (s : ContiguousIndicesIterator)
+        → AlwaysGives (YieldsOne IsRun tuple_runs_lent first_run_lent) IsRun s (tuple_runs_lent s) }
+    ensures tuple_runs { (s : ContiguousIndicesIntoIterator)
+        → AlwaysGives (YieldsOne IsRun tuple_runs_left first_run_left) IsRun s (tuple_runs_left s) }
 {}

@@ -4,6 +4,7 @@
 
 mod contiguous_indices_iterator;
 mod contiguous_linearised_indices_iterator;
+mod gathered;
 mod indices_iterator;
 mod laws;
 mod linearised_indices_iterator;
@@ -16,6 +17,7 @@ pub use contiguous_linearised_indices_iterator::{
     ContiguousLinearisedIndices, ContiguousLinearisedIndicesIntoIterator,
     ContiguousLinearisedIndicesIterator,
 };
+pub use gathered::{GatheredTuples, SingleRuns};
 pub use indices_iterator::{Indices, IndicesIntoIterator, IndicesIterator};
 pub use laws::{iterators_end, runs_begin, runs_cover};
 pub use linearised_indices_iterator::{

@@ -23,7 +23,7 @@ use zarrs_array_subset::{ArrayShape, ArraySubset, IndexerError};
 /// 9  10  11
 /// ```
 /// the lower right 2x2 subset has 7, 8, 10, 11.
-#[derive(Debug, Drop)]
+#[derive(Drop)]
 pub struct LinearisedIndices {
     subset: ArraySubset,
     array_shape: ArrayShape,
@@ -35,9 +35,13 @@ pub struct LinearisedIndices {
 
 #[tactic(auto, using(crate::proofs::Linears::of_new))]
 impl LinearisedIndices {
-    ghost use Rattle.zarrs_chunk_grid_iterators.specs.Iterators.{linear_of, linear_lent, linear_left};
+    ghost use Rattle.zarrs_chunk_grid_iterators.specs.Iterators.{linear_of, linear_lent};
 
     /// The linear indices of a subset that lies in the shape.
+    ///
+    /// # Errors
+    /// [`IndexerError`] of another dimensionality than the shape's, or else of an end past it, or where
+    /// there is not enough memory.
     pub fn new(
         alloc: Global,
         subset: ArraySubset,
@@ -45,7 +49,8 @@ impl LinearisedIndices {
     ) -> Result<Self, IndexerError>
         requires { count_of array_shape.items < 2 ^ 64 }
         ensures inside { IfOk result (λ it. ends_within (region subset) array_shape.items ≡ true) }
-        ensures lists { IfOk result (λ it. linear_of it ≡ linear_indices array_shape.items (region subset)) }
+        ensures lists { IfOk result
+            (λ it. linear_of it ≡ linear_indices array_shape.items (region subset)) }
         ensures refused { IfErr result (RefusesShape (region subset) array_shape.items) }
     {
         let (got, expected) = (subset.dimensionality(), array_shape.len());
@@ -98,18 +103,6 @@ impl LinearisedIndices {
         }
     }
 
-    /// The linear indices, from both ends.
-    pub fn into_iter(self) -> LinearisedIndicesIntoIterator
-        ensures { linear_left result ≡ linear_of self }
-    {
-        let end = self.total;
-        LinearisedIndicesIntoIterator {
-            indices: self,
-            start: 0,
-            end,
-        }
-    }
-
     // The linear index at a place.
     #[tactic(auto, using(crate::proofs::Lefts::of_parts))]
     fn at(&self, place: u64) -> u64
@@ -136,7 +129,8 @@ fn linear_of_place(
     requires whole { total ≡ count_of shape.now }
     requires below { place < total }
     requires small { count_of array_shape.now < 2 ^ 64 }
-    ensures index { result.0 ≡ linear_index array_shape.now (tuple_at (region_of start.now shape.now) place) }
+    ensures index { result.0
+        ≡ linear_index array_shape.now (tuple_at (region_of start.now shape.now) place) }
     ensures stride { result.1 ≡ count_of array_shape.now }
 {
     match shape {
@@ -161,8 +155,41 @@ fn linear_of_place(
     }
 }
 
+impl IntoIterator for LinearisedIndices {
+    ghost use Rattle.zarrs_chunk_grid_iterators.specs.Iterators.{linear_of, linear_left};
+
+    type Item = u64;
+
+    type IntoIter = LinearisedIndicesIntoIterator;
+
+    ghost into_iter_gives = { λ s it. linear_left it ≡ linear_of s };
+
+    fn into_iter(self) -> LinearisedIndicesIntoIterator {
+        let end = self.total;
+        LinearisedIndicesIntoIterator {
+            indices: self,
+            start: 0,
+            end,
+        }
+    }
+}
+
+impl<'a> IntoIterator for &'a LinearisedIndices {
+    ghost use Rattle.zarrs_chunk_grid_iterators.specs.Iterators.{linear_of, linear_lent};
+
+    type Item = u64;
+
+    type IntoIter = LinearisedIndicesIterator<'a>;
+
+    ghost into_iter_gives = { λ s it. linear_lent it ≡ linear_of s.now };
+
+    fn into_iter(self) -> LinearisedIndicesIterator<'a> {
+        self.iter()
+    }
+}
+
 /// The linear indices of a subset that are left.
-#[derive(Debug, Drop)]
+#[derive(Drop)]
 pub struct LinearisedIndicesIterator<'a> {
     indices: &'a LinearisedIndices,
     start: u64,
@@ -225,7 +252,7 @@ impl ExactSizeIterator for LinearisedIndicesIterator<'_> {
 }
 
 /// The linear indices of a subset that are left, with the subset.
-#[derive(Debug, Drop)]
+#[derive(Drop)]
 pub struct LinearisedIndicesIntoIterator {
     indices: LinearisedIndices,
     start: u64,

@@ -55,8 +55,11 @@ fn push_run_shape(
     requires rank { length shape.now ≡ length array_shape.now }
     requires small { count_of shape.now < 2 ^ 64 }
     requires some { 0 < count_of shape.now }
-    ensures shape { OnOk result (out.new.items ≡ out.old.items ++ sizes (run_box array_shape.now (region_of start.now shape.now))) }
-    ensures run { IfOk result (λ n. n ≡ run_length array_shape.now (region_of start.now shape.now)) }
+    ensures shape { OnOk result
+        (out.new.items ≡ out.old.items
+        ++ sizes (run_box array_shape.now (region_of start.now shape.now))) }
+    ensures run { IfOk result
+        (λ n. n ≡ run_length array_shape.now (region_of start.now shape.now)) }
 {
     match shape {
         [] => Ok(1),

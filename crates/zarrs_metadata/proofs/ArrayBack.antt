@@ -5,19 +5,20 @@ use Rattle.std.specs.Ordering.{match_ordering}
 use Rattle.serde_json.specs.Data.{Data, array, Items, no_items, item, Members, no_members}
 use Rattle.serde_json.specs.Find.{get_member}
 use Rattle.serde_json.specs.View.{items_of}
-use Rattle.zarrs_metadata_ext.specs.Reading.{each, from_data, unless_float, is_number, is_text}
-use Rattle.zarrs_metadata_ext.specs.Writing.{numbers_data, put_list}
-use Rattle.zarrs_metadata_ext.specs.MetadataV3.{Extension, extension_data, normal_form}
-use Rattle.zarrs_metadata_json.proofs.PutLemmas.{look}
-use Rattle.zarrs_metadata_ext.proofs.ExtensionLemmas.{extension_reads_back}
-use Rattle.zarrs_metadata_ext.proofs.ReadBack.{extensions_read_back, whole_numbers_read_back}
-use Rattle.zarrs_metadata_group.specs.AdditionalFields.{is_array_key, is_named_key, additional_fields_of, put_fields}
-use Rattle.zarrs_metadata.specs.ArrayMetadata.{ArrayFields, dimension_name, dimension_names, dimension_name_data, extensions_or_none, is_array, named_fields, required_fields, optional_fields, with_optional_fields, array_members, array_of, put_names, optional_data, parts_data, required_data, array_data, normal_array}
-use Rattle.zarrs_metadata_group.specs.GroupMetadata.{GroupFields, group_data}
+use Rattle.zarrs_metadata_parts.specs.Reading.{each, from_data, unless_float, is_number, is_text}
+use Rattle.zarrs_metadata_parts.specs.Writing.{numbers_data, put_list}
+use Rattle.zarrs_metadata_parts.specs.MetadataV3.{Extension, extension_data, normal_form}
+use Rattle.zarrs_metadata_values.proofs.PutLemmas.{look}
+use Rattle.zarrs_metadata_parts.proofs.ExtensionLemmas.{extension_reads_back}
+use Rattle.zarrs_metadata_parts.proofs.ReadBack.{extensions_read_back, whole_numbers_read_back}
+use Rattle.zarrs_metadata_parts.specs.AdditionalFields.{is_array_key, is_named_key, additional_fields_of, put_fields}
+use Rattle.zarrs_metadata_parts.specs.DimensionNames.{dimension_name, dimension_names, dimension_name_data}
+use Rattle.zarrs_metadata.specs.ArrayMetadata.{ArrayFields, extensions_or_none, is_array, named_fields, required_fields, optional_fields, with_optional_fields, array_members, array_of, put_names, optional_data, parts_data, required_data, array_data, normal_array}
+use Rattle.zarrs_metadata.specs.GroupMetadata.{GroupFields, group_data}
 use Rattle.zarrs_metadata.specs.Node.{NodeFields, array_node, group_node, node_of, node_data, normal_node}
-use Rattle.zarrs_metadata_group.specs.declared.additional_fields.NodeKind.TheVariants.{Array, Group}
-use Rattle.zarrs_metadata_group.proofs.FieldsBack.{fields-put_named, fields_beside, look-put_fields}
-use Rattle.zarrs_metadata_group.proofs.GroupBack.{either_way, object_found, look_object, fields_object, object_back, group_format, group_type, group_reads_back}
+use Rattle.zarrs_metadata_parts.specs.declared.v3.additional_fields.NodeKind.TheVariants.{Array, Group}
+use Rattle.zarrs_metadata_parts.proofs.FieldsBack.{fields-put_named, fields_beside, look-put_fields}
+use Rattle.zarrs_metadata.proofs.GroupBack.{either_way, object_found, look_object, fields_object, object_back, group_format, group_type, group_reads_back}
 
 -- ---- what is found after a member that is put only where it isn't empty
 

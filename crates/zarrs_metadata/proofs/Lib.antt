@@ -1,3 +1,6 @@
+pub mod GroupBack
+pub mod GroupFields
+pub mod GroupTwice
 pub mod ArrayBack
 pub mod ReadFields
 pub mod Twice

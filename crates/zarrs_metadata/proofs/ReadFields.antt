@@ -2,18 +2,19 @@
 use Rattle.std.proofs.Common.{◌≡◌, Option, Some, None, Result, Ok, Err, IfOk, codes, refl, ◌∙◌}
 use Rattle.serde_json.specs.Data.{Data, null, boolean, number, string, array, object, Members}
 use Rattle.serde_json.specs.Find.{get_member}
-use Rattle.zarrs_metadata_ext.specs.Reading.{object_or_empty, Reads}
-use Rattle.zarrs_metadata_json.specs.declared.error.MetadataError.{MetadataError}
-use Rattle.zarrs_metadata_ext.specs.Rising.{Rises}
-use Rattle.zarrs_metadata_json.proofs.EachLemmas.{bind_some}
-use Rattle.zarrs_metadata_group.specs.AdditionalFields.{additional_fields_of, normal_fields}
-use Rattle.zarrs_metadata.specs.ArrayMetadata.{ArrayFields, OptionalFields, dimension_names, extensions_or_none, is_array, required_fields, optional_fields, with_optional_fields, array_members, array_of, array_seen, KeepsFields}
-use Rattle.zarrs_metadata_group.specs.GroupMetadata.{group_of}
+use Rattle.zarrs_metadata_parts.specs.Reading.{object_or_empty, Reads}
+use Rattle.zarrs_metadata_values.specs.declared.error.MetadataError.{MetadataError}
+use Rattle.zarrs_metadata_parts.specs.Rising.{Rises}
+use Rattle.zarrs_metadata_values.proofs.EachLemmas.{bind_some}
+use Rattle.zarrs_metadata_parts.specs.AdditionalFields.{additional_fields_of, normal_fields}
+use Rattle.zarrs_metadata_parts.specs.DimensionNames.{dimension_names}
+use Rattle.zarrs_metadata.specs.ArrayMetadata.{ArrayFields, OptionalFields, extensions_or_none, is_array, required_fields, optional_fields, with_optional_fields, array_members, array_of, array_seen, KeepsFields}
+use Rattle.zarrs_metadata.specs.GroupMetadata.{group_of}
 use Rattle.zarrs_metadata.specs.Node.{NodeFields, array_node, group_node, node_seen, node_of, array_node_or, group_node_of, KeepsNodeFields}
-use Rattle.zarrs_metadata_group.specs.declared.additional_fields.NodeKind.TheVariants.{Array}
+use Rattle.zarrs_metadata_parts.specs.declared.v3.additional_fields.NodeKind.TheVariants.{Array}
 use Rattle.zarrs_metadata.specs.declared.v3.array.ArrayMetadataV3.{ArrayMetadataV3}
 use Rattle.zarrs_metadata.specs.declared.node.NodeMetadataV3.{NodeMetadataV3}
-use Rattle.zarrs_metadata_group.proofs.ReadFields.{fields_kept, group_again}
+use Rattle.zarrs_metadata.proofs.GroupFields.{fields_kept, group_again}
 
 optional_parts : (ms : Members) (o : OptionalFields) → optional_fields ms ≡ Some o → o.additional_fields ≡ additional_fields_of Array ms
 unfolding optional_fields

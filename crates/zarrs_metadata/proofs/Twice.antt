@@ -2,17 +2,17 @@
 use Rattle.std.proofs.Common.{◌≡◌, ℕ, Bool, true, false, if◌then◌else◌, List, [], ◌∷◌, map, Option, Some, None, Result, Ok, Err, IfOk, refl, sym, subst}
 use Rattle.serde_json.specs.Data.{Members, no_members, member}
 use Rattle.serde_json.specs.Written.{has_float}
-use Rattle.zarrs_metadata_ext.specs.MetadataV3.{Extension, normal_by, normal_form}
-use Rattle.zarrs_metadata_ext.specs.Reading.{Gives, unless_float}
-use Rattle.zarrs_metadata_ext.specs.Rising.{Rises}
-use Rattle.zarrs_metadata_json.specs.declared.error.MetadataError.{MetadataError}
-use Rattle.zarrs_metadata_json.specs.declared.error.MetadataError.TheVariants.{FloatNumber}
-use Rattle.zarrs_metadata_group.specs.AdditionalFields.{normal_fields, AreOrderly}
+use Rattle.zarrs_metadata_parts.specs.MetadataV3.{Extension, normal_by, normal_form}
+use Rattle.zarrs_metadata_parts.specs.Reading.{Gives, unless_float}
+use Rattle.zarrs_metadata_parts.specs.Rising.{Rises}
+use Rattle.zarrs_metadata_values.specs.declared.error.MetadataError.{MetadataError}
+use Rattle.zarrs_metadata_values.specs.declared.error.MetadataError.TheVariants.{FloatNumber}
+use Rattle.zarrs_metadata_parts.specs.AdditionalFields.{normal_fields, AreOrderly}
 use Rattle.zarrs_metadata.specs.ArrayMetadata.{ArrayFields, array_seen, array_data, normal_array, KeepsFields}
-use Rattle.zarrs_metadata_group.specs.declared.additional_fields.NodeKind.TheVariants.{Array}
+use Rattle.zarrs_metadata_parts.specs.declared.v3.additional_fields.NodeKind.TheVariants.{Array}
 use Rattle.zarrs_metadata.specs.declared.v3.array.ArrayMetadataV3.{ArrayMetadataV3}
 use Rattle.zarrs_metadata.proofs.ArrayBack.{array_reads_back}
-use Rattle.zarrs_metadata_group.proofs.FieldsBack.{normal_fields_once}
+use Rattle.zarrs_metadata_parts.proofs.FieldsBack.{normal_fields_once}
 use Rattle.zarrs_metadata.proofs.ReadFields.{array_kept}
 
 normal_once : (name : List ℕ) (configuration : Option Members) (must_understand : Bool) → normal_form (normal_by name configuration must_understand) ≡ normal_by name configuration must_understand

@@ -1,16 +1,16 @@
 -- A version 3 array document: what it says, how it is read and how it is written.
-use Rattle.std.specs.Prelude.{◌≡◌, ℕ, ⊤, true, List, [], map, Option, Some, None, option_map, codes, String, string_bytes}
-use Rattle.std.specs.declared.alloc.Global.{Global}
-use Rattle.serde_json.specs.Data.{unsigned, Data, null, boolean, number, string, array, object, Members, no_members, member, put}
+use Rattle.std.specs.Prelude.{◌≡◌, ℕ, ⊤, true, List, [], map, Option, Some, None, option_map, codes}
+use Rattle.serde_json.specs.Data.{unsigned, Data, number, string, array, object, Members, no_members, member, put}
 use Rattle.serde_json.specs.Find.{get_member, as_object}
 use Rattle.serde_json.specs.View.{items_of, members_view}
-use Rattle.zarrs_metadata_ext.specs.Reading.{◌>>=◌, each, is_number, is_text, whole_numbers, object_or_empty}
-use Rattle.zarrs_metadata_ext.specs.Writing.{numbers_data, put_object, put_list}
-use Rattle.zarrs_metadata_ext.specs.MetadataV3.{Extension, extension_of, extensions_of, extension_seen, extensions_seen, extension_data, normal_form}
-use Rattle.zarrs_metadata_ext.specs.AdditionalField.{AdditionalField}
-use Rattle.zarrs_metadata_ext.specs.FillValueMetadata.{fill_view}
-use Rattle.zarrs_metadata_group.specs.AdditionalFields.{additional_fields_seen, additional_fields_of, put_fields, normal_fields}
-use Rattle.zarrs_metadata_group.specs.declared.additional_fields.NodeKind.TheVariants.{Array}
+use Rattle.zarrs_metadata_parts.specs.Reading.{◌>>=◌, is_number, is_text, whole_numbers, object_or_empty}
+use Rattle.zarrs_metadata_parts.specs.Writing.{numbers_data, put_object, put_list}
+use Rattle.zarrs_metadata_parts.specs.MetadataV3.{Extension, extension_of, extensions_of, extension_seen, extensions_seen, extension_data, normal_form}
+use Rattle.zarrs_metadata_parts.specs.AdditionalField.{AdditionalField}
+use Rattle.zarrs_metadata_parts.specs.DimensionNames.{dimension_names_seen, dimension_names, dimension_name_data}
+use Rattle.zarrs_metadata_parts.specs.FillValueMetadata.{fill_view}
+use Rattle.zarrs_metadata_parts.specs.AdditionalFields.{additional_fields_seen, additional_fields_of, put_fields, normal_fields}
+use Rattle.zarrs_metadata_parts.specs.declared.v3.additional_fields.NodeKind.TheVariants.{Array}
 use Rattle.zarrs_metadata.specs.declared.v3.array.ArrayMetadataV3.{ArrayMetadataV3}
 use Rattle.zarrs_metadata.specs.declared.v3.named_parts.NamedParts.{NamedParts}
 use Rattle.zarrs_metadata.specs.declared.v3.optional_parts.OptionalParts.{OptionalParts}
@@ -34,10 +34,11 @@ pub record NamedFields : Type 0 where
   pub chunk_key_encoding : Extension
 
 abbrev pub named_seen : NamedParts → NamedFields
-named_seen n = record { data_type = extension_seen n.data_type; chunk_grid = extension_seen n.chunk_grid; chunk_key_encoding = extension_seen n.chunk_key_encoding }
-
-abbrev pub dimension_names_seen : List (Option (String Global)) → List (Option (List ℕ))
-dimension_names_seen ns = map (option_map string_bytes) ns
+named_seen n = record {
+  data_type = extension_seen n.data_type;
+  chunk_grid = extension_seen n.chunk_grid;
+  chunk_key_encoding = extension_seen n.chunk_key_encoding;
+}
 
 -- what a document may leave out
 pub record OptionalFields : Type 0 where
@@ -76,25 +77,6 @@ default_keys = record {
   must_understand = true;
 }
 
--- null or a text
-abbrev pub dimension_name : Data → Option (Option (List ℕ))
-dimension_name null = Some None
-dimension_name (boolean b) = None
-dimension_name (number n) = None
-dimension_name (string s) = Some (Some s)
-dimension_name (array ds) = None
-dimension_name (object ms) = None
-
--- nothing, null, or a list of nulls and texts
-unfoldable pub dimension_names : Option Data → Option (Option (List (Option (List ℕ))))
-dimension_names None = Some None
-dimension_names (Some null) = Some None
-dimension_names (Some (boolean b)) = None
-dimension_names (Some (number n)) = None
-dimension_names (Some (string s)) = None
-dimension_names (Some (array ds)) = each dimension_name ds >>= λ names. Some (Some names)
-dimension_names (Some (object ms)) = None
-
 -- a list of extensions, or none where there is no value
 unfoldable pub extensions_or_none : Option Data → Option (List Extension)
 extensions_or_none None = Some []
@@ -116,7 +98,11 @@ named_fields ms = do
   data_type ← read_under (codes "data_type") extension_of ms
   chunk_grid ← read_under (codes "chunk_grid") extension_of ms
   chunk_key_encoding ← read_under (codes "chunk_key_encoding") extension_of ms
-  Some (record { data_type = data_type; chunk_grid = chunk_grid; chunk_key_encoding = chunk_key_encoding })
+  Some (record {
+    data_type = data_type;
+    chunk_grid = chunk_grid;
+    chunk_key_encoding = chunk_key_encoding;
+  })
 
 -- the fields that must be there, with the others empty
 unfoldable pub required_fields : Members → Option ArrayFields
@@ -144,11 +130,21 @@ optional_fields ms = do
   attributes ← object_or_empty (get_member (codes "attributes") ms)
   storage_transformers ← extensions_or_none (get_member (codes "storage_transformers") ms)
   names ← dimension_names (get_member (codes "dimension_names") ms)
-  Some (record { attributes = attributes; storage_transformers = storage_transformers; dimension_names = names; additional_fields = additional_fields_of Array ms })
+  Some (record {
+    attributes = attributes;
+    storage_transformers = storage_transformers;
+    dimension_names = names;
+    additional_fields = additional_fields_of Array ms;
+  })
 
 -- an array with other such fields
 abbrev pub with_optional : ArrayFields → OptionalFields → ArrayFields
-with_optional f o = record f { attributes = o.attributes; storage_transformers = o.storage_transformers; dimension_names = o.dimension_names; additional_fields = o.additional_fields }
+with_optional f o = record f {
+  attributes = o.attributes;
+  storage_transformers = o.storage_transformers;
+  dimension_names = o.dimension_names;
+  additional_fields = o.additional_fields;
+}
 
 unfoldable pub with_optional_fields : Members → ArrayFields → Option ArrayFields
 with_optional_fields ms fields = do
@@ -164,14 +160,11 @@ array_members ms = do
 abbrev pub array_of : Data → Option ArrayFields
 array_of d = as_object d >>= array_members
 
-abbrev pub dimension_name_data : Option (List ℕ) → Data
-dimension_name_data None = null
-dimension_name_data (Some s) = string s
-
 -- only where it is a list
 abbrev pub put_names : Option (List (Option (List ℕ))) → Members → Members
 put_names None ms = ms
-put_names (Some names) ms = put (codes "dimension_names") (array (items_of (map dimension_name_data names))) ms
+put_names (Some names) ms =
+    put (codes "dimension_names") (array (items_of (map dimension_name_data names))) ms
 
 unfoldable pub optional_data : ArrayFields → Members → Members
 optional_data f ms =
@@ -194,9 +187,11 @@ required_data f ms =
     (put (codes "fill_value") f.fill_value (parts_data f ms))))
 
 abbrev pub array_data : ArrayFields → Data
-array_data f = object (required_data f (optional_data f (put_fields Array f.additional_fields no_members)))
+array_data f =
+    object (required_data f (optional_data f (put_fields Array f.additional_fields no_members)))
 
--- What a document reads back as, once it is written: with each extension and each additional field in its normal form.
+-- What a document reads back as, once it is written: with each extension and each additional field
+-- in its normal form.
 abbrev pub normal_array : ArrayFields → ArrayFields
 normal_array f = record f {
   data_type = normal_form f.data_type;
@@ -209,11 +204,21 @@ normal_array f = record f {
 
 -- the fields that must be there, with the others empty
 abbrev pub required_part : ArrayFields → ArrayFields
-required_part f = record f { attributes = no_members; storage_transformers = []; dimension_names = None; additional_fields = [] }
+required_part f = record f {
+  attributes = no_members;
+  storage_transformers = [];
+  dimension_names = None;
+  additional_fields = [];
+}
 
 -- the fields that may be left out
 abbrev pub optional_part : ArrayFields → OptionalFields
-optional_part f = record { attributes = f.attributes; storage_transformers = f.storage_transformers; dimension_names = f.dimension_names; additional_fields = f.additional_fields }
+optional_part f = record {
+  attributes = f.attributes;
+  storage_transformers = f.storage_transformers;
+  dimension_names = f.dimension_names;
+  additional_fields = f.additional_fields;
+}
 
 -- Its additional fields stay as they are when it is written and read again.
 abbrev pub KeepsFields : ArrayFields → Type 0

@@ -1,4 +1,15 @@
-pub use Rattle.zarrs_metadata_group.specs.AdditionalFields
-pub use Rattle.zarrs_metadata_group.specs.GroupMetadata
+pub use Rattle.zarrs_metadata_parts.specs.Reading
+pub use Rattle.zarrs_metadata_parts.specs.Writing
+pub use Rattle.zarrs_metadata_parts.specs.Rising
+pub use Rattle.zarrs_metadata_parts.specs.Configuration
+pub use Rattle.zarrs_metadata_parts.specs.FillValueMetadata
+pub use Rattle.zarrs_metadata_parts.specs.MetadataV3
+pub use Rattle.zarrs_metadata_parts.specs.AdditionalField
+pub use Rattle.zarrs_metadata_parts.specs.AdditionalFields
+pub use Rattle.zarrs_metadata_parts.specs.MetadataV2
+pub use Rattle.zarrs_metadata_parts.specs.DataTypeV2
+pub use Rattle.zarrs_metadata_parts.specs.DimensionNames
+pub use Rattle.zarrs_metadata_parts.specs.Names
+pub mod GroupMetadata
 pub mod ArrayMetadata
 pub mod Node

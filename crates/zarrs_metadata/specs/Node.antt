@@ -1,9 +1,9 @@
 -- The document of an array, or of a group.
 use Rattle.std.specs.Prelude.{◌≡◌, Option, Some, None}
 use Rattle.serde_json.specs.Data.{Data}
-use Rattle.zarrs_metadata_ext.specs.Reading.{◌>>=◌}
+use Rattle.zarrs_metadata_parts.specs.Reading.{◌>>=◌}
 use Rattle.zarrs_metadata.specs.ArrayMetadata.{ArrayFields, array_seen, array_of, array_data, normal_array, KeepsFields}
-use Rattle.zarrs_metadata_group.specs.GroupMetadata.{GroupFields, group_seen, group_of, group_data, normal_group}
+use Rattle.zarrs_metadata.specs.GroupMetadata.{GroupFields, group_seen, group_of, group_data, normal_group}
 use Rattle.zarrs_metadata.specs.declared.node.NodeMetadataV3.{NodeMetadataV3}
 use Rattle.zarrs_metadata.specs.declared.node.NodeMetadataV3.TheVariants.{Array, Group}
 

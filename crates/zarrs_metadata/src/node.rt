@@ -4,17 +4,16 @@ ghost use Rattle.std.specs.Prelude.{◌≡◌, ◌≤◌, Some, IfOk, string_byt
 ghost use Rattle.serde_json.specs.Data.{depth};
 ghost use Rattle.serde_json.specs.Read.{read, max_depth};
 ghost use Rattle.serde_json.specs.View.{view};
-ghost use Rattle.zarrs_metadata_ext.specs.Reading.{Reads, Gives, from_data, from_json};
+ghost use Rattle.zarrs_metadata_parts.specs.Reading.{Reads, Gives, from_data, from_json};
 ghost use Rattle.zarrs_metadata.specs.Node.{node_seen, node_of, group_node_of, node_data, KeepsNodeFields};
 
 use crate::v3::array::ArrayMetadataV3;
+use crate::v3::group::{GroupMetadataV3, read_group};
 use crate::v3::reading::read_array;
 use serde_json::Value;
 use std::alloc::{AllocError, Global};
-use zarrs_metadata_ext::MetadataError;
-use zarrs_metadata_ext::reading::{read_value, refuse_floats};
-use zarrs_metadata_group::GroupMetadataV3;
-use zarrs_metadata_group::group::read_group;
+use zarrs_metadata_parts::MetadataError;
+use zarrs_metadata_parts::reading::{read_value, refuse_floats};
 
 /// The version 3 document of an array or a group.
 #[derive(Debug, PartialEq, Drop)]
@@ -66,7 +65,8 @@ impl NodeMetadataV3 {
 
     /// The document as text, a line for each member.
     pub fn to_string_pretty(&self, alloc: Global) -> Result<String, AllocError>
-        ensures { IfOk result (λ text. depth (node_data (node_seen self.now)) ≤ max_depth → read (string_bytes text) ≡ Some (node_data (node_seen self.now))) }
+        ensures { IfOk result (λ text. depth (node_data (node_seen self.now)) ≤ max_depth
+            → read (string_bytes text) ≡ Some (node_data (node_seen self.now))) }
     {
         match self {
             NodeMetadataV3::Array(array) => array.to_string_pretty(alloc),

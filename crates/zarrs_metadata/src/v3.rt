@@ -2,6 +2,7 @@
 
 pub mod array;
 pub mod copying;
+pub mod group;
 pub mod laws;
 pub mod named_parts;
 pub mod optional_parts;

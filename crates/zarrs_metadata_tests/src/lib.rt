@@ -1,9 +1,21 @@
-//! Worked examples of `zarrs_metadata`: the texts of documents, as we and others write them.
+//! Worked examples of the metadata crates and of `zarrs_plugin`, and the callers that their READMEs show.
 #![tactic(auto)]
 
 #[cfg(test)]
-mod arrays;
+mod callers;
 #[cfg(test)]
-mod caller;
+mod configurations;
 #[cfg(test)]
-mod foreign;
+mod made_arrays;
+#[cfg(test)]
+mod made_fills;
+#[cfg(test)]
+mod made_groups;
+#[cfg(test)]
+mod names;
+#[cfg(test)]
+mod parts;
+#[cfg(test)]
+mod registries;
+#[cfg(test)]
+mod texts;

@@ -20,7 +20,8 @@ abbrev pub builtin_of : {K : Type 0} → List (NamePattern × K) → List (Patte
 builtin_of es = map (λ e. (pattern_of e.0, e.1)) es
 
 abbrev pub registry_of : {K : Type 0} → Registry K → Names K
-registry_of r = record { registered = registered_of r.registered.items; builtin = builtin_of r.builtin.items }
+registry_of r =
+    record { registered = registered_of r.registered.items; builtin = builtin_of r.builtin.items }
 
 -- the first of two that is there
 abbrev pub or_else : {K : Type 0} → Option K → Option K → Option K
@@ -46,7 +47,8 @@ find name names = or_else (find_registered name names.registered) (find_builtin 
 
 -- a new entry has the next place
 abbrev pub with_entry : {K : Type 0} → List Pattern → K → Names K → Names K
-with_entry patterns kind names = record names { registered = names.registered ++ Some (patterns, kind) ∷ [] }
+with_entry patterns kind names =
+    record names { registered = names.registered ++ Some (patterns, kind) ∷ [] }
 
 -- whether an entry is at a place, and the rest without it; places are not used again
 abbrev pub has_entry : {K : Type 0} → ℕ → List (Option (List Pattern × K)) → Bool
@@ -58,7 +60,8 @@ has_entry (suc place) (e ∷ es) = has_entry place es
 abbrev pub is_there : {K : Type 0} → ℕ → Names K → Bool
 is_there place names = has_entry place names.registered
 
-abbrev pub remove_at : {K : Type 0} → ℕ → List (Option (List Pattern × K)) → List (Option (List Pattern × K))
+abbrev pub remove_at : {K : Type 0} → ℕ → List (Option (List Pattern × K))
+    → List (Option (List Pattern × K))
 remove_at place [] = []
 remove_at zero (e ∷ es) = None ∷ es
 remove_at (suc place) (e ∷ es) = e ∷ remove_at place es

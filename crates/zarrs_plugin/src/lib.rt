@@ -9,8 +9,6 @@ mod error;
 mod extension;
 mod name_pattern;
 mod registry;
-#[cfg(test)]
-mod tests;
 mod zarr_version;
 
 pub use error::{PluginCreateError, PluginKind, PluginUnsupportedError};

@@ -41,7 +41,10 @@ impl<K: Drop> Registry<K> {
 
     /// A registry with `entries` as its built-in ones, in this order.
     pub fn with_builtin(alloc: Global, entries: Vec<(NamePattern, K)>) -> Self
-        ensures { registry_of result ≡ record { registered = []; builtin = builtin_of entries.items } }
+        ensures { registry_of result ≡ record {
+          registered = [];
+          builtin = builtin_of entries.items;
+        } }
     {
         Registry {
             registered: Vec::new(alloc),
@@ -55,7 +58,8 @@ impl<K: Drop> Registry<K> {
         names: Vec<NamePattern>,
         kind: K,
     ) -> Result<RegistryHandle, AllocError>
-        ensures ok { OnOk result (registry_of self.new ≡ with_entry (patterns_of names.items) kind (registry_of self.old)) }
+        ensures ok { OnOk result (registry_of self.new
+            ≡ with_entry (patterns_of names.items) kind (registry_of self.old)) }
         ensures handle { IfOk result (λ h. h.0 ≡ length (registry_of self.old).registered) }
         ensures err { OnErr result (registry_of self.new ≡ registry_of self.old) }
     {
@@ -104,7 +108,8 @@ fn find_builtin<'a, K>(entries: &'a [(NamePattern, K)], name: &str) -> Option<&'
 }
 
 fn find_registered<'a, K>(entries: &'a [Option<Entry<K>>], name: &str) -> Option<&'a K>
-    ensures { option_map (λ k. k.now) result ≡ find_registered name.now (registered_of entries.now) }
+    ensures { option_map (λ k. k.now) result
+        ≡ find_registered name.now (registered_of entries.now) }
 {
     for entry in entries {
         if let Some(kind) = kind_named(entry, name) {

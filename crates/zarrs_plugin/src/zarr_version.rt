@@ -1,7 +1,7 @@
 //! The versions of Zarr.
 
 /// A version of Zarr.
-#[derive(Clone, Copy, Debug, PartialEq, Eq, Hash)]
+#[derive(Clone, Copy, Debug, PartialEq, Eq)]
 pub enum ZarrVersion {
     /// Zarr version 2.
     V2,

@@ -8,5 +8,9 @@ pub mod sink;
 pub mod source;
 pub mod store;
 pub mod store_key;
-#[cfg(test)]
-mod tests;
+
+pub use memory_store::MemoryStore;
+pub use sink::{MemorySink, Sink, WriteSink};
+pub use source::{IoFailed, MemorySource, ReadSource, Source};
+pub use store::{StorageError, Store};
+pub use store_key::{StoreKey, StoreKeyError};

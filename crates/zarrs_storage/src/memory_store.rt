@@ -53,16 +53,10 @@ impl MemoryStore {
 }
 
 impl Store for MemoryStore {
-    ghost use Rattle.zarrs_storage.specs.MemoryStore.{content_of};
-    ghost use Rattle.zarrs_storage.specs.Calls.{count_of, count_of-fits};
+    ghost use Rattle.zarrs_storage.specs.MemoryStore.{shown_of};
+    ghost use Rattle.zarrs_storage.specs.Calls.{count_of-fits};
 
-    ghost content = { content_of };
-
-    ghost fault_count = { λ _. 0 };
-
-    ghost ask_count = { λ s. count_of s.asks };
-
-    ghost taken_count = { λ s. count_of s.taken };
+    ghost shown = { shown_of };
 
     fn get(&mut self, alloc: Global, key: &StoreKey) -> Result<Option<Vec<u8>>, StorageError> {
         self.asks = self.asks.saturating_add(1);

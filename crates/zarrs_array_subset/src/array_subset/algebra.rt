@@ -34,6 +34,9 @@ impl ArraySubset {
     }
 
     /// The part that both subsets share, which may be empty.
+    ///
+    /// # Errors
+    /// [`ArraySubsetError`] where they have another dimensionality, or there is not enough memory.
     #[tactic(auto, using(crate::proofs::BoxLaws::of_parts))]
     pub fn overlap(
         &self,
@@ -43,7 +46,8 @@ impl ArraySubset {
         ensures ok { IfOk result (λ s. (length (region self.now) ≡ length (region other.now))
             × (region s ≡ overlap_of (region self.now) (region other.now))) }
         ensures refused { IfErr result (λ e. (e ≡ ArraySubsetError.OutOfMemory)
-            ⊎ ((e ≡ ArraySubsetError.IncompatibleDimensionality (length (region other.now)) (length (region self.now)))
+            ⊎ ((e ≡ ArraySubsetError.IncompatibleDimensionality (length (region other.now))
+            (length (region self.now)))
             × (length (region self.now) ≢ length (region other.now)))) }
     {
         let (got, expected) = (other.dimensionality(), self.dimensionality());
@@ -73,6 +77,10 @@ impl ArraySubset {
     }
 
     /// The subset with `offset` taken off its start.
+    ///
+    /// # Errors
+    /// [`ArraySubsetError`] where `offset` has another dimensionality or is past the start, or there is
+    /// not enough memory.
     #[tactic(auto, using(crate::proofs::BoxLaws::of_moves))]
     pub fn relative_to(
         &self,
@@ -81,7 +89,9 @@ impl ArraySubset {
     ) -> Result<ArraySubset, ArraySubsetError>
         ensures ok { IfOk result (λ s. (starts_past (region self.now) offset.now ≡ true)
             × (region s ≡ moved_back (region self.now) offset.now)) }
-        ensures refused { IfErr result (RefusesOffset (starts_past (region self.now) offset.now) (region self.now) offset.now) }
+        ensures refused { IfErr result
+            (RefusesOffset (starts_past (region self.now) offset.now)
+            (region self.now) offset.now) }
     {
         if offset.len() != self.start.len() || !is_below(offset, &self.start) {
             return Err(self.refused_offset(alloc, offset));
@@ -92,11 +102,16 @@ impl ArraySubset {
     }
 
     /// The subset with `offset` added to its start.
+    ///
+    /// # Errors
+    /// [`ArraySubsetError`] where `offset` has another dimensionality or leads an end past `u64`, or
+    /// there is not enough memory.
     #[tactic(auto, using(crate::proofs::BoxLaws::of_offsets))]
     pub fn offset(&self, alloc: Global, offset: &[u64]) -> Result<ArraySubset, ArraySubsetError>
         ensures ok { IfOk result (λ s. (ends_fit (region self.now) offset.now ≡ true)
             × (region s ≡ moved (region self.now) offset.now)) }
-        ensures refused { IfErr result (RefusesOffset (ends_fit (region self.now) offset.now) (region self.now) offset.now) }
+        ensures refused { IfErr result
+            (RefusesOffset (ends_fit (region self.now) offset.now) (region self.now) offset.now) }
     {
         if offset.len() != self.start.len() || !may_move(&self.start, &self.shape, offset) {
             return Err(self.refused_offset(alloc, offset));
@@ -121,6 +136,9 @@ impl ArraySubset {
     }
 
     /// The subset with its start and its end cut at `end`.
+    ///
+    /// # Errors
+    /// [`ArraySubsetError`] where `end` has another dimensionality, or there is not enough memory.
     #[tactic(auto, using(crate::proofs::BoxLaws::of_cuts))]
     pub fn bound(&self, alloc: Global, end: &[u64]) -> Result<ArraySubset, ArraySubsetError>
         ensures ok { IfOk result (λ s. (length (region self.now) ≡ length end.now)
@@ -158,7 +176,8 @@ impl ArraySubset {
 
 // Whether two subsets have the same starts and the same lengths.
 fn are_same(a: &ArraySubset, b: &ArraySubset) -> bool
-    ensures { IsTrue result ↔ ((a.now.start.items ≡ b.now.start.items) × (a.now.shape.items ≡ b.now.shape.items)) }
+    ensures { IsTrue result ↔
+        ((a.now.start.items ≡ b.now.start.items) × (a.now.shape.items ≡ b.now.shape.items)) }
 {
     *a == *b
 }

@@ -1,6 +1,6 @@
 //! How many elements array subsets have, and where they end.
 
-ghost use Rattle.std.specs.Prelude.{◌≡◌, ◌<◌, ◌^◌, ◌↔◌, IfOk, IfSome, IfNone, ◌≢◌, map};
+ghost use Rattle.std.specs.Prelude.{◌≡◌, ◌<◌, ◌^◌, IfOk, IfSome, IfNone, ◌≢◌, map};
 ghost use Rattle.std.specs.Option.{SomeIff};
 ghost use Rattle.std.specs.Int.NonZero.{non_zero_u64_get};
 ghost use Rattle.zarr_model.specs.Region.{sizes, count};
@@ -8,9 +8,10 @@ ghost use Rattle.zarrs_array_subset.specs.Boxes.{ends, last_indices, ranges_of};
 
 use super::ArraySubset;
 use super::numbers::{non_zeros, numbers_before, ranges_between, shape_product, sums, to_usizes};
-use crate::error::{ArrayIndices, ChunkShape};
+use crate::error::ArrayIndices;
 use std::alloc::{AllocError, Global};
 use std::ops::Range;
+use zarr_model::ChunkShape;
 
 #[tactic(auto, using(crate::proofs::BoxLaws::of_boxes))]
 impl ArraySubset {
@@ -73,7 +74,8 @@ impl ArraySubset {
 
     /// The shape as one of a chunk; none exactly where a length is 0.
     pub fn chunk_shape(&self, alloc: Global) -> Result<Option<ChunkShape>, AllocError>
-        ensures some { IfOk result (λ o. IfSome o (λ v. map non_zero_u64_get v.items ≡ sizes (region self.now))) }
+        ensures some { IfOk result
+            (λ o. IfSome o (λ v. map non_zero_u64_get v.items ≡ sizes (region self.now))) }
         ensures none { IfOk result (λ o. IfNone o (count (region self.now) ≡ 0)) }
     {
         if self.is_empty() {

@@ -1,6 +1,6 @@
 //! Steps over lists of numbers, place by place and as far as all lists go.
 
-ghost use Rattle.std.specs.Prelude.{◌&&◌, IfSome, IfNone, ◌-◌, min, ◌≡◌, ◌<◌, ◌^◌, IsTrue, IfOk, map, nat_lt, nat_le, nat_eq, ◌+◌, zip, replicate, length, true};
+ghost use Rattle.std.specs.Prelude.{◌&&◌, IfSome, IfNone, ◌-◌, min, ◌≡◌, ◌<◌, ◌^◌, IfOk, map, nat_lt, nat_le, nat_eq, ◌+◌, zip, replicate, length, true};
 ghost use Rattle.std.specs.List.{list_all, list_any};
 ghost use Rattle.std.specs.Option.{SomeIff};
 ghost use Rattle.std.specs.Int.NonZero.{non_zero_u64_get};
@@ -129,7 +129,8 @@ pub fn are_boxes_within(
 
 // Whether no start is above the end there, and no end is the greatest number.
 fn rise_before_last(start: &[u64], end: &[u64]) -> bool
-    ensures { result ≡ list_all (λ p. nat_le p.0 p.1 && nat_lt p.1 (2 ^ 64 - 1)) (zip start.now end.now) }
+    ensures { result ≡ list_all (λ p. nat_le p.0 p.1 && nat_lt p.1 (2 ^ 64 - 1))
+        (zip start.now end.now) }
 {
     start
         .iter()
@@ -168,7 +169,8 @@ pub fn ranges_between(
     start: &[u64],
     end: &[u64],
 ) -> Result<Vec<Range<u64>>, AllocError>
-    ensures { IfOk result (λ v. v.items ≡ map (λ p. record { start = p.0; end = p.1 }) (zip start.now end.now)) }
+    ensures { IfOk result (λ v. v.items
+        ≡ map (λ p. record { start = p.0; end = p.1 }) (zip start.now end.now)) }
 {
     start.iter().zip(end).map(|(s, e)| *s..*e).collect(alloc)
 }
@@ -199,7 +201,8 @@ pub fn fits(start: &[u64], shape: &[u64]) -> bool
 
 // A start of 0 for each length.
 pub fn zeros(alloc: Global, shape: &[u64]) -> Result<Vec<u64>, AllocError>
-    ensures { IfOk result (λ v. (v.items ≡ replicate (length shape.now) 0) × (is_box v.items shape.now ≡ true)) }
+    ensures { IfOk result (λ v. (v.items ≡ replicate (length shape.now) 0)
+        × (is_box v.items shape.now ≡ true)) }
 {
     let start = vec![in alloc; 0; shape.len()]?;
     Ok(start)

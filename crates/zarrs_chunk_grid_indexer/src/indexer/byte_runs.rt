@@ -1,12 +1,14 @@
 //! Runs of elements as ranges of bytes.
 
-ghost use Rattle.std.specs.Prelude.{◌≡◌};
+ghost use Rattle.std.specs.Prelude.{◌≡◌, IfSome, Some};
+ghost use Rattle.std.specs.Iterator.{UpTo, size};
+ghost use Rattle.std.specs.Iterator.SizeHint.{IsWithinCount};
 ghost use Rattle.zarrs_chunk_grid_indexer.specs.Bytes.{range_of};
 
 use std::ops::Range;
 
 /// The ranges of bytes of runs of elements.
-#[derive(Debug, Drop)]
+#[derive(Drop)]
 pub struct ByteRuns<I> {
     runs: I,
     element_size: u64,
@@ -31,7 +33,7 @@ fn bytes_of_run(run: (u64, u64), element_size: u64) -> Range<u64>
     start.saturating_mul(element_size)..end.saturating_mul(element_size)
 }
 
-impl<I: Iterator<Item = (u64, u64)>> Iterator for ByteRuns<I> {
+impl<I: ExactSizeIterator<Item = (u64, u64)>> Iterator for ByteRuns<I> {
     ghost use Rattle.zarrs_chunk_grid_indexer.specs.Bytes.{byte_steps};
 
     type Item = Range<u64>;
@@ -47,12 +49,21 @@ impl<I: Iterator<Item = (u64, u64)>> Iterator for ByteRuns<I> {
         Some(bytes_of_run(run, self.element_size))
     }
 
-    fn size_hint(&self) -> (usize, Option<usize>) {
-        self.runs.size_hint()
+    fn size_hint(&self) -> (usize, Option<usize>)
+        ensures lower { IsWithinCount result.0 (I.remaining self.now.runs) }
+        ensures upper { IfSome result.1 (UpTo (I.remaining self.now.runs)) }
+        ensures exact { result.0 ≡ size (I.remaining self.now.runs) }
+        ensures told { result.1 ≡ Some (size (I.remaining self.now.runs)) }
+    {
+        let left = self.runs.len();
+        (left, Some(left))
     }
 }
 
-impl<I: DoubleEndedIterator<Item = (u64, u64)>> DoubleEndedIterator for ByteRuns<I> {
+impl<I> DoubleEndedIterator for ByteRuns<I>
+where
+    I: DoubleEndedIterator<Item = (u64, u64)> + ExactSizeIterator,
+{
     ghost use Rattle.zarrs_chunk_grid_indexer.specs.Bytes.{byte_steps};
 
     ghost can_next_back = { λ s. I.can_next_back s.runs };

@@ -1,20 +1,23 @@
 //! Lists of indices as indexers.
 
 ghost use Rattle.std.specs.Prelude.{◌≡◌, ◌∷◌, [], None, length, map};
+ghost use Rattle.std.specs.Vec.Iter.{into_iter_items};
 ghost use Rattle.zarr_model.specs.Region.{tuples};
+ghost use Rattle.zarrs_chunk_grid_iterators.specs.ListIterators.{gathered_left, singles_left};
 ghost use Rattle.zarrs_chunk_grid_iterators.specs.Lists.{RefusesList, first_rank, is_list_inside, single_runs};
+ghost use Rattle.zarrs_chunk_grid_iterators.proofs.Ends.{gathered_numbers_ends, gathered_tuples_ends, singles_ends};
 ghost use Rattle.zarrs_chunk_grid_iterators.proofs.BoxFacts.{no_region};
 ghost use Rattle.zarrs_chunk_grid_iterators.proofs.ListFacts.{list_inside, list_joins, list_no_memory, list_outputs, list_refusal, list_within};
 
 use super::Indexer;
-use super::gathered::{GatheredTuples, SingleRuns};
 use super::lists::{iter_linear, iter_runs, iter_tuples, rank_of};
 use std::alloc::{AllocError, Global};
 use std::vec::IntoIter;
 use zarrs_array_subset::{ArrayIndices, ArraySubset, IndexerError};
+use zarrs_chunk_grid_iterators::{GatheredTuples, SingleRuns};
 
 /// A slice of indices.
-#[derive(Clone, Copy, Debug)]
+#[derive(Clone, Copy)]
 pub struct IndexSlice<'a> {
     list: &'a [ArrayIndices],
 }
@@ -57,6 +60,18 @@ impl Indexer for IndexSlice<'_> {
 
     ghost pieces = { λ s shape. single_runs (map (λ t. t.items) s.list.now) shape };
 
+    ghost indices_left = { gathered_left };
+
+    ghost linearised_left = { λ it. into_iter_items it };
+
+    ghost contiguous_left = { singles_left };
+
+    ghost indices_ends = { gathered_tuples_ends };
+
+    ghost linearised_ends = { gathered_numbers_ends };
+
+    ghost contiguous_ends = { singles_ends };
+
     ghost listable = { λ s. Unit {0} };
 
     ghost has_output = { λ s. Unit {0} };
@@ -77,7 +92,9 @@ impl Indexer for IndexSlice<'_> {
 
     ghost outputs = { λ s. list_outputs (length (map (λ t. t.items) s.list.now)) };
 
-    ghost boxed = { λ s r h. no_region ((map (λ t. t.items) s.list.now ≡ tuples r) × (first_rank (map (λ t. t.items) s.list.now) ≡ length r)) r h };
+    ghost boxed = { λ s r h. no_region
+        ((map (λ t. t.items) s.list.now ≡ tuples r)
+        × (first_rank (map (λ t. t.items) s.list.now) ≡ length r)) r h };
 
     fn dimensionality(&self) -> usize {
         rank_of(self.list)
@@ -154,6 +171,18 @@ impl Indexer for Vec<ArrayIndices> {
 
     ghost pieces = { λ s shape. single_runs (map (λ t. t.items) s.items) shape };
 
+    ghost indices_left = { gathered_left };
+
+    ghost linearised_left = { λ it. into_iter_items it };
+
+    ghost contiguous_left = { singles_left };
+
+    ghost indices_ends = { gathered_tuples_ends };
+
+    ghost linearised_ends = { gathered_numbers_ends };
+
+    ghost contiguous_ends = { singles_ends };
+
     ghost listable = { λ s. Unit {0} };
 
     ghost has_output = { λ s. Unit {0} };
@@ -174,7 +203,9 @@ impl Indexer for Vec<ArrayIndices> {
 
     ghost outputs = { λ s. list_outputs (length (map (λ t. t.items) s.items)) };
 
-    ghost boxed = { λ s r h. no_region ((map (λ t. t.items) s.items ≡ tuples r) × (first_rank (map (λ t. t.items) s.items) ≡ length r)) r h };
+    ghost boxed = { λ s r h. no_region
+        ((map (λ t. t.items) s.items ≡ tuples r)
+        × (first_rank (map (λ t. t.items) s.items) ≡ length r)) r h };
 
     fn dimensionality(&self) -> usize {
         rank_of(self.as_slice())

@@ -27,7 +27,8 @@ pub fn rank_of_items<T: Indexer>(list: &[T]) -> usize
 // The number of indices; none exactly where it passes `u64`.
 #[tactic(auto, using(crate::proofs::Items::of_counts))]
 pub fn count_items<T: Indexer>(list: &[T]) -> Option<u64>
-    ensures { SomeIff result (length (flat_map T.places list.now) < 2 ^ 64) (length (flat_map T.places list.now)) }
+    ensures { SomeIff result (length (flat_map T.places list.now) < 2 ^ 64)
+        (length (flat_map T.places list.now)) }
 {
     match list {
         [] => Some(0),
@@ -73,8 +74,11 @@ pub fn linear_of_items<T: Indexer>(
 ) -> Result<Vec<u64>, IndexerError>
     requires { count_of array_shape.now < 2 ^ 64 }
     ensures inside { IfOk result (λ v. list_all (λ x. T.fits x array_shape.now) list.now ≡ true) }
-    ensures lists { IfOk result (λ v. v.items ≡ flat_map (λ x. map (linear_index array_shape.now) (T.places x)) list.now) }
-    ensures refused { IfErr result (RefusesItems (λ x. T.fits x array_shape.now) (λ x e. T.refuses x array_shape.now e) list.now) }
+    ensures lists { IfOk result
+        (λ v. v.items ≡ flat_map (λ x. map (linear_index array_shape.now) (T.places x)) list.now) }
+    ensures refused { IfErr result
+        (RefusesItems (λ x. T.fits x array_shape.now)
+        (λ x e. T.refuses x array_shape.now e) list.now) }
 {
     let mut indices = Vec::new(alloc);
     for item in list {
@@ -94,8 +98,11 @@ pub fn runs_of_items<T: Indexer>(
 ) -> Result<Vec<(u64, u64)>, IndexerError>
     requires { count_of array_shape.now < 2 ^ 64 }
     ensures inside { IfOk result (λ v. list_all (λ x. T.fits x array_shape.now) list.now ≡ true) }
-    ensures lists { IfOk result (λ v. map span_of v.items ≡ flat_map (λ x. T.pieces x array_shape.now) list.now) }
-    ensures refused { IfErr result (RefusesItems (λ x. T.fits x array_shape.now) (λ x e. T.refuses x array_shape.now e) list.now) }
+    ensures lists { IfOk result
+        (λ v. map span_of v.items ≡ flat_map (λ x. T.pieces x array_shape.now) list.now) }
+    ensures refused { IfErr result
+        (RefusesItems (λ x. T.fits x array_shape.now)
+        (λ x e. T.refuses x array_shape.now e) list.now) }
 {
     let mut runs = Vec::new(alloc);
     for item in list {

@@ -1,20 +1,16 @@
 //! What lists of index tuples are in a shape.
 
-ghost use Rattle.std.specs.Prelude.{ℕ, List, ◌≡◌, ◌<◌, ◌^◌, true, length, map, IfOk, IfErr};
+ghost use Rattle.std.specs.Prelude.{ℕ, List, ◌≡◌, ◌<◌, ◌^◌, true, map, IfOk, IfErr};
 ghost use Rattle.zarr_model.specs.Region.{contains, count_of, linear_index, whole};
-ghost use Rattle.std.specs.Iterator.{AlwaysYields};
-ghost use Rattle.std.specs.Vec.Iter.{into_iter_steps};
+ghost use Rattle.std.specs.Vec.Iter.{into_iter_items};
 ghost use Rattle.zarrs_chunk_grid_iterators.specs.Lists.{RefusesList, RefusesTuple, first_rank, is_list_inside, single_runs};
-ghost use Rattle.zarrs_chunk_grid_iterators.specs.Places.{IsTuple};
-ghost use Rattle.zarrs_chunk_grid_iterators.specs.Runs.{span_of};
-ghost use Rattle.zarrs_chunk_grid_iterators.specs.Yields.{AlwaysGives};
-ghost use Rattle.zarrs_chunk_grid_indexer.specs.ListIterators.{single_steps, tuple_steps};
+ghost use Rattle.zarrs_chunk_grid_iterators.specs.ListIterators.{gathered_left, singles_left};
 
-use super::gathered::{GatheredTuples, SingleRuns};
 use smallvec::SmallVec;
 use std::alloc::{AllocError, Global};
 use std::vec::IntoIter;
 use zarrs_array_subset::{ArrayIndices, ArrayIndicesTinyVec, IndexerError, ravel_indices};
+use zarrs_chunk_grid_iterators::{GatheredTuples, SingleRuns};
 
 // The length of the first tuple.
 pub fn rank_of(list: &[ArrayIndices]) -> usize
@@ -45,7 +41,8 @@ pub fn copy_tuples(
 #[tactic(auto, using(zarrs_chunk_grid_iterators::proofs::ListFacts::of_fronts))]
 fn linear_of(alloc: Global, tuple: &[u64], array_shape: &[u64]) -> Result<u64, IndexerError>
     requires { count_of array_shape.now < 2 ^ 64 }
-    ensures ok { IfOk result (λ n. (contains (whole array_shape.now) tuple.now ≡ true) × (n ≡ linear_index array_shape.now tuple.now)) }
+    ensures ok { IfOk result (λ n. (contains (whole array_shape.now) tuple.now ≡ true)
+        × (n ≡ linear_index array_shape.now tuple.now)) }
     ensures refused { IfErr result (RefusesTuple tuple.now array_shape.now) }
 {
     let (got, expected) = (tuple.len(), array_shape.len());
@@ -65,8 +62,10 @@ pub fn linear_of_list(
     array_shape: &[u64],
 ) -> Result<Vec<u64>, IndexerError>
     requires { count_of array_shape.now < 2 ^ 64 }
-    ensures inside { IfOk result (λ v. is_list_inside (map (λ t. t.items) list.now) array_shape.now ≡ true) }
-    ensures lists { IfOk result (λ v. v.items ≡ map (linear_index array_shape.now) (map (λ t. t.items) list.now)) }
+    ensures inside { IfOk result (λ v. is_list_inside (map (λ t. t.items) list.now) array_shape.now
+        ≡ true) }
+    ensures lists { IfOk result (λ v. v.items
+        ≡ map (linear_index array_shape.now) (map (λ t. t.items) list.now)) }
     ensures refused { IfErr result (RefusesList (map (λ t. t.items) list.now) array_shape.now) }
 {
     let mut indices = Vec::with_capacity(alloc, list.len())?;
@@ -81,7 +80,8 @@ pub fn linear_of_list(
 
 // The tuples of a list, xs.
 pub fn iter_tuples(alloc: Global, list: &[ArrayIndices]) -> Result<GatheredTuples, AllocError>
-    ensures { IfOk result (λ it. (xs : List (List ℕ)) → map (λ t. t.items) list.now ≡ xs → AlwaysGives tuple_steps IsTuple it xs) }
+    ensures { IfOk result (λ it. (xs : List (List ℕ)) → map (λ t. t.items) list.now ≡ xs
+        → gathered_left it ≡ xs) }
 {
     let copy = copy_tuples(alloc, list)?;
     Ok(GatheredTuples {
@@ -96,9 +96,12 @@ pub fn iter_linear(
     array_shape: &[u64],
 ) -> Result<IntoIter<u64, Global>, IndexerError>
     requires { count_of array_shape.now < 2 ^ 64 }
-    ensures inside { IfOk result (λ v. is_list_inside (map (λ t. t.items) list.now) array_shape.now ≡ true) }
-    ensures lists { IfOk result (λ it. (xs : List (List ℕ)) → map (λ t. t.items) list.now ≡ xs → AlwaysYields into_iter_steps (λ x. x) it (map (linear_index array_shape.now) xs)) }
-    ensures refused { IfErr result (λ e. (xs : List (List ℕ)) → map (λ t. t.items) list.now ≡ xs → RefusesList xs array_shape.now e) }
+    ensures inside { IfOk result (λ v. is_list_inside (map (λ t. t.items) list.now) array_shape.now
+        ≡ true) }
+    ensures lists { IfOk result (λ it. (xs : List (List ℕ)) → map (λ t. t.items) list.now ≡ xs
+        → into_iter_items it ≡ map (linear_index array_shape.now) xs) }
+    ensures refused { IfErr result (λ e. (xs : List (List ℕ)) → map (λ t. t.items) list.now ≡ xs
+        → RefusesList xs array_shape.now e) }
 {
     match linear_of_list(alloc, list, array_shape) {
         Ok(indices) => Ok(indices.into_iter()),
@@ -113,9 +116,12 @@ pub fn iter_runs(
     array_shape: &[u64],
 ) -> Result<SingleRuns, IndexerError>
     requires { count_of array_shape.now < 2 ^ 64 }
-    ensures inside { IfOk result (λ v. is_list_inside (map (λ t. t.items) list.now) array_shape.now ≡ true) }
-    ensures lists { IfOk result (λ it. (xs : List (List ℕ)) → map (λ t. t.items) list.now ≡ xs → AlwaysYields single_steps span_of it (single_runs xs array_shape.now)) }
-    ensures refused { IfErr result (λ e. (xs : List (List ℕ)) → map (λ t. t.items) list.now ≡ xs → RefusesList xs array_shape.now e) }
+    ensures inside { IfOk result (λ v. is_list_inside (map (λ t. t.items) list.now) array_shape.now
+        ≡ true) }
+    ensures lists { IfOk result (λ it. (xs : List (List ℕ)) → map (λ t. t.items) list.now ≡ xs
+        → singles_left it ≡ single_runs xs array_shape.now) }
+    ensures refused { IfErr result (λ e. (xs : List (List ℕ)) → map (λ t. t.items) list.now ≡ xs
+        → RefusesList xs array_shape.now e) }
 {
     match linear_of_list(alloc, list, array_shape) {
         Ok(indices) => Ok(SingleRuns {

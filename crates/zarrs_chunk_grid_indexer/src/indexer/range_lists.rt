@@ -4,8 +4,10 @@ ghost use Rattle.std.specs.Prelude.{◌≡◌, ◌<◌, ◌^◌, None, Some, len
 ghost use Rattle.zarr_model.specs.Region.{count, ends_within, sizes, tuples};
 ghost use Rattle.zarrs_array_subset.specs.Boxes.{region_of_ranges};
 ghost use Rattle.zarrs_array_subset.specs.Errors.{RefusesShape};
+ghost use Rattle.zarrs_chunk_grid_iterators.specs.Iterators.{linear_left, runs_left, tuples_left};
 ghost use Rattle.zarrs_chunk_grid_iterators.specs.Runs.{runs};
 ghost use Rattle.zarrs_chunk_grid_iterators.proofs.BoxFacts.{box_inside, box_joins, box_listable, box_outputs, box_refusal, box_within, no_region, same_region};
+ghost use Rattle.zarrs_chunk_grid_iterators.proofs.Ends.{box_contiguous_ends, box_indices_ends, box_linearised_ends};
 
 use super::Indexer;
 use super::boxes::{list_linear, list_runs, list_tuples};
@@ -18,7 +20,7 @@ use zarrs_chunk_grid_iterators::{
 };
 
 /// A slice of ranges, one for each dimension.
-#[derive(Clone, Copy, Debug)]
+#[derive(Clone, Copy)]
 pub struct RangeSlice<'a> {
     ranges: &'a [Range<u64>],
 }
@@ -61,6 +63,18 @@ impl Indexer for RangeSlice<'_> {
 
     ghost pieces = { λ s shape. runs shape (region_of_ranges s.ranges.now) };
 
+    ghost indices_left = { tuples_left };
+
+    ghost linearised_left = { linear_left };
+
+    ghost contiguous_left = { runs_left };
+
+    ghost indices_ends = { box_indices_ends };
+
+    ghost linearised_ends = { box_linearised_ends };
+
+    ghost contiguous_ends = { box_contiguous_ends };
+
     ghost listable = { λ s. count (region_of_ranges s.ranges.now) < 2 ^ 64 };
 
     ghost has_output = { λ s. Unit {0} };
@@ -81,7 +95,9 @@ impl Indexer for RangeSlice<'_> {
 
     ghost outputs = { λ s. box_outputs (region_of_ranges s.ranges.now) };
 
-    ghost boxed = { λ s r h. no_region ((tuples (region_of_ranges s.ranges.now) ≡ tuples r) × (length (region_of_ranges s.ranges.now) ≡ length r)) r h };
+    ghost boxed = { λ s r h. no_region
+        ((tuples (region_of_ranges s.ranges.now) ≡ tuples r)
+        × (length (region_of_ranges s.ranges.now) ≡ length r)) r h };
 
     #[tactic(auto, using(crate::proofs::Ranges::of_rank))]
     fn dimensionality(&self) -> usize {
@@ -160,6 +176,18 @@ impl Indexer for Vec<Range<u64>> {
 
     ghost pieces = { λ s shape. runs shape (region_of_ranges s.items) };
 
+    ghost indices_left = { tuples_left };
+
+    ghost linearised_left = { linear_left };
+
+    ghost contiguous_left = { runs_left };
+
+    ghost indices_ends = { box_indices_ends };
+
+    ghost linearised_ends = { box_linearised_ends };
+
+    ghost contiguous_ends = { box_contiguous_ends };
+
     ghost listable = { λ s. count (region_of_ranges s.items) < 2 ^ 64 };
 
     ghost has_output = { λ s. Unit {0} };
@@ -180,7 +208,9 @@ impl Indexer for Vec<Range<u64>> {
 
     ghost outputs = { λ s. box_outputs (region_of_ranges s.items) };
 
-    ghost boxed = { λ s r h. no_region ((tuples (region_of_ranges s.items) ≡ tuples r) × (length (region_of_ranges s.items) ≡ length r)) r h };
+    ghost boxed = { λ s r h. no_region
+        ((tuples (region_of_ranges s.items) ≡ tuples r)
+        × (length (region_of_ranges s.items) ≡ length r)) r h };
 
     #[tactic(auto, using(crate::proofs::Ranges::of_rank))]
     fn dimensionality(&self) -> usize {
@@ -258,6 +288,18 @@ impl<const N: usize> Indexer for [Range<u64>; N] {
     ghost refuses = { λ s shape e. RefusesShape (region_of_ranges s) shape e };
 
     ghost pieces = { λ s shape. runs shape (region_of_ranges s) };
+
+    ghost indices_left = { tuples_left };
+
+    ghost linearised_left = { linear_left };
+
+    ghost contiguous_left = { runs_left };
+
+    ghost indices_ends = { box_indices_ends };
+
+    ghost linearised_ends = { box_linearised_ends };
+
+    ghost contiguous_ends = { box_contiguous_ends };
 
     ghost listable = { λ s. count (region_of_ranges s) < 2 ^ 64 };
 

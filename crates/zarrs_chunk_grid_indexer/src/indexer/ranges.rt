@@ -30,7 +30,8 @@ fn list_lengths(alloc: Global, ranges: &[Range<u64>]) -> Result<Vec<u64>, AllocE
 // The number of tuples; none exactly where it passes `u64`.
 #[tactic(auto, using(zarrs_array_subset::proofs::BoxLaws::of_products))]
 pub fn count_of_ranges(ranges: &[Range<u64>]) -> Option<u64>
-    ensures { SomeIff result (count (region_of_ranges ranges.now) < 2 ^ 64) (count (region_of_ranges ranges.now)) }
+    ensures { SomeIff result (count (region_of_ranges ranges.now) < 2 ^ 64)
+        (count (region_of_ranges ranges.now)) }
 {
     match ranges {
         [] => Some(1),

@@ -4,8 +4,10 @@ ghost use Rattle.std.specs.Prelude.{◌<◌, ◌^◌, Some, length};
 ghost use Rattle.zarr_model.specs.Region.{count, ends_within, sizes, tuples};
 ghost use Rattle.zarrs_array_subset.specs.ArraySubset.{region};
 ghost use Rattle.zarrs_array_subset.specs.Errors.{RefusesShape};
+ghost use Rattle.zarrs_chunk_grid_iterators.specs.Iterators.{linear_left, runs_left, tuples_left};
 ghost use Rattle.zarrs_chunk_grid_iterators.specs.Runs.{runs};
 ghost use Rattle.zarrs_chunk_grid_iterators.proofs.BoxFacts.{box_inside, box_joins, box_listable, box_outputs, box_refusal, box_within, same_region};
+ghost use Rattle.zarrs_chunk_grid_iterators.proofs.Ends.{box_contiguous_ends, box_indices_ends, box_linearised_ends};
 
 use super::Indexer;
 use super::boxes::{list_linear, list_runs, list_tuples};
@@ -36,6 +38,18 @@ impl Indexer for ArraySubset {
     ghost refuses = { λ s shape e. RefusesShape (region s) shape e };
 
     ghost pieces = { λ s shape. runs shape (region s) };
+
+    ghost indices_left = { tuples_left };
+
+    ghost linearised_left = { linear_left };
+
+    ghost contiguous_left = { runs_left };
+
+    ghost indices_ends = { box_indices_ends };
+
+    ghost linearised_ends = { box_linearised_ends };
+
+    ghost contiguous_ends = { box_contiguous_ends };
 
     ghost listable = { λ s. count (region s) < 2 ^ 64 };
 

@@ -6,11 +6,12 @@ ghost use Rattle.std.specs.Prelude.{◌≡◌, ◌≤◌, Some, None, [], IfOk, 
 ghost use Rattle.serde_json.specs.Data.{no_members, depth};
 ghost use Rattle.serde_json.specs.Read.{read, max_depth};
 ghost use Rattle.serde_json.specs.View.{view, members_view};
-ghost use Rattle.zarrs_metadata_ext.specs.Reading.{Gives, from_data, from_json};
-ghost use Rattle.zarrs_metadata_ext.specs.MetadataV3.{extension_seen, extensions_seen};
-ghost use Rattle.zarrs_metadata_ext.specs.FillValueMetadata.{fill_view};
-ghost use Rattle.zarrs_metadata_group.specs.AdditionalFields.{additional_fields_seen};
-ghost use Rattle.zarrs_metadata.specs.ArrayMetadata.{array_seen, array_of, array_data, dimension_names_seen, default_keys, KeepsFields};
+ghost use Rattle.zarrs_metadata_parts.specs.Reading.{Gives, from_data, from_json};
+ghost use Rattle.zarrs_metadata_parts.specs.MetadataV3.{extension_seen, extensions_seen};
+ghost use Rattle.zarrs_metadata_parts.specs.DimensionNames.{dimension_names_seen};
+ghost use Rattle.zarrs_metadata_parts.specs.FillValueMetadata.{fill_view};
+ghost use Rattle.zarrs_metadata_parts.specs.AdditionalFields.{additional_fields_seen};
+ghost use Rattle.zarrs_metadata.specs.ArrayMetadata.{array_seen, array_of, array_data, default_keys, KeepsFields};
 
 use crate::v3::copying::copy_array;
 use crate::v3::reading::read_array;
@@ -18,8 +19,8 @@ use crate::v3::writing::array_to_value;
 use serde_json::{Map, Value};
 use std::alloc::{AllocError, Global};
 use std::collections::BTreeMap;
-use zarrs_metadata_ext::reading::{read_value, refuse_floats};
-use zarrs_metadata_ext::{
+use zarrs_metadata_parts::reading::{read_value, refuse_floats};
+use zarrs_metadata_parts::{
     AdditionalFieldsV3, ArrayShape, Configuration, DimensionName, FillValueMetadataV3,
     MetadataError, MetadataV3,
 };
@@ -90,14 +91,18 @@ impl ArrayMetadataV3 {
 
     /// The same document with these attributes.
     pub fn with_attributes(self, attributes: Map<String, Value>) -> Self
-        ensures { array_seen result ≡ record (array_seen self) { attributes = members_view attributes.entries } }
+        ensures { array_seen result ≡ record (array_seen self) {
+          attributes = members_view attributes.entries;
+        } }
     {
         ArrayMetadataV3 { attributes, ..self }
     }
 
     /// The same document with these additional fields. One under a key that the document names is not written.
     pub fn with_additional_fields(self, additional_fields: AdditionalFieldsV3) -> Self
-        ensures { array_seen result ≡ record (array_seen self) { additional_fields = additional_fields_seen additional_fields.entries } }
+        ensures { array_seen result ≡ record (array_seen self) {
+          additional_fields = additional_fields_seen additional_fields.entries;
+        } }
     {
         ArrayMetadataV3 {
             additional_fields,
@@ -107,7 +112,9 @@ impl ArrayMetadataV3 {
 
     /// The same document with this chunk key encoding.
     pub fn with_chunk_key_encoding(self, chunk_key_encoding: MetadataV3) -> Self
-        ensures { array_seen result ≡ record (array_seen self) { chunk_key_encoding = extension_seen chunk_key_encoding } }
+        ensures { array_seen result ≡ record (array_seen self) {
+          chunk_key_encoding = extension_seen chunk_key_encoding;
+        } }
     {
         ArrayMetadataV3 {
             chunk_key_encoding,
@@ -117,7 +124,9 @@ impl ArrayMetadataV3 {
 
     /// The same document with these dimension names.
     pub fn with_dimension_names(self, dimension_names: Option<Vec<DimensionName>>) -> Self
-        ensures { array_seen result ≡ record (array_seen self) { dimension_names = option_map (λ v. dimension_names_seen v.items) dimension_names } }
+        ensures { array_seen result ≡ record (array_seen self) {
+          dimension_names = option_map (λ v. dimension_names_seen v.items) dimension_names;
+        } }
     {
         ArrayMetadataV3 {
             dimension_names,
@@ -127,7 +136,9 @@ impl ArrayMetadataV3 {
 
     /// The same document with these storage transformers.
     pub fn with_storage_transformers(self, storage_transformers: Vec<MetadataV3>) -> Self
-        ensures { array_seen result ≡ record (array_seen self) { storage_transformers = extensions_seen storage_transformers.items } }
+        ensures { array_seen result ≡ record (array_seen self) {
+          storage_transformers = extensions_seen storage_transformers.items;
+        } }
     {
         ArrayMetadataV3 {
             storage_transformers,
@@ -172,7 +183,8 @@ impl ArrayMetadataV3 {
 
     /// The document as text, a line for each member.
     pub fn to_string_pretty(&self, alloc: Global) -> Result<String, AllocError>
-        ensures { IfOk result (λ text. depth (array_data (array_seen self.now)) ≤ max_depth → read (string_bytes text) ≡ Some (array_data (array_seen self.now))) }
+        ensures { IfOk result (λ text. depth (array_data (array_seen self.now)) ≤ max_depth
+            → read (string_bytes text) ≡ Some (array_data (array_seen self.now))) }
     {
         let value = self.to_value(alloc)?;
         let text = value.to_string_pretty(alloc)?;

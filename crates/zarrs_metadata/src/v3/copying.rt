@@ -1,7 +1,6 @@
 //! Copies of arrays and of their parts.
 
 ghost use Rattle.std.specs.Prelude.{◌≡◌, IfOk};
-ghost use Rattle.zarrs_metadata_ext.specs.MetadataV3.{extensions_seen};
 ghost use Rattle.zarrs_metadata.specs.ArrayMetadata.{array_seen, required_part};
 
 use crate::v3::array::ArrayMetadataV3;
@@ -10,7 +9,7 @@ use crate::v3::optional_parts::{copy_optional_parts, with_optional_parts};
 use serde_json::Map;
 use std::alloc::{AllocError, Global};
 use std::collections::BTreeMap;
-use zarrs_metadata_ext::MetadataV3;
+use zarrs_metadata_parts::copying::copy_extensions;
 
 // A copy of the array.
 pub(crate) fn copy_array(
@@ -47,18 +46,4 @@ fn copy_required_fields(
         dimension_names: None,
         additional_fields: BTreeMap::new(alloc),
     })
-}
-
-// A copy of a list of extensions.
-pub(crate) fn copy_extensions(
-    alloc: Global,
-    extensions: &[MetadataV3],
-) -> Result<Vec<MetadataV3>, AllocError>
-    ensures { IfOk result (λ copies. extensions_seen copies.items ≡ extensions_seen extensions.now) }
-{
-    let mut copies = Vec::with_capacity(alloc, extensions.len())?;
-    for extension in extensions {
-        copies.push(extension.try_clone(alloc)?)?;
-    }
-    Ok(copies)
 }

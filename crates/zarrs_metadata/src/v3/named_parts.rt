@@ -2,16 +2,16 @@
 
 ghost use Rattle.std.specs.Prelude.{◌≡◌, IfOk};
 ghost use Rattle.serde_json.specs.View.{members_view};
-ghost use Rattle.zarrs_metadata_ext.specs.MetadataV3.{extension_seen, extension_of};
-ghost use Rattle.zarrs_metadata_ext.specs.Reading.{Reads};
+ghost use Rattle.zarrs_metadata_parts.specs.MetadataV3.{extension_seen, extension_of};
+ghost use Rattle.zarrs_metadata_parts.specs.Reading.{Reads};
 ghost use Rattle.zarrs_metadata.specs.ArrayMetadata.{array_seen, named_seen, named_fields, read_under};
 
 use crate::v3::array::ArrayMetadataV3;
 use serde_json::{Map, Value};
 use std::alloc::{AllocError, Global};
-use zarrs_metadata_ext::json::required;
-use zarrs_metadata_ext::reading::read_extension;
-use zarrs_metadata_ext::{MetadataError, MetadataV3};
+use zarrs_metadata_parts::json::required;
+use zarrs_metadata_parts::reading::read_extension;
+use zarrs_metadata_parts::{MetadataError, MetadataV3};
 
 /// The parts of an array that are one extension each.
 #[derive(Drop)]
@@ -30,7 +30,8 @@ fn required_extension(
     members: &Map<String, Value>,
     name: &str,
 ) -> Result<MetadataV3, MetadataError>
-    ensures { Reads extension_seen result (read_under name.now extension_of (members_view members.now.entries)) }
+    ensures { Reads extension_seen result
+        (read_under name.now extension_of (members_view members.now.entries)) }
 {
     read_extension(alloc, required(members, name)?)
 }

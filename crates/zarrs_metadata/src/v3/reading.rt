@@ -1,11 +1,11 @@
 //! Readers of version 3 documents. Floats were looked for before.
 
-ghost use Rattle.std.specs.Prelude.{◌≡◌, codes};
+ghost use Rattle.std.specs.Prelude.{codes};
 ghost use Rattle.serde_json.specs.Find.{get_member};
 ghost use Rattle.serde_json.specs.View.{view, members_view};
-ghost use Rattle.zarrs_metadata_ext.specs.FillValueMetadata.{fill_view};
-ghost use Rattle.zarrs_metadata_ext.specs.Reading.{Reads, whole_numbers};
-ghost use Rattle.zarrs_metadata_ext.specs.MetadataV3.{extensions_of, extensions_seen};
+ghost use Rattle.zarrs_metadata_parts.specs.FillValueMetadata.{fill_view};
+ghost use Rattle.zarrs_metadata_parts.specs.Reading.{Reads, whole_numbers};
+ghost use Rattle.zarrs_metadata_parts.specs.MetadataV3.{extensions_of, extensions_seen};
 ghost use Rattle.zarrs_metadata.specs.ArrayMetadata.{array_seen, array_of, array_members, is_array, required_fields, with_optional_fields, read_under};
 
 use crate::v3::array::ArrayMetadataV3;
@@ -14,11 +14,11 @@ use crate::v3::optional_parts::{read_optional_parts, with_optional_parts};
 use serde_json::{Map, Value};
 use std::alloc::Global;
 use std::collections::BTreeMap;
-use zarrs_metadata_ext::json::{
+use zarrs_metadata_parts::json::{
     expect_number, expect_text, read_object, read_whole_numbers, required,
 };
-use zarrs_metadata_ext::reading::{fill_from_value, read_extensions};
-use zarrs_metadata_ext::{FillValueMetadataV3, MetadataError, MetadataV3};
+use zarrs_metadata_parts::reading::{fill_from_value, read_extensions};
+use zarrs_metadata_parts::{FillValueMetadataV3, MetadataError, MetadataV3};
 
 #[tactic(auto, unfolding(crate::specs::ArrayMetadata::is_array))]
 fn expect_array(members: &Map<String, Value>) -> Result<(), MetadataError>
@@ -29,7 +29,8 @@ fn expect_array(members: &Map<String, Value>) -> Result<(), MetadataError>
 }
 
 fn required_shape(alloc: Global, members: &Map<String, Value>) -> Result<Vec<u64>, MetadataError>
-    ensures { Reads (λ v. v.items) result (read_under (codes "shape") whole_numbers (members_view members.now.entries)) }
+    ensures { Reads (λ v. v.items) result
+        (read_under (codes "shape") whole_numbers (members_view members.now.entries)) }
 {
     read_whole_numbers(alloc, required(members, "shape")?)
 }
@@ -38,7 +39,8 @@ fn required_fill_value(
     alloc: Global,
     members: &Map<String, Value>,
 ) -> Result<FillValueMetadataV3, MetadataError>
-    ensures { Reads fill_view result (get_member (codes "fill_value") (members_view members.now.entries)) }
+    ensures { Reads fill_view result (get_member (codes "fill_value")
+        (members_view members.now.entries)) }
 {
     let fill_value = fill_from_value(alloc, required(members, "fill_value")?)?;
     Ok(fill_value)
@@ -48,7 +50,8 @@ fn required_codecs(
     alloc: Global,
     members: &Map<String, Value>,
 ) -> Result<Vec<MetadataV3>, MetadataError>
-    ensures { Reads (λ v. extensions_seen v.items) result (read_under (codes "codecs") extensions_of (members_view members.now.entries)) }
+    ensures { Reads (λ v. extensions_seen v.items) result
+        (read_under (codes "codecs") extensions_of (members_view members.now.entries)) }
 {
     read_extensions(alloc, required(members, "codecs")?)
 }
@@ -84,7 +87,8 @@ fn read_optional_fields(
     members: &Map<String, Value>,
     metadata: ArrayMetadataV3,
 ) -> Result<ArrayMetadataV3, MetadataError>
-    ensures { Reads array_seen result (with_optional_fields (members_view members.now.entries) (array_seen metadata)) }
+    ensures { Reads array_seen result (with_optional_fields (members_view members.now.entries)
+        (array_seen metadata)) }
 {
     let optional = read_optional_parts(alloc, members)?;
     Ok(with_optional_parts(metadata, optional))

@@ -1,43 +1,28 @@
 //! Version 3 documents as values.
 
-ghost use Rattle.std.specs.Prelude.{◌≡◌, map, codes, string_bytes, option_map, IfOk, OnOk};
-ghost use Rattle.serde_json.specs.Data.{array, number, string, unsigned, put};
-ghost use Rattle.serde_json.specs.View.{view, items_of, items_view, members_view};
-ghost use Rattle.zarrs_metadata_ext.specs.MetadataV3.{extension_seen, extension_data};
-ghost use Rattle.zarrs_metadata.specs.ArrayMetadata.{array_seen, array_data, dimension_name_data, dimension_names_seen, put_names, optional_data, required_data, parts_data};
+ghost use Rattle.std.specs.Prelude.{◌≡◌, codes, option_map, IfOk, OnOk};
+ghost use Rattle.serde_json.specs.Data.{number, string, unsigned, put};
+ghost use Rattle.serde_json.specs.View.{view, members_view};
+ghost use Rattle.zarrs_metadata_parts.specs.DimensionNames.{dimension_names_seen};
+ghost use Rattle.zarrs_metadata_parts.specs.MetadataV3.{extension_seen, extension_data};
+ghost use Rattle.zarrs_metadata.specs.ArrayMetadata.{array_seen, array_data, put_names, optional_data, required_data, parts_data};
 
 use crate::v3::array::ArrayMetadataV3;
 use serde_json::{Map, Value};
 use std::alloc::{AllocError, Global};
-use zarrs_metadata_ext::MetadataV3;
-use zarrs_metadata_ext::writing::{extension_items, numbers_value, put_list, put_object};
-use zarrs_metadata_group::additional_fields::{NodeKind, put_fields};
-
-fn dimension_name_value(alloc: Global, name: &Option<String>) -> Result<Value, AllocError>
-    ensures { IfOk result (λ v. view v ≡ dimension_name_data (option_map string_bytes name.now)) }
-{
-    match name {
-        None => Ok(Value::Null),
-        Some(name) => Value::try_from_str(alloc, name.as_str()),
-    }
-}
-
-fn dimension_names_value(alloc: Global, names: &[Option<String>]) -> Result<Value, AllocError>
-    ensures { IfOk result (λ v. view v ≡ array (items_of (map dimension_name_data (dimension_names_seen names.now)))) }
-{
-    let mut items = Vec::with_capacity(alloc, names.len())?;
-    for name in names {
-        items.push(dimension_name_value(alloc, name)?)?;
-    }
-    Ok(Value::Array(items))
-}
+use zarrs_metadata_parts::MetadataV3;
+use zarrs_metadata_parts::additional_fields::{NodeKind, put_fields};
+use zarrs_metadata_parts::dimension_names::dimension_names_value;
+use zarrs_metadata_parts::writing::{extension_items, numbers_value, put_list, put_object};
 
 fn put_names(
     alloc: Global,
     members: &mut Map<String, Value>,
     names: &Option<Vec<Option<String>>>,
 ) -> Result<(), AllocError>
-    ensures { OnOk result (members_view members.new.entries ≡ put_names (option_map (λ v. dimension_names_seen v.items) names.now) (members_view members.old.entries)) }
+    ensures { OnOk result (members_view members.new.entries
+        ≡ put_names (option_map (λ v. dimension_names_seen v.items) names.now)
+        (members_view members.old.entries)) }
 {
     match names {
         None => Ok(()),
@@ -56,7 +41,8 @@ fn put_optional(
     members: &mut Map<String, Value>,
     metadata: &ArrayMetadataV3,
 ) -> Result<(), AllocError>
-    ensures { OnOk result (members_view members.new.entries ≡ optional_data (array_seen metadata.now) (members_view members.old.entries)) }
+    ensures { OnOk result (members_view members.new.entries
+        ≡ optional_data (array_seen metadata.now) (members_view members.old.entries)) }
 {
     put_names(alloc, members, &metadata.dimension_names)?;
     put_list(
@@ -75,7 +61,9 @@ fn put_extension(
     key: &str,
     extension: &MetadataV3,
 ) -> Result<(), AllocError>
-    ensures { OnOk result (members_view members.new.entries ≡ put key.now (extension_data (extension_seen extension.now)) (members_view members.old.entries)) }
+    ensures { OnOk result (members_view members.new.entries
+        ≡ put key.now (extension_data (extension_seen extension.now))
+        (members_view members.old.entries)) }
 {
     serde_json::put(members, alloc, key, extension.to_value(alloc)?)
 }
@@ -86,7 +74,8 @@ fn put_parts(
     members: &mut Map<String, Value>,
     metadata: &ArrayMetadataV3,
 ) -> Result<(), AllocError>
-    ensures { OnOk result (members_view members.new.entries ≡ parts_data (array_seen metadata.now) (members_view members.old.entries)) }
+    ensures { OnOk result (members_view members.new.entries
+        ≡ parts_data (array_seen metadata.now) (members_view members.old.entries)) }
 {
     let codecs = Value::Array(extension_items(alloc, &metadata.codecs)?);
     serde_json::put(members, alloc, "codecs", codecs)?;
@@ -102,7 +91,9 @@ fn put_parts(
 
 // Puts the keys of which every array has the same.
 fn put_kind(alloc: Global, members: &mut Map<String, Value>) -> Result<(), AllocError>
-    ensures { OnOk result (members_view members.new.entries ≡ put (codes "zarr_format") (number (unsigned 3)) (put (codes "node_type") (string (codes "array")) (members_view members.old.entries))) }
+    ensures { OnOk result (members_view members.new.entries
+        ≡ put (codes "zarr_format") (number (unsigned 3))
+        (put (codes "node_type") (string (codes "array")) (members_view members.old.entries))) }
 {
     let kind = Value::try_from_str(alloc, "array")?;
     serde_json::put(members, alloc, "node_type", kind)?;
@@ -115,7 +106,8 @@ fn put_required(
     members: &mut Map<String, Value>,
     metadata: &ArrayMetadataV3,
 ) -> Result<(), AllocError>
-    ensures { OnOk result (members_view members.new.entries ≡ required_data (array_seen metadata.now) (members_view members.old.entries)) }
+    ensures { OnOk result (members_view members.new.entries
+        ≡ required_data (array_seen metadata.now) (members_view members.old.entries)) }
 {
     put_parts(alloc, members, metadata)?;
     let fill_value = metadata.fill_value.to_value(alloc)?;

@@ -1,5 +1,5 @@
 use Rattle.std.proofs.Common.{◌++◌, ap, ap₂, ◌∙◌}
-use Rattle.zarr_model.specs.Region.{tuple_at}
+use Rattle.zarr_model.specs.Prelude.{tuple_at}
 use Rattle.zarrs_array_subset.specs.Boxes.{region_of}
 use Rattle.zarr_array.proofs.ChunkLaws.{parts_box}
 use Rattle.zarr_array.proofs.chunk.indices_at.Goals as goal

@@ -2,7 +2,7 @@ use Rattle.std.proofs.Common.{map, arith}
 use Rattle.std.proofs.lemmas.List.{map-append}
 use Rattle.zarrs_plugin.specs.Registry.{registry_of}
 use Rattle.zarr_basics.specs.BytesCodec.{named_order}
-use Rattle.zarr_array.specs.OpenArray.{open_refusal_of}
+use Rattle.zarr_array.specs.OpenError.{open_refusal_of}
 use Rattle.zarr_array.proofs.OpeningLaws.{codecs_push, codecs_fail}
 use Rattle.zarr_array.proofs.extensions.codecs_by.Goals as goal
 

@@ -1,8 +1,8 @@
 use Rattle.std.proofs.Common.{◌≡◌, map, take, Ok}
 use Rattle.zarrs_plugin.specs.Registry.{registry_of}
-use Rattle.zarrs_metadata_ext.specs.MetadataV3.{extensions_seen}
+use Rattle.zarrs_metadata_parts.specs.MetadataV3.{extensions_seen}
 use Rattle.zarr_basics.specs.BytesCodec.{named_order}
-use Rattle.zarr_array.specs.Registered.{codecs_by}
+use Rattle.zarr_array.specs.Opening.{codecs_by}
 use Rattle.zarr_array.proofs.extensions.codecs_by.Given as goal
 
 abbrev pub invariant-loop-extension : goal.invariant-loop-extension

@@ -1,6 +1,6 @@
 use Rattle.std.proofs.Common.{◌≡◌}
 use Rattle.zarrs_metadata.specs.AdditionalFields.{additional_fields_seen}
-use Rattle.zarr_array.specs.Registered.{has_required_field}
+use Rattle.zarr_array.specs.Opening.{has_required_field}
 use Rattle.zarr_array.proofs.extensions.has_required_field.Given as goal
 
 abbrev pub invariant-loop-field : goal.invariant-loop-field

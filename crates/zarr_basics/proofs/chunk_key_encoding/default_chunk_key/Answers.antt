@@ -1,8 +1,8 @@
 use Rattle.std.proofs.Common.{◌≡◌, ◌++◌, ◌∷◌, codes, decimal, flat_map, take, sym, ap, ◌∙◌, arith}
 use Rattle.std.proofs.lemmas.Bool.{true≢false}
 use Rattle.std.proofs.lemmas.List.{take_all}
-use Rattle.zarr_model.specs.Key.{is_store_key}
-use Rattle.zarrs_metadata_ext.specs.Names.{separator_code}
+use Rattle.zarr_model.specs.Prelude.{is_store_key}
+use Rattle.zarrs_metadata_parts.specs.Names.{separator_code}
 use Rattle.zarr_basics.proofs.ChunkKeyLaws.{chunk_key_text, are_indices}
 use Rattle.zarr_basics.proofs.chunk_key_encoding.default_chunk_key.Goals as goal
 

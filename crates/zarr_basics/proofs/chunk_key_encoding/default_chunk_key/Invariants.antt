@@ -1,5 +1,5 @@
 use Rattle.std.proofs.Common.{◌≡◌, ◌++◌, ◌∷◌, codes, decimal, flat_map, take, string_bytes}
-use Rattle.zarrs_metadata_ext.specs.Names.{separator_code}
+use Rattle.zarrs_metadata_parts.specs.Names.{separator_code}
 use Rattle.zarr_basics.proofs.chunk_key_encoding.default_chunk_key.Given as goal
 
 abbrev pub invariant-loop-index : goal.invariant-loop-index

@@ -1,9 +1,10 @@
 use Rattle.std.proofs.Common.{map, ap, ◌∙◌, subst, IfErr}
-use Rattle.zarr_model.specs.Store.{with_keys}
+use Rattle.zarr_model.specs.Prelude.{with_keys}
 use Rattle.zarr_array.specs.OpenArray.{described}
 use Rattle.zarr_array.specs.Command.{command_of}
 use Rattle.zarr_array.specs.Options.{options_of}
 use Rattle.zarr_cli_lines.specs.Parts.{entry_view}
+use Rattle.zarr_cli.specs.Input.{with_entries}
 use Rattle.zarr_cli.specs.Steps.{IsRunFault}
 use Rattle.zarr_cli.proofs.RunLemmas.{earlier_fault}
 use Rattle.zarr_cli.proofs.run.run_input.Goals as goal
@@ -11,9 +12,8 @@ use Rattle.zarr_cli.proofs.run.run_input.Goals as goal
 pub returns-in-Ok-clause-fault : goal.returns-in-Ok-clause-fault
 returns-in-Ok-clause-fault g c =
     earlier_fault (described c.args.parsed.now.array) (options_of c.args.settings.now.options) (map command_of c.args.parsed.now.commands.items)
-    (g.S.Store.content c.set_entries.new.store) (with_keys (map entry_view c.args.parsed.now.entries.items) (g.S.Store.content c.args.store.now))
-    (g.S.Store.fault_count c.args.store.now) (g.S.Store.fault_count c.set_entries.new.store) (g.S.Store.fault_count c.run_all.new.store)
-    (c.in-Ok.ensures.set ∙ ap (λ entries. with_keys (map entry_view entries) (g.S.Store.content c.args.store.now)) c.deref.ensures.value)
-    c.in-Ok.ensures.cause.later c.run_all.result
-    (subst (λ commands. IfErr c.run_all.result (λ status. IsRunFault (described c.args.parsed.now.array) (options_of c.args.settings.now.options) (map command_of commands)
-    (g.S.Store.content c.set_entries.new.store) (g.S.Store.fault_count c.set_entries.new.store) (g.S.Store.fault_count c.run_all.new.store) status)) c.deref-in-Ok.ensures.value c.run_all.ensures.fault)
+    (with_entries (map entry_view c.args.parsed.now.entries.items) (g.S.Store.shown c.args.store.now)) (g.S.Store.shown c.set_entries.new.store) (g.S.Store.shown c.text_of_all.new.store)
+    (c.in-Ok.ensures.set ∙ ap (λ entries. with_keys (map entry_view entries) (g.S.Store.shown c.args.store.now).content) c.deref.ensures.value)
+    c.in-Ok.ensures.cause.later c.text_of_all.result
+    (subst (λ commands. IfErr c.text_of_all.result (λ status. IsRunFault (described c.args.parsed.now.array) (options_of c.args.settings.now.options) (map command_of commands)
+    (g.S.Store.shown c.set_entries.new.store) (g.S.Store.shown c.text_of_all.new.store) status)) c.deref-in-Ok.ensures.value c.text_of_all.ensures.fault)

@@ -18,13 +18,13 @@ pieces-preserved g c =
     let done : ℕ = c.pieces.done in
     let taken : ℕ = c.in-Ok.taken in
     let rest : take (length text - done) (drop done text) ≡ drop done text = take_all (length text - done) (drop done text) (omega (arith, length-drop done text)) in
-    let next : g.W.Sink.given c.write.new.self ≡ option_map (λ bytes. bytes ++ take taken (take (length text - done) (drop done text))) (g.W.Sink.given c.pieces.sink) = c.in-Ok.ensures.next in
+    let next : (g.W.Sink.shown c.write.new.self).bytes ≡ option_map (λ bytes. bytes ++ take taken (take (length text - done) (drop done text))) (g.W.Sink.shown c.pieces.sink).bytes = c.in-Ok.ensures.next in
     let few : taken ≤ length (drop done text) = subst (λ piece. taken ≤ length piece) rest c.in-Ok.ensures.within in
-    let later : g.W.Sink.fault_count c.pieces.sink ≤ g.W.Sink.fault_count c.write.new.self = c.write.ensures.cause.later in
+    let later : (g.W.Sink.shown c.pieces.sink).faults ≤ (g.W.Sink.shown c.write.new.self).faults = c.write.ensures.cause.later in
     record {
       within = omega (arith, length-drop done text);
-      given = subst (λ bytes. IsGiven bytes (g.W.Sink.given c.args.sink.now) (g.W.Sink.given c.write.new.self)) (sym (take-add done taken text))
-          (given_more (take done text) (take taken (drop done text)) (g.W.Sink.given c.args.sink.now) (g.W.Sink.given c.pieces.sink) (g.W.Sink.given c.write.new.self) c.pieces.invariant.given
-          (subst (λ piece. g.W.Sink.given c.write.new.self ≡ option_map (λ bytes. bytes ++ take taken piece) (g.W.Sink.given c.pieces.sink)) rest next));
+      given = subst (λ bytes. IsGiven bytes (g.W.Sink.shown c.args.sink.now).bytes (g.W.Sink.shown c.write.new.self).bytes) (sym (take-add done taken text))
+          (given_more (take done text) (take taken (drop done text)) (g.W.Sink.shown c.args.sink.now).bytes (g.W.Sink.shown c.pieces.sink).bytes (g.W.Sink.shown c.write.new.self).bytes c.pieces.invariant.given
+          (subst (λ piece. (g.W.Sink.shown c.write.new.self).bytes ≡ option_map (λ bytes. bytes ++ take taken piece) (g.W.Sink.shown c.pieces.sink).bytes) rest next));
       later = le_trans c.pieces.invariant.later later;
     }

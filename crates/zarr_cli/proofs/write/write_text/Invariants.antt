@@ -5,8 +5,8 @@ use Rattle.zarr_cli.proofs.write.write_text.Given as goal
 abbrev pub invariant-pieces : goal.invariant-pieces
 invariant-pieces g l = record {
   within : l.done ≤ length l.text;
-  given : IsGiven (take l.done l.text) (g.W.Sink.given l.fn.sink) (g.W.Sink.given l.sink);
-  later : g.W.Sink.fault_count l.fn.sink ≤ g.W.Sink.fault_count l.sink;
+  given : IsGiven (take l.done l.text) (g.W.Sink.shown l.fn.sink).bytes (g.W.Sink.shown l.sink).bytes;
+  later : (g.W.Sink.shown l.fn.sink).faults ≤ (g.W.Sink.shown l.sink).faults;
 }
 
 abbrev pub decreases-pieces : goal.decreases-pieces

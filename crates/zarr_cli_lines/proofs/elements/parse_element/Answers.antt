@@ -2,7 +2,7 @@ use Rattle.std.proofs.Common.{◌≡◌, Some, None, sym, ap, ◌∙◌, lit<, o
 use Rattle.std.specs.Result.{result_ok}
 use Rattle.std.proofs.lemmas.Str.Pattern.{strip_prefix_char}
 use Rattle.hex.specs.Hex.{decode_sized}
-use Rattle.zarr_model.specs.Element.{of_bytes}
+use Rattle.zarr_model.specs.Prelude.{of_bytes}
 use Rattle.zarr_cli_lines.specs.Text.{fixed_element}
 use Rattle.zarr_cli_lines.proofs.SplitLemmas.{hex_of-no_h}
 use Rattle.zarr_cli_lines.proofs.ElementLemmas.{element_of-digits}

@@ -1,6 +1,6 @@
 use Rattle.std.proofs.Common.{◌≡◌, ◌+◌, ◌++◌, length, map, option_map}
 use Rattle.std.specs.Option.{option_map_or}
-use Rattle.zarr_model.specs.Element.{fixed}
+use Rattle.zarr_model.specs.Prelude.{fixed}
 use Rattle.zarr_array.specs.Chunk.{byte_elements}
 use Rattle.zarr_cli_lines.specs.Text.{all_some, element_of}
 use Rattle.zarr_cli_lines.specs.Parts.{words_left}

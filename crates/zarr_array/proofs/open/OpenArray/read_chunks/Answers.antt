@@ -1,8 +1,5 @@
 use Rattle.std.proofs.Common.{◌≡◌, ◌<◌, length, arith, ap, ◌∙◌, le_trans, slice_get, subst}
-use Rattle.zarr_model.specs.Region.{count, tuples, tuple_at}
-use Rattle.zarr_model.specs.Grid.{chunks_meeting}
-use Rattle.zarr_model.specs.Store.{box_content}
-use Rattle.zarr_model.specs.Command.{layout}
+use Rattle.zarr_model.specs.Prelude.{count, tuples, tuple_at, chunks_meeting, box_content, layout}
 use Rattle.zarr_model.proofs.RegionLaws.{length-tuples}
 use Rattle.zarrs_array_subset.specs.ArraySubset.{region}
 use Rattle.zarr_array.specs.Chunk.{byte_elements}
@@ -29,10 +26,8 @@ pub returns-in-Err-clause-failed : goal.returns-in-Err-clause-failed
 returns-in-Err-clause-failed g c =
     let below : c.loop-number.number < count (region c.args.chunks.now) = omega arith in
     let here = met_at (described c.args.self.now).grid (region c.args.subset.now) (region c.args.chunks.now) c.loop-number.number c.requires.listed below in
-    stops_reading (described c.args.self.now) (options_of c.args.options.now) (region c.args.subset.now) (g.S.Store.content c.args.store.now) (g.S.Store.content c.loop-number.store)
-    (g.S.Store.ask_count c.args.store.now) (g.S.Store.ask_count c.loop-number.store) (g.S.Store.ask_count c.read_numbered.new.store)
-    (g.S.Store.fault_count c.args.store.now) (g.S.Store.fault_count c.loop-number.store) (g.S.Store.fault_count c.read_numbered.new.store)
-    c.loop-number.number (tuple_at (region c.args.chunks.now) c.loop-number.number) c.in-Err.kind here.0
+    stops_reading (described c.args.self.now) (options_of c.args.options.now) (region c.args.subset.now) c.loop-number.number (g.S.Store.shown c.args.store.now) (g.S.Store.shown c.loop-number.store)
+    (g.S.Store.shown c.read_numbered.new.store) (tuple_at (region c.args.chunks.now) c.loop-number.number) c.in-Err.kind here.0
     (omega (arith, count_met (described c.args.self.now).grid (region c.args.subset.now) (region c.args.chunks.now) c.requires.listed))
     c.loop-number.invariant.same c.loop-number.invariant.asks c.in-Err.ensures.asks_err c.loop-number.invariant.later c.in-Err.ensures.failed
 
@@ -40,14 +35,14 @@ pub loop-number-preserved : goal.loop-number-preserved
 loop-number-preserved g c = record {
   as_long = c.read_numbered.ensures.kept_length ∙ c.loop-number.invariant.as_long;
   same = λ key. c.read_numbered.ensures.same key ∙ c.loop-number.invariant.same key;
-  asks = counted_more (g.S.Store.ask_count c.args.store.now) (g.S.Store.ask_count c.loop-number.store) (g.S.Store.ask_count c.read_numbered.new.store) c.loop-number.number 1
+  asks = counted_more (g.S.Store.shown c.args.store.now).asks (g.S.Store.shown c.loop-number.store).asks (g.S.Store.shown c.read_numbered.new.store).asks c.loop-number.number 1
       c.loop-number.invariant.asks c.in_default.ensures.asks;
   later = le_trans c.loop-number.invariant.later c.read_numbered.ensures.later;
   decode =
       let below : c.loop-number.number < count (region c.args.chunks.now) = omega arith in
       let here = met_at (described c.args.self.now).grid (region c.args.subset.now) (region c.args.chunks.now) c.loop-number.number c.requires.listed below in
       decode-step (layout (described c.args.self.now) (options_of c.args.options.now)) (chunks_meeting (described c.args.self.now).grid (region c.args.subset.now))
-      (g.S.Store.content c.args.store.now) (g.S.Store.content c.loop-number.store) c.loop-number.number (tuple_at (region c.args.chunks.now) c.loop-number.number) here.0
+      (g.S.Store.shown c.args.store.now).content (g.S.Store.shown c.loop-number.store).content c.loop-number.number (tuple_at (region c.args.chunks.now) c.loop-number.number) here.0
       c.loop-number.invariant.same c.loop-number.invariant.decode c.in_default.ensures.decodes;
   read = λ array meant.
       let below : c.loop-number.number < count (region c.args.chunks.now) = omega arith in
@@ -77,4 +72,4 @@ pub returns-clause-decodes : goal.returns-clause-decodes
 returns-clause-decodes g c =
     let met = count_met (described c.args.self.now).grid (region c.args.subset.now) (region c.args.chunks.now) c.requires.listed in
     decode-all (layout (described c.args.self.now) (options_of c.args.options.now)) (chunks_meeting (described c.args.self.now).grid (region c.args.subset.now))
-    (g.S.Store.content c.args.store.now) c.loop-number.number (omega (arith, met)) c.loop-number.invariant.decode
+    (g.S.Store.shown c.args.store.now).content c.loop-number.number (omega (arith, met)) c.loop-number.invariant.decode

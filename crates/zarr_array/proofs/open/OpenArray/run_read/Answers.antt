@@ -1,21 +1,24 @@
-use Rattle.std.proofs.Common.{rules}
+use Rattle.std.proofs.Common.{rules, [], ◌∷◌}
 use Rattle.std.proofs.lemmas.Result.{err_from_is_err_and}
+use Rattle.zarr_model.specs.Prelude.{read}
 use Rattle.zarrs_array_subset.specs.ArraySubset.{region}
+use Rattle.zarr_array.specs.OpenArray.{described}
 use Rattle.zarr_array.specs.Options.{options_of}
+use Rattle.zarr_array.proofs.ReadSteps.{described_covers, described_sound}
+use Rattle.zarr_array.proofs.RunsLaws.{ran_gives, failed_gives}
 use Rattle.zarr_array.proofs.ReadCommand.{read-fails}
 use Rattle.zarr_array.proofs.ByteCommands.{bytes-read}
 use Rattle.zarr_array.proofs.open.OpenArray.run_read.Goals as goal
 
-pub returns-in_err-elements-clause-failed : goal.returns-in_err-elements-clause-failed
-returns-in_err-elements-clause-failed g c =
+pub returns-in_err-elements-clause-runs : goal.returns-in_err-elements-clause-runs
+returns-in_err-elements-clause-runs g c =
     let p = err_from_is_err_and c.from_residual.result c.from_residual.ensures.1 in
-    rw (p.1, p.2) (read-fails c.args.self.now (options_of c.args.options.now) (region c.args.subset.now) (g.S.Store.content c.args.store.now) (g.S.Store.content c.read_elements.new.store)
-    (g.S.Store.ask_count c.args.store.now) (g.S.Store.ask_count c.read_elements.new.store) (g.S.Store.fault_count c.args.store.now) (g.S.Store.fault_count c.read_elements.new.store)
-    _ _ (search rules) c.read_elements.ensures.same c.in_err-elements.ensures.failed)
+    rw (p.1, p.2) (failed_gives (described c.args.self.now) (options_of c.args.options.now) (described_covers c.args.self.now) (described_sound c.args.self.now (options_of c.args.options.now)) (read (region c.args.subset.now) ∷ []) (g.S.Store.shown c.args.store.now) (g.S.Store.shown c.read_elements.new.store) _ _
+    (read-fails c.args.self.now (options_of c.args.options.now) (region c.args.subset.now) _ (g.S.Store.shown c.args.store.now) (g.S.Store.shown c.read_elements.new.store)
+    _ (search rules) c.read_elements.ensures.same c.in_err-elements.ensures.failed)
+    (search rules) (search rules) c.read_elements.ensures.later)
 
-pub returns-clause-ran : goal.returns-clause-ran
-returns-clause-ran g c =
-    bytes-read c.args.self.now (options_of c.args.options.now) (region c.args.subset.now) (g.S.Store.content c.args.store.now) (g.S.Store.content c.read_elements.new.store)
-    (g.S.Store.ask_count c.args.store.now) (g.S.Store.ask_count c.read_elements.new.store) (g.S.Store.taken_count c.args.store.now) (g.S.Store.taken_count c.read_elements.new.store)
-    (g.S.Store.fault_count c.args.store.now) (g.S.Store.fault_count c.read_elements.new.store) c.in_ok-elements.elements.items
-    (search rules) c.read_elements.ensures.same c.in_ok-elements.ensures.decodes c.in_ok-elements.ensures.elements c.in_ok-elements.ensures.asks c.read_elements.ensures.later
+pub returns-clause-runs : goal.returns-clause-runs
+returns-clause-runs g c = ran_gives (described c.args.self.now) (options_of c.args.options.now) (described_covers c.args.self.now) (described_sound c.args.self.now (options_of c.args.options.now)) (read (region c.args.subset.now) ∷ []) (g.S.Store.shown c.args.store.now) (g.S.Store.shown c.read_elements.new.store) _
+    (bytes-read c.args.self.now (options_of c.args.options.now) (region c.args.subset.now) (g.S.Store.shown c.args.store.now) (g.S.Store.shown c.read_elements.new.store) c.in_ok-elements.elements.items
+    (search rules) c.read_elements.ensures.same c.in_ok-elements.ensures.decodes c.in_ok-elements.ensures.elements c.in_ok-elements.ensures.asks c.read_elements.ensures.later)

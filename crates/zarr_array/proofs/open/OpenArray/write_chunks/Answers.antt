@@ -1,7 +1,5 @@
 use Rattle.std.proofs.Common.{◌≡◌, ◌<◌, length, arith, subst}
-use Rattle.zarr_model.specs.Region.{count, tuple_at}
-use Rattle.zarr_model.specs.Array.{written}
-use Rattle.zarr_model.specs.Grid.{chunks_meeting}
+use Rattle.zarr_model.specs.Prelude.{count, tuple_at, written, chunks_meeting}
 use Rattle.zarrs_array_subset.specs.ArraySubset.{region}
 use Rattle.zarr_array.specs.Chunk.{byte_elements}
 use Rattle.zarr_array.specs.OpenArray.{described}
@@ -27,7 +25,7 @@ pub loop-number-init : goal.loop-number-init
 loop-number-init g c =
     changed-start (described c.args.self.now) (options_of c.args.options.now) (described_sound c.args.self.now (options_of c.args.options.now))
     (written (region c.args.subset.now) (byte_elements c.args.elements.now)) (chunks_meeting (described c.args.self.now).grid (region c.args.subset.now)) (met-chunks (described c.args.self.now).grid (region c.args.subset.now))
-    (g.S.Store.content c.args.store.now) (g.S.Store.ask_count c.args.store.now) (g.S.Store.fault_count c.args.store.now) (g.met.S.Store.counts_fit c.args.store.now).1
+    (g.S.Store.shown c.args.store.now) (g.met.S.Store.counts_fit c.args.store.now).1
 
 pub loop-number-preserved : goal.loop-number-preserved
 loop-number-preserved g c =
@@ -36,9 +34,7 @@ loop-number-preserved g c =
     changed-step (described c.args.self.now) (options_of c.args.options.now) (described_sound c.args.self.now (options_of c.args.options.now))
     (written (region c.args.subset.now) (byte_elements c.args.elements.now)) (chunks_meeting (described c.args.self.now).grid (region c.args.subset.now)) (met-chunks (described c.args.self.now).grid (region c.args.subset.now))
     (met-once (described c.args.self.now) (region c.args.subset.now)) c.loop-number.number
-    (g.S.Store.content c.args.store.now) (g.S.Store.content c.loop-number.store) (g.S.Store.content c.write_numbered.new.store)
-    (g.S.Store.ask_count c.args.store.now) (g.S.Store.ask_count c.loop-number.store) (g.S.Store.ask_count c.write_numbered.new.store)
-    (g.S.Store.fault_count c.args.store.now) (g.S.Store.fault_count c.loop-number.store) (g.S.Store.fault_count c.write_numbered.new.store)
+    (g.S.Store.shown c.args.store.now) (g.S.Store.shown c.loop-number.store) (g.S.Store.shown c.write_numbered.new.store)
     (tuple_at (region c.args.chunks.now) c.loop-number.number) c.loop-number.invariant here.0 c.in_default.ensures.changed c.in_default.ensures.asks c.write_numbered.ensures.later
 
 pub returns-in-Err-clause-failed : goal.returns-in-Err-clause-failed
@@ -48,9 +44,7 @@ returns-in-Err-clause-failed g c =
     changed-fails (described c.args.self.now) (options_of c.args.options.now) (described_sound c.args.self.now (options_of c.args.options.now))
     (written (region c.args.subset.now) (byte_elements c.args.elements.now)) (chunks_meeting (described c.args.self.now).grid (region c.args.subset.now)) (met-chunks (described c.args.self.now).grid (region c.args.subset.now))
     c.loop-number.number
-    (g.S.Store.content c.args.store.now) (g.S.Store.content c.loop-number.store) (g.S.Store.content c.write_numbered.new.store)
-    (g.S.Store.ask_count c.args.store.now) (g.S.Store.ask_count c.loop-number.store) (g.S.Store.ask_count c.write_numbered.new.store)
-    (g.S.Store.fault_count c.args.store.now) (g.S.Store.fault_count c.loop-number.store) (g.S.Store.fault_count c.write_numbered.new.store)
+    (g.S.Store.shown c.args.store.now) (g.S.Store.shown c.loop-number.store) (g.S.Store.shown c.write_numbered.new.store)
     (tuple_at (region c.args.chunks.now) c.loop-number.number) c.in-Err.kind c.loop-number.invariant here.0 c.in-Err.ensures.failed c.in-Err.ensures.asks_err c.write_numbered.ensures.later
 
 pub returns-clause-changed : goal.returns-clause-changed
@@ -58,5 +52,4 @@ returns-clause-changed g c =
     let met = count_met (described c.args.self.now).grid (region c.args.subset.now) (region c.args.chunks.now) c.requires.listed in
     let all : c.loop-number.number ≡ length (chunks_meeting (described c.args.self.now).grid (region c.args.subset.now)) = omega (arith, met) in
     subst (λ n. ChangedSome (described c.args.self.now) (options_of c.args.options.now) (written (region c.args.subset.now) (byte_elements c.args.elements.now)) (chunks_meeting (described c.args.self.now).grid (region c.args.subset.now)) n
-    (g.S.Store.content c.args.store.now) (g.S.Store.content c.loop-number.store) (g.S.Store.ask_count c.args.store.now) (g.S.Store.ask_count c.loop-number.store)
-    (g.S.Store.fault_count c.args.store.now) (g.S.Store.fault_count c.loop-number.store)) all c.loop-number.invariant
+    (g.S.Store.shown c.args.store.now) (g.S.Store.shown c.loop-number.store)) all c.loop-number.invariant

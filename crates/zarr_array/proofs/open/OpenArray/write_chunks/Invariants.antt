@@ -1,5 +1,4 @@
-use Rattle.zarr_model.specs.Array.{written}
-use Rattle.zarr_model.specs.Grid.{chunks_meeting}
+use Rattle.zarr_model.specs.Prelude.{written, chunks_meeting}
 use Rattle.zarrs_array_subset.specs.ArraySubset.{region}
 use Rattle.zarr_array.specs.Chunk.{byte_elements}
 use Rattle.zarr_array.specs.OpenArray.{described}
@@ -10,5 +9,4 @@ use Rattle.zarr_array.proofs.open.OpenArray.write_chunks.Given as goal
 abbrev pub invariant-loop-number : goal.invariant-loop-number
 invariant-loop-number g l =
     ChangedSome (described l.self) (options_of l.options) (written (region l.subset) (byte_elements l.elements)) (chunks_meeting (described l.self).grid (region l.subset)) l.number
-    (g.S.Store.content l.fn.store) (g.S.Store.content l.store) (g.S.Store.ask_count l.fn.store) (g.S.Store.ask_count l.store)
-    (g.S.Store.fault_count l.fn.store) (g.S.Store.fault_count l.store)
+    (g.S.Store.shown l.fn.store) (g.S.Store.shown l.store)

@@ -1,6 +1,5 @@
 use Rattle.std.proofs.lemmas.Result.{err_from_is_err_and}
-use Rattle.zarr_model.specs.Array.{written}
-use Rattle.zarr_model.specs.Grid.{chunks_meeting}
+use Rattle.zarr_model.specs.Prelude.{written, chunks_meeting}
 use Rattle.zarrs_array_subset.specs.ArraySubset.{region}
 use Rattle.zarr_array.specs.Chunk.{byte_elements}
 use Rattle.zarr_array.specs.OpenArray.{described}
@@ -14,4 +13,4 @@ returns-in_err-chunks-clause-failed g c =
     let p = err_from_is_err_and c.from_residual.result c.from_residual.ensures.1 in
     rw (p.1, p.2) (changed-starved (described c.args.self.now) (options_of c.args.options.now) (described_sound c.args.self.now (options_of c.args.options.now))
     (written (region c.args.subset.now) (byte_elements c.args.elements.now)) (chunks_meeting (described c.args.self.now).grid (region c.args.subset.now)) (met-chunks (described c.args.self.now).grid (region c.args.subset.now))
-    (g.S.Store.content c.args.store.now) (g.S.Store.ask_count c.args.store.now) (g.S.Store.fault_count c.args.store.now) (g.met.S.Store.counts_fit c.args.store.now).1)
+    (g.S.Store.shown c.args.store.now) (g.met.S.Store.counts_fit c.args.store.now).1)

@@ -1,5 +1,5 @@
 use Rattle.std.proofs.Common.{rules, ◌<◌, length, ap, ◌∙◌, sym}
-use Rattle.zarr_model.specs.Region.{count}
+use Rattle.zarr_model.specs.Prelude.{count}
 use Rattle.zarrs_array_subset.specs.ArraySubset.{region}
 use Rattle.zarr_basics.specs.RegularGrid.{chunk_region}
 use Rattle.zarr_basics.proofs.RegularLaws.{rank_within, chunks_listed}

@@ -1,6 +1,6 @@
 use Rattle.std.proofs.Common.{rules, ◌≡◌, nat_lt, zip, nat_eq, length, ap, sym, ◌∙◌, arith, false}
 use Rattle.std.specs.List.{list_all}
-use Rattle.zarr_model.specs.Region.{whole, contains}
+use Rattle.zarr_model.specs.Prelude.{whole, contains}
 use Rattle.zarr_basics.proofs.ChunkTests.{below_contains, other_rank}
 use Rattle.zarr_basics.proofs.regular_grid.RegularGrid.has_chunk.Goals as goal
 

@@ -2,14 +2,12 @@ use Rattle.std.proofs.Common.{◌≡◌, ap₂, ◌∙◌, rules, subst}
 use Rattle.zarr_model.specs.Cover.{linear_indices}
 use Rattle.zarrs_array_subset.specs.ArraySubset.{region}
 use Rattle.zarrs_array_subset.specs.Errors.{RefusesShape}
-use Rattle.zarrs_chunk_grid_iterators.specs.Iterators.{linear_left}
-use Rattle.zarrs_chunk_grid_iterators.proofs.Always.{always_yields}
 use Rattle.zarrs_chunk_grid_indexer.proofs.indexer.boxes.list_linear.Goals as goal
 
 pub returns-in-Ok-clause-lists : goal.returns-in-Ok-clause-lists
 returns-in-Ok-clause-lists c r e =
     let shape : c.in_ok-shape.shape.items ≡ c.args.array_shape.now = search rules in
-    always_yields (λ x. x) linear_left _ c.into_iter.result (c.into_iter.ensures ∙ c.in-Ok.ensures.lists ∙ ap₂ linear_indices shape e)
+    c.into_iter.ensures.into_iter_gives ∙ c.in-Ok.ensures.lists ∙ ap₂ linear_indices shape e
 
 pub returns-in-Err-clause-refused : goal.returns-in-Err-clause-refused
 returns-in-Err-clause-refused c r e =

@@ -1,5 +1,5 @@
 use Rattle.std.proofs.Common.{ap, subst, ◌∙◌}
-use Rattle.zarrs_metadata_ext.specs.Reading.{Gives, from_data}
+use Rattle.zarrs_metadata_parts.specs.Reading.{Gives, from_data}
 use Rattle.zarrs_metadata.specs.ArrayMetadata.{array_seen, array_of}
 use Rattle.zarrs_metadata.proofs.ArrayBack.{array_again_by_value}
 use Rattle.zarrs_metadata.proofs.Twice.{array_again_stays}

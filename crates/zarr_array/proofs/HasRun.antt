@@ -1,0 +1,15 @@
+-- What commands that ran did to a store.
+use Rattle.std.specs.Prelude.{◌≡◌, ◌≤◌, List}
+use Rattle.zarr_model.specs.Prelude.{Options, Shown, Command, Description, Answer, all_asks, counted, KeepsDamage, MeetsNoDamage, ServesWhole, RefusesRight, AreRefused, IsUntouched}
+
+-- some commands ran over a store and were answered so
+pub record HasRun (description : Description) (options : Options) (commands : List Command)
+    (before now : Shown)
+    (answers : List Answer) : Type 0 where
+  pub serves : ServesWhole description options commands before.content now.content answers
+  pub refusals : RefusesRight description commands answers
+  pub refused : AreRefused description commands → IsUntouched before now
+  pub asks : now.asks ≡ counted before.asks (all_asks description commands)
+  pub damage : KeepsDamage description options commands before.content now.content
+  pub met : MeetsNoDamage description options commands before.content
+  pub later : before.faults ≤ now.faults

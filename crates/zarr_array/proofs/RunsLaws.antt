@@ -1,0 +1,225 @@
+-- Commands that run one after another.
+use Rattle.std.proofs.Common.{◌≡◌, ℕ, zero, suc, ◌+◌, ◌-◌, ◌^◌, ◌<◌, ◌≤◌, ◌&&◌, List, [], ◌∷◌, ◌++◌, length, take, drop, map, get_or, slice_get, Option, Some, Result, Ok, Err, IfErr, Vec, None, IsSome, add-one, is_some, refl, sym, ap, ap₂, ◌∙◌, subst, arith, le_trans}
+use Rattle.std.specs.List.{list_all}
+use Rattle.std.proofs.lemmas.Bool.{and_parts}
+use Rattle.std.proofs.lemmas.List.{take-append-drop, map-append, take_all, length-map}
+use Rattle.std.proofs.lemmas.List.Sums.{sum_by-append}
+use Rattle.zarr_model.specs.Prelude.{CoversShape, Element, Array, Options, Content, WhollyMeans, IsHonest, IsSound, stored_array, Command, Description, layout, refusal, Answer, array_after, asks_of, LeavesKeys, ServesArray, ServesWhole, AreRefused, IsUntouched, refusal_in, Shown}
+use Rattle.zarr_model.proofs.StoreLaws.{stored_array-meant, Means-from_whole}
+use Rattle.zarr_model.proofs.SessionLaws.{serves_from_whole, ServesWhole-append, LeavesKeys-none, LeavesKeys-append, LeavesKeys-more}
+use Rattle.zarr_model.proofs.StepLaws.{KeepsDamage-none, KeepsDamage-append, place-lifts, asks-lift, undecoded-lifts, stopped-lifts, starved-lifts}
+use Rattle.zarr_model.proofs.DamageLaws.{MeetsNoDamage-none, MeetsNoDamage-append}
+use Rattle.zarr_array.specs.Session.{HasSessionCause, FailsAt}
+use Rattle.zarr_array.proofs.HasRun.{HasRun}
+use Rattle.zarr_array.specs.declared.error.SessionErrorKind.{SessionErrorKind}
+use Rattle.zarr_array.specs.declared.error.SessionErrorKind.TheVariants.{NotOpened, ChunkDecode, Store, OutOfMemory}
+use Rattle.zarr_array.proofs.SessionSteps.{only_memory, refused_at}
+use Rattle.zarr_array.specs.declared.command.Reply.{Reply}
+use Rattle.zarr_array.specs.declared.error.SessionError.{SessionError}
+use Rattle.zarr_array.specs.Ended.{ended}
+use Rattle.zarr_array.specs.Runs.{Runs}
+
+-- an error of commands is that of their end
+pub err_of : {Z : Type 0} (P : SessionError → Type 0) (result : Result (Vec Reply Z) SessionError) → IfErr (ended result) P → IfErr result P
+err_of P (Ok replies) h = tt
+err_of P (Err error) h = h
+
+-- no command
+pub none_ran : (array : Description) (options : Options) (store : Shown) → store.asks ≤ 2 ^ 64 - 1 → Runs array options [] store store (Ok [])
+none_ran array options store fits = record {
+  serves = λ honest. record {
+    answers_match = λ meant means. tt;
+    left = record {
+      array_left = λ meant means. means;
+      whole_chunks = λ meant means. means;
+      presence = λ meant chunk means is_chunk. refl;
+      keys = LeavesKeys-none array options store.content;
+    };
+  };
+  complete = λ honest calm. tt;
+  refusals = refl;
+  refused = λ all. record { content = λ key. refl; asks = refl; taken = refl };
+  asks = omega (arith, fits);
+  undamaged = MeetsNoDamage-none array options store.content;
+  damage = KeepsDamage-none array options store.content;
+  keys = LeavesKeys-none array options store.content;
+  later = omega arith;
+  failed = tt;
+}
+
+-- memory ran out before any command
+pub none_begun : (array : Description) (options : Options) (commands : List Command) (store : Shown) →
+    Runs array options commands store store (Err (record { at = None; kind = OutOfMemory }))
+none_begun array options commands store = record {
+  serves = tt;
+  complete = λ honest calm. refl;
+  refusals = tt;
+  refused = λ all. record { content = λ key. refl; asks = refl; taken = refl };
+  asks = tt;
+  undamaged = tt;
+  damage = tt;
+  keys = record { same_chunks = λ chunk is_chunk e. refl; other_keys = λ key apart. refl };
+  later = omega arith;
+  failed = record {
+    place = tt;
+    asks = refl;
+    keys = record { same_chunks = λ chunk is_chunk e. refl; other_keys = λ key apart. refl };
+    cause = λ key. refl;
+  };
+}
+
+untouched_then : (before mid now : Shown) → IsUntouched before mid → IsUntouched mid now → IsUntouched before now
+untouched_then before mid now first second = record {
+  content = λ key. second.content key ∙ first.content key;
+  asks = second.asks ∙ first.asks;
+  taken = second.taken ∙ first.taken;
+}
+
+refused_parts : (array : Description) (commands : List Command) (command : Command) → AreRefused array (commands ++ command ∷ []) →
+    AreRefused array commands × AreRefused array (command ∷ [])
+refused_parts array [] command all = (refl, all)
+refused_parts array (first ∷ commands) command all =
+    let parts = and_parts (is_some (refusal array first)) (list_all (λ c. is_some (refusal array c)) (commands ++ command ∷ [])) all in
+    let rest = refused_parts array commands command parts.1 in
+    (ap₂ (λ a b. a && b) parts.0 rest.0, rest.1)
+
+refused_front : (array : Description) (commands : List Command) (i : ℕ) → AreRefused array commands → AreRefused array (take i commands)
+refused_front array commands zero all = refl
+refused_front array [] (suc i) all = refl
+refused_front array (first ∷ commands) (suc i) all =
+    let parts = and_parts (is_some (refusal array first)) (list_all (λ c. is_some (refusal array c)) commands) all in
+    ap₂ (λ a b. a && b) parts.0 (refused_front array commands i parts.1)
+
+pub take_one : {A : Type 0} (xs : List A) (i : ℕ) (x : A) → slice_get xs i ≡ Some x → take (suc i) xs ≡ take i xs ++ x ∷ []
+take_one [] zero x e = cc
+take_one [] (suc i) x e = cc
+take_one (y ∷ ys) zero x e = let same : y ≡ x = cc in ap (λ z. z ∷ []) same
+take_one (y ∷ ys) (suc i) x e = ap (λ zs. y ∷ zs) (take_one ys i x e)
+
+pub take_next : {A : Type 0} (xs : List A) (i : ℕ) (x : A) → slice_get xs i ≡ Some x → take (i + 1) xs ≡ take i xs ++ x ∷ []
+take_next xs i x e = ap (λ n. take n xs) (add-one i) ∙ take_one xs i x e
+
+pub take_whole : {A B : Type 0} (f : A → B) (xs : List A) (i : ℕ) → length xs ≤ i → take i (map f xs) ≡ map f xs
+take_whole f xs i h = take_all i (map f xs) (subst (λ n. n ≤ i) (sym (length-map xs f)) h)
+
+pub command_here : {A B : Type 0} (f : A → B) (xs : List A) (i : ℕ) (x : A) → i < length xs → x ≡ get_or xs i x → slice_get (map f xs) i ≡ Some (f x)
+command_here f [] i x within is = absurd (omega arith)
+command_here f (y ∷ ys) zero x within is = ap (λ z. Some (f z)) (sym is)
+command_here f (y ∷ ys) (suc i) x within is = command_here f ys i x (omega arith) is
+
+wholly_honest : (array : Description) (options : Options) (store : Content) (meant : Array Element) → WhollyMeans (layout array options) store meant → IsHonest (layout array options) store
+wholly_honest array options store meant means chunk is_chunk = subst IsSome (sym (means.each_chunk chunk is_chunk)) refl
+
+-- the array that an honest store means serves for all
+module _ (array : Description) (options : Options) (covers : CoversShape array.shape array.grid) (sound : IsSound (layout array options)) where
+  whole_of : (commands : List Command) (old new : Content) (answers : List Answer) → ServesArray array options commands old new answers → ServesWhole array options commands old new answers
+  whole_of commands old new answers serves = record {
+    answers_match = λ meant means. serves.answers_match meant (Means-from_whole (layout array options) covers old meant means);
+    whole_chunks = serves.left.whole_chunks;
+    presence = serves.left.presence;
+    keys = serves.left.keys;
+  }
+
+  still_honest : (commands : List Command) (old new : Content) (answers : List Answer) → IsHonest (layout array options) old → ServesArray array options commands old new answers → IsHonest (layout array options) new
+  still_honest commands old new answers honest serves =
+      let means = Means-from_whole (layout array options) covers old (stored_array (layout array options) old) (stored_array-meant (layout array options) covers sound old honest) in
+      (serves.left.array_left (stored_array (layout array options) old) means).honest
+
+  -- one more command
+  pub one_more_ran : (commands : List Command) (command : Command) (before mid now : Shown) (answers : List Answer) (answer : Answer) →
+      Runs array options commands before mid (Ok answers) → Runs array options (command ∷ []) mid now (Ok (answer ∷ [])) →
+      Runs array options (commands ++ command ∷ []) before now (Ok (answers ++ answer ∷ []))
+  one_more_ran commands command before mid now answers answer first second = record {
+    serves = λ honest.
+        let serves = first.serves honest in
+        let then = second.serves (still_honest commands before.content mid.content answers honest serves) in
+        serves_from_whole array options (commands ++ command ∷ []) before.content now.content (answers ++ answer ∷ []) covers sound honest
+        (ServesWhole-append array options commands (command ∷ []) before.content mid.content now.content answers (answer ∷ [])
+        (whole_of commands before.content mid.content answers serves) (whole_of (command ∷ []) mid.content now.content (answer ∷ []) then));
+    complete = λ honest calm. tt;
+    refusals = map-append refusal_in answers (answer ∷ []) ∙ (ap₂ (λ a b. a ++ b) first.refusals second.refusals ∙ sym (map-append (refusal array) commands (command ∷ [])));
+    refused = λ all. let parts = refused_parts array commands command all in untouched_then before mid now (first.refused parts.0) (second.refused parts.1);
+    asks = omega (arith, first.asks, second.asks, sum_by-append (asks_of array) commands (command ∷ []));
+    undamaged = MeetsNoDamage-append array options covers commands (command ∷ []) before.content mid.content first.damage first.undamaged second.undamaged;
+    damage = KeepsDamage-append array options commands (command ∷ []) before.content mid.content now.content first.damage second.damage;
+    keys = LeavesKeys-append array options commands (command ∷ []) before.content mid.content now.content first.keys second.keys;
+    later = le_trans first.later second.later;
+    failed = tt;
+  }
+
+  -- a command that failed after those before it
+  pub stops_at : (commands : List Command) (i : ℕ) (command : Command) (before mid now : Shown) (answers : List Answer) (k : ℕ) (kind : SessionErrorKind) →
+      slice_get commands i ≡ Some command → Runs array options (take i commands) before mid (Ok answers) →
+      Runs array options (command ∷ []) mid now (Err (record { at = Some (0, k); kind = kind })) →
+      Runs array options commands before now (Err (record { at = Some (i, k); kind = kind }))
+  stops_at commands i command before mid now answers k kind here so_far single = record {
+    serves = tt;
+    complete = λ honest calm. only_memory array options covers commands before now (Some (i, k)) kind (by_kind kind single.failed.cause) honest calm;
+    refusals = tt;
+    refused = λ all. untouched_then before mid now (so_far.refused (refused_front array commands i all)) (single.refused (refused_at array commands i command here all));
+    asks = tt;
+    undamaged = tt;
+    damage = tt;
+    keys =
+        subst (λ all. LeavesKeys array options all before.content now.content) (take-append-drop (i + 1) commands)
+        (LeavesKeys-more array options (take (i + 1) commands) (drop (i + 1) commands) before.content now.content left);
+    later = le_trans so_far.later single.later;
+    failed = record {
+      place = place-lifts array options commands i command here k single.failed.place;
+      asks = asks-lift array options commands i command here before.asks mid.asks now.asks k so_far.asks single.failed.asks;
+      keys = left;
+      cause = by_kind kind single.failed.cause;
+    };
+  }
+    where
+      one : i + 1 ≡ suc i
+      one = omega arith
+
+      left : LeavesKeys array options (take (i + 1) commands) before.content now.content
+      left = subst (λ front. LeavesKeys array options front before.content now.content) (sym (ap (λ n. take n commands) one ∙ take_one commands i command here))
+          (LeavesKeys-append array options (take i commands) (command ∷ []) before.content mid.content now.content so_far.keys single.keys)
+
+      meant_after : (meant : Array Element) → WhollyMeans (layout array options) before.content meant → WhollyMeans (layout array options) mid.content (array_after array (take i commands) meant)
+      meant_after meant means = (so_far.serves (wholly_honest array options before.content meant means)).left.whole_chunks meant means
+
+      by_kind : (kind : SessionErrorKind) → HasSessionCause array options (command ∷ []) mid now (Some (0, k)) kind →
+          HasSessionCause array options commands before now (Some (i, k)) kind
+      by_kind (NotOpened error) cause = cause
+      by_kind (ChunkDecode key) cause = undecoded-lifts array options commands i command here covers before.content mid.content now.content key k so_far.damage cause
+      by_kind Store cause = stopped-lifts array options commands i command here before mid now k so_far.later meant_after cause
+      by_kind OutOfMemory cause = starved-lifts array options commands i command here before.content mid.content now.content k meant_after cause
+
+  -- commands that ran to their end
+  pub ran_gives : (commands : List Command) (before now : Shown) (answers : List Answer) →
+      HasRun array options commands before now answers →
+      Runs array options commands before now (Ok answers)
+  ran_gives commands before now answers ran = record {
+    serves = λ honest. serves_from_whole array options commands before.content now.content answers covers sound honest ran.serves;
+    complete = λ honest calm. tt;
+    refusals = ran.refusals;
+    refused = ran.refused;
+    asks = ran.asks;
+    undamaged = ran.met;
+    damage = ran.damage;
+    keys = ran.serves.keys;
+    later = ran.later;
+    failed = tt;
+  }
+
+  -- commands that ended with an error
+  pub failed_gives : (commands : List Command) (before now : Shown) (at : Option (ℕ × ℕ)) (kind : SessionErrorKind) →
+      FailsAt array options commands before now at kind →
+      (AreRefused array commands → IsUntouched before now) → LeavesKeys array options commands before.content now.content → before.faults ≤ now.faults →
+      Runs array options commands before now (Err (record { at = at; kind = kind }))
+  failed_gives commands before now at kind fails refused keys later = record {
+    serves = tt;
+    complete = λ honest calm. only_memory array options covers commands before now at kind fails.cause honest calm;
+    refusals = tt;
+    refused = refused;
+    asks = tt;
+    undamaged = tt;
+    damage = tt;
+    keys = keys;
+    later = later;
+    failed = record { place = fails.place; asks = fails.asks; keys = fails.keys; cause = fails.cause };
+  }

@@ -1,0 +1,28 @@
+-- What running commands over a store owes.
+use Rattle.std.specs.Prelude.{◌≡◌, ◌≤◌, List, IfOk, IfErr, OnOk}
+use Rattle.zarr_model.specs.Prelude.{Options, Shown, IsHonest, Command, Description, layout, all_asks, counted, Rose, MeetsNoDamage, KeepsDamage, LeavesKeys, ServesArray, RefusesRight, AreRefused, IsUntouched}
+use Rattle.zarr_array.specs.Session.{FailsAt}
+use Rattle.zarr_array.specs.Ended.{Ended}
+use Rattle.zarr_array.specs.declared.error.SessionErrorKind.TheVariants.{OutOfMemory}
+
+-- what running commands over a store owes, however it ends
+pub record Runs (array : Description) (options : Options) (commands : List Command)
+    (before now : Shown) (ended : Ended) : Type 0 where
+  -- over an honest store: the answers of one plain array, which is left; and where it did not fail,
+  -- only memory can be wanting
+  pub serves : IfOk ended (λ answers. IsHonest (layout array options) before.content →
+      ServesArray array options commands before.content now.content answers)
+  pub complete : IsHonest (layout array options) before.content → ¬ Rose before.faults now.faults →
+      IfErr ended (λ error. error.kind ≡ OutOfMemory)
+  -- over any store: the refusals, the reading calls, and that each chunk met decodes
+  pub refusals : IfOk ended (λ answers. RefusesRight array commands answers)
+  pub refused : AreRefused array commands → IsUntouched before now
+  pub asks : OnOk ended (now.asks ≡ counted before.asks (all_asks array commands))
+  pub undamaged : OnOk ended (MeetsNoDamage array options commands before.content)
+  -- a value that does not decode stands until its chunk is erased
+  pub damage : OnOk ended (KeepsDamage array options commands before.content now.content)
+  -- after every end: the keys that stay
+  pub keys : LeavesKeys array options commands before.content now.content
+  pub later : before.faults ≤ now.faults
+  -- an error has its place, the reading calls up to it, and its cause
+  pub failed : IfErr ended (λ error. FailsAt array options commands before now error.at error.kind)

@@ -1,0 +1,79 @@
+-- What a run of the program owes.
+use Rattle.std.specs.Prelude.{◌≡◌, ℕ, ◌+◌, List, [], false, Some}
+use Rattle.zarr_model.specs.Prelude.{Rose, all_asks, counted, AreRefused, IsUntouched}
+use Rattle.zarr_array.specs.Document.{describe}
+use Rattle.zarr_array.specs.Opening.{OpenRefusal}
+use Rattle.zarr_cli.specs.Words.{HasBadWords}
+use Rattle.zarr_cli.specs.Input.{input_entries, with_entries, store_after_keys, HasLongInput, HasBadLine, HasRefusedDocument}
+use Rattle.zarr_cli.specs.Run.{Run, IsDumpAsks, HasDamage, WentThrough, IsRunnable, SameButChanged}
+use Rattle.zarr_cli.specs.Ending.{Ending, IsOrMemory, IsWritten, IsGiven, IsGivenFront, IsGivenLine, ending_line, IsBeforeStore}
+use Rattle.zarr_cli.specs.Ending as end
+use Rattle.zarr_cli.specs.Seen.{Seen}
+
+-- what a run owes over a source that tells its bytes, which are the input
+pub record Answers (words : List (List ℕ)) (input : List ℕ) (before now : Seen)
+    (ending : Ending) : Type 0 where
+  -- done: the sink has the replies of one plain array and the keys that were asked for
+  pub done : ending ≡ end.done → WentThrough words input before.store.content now.store.content
+      (λ output. IsGiven output before.sink.bytes now.sink.bytes)
+  -- the source has no byte left
+  pub read_whole : ending ≡ end.done → now.source.left ≡ Some []
+  -- there were as many reading calls as chunks that its reads and writes meet, and those of a dump
+  pub asks : (run : Run words input) → ending ≡ end.done →
+      (more : ℕ) × IsDumpAsks run.settings.dump now.store.content more
+      × (now.store.asks ≡ counted before.store.asks
+      (all_asks (describe run.document) run.commands + more))
+  -- each early answer has its cause
+  pub bad_input : (line : ℕ) → ending ≡ end.bad_input line → HasBadLine words input line
+  pub document : (why : OpenRefusal) → ending ≡ end.refused_document why →
+      HasRefusedDocument words input why
+  pub too_long : ending ≡ end.too_long → HasLongInput words input
+  -- a damaged chunk is one that a command met, and its value stands
+  pub chunk : (key : List ℕ) → ending ≡ end.damaged_chunk key →
+      HasDamage words input before.store.content key
+      × (now.store.content key ≡ store_after_keys input before.store.content key)
+  -- where the source did not fail, each cause in the input has its answer, but for want of memory
+  pub exactly_long : ¬ Rose before.source.faults now.source.faults → HasLongInput words input →
+      IsOrMemory ending end.too_long
+  pub exactly_input : (line : ℕ) → ¬ Rose before.source.faults now.source.faults →
+      HasBadLine words input line →
+      IsOrMemory ending (end.bad_input line)
+  pub exactly_document : (why : OpenRefusal) → ¬ Rose before.source.faults now.source.faults →
+      HasRefusedDocument words input why → IsOrMemory ending (end.refused_document why)
+  -- a run in form over an honest store is done, where nothing failed
+  pub complete : IsRunnable words input before.store.content →
+      ¬ Rose before.source.faults now.source.faults →
+      ¬ Rose before.sink.faults now.sink.faults → ¬ Rose before.store.faults now.store.faults →
+      IsOrMemory ending end.done
+  -- a sink that failed on the replies has a front of them
+  pub front : ending ≡ end.write_fault →
+      WentThrough words input before.store.content now.store.content
+      (λ output. IsGivenFront output before.sink.bytes now.sink.bytes)
+  -- after every end: all keys but those of key lines and of chunks that an accepted command changes
+  -- are as before
+  pub unchanged : SameButChanged words input before.store.content now.store.content
+  -- where replies are written, all commands are refused and no keys are asked for, the store is as
+  -- the key lines left it
+  pub refused : (run : Run words input) → IsWritten ending →
+      AreRefused (describe run.document) run.commands →
+      run.settings.dump ≡ false → IsUntouched (with_entries (input_entries input) before.store)
+      now.store
+  -- where these are refused and no keys are asked for, nothing is asked, however it ends
+  pub unasked : (run : Run words input) → AreRefused (describe run.document) run.commands →
+      run.settings.dump ≡ false →
+      (now.store.asks ≡ before.store.asks) × (now.store.taken ≡ before.store.taken)
+
+-- what a run owes over any source
+pub record Ends (words : List (List ℕ)) (before now : Seen) (ending : Ending) : Type 0 where
+  -- bad words are answered as such, but for want of memory, and nothing is read
+  pub bad_words : ending ≡ end.bad_words → HasBadWords words
+  pub exactly_words : HasBadWords words → IsOrMemory ending end.bad_words
+  pub unread : HasBadWords words → now.source ≡ before.source
+  -- a fault from outside is answered only where its count rose
+  pub store : ending ≡ end.store_fault → Rose before.store.faults now.store.faults
+  pub read : ending ≡ end.read_fault → Rose before.source.faults now.source.faults
+  pub write : ending ≡ end.write_fault → Rose before.sink.faults now.sink.faults
+  -- on an early end the sink was given its line, or a front of it where the sink failed
+  pub line : IsGivenLine (ending_line ending) before.sink now.sink
+  -- where the words, the reading or the input decided, the store is as before
+  pub untouched : IsBeforeStore ending → IsUntouched before.store now.store

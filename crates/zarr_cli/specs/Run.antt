@@ -1,0 +1,91 @@
+-- A run: what its words and its input say, what it prints, and what it leaves in the store.
+use Rattle.std.specs.Prelude.{◌≡◌, ℕ, ◌+◌, ◌≤◌, Bool, true, false, List, [], ◌++◌, length, IsUtf8, Some}
+use Rattle.std.specs.Cmp.Lexicographic.{slice_cmp}
+use Rattle.std.specs.Ordering.{nat_cmp}
+use Rattle.std.specs.FinMap.{is_sorted, find}
+use Rattle.std.specs.List.{list_any}
+use Rattle.zarr_model.specs.Prelude.{Element, Array, IsChunk, Content, Means, IsHonest, Command, Description, layout, replies, changes_chunk, LeavesArray, MeetsNoDamage, IsDamageMet}
+use Rattle.zarr_cli_lines.specs.Text.{commands_of, replies_text, entries_text}
+use Rattle.zarr_array.specs.Document.{ArrayDocument, describe}
+use Rattle.zarr_array.specs.Opening.{opened, open_builtin}
+use Rattle.zarr_cli.specs.Words.{Settings, ReadsBy}
+use Rattle.zarr_cli.specs.Input.{input_limit, document_line, lines_after_document, command_grammar, store_after_keys, IsLineKey}
+
+-- what the words and the input of a run say, where all of them have their form: there is one such
+-- run, or none
+pub record Run (words : List (List ℕ)) (input : List ℕ) : Type 0 where
+  pub settings : Settings
+  pub document : ArrayDocument
+  pub commands : List Command
+  pub are_words : ReadsBy words settings
+  pub within : length input ≤ input_limit
+  pub is_text : IsUtf8 input
+  pub is_opened : open_builtin (document_line input) ≡ opened document
+  pub are_commands : commands_of (command_grammar document) (lines_after_document input)
+      ≡ Some commands
+
+-- these are all keys of a store with their values, in the order of the keys' bytes
+pub record ListsStore (store : Content) (entries : List (List ℕ × List ℕ)) : Type 0 where
+  pub in_order : is_sorted (slice_cmp nat_cmp) entries ≡ true
+  pub held : (key : List ℕ) → find (slice_cmp nat_cmp) key entries ≡ store key
+
+-- the lines of the final keys, or none where they were not asked for
+abbrev pub IsDump : Bool → Content → List ℕ → Type 0
+IsDump false store dump = dump ≡ []
+IsDump true store dump =
+    (entries : List (List ℕ × List ℕ)) × ListsStore store entries × (dump ≡ entries_text entries)
+
+-- the reading calls of a dump: one for the list of keys, and one for each key
+abbrev pub IsDumpAsks : Bool → Content → ℕ → Type 0
+IsDumpAsks false store asks = asks ≡ 0
+IsDumpAsks true store asks =
+    (entries : List (List ℕ × List ℕ)) × ListsStore store entries × (asks ≡ length entries + 1)
+
+-- the text of a run: the replies to the commands from an array, and the final keys
+abbrev pub IsOutput : Description → List Command → Array Element → Bool → Content → List ℕ → Type 0
+IsOutput description commands array dump store output = (keys : List ℕ) × IsDump dump store keys
+    × (output ≡ replies_text (replies description commands array) ++ keys)
+
+-- commands ran to their end over a store, and this was printed
+pub record Prints (description : Description) (settings : Settings) (commands : List Command)
+    (old new : Content) (output : List ℕ) : Type 0 where
+  -- the replies of one plain array that the store meant, and the final keys
+  pub replied : (array : Array Element) → Means (layout description settings.options) old array →
+      IsOutput description commands array settings.dump new output
+  -- the store is left as that array's
+  pub left : LeavesArray description settings.options commands old new
+  -- each value that was met decodes
+  pub undamaged : MeetsNoDamage description settings.options commands old
+  -- whatever the store meant, its final keys stand at the end
+  pub dumped : (front keys : List ℕ) × IsDump settings.dump new keys × (output ≡ front ++ keys)
+
+-- a run in form went through from its key lines on, and wrote what passes the test: all of its
+-- output, or a front of it
+abbrev pub WentThrough : List (List ℕ) → List ℕ → Content → Content → (List ℕ → Type 0) → Type 0
+WentThrough words input old new wrote = (run : Run words input) × (output : List ℕ)
+    × Prints (describe run.document) run.settings run.commands (store_after_keys input old) new
+    output × wrote output
+
+-- the store is honest once the key lines of a run in form are set
+abbrev pub IsRunnable : List (List ℕ) → List ℕ → Content → Type 0
+IsRunnable words input old = (run : Run words input)
+    × IsHonest (layout (describe run.document) run.settings.options) (store_after_keys input old)
+
+-- the cause of a damaged chunk: a run in form met its value as the key lines left it
+abbrev pub HasDamage : List (List ℕ) → List ℕ → Content → List ℕ → Type 0
+HasDamage words input old key = (run : Run words input)
+    × IsDamageMet (describe run.document) run.settings.options run.commands
+    (store_after_keys input old) key
+
+-- a key is that of a chunk that an accepted command writes or erases
+abbrev pub IsChangedKey : Description → List Command → List ℕ → Type 0
+IsChangedKey array commands key = (chunk : List ℕ) × IsChunk array.grid chunk
+    × (list_any (changes_chunk array chunk) commands ≡ true) × (array.key chunk ≡ key)
+
+-- Each key that is neither a key line's nor that of a chunk that an accepted command writes or
+-- erases holds what it held. Without a run in form each key does.
+abbrev pub SameButChanged : List (List ℕ) → List ℕ → Content → Content → Type 0
+SameButChanged words input old new = (key : List ℕ) →
+    ((run : Run words input) → ¬ IsLineKey input key
+    × ¬ IsChangedKey (describe run.document) run.commands key) →
+    new key ≡ old key

@@ -1,0 +1,49 @@
+//! A read and a write on an open array.
+
+ghost use Rattle.std.specs.Prelude.{[], ◌∷◌, IfOk, OnOk};
+ghost use Rattle.zarr_model.specs.Prelude.{fixed_bytes, layout, read, write, IsHonest, MeetsNoDamage, ServesArray, RefusesRight};
+ghost use Rattle.zarrs_array_subset.specs.ArraySubset.{region as region_of_subset};
+ghost use Rattle.zarr_array.specs.Options.{options_of};
+ghost use Rattle.zarr_array.specs.OpenArray.{described};
+ghost use Rattle.zarr_array.specs.Ended.{ended_one};
+
+use std::alloc::Global;
+use zarr_array::{CodecOptions, OpenArray, Reply, SessionError};
+use zarrs_array_subset::ArraySubset;
+use zarrs_storage::store::Store;
+
+/// A write, as `OpenArray::write`.
+pub fn write_to<S: Store>(
+    array: &OpenArray,
+    alloc: Global,
+    region: &ArraySubset,
+    elements: &[u8],
+    store: &mut S,
+    options: &CodecOptions,
+) -> Result<Reply, SessionError>
+    ensures serves { IfOk (ended_one result) (λ answers.
+        IsHonest (layout (described array.now) (options_of options.now))
+        (S.shown store.old).content →
+        ServesArray (described array.now) (options_of options.now)
+        (write (region_of_subset region.now) (fixed_bytes elements.now) ∷ [])
+        (S.shown store.old).content (S.shown store.new).content answers) }
+{
+    array.write(alloc, region, elements, store, options)
+}
+
+/// A read, as `OpenArray::read`.
+pub fn read_from<S: Store>(
+    array: &OpenArray,
+    alloc: Global,
+    region: &ArraySubset,
+    store: &mut S,
+    options: &CodecOptions,
+) -> Result<Reply, SessionError>
+    ensures refusals { IfOk (ended_one result) (λ answers. RefusesRight (described array.now)
+        (read (region_of_subset region.now) ∷ []) answers) }
+    ensures undamaged { OnOk (ended_one result) (MeetsNoDamage (described array.now)
+        (options_of options.now) (read (region_of_subset region.now) ∷ [])
+        (S.shown store.old).content) }
+{
+    array.read(alloc, region, store, options)
+}

@@ -1,0 +1,85 @@
+//! Each call on an open array once.
+
+use crate::made::{LINE, opened, region};
+use std::alloc::Global;
+use std::ops::Range;
+use std::test::Fail;
+use zarr_array::command::Reply;
+use zarr_array::open::OpenArray;
+use zarr_array::options::CodecOptions;
+use zarrs_storage::memory_store::MemoryStore;
+
+fn write(
+    alloc: Global,
+    array: &OpenArray,
+    range: Range<u64>,
+    elements: &[u8],
+    store: &mut MemoryStore,
+) -> Result<Reply, Fail> {
+    let subset = region(alloc, &[range])?;
+    let options = CodecOptions::default().with_store_empty_chunks(true);
+    let reply = array
+        .write(alloc, &subset, elements, store, &options)
+        .ok()
+        .ok_or("a write")?;
+    Ok(reply)
+}
+
+fn read(
+    alloc: Global,
+    array: &OpenArray,
+    range: Range<u64>,
+    store: &mut MemoryStore,
+) -> Result<Reply, Fail> {
+    let subset = region(alloc, &[range])?;
+    let reply = array
+        .read(alloc, &subset, store, &CodecOptions::default())
+        .ok()
+        .ok_or("a read")?;
+    Ok(reply)
+}
+
+fn erase(
+    alloc: Global,
+    array: &OpenArray,
+    chunk: &[u64],
+    store: &mut MemoryStore,
+) -> Result<Reply, Fail> {
+    let mut options = CodecOptions::default();
+    options.set_store_empty_chunks(true);
+    let reply = array
+        .erase(alloc, chunk, store, &options)
+        .ok()
+        .ok_or("an erase")?;
+    Ok(reply)
+}
+
+fn is_done(reply: &Reply) -> bool {
+    match reply {
+        Reply::Done => true,
+        _ => false,
+    }
+}
+
+// The elements in a reply, if it has any.
+fn elements_in(reply: &Reply) -> Option<&[u8]> {
+    match reply {
+        Reply::Elements(elements) => Some(elements.as_slice()),
+        _ => None,
+    }
+}
+
+#[test]
+fn an_array_is_written_read_and_erased(rt: HostRuntime) -> Result<(), Fail> {
+    let array = opened(rt.alloc(), LINE)?;
+    let mut store = MemoryStore::new(rt.alloc());
+    assert_eq!(rt; array.shape(), [5].as_slice());
+    let reply = write(rt.alloc(), &array, 3..5, &[7, 42], &mut store)?;
+    assert!(rt; is_done(&reply));
+    let reply = read(rt.alloc(), &array, 2..5, &mut store)?;
+    assert_eq!(rt; elements_in(&reply), Some([7, 7, 42].as_slice()));
+    let reply = erase(rt.alloc(), &array, &[2], &mut store)?;
+    assert!(rt; is_done(&reply));
+    assert_eq!(rt; store.keys(rt.alloc())?.len(), 1);
+    Ok(())
+}

@@ -1,0 +1,153 @@
+//! Whole runs over a store that fails, a source without end and a sink that takes a byte a call.
+
+ghost use Rattle.std.specs.Prelude.{◌≡◌, None};
+
+use crate::failing_store::FailingStore;
+use crate::made::SQUARE;
+use std::alloc::{AllocError, Global};
+use std::test::Fail;
+use zarr_cli::program::run_program;
+use zarr_cli::status::Status;
+use zarrs_storage::memory_store::MemoryStore;
+use zarrs_storage::sink::{MemorySink, Sink};
+use zarrs_storage::source::{IoFailed, MemorySource, Source};
+use zarrs_storage::store::Store;
+
+// A run over an empty store in memory, which never fails.
+fn run_in_memory<R: Source, W: Sink>(
+    alloc: Global,
+    words: &[String],
+    source: &mut R,
+    sink: &mut W,
+) -> Status
+    ensures { ¬ (result ≡ Status.Store) }
+{
+    let mut store = MemoryStore::new(alloc);
+    run_program(alloc, words, source, sink, &mut store)
+}
+
+// A source of the square's document and this line.
+fn source_of(alloc: Global, line: &str) -> Result<MemorySource, AllocError> {
+    let input = format!(in alloc; "{SQUARE}\n{line}\n")?;
+    let bytes = Vec::from_slice(alloc, input.as_bytes())?;
+    Ok(MemorySource::new(bytes, Vec::new(alloc)))
+}
+
+fn sink_with_room(alloc: Global) -> Result<MemorySink, AllocError> {
+    let mut sink = MemorySink::new(alloc, Vec::new(alloc));
+    sink.reserve(100)?;
+    Ok(sink)
+}
+
+fn dump_word(alloc: Global) -> Result<Vec<String>, AllocError> {
+    let mut words = Vec::with_capacity(alloc, 1)?;
+    words.push(String::from_str(alloc, "--dump")?)?;
+    Ok(words)
+}
+
+#[test]
+fn a_fault_of_the_store_leaves_no_reply(rt: HostRuntime) -> Result<(), Fail> {
+    let alloc = rt.alloc();
+    let words = dump_word(alloc)?;
+    // The call of the store that fails, and the reading calls until then.
+    for (failing, asks) in [(0, 0), (1, 1), (2, 2)] {
+        let mut source = source_of(alloc, "key c/0/0 h00\nread 0..1")?;
+        let mut sink = sink_with_room(alloc)?;
+        let mut store = FailingStore::new(alloc, failing);
+        let status = run_program(alloc, &words, &mut source, &mut sink, &mut store);
+        assert_eq!(rt; sink.written(), b"store\n".as_slice(), "at {failing}");
+        assert_eq!(rt; (status.code(), store.asks()), (6, asks), "at {failing}");
+    }
+    Ok(())
+}
+
+// A source of spaces.
+#[derive(Drop)]
+struct Spaces {
+    left: usize,
+}
+
+impl Source for Spaces {
+    ghost shown = { λ _. record {
+      left = None;
+      faults = 0;
+    } };
+
+    fn read(&mut self, buffer: &mut [u8]) -> Result<usize, IoFailed> {
+        let got = buffer.len().min(self.left);
+        for byte in buffer.iter_mut() {
+            *byte = b' ';
+        }
+        self.left -= got;
+        Ok(got)
+    }
+
+    fn faults(&self) -> u64 {
+        0
+    }
+}
+
+#[test]
+fn an_input_may_have_so_many_bytes(rt: HostRuntime) -> Result<(), Fail> {
+    let alloc = rt.alloc();
+    let table = [
+        (67_108_864, 0, 4, "document InvalidJson\n"),
+        (67_108_865, 0, 9, "too long\n"),
+        (67_108_900, 35, 9, "too long\n"),
+    ];
+    for (bytes, left, code, output) in table {
+        let mut source = Spaces { left: bytes };
+        let mut sink = sink_with_room(alloc)?;
+        let status = run_in_memory(alloc, &[], &mut source, &mut sink);
+        assert_eq!(rt; sink.written(), output.as_bytes(), "at {bytes}");
+        assert_eq!(rt; (status.code(), source.left), (code, left), "at {bytes}");
+    }
+    Ok(())
+}
+
+// A sink that takes a byte a call, and fails at its third.
+#[derive(Drop)]
+struct Drip {
+    taken: [u8; 2],
+    calls: usize,
+    faults: u64,
+}
+
+impl Sink for Drip {
+    ghost shown = { λ s. record {
+      bytes = None;
+      faults = s.faults;
+    } };
+
+    fn write(&mut self, piece: &[u8]) -> Result<usize, IoFailed> {
+        if self.calls >= 2 {
+            self.faults = self.faults.saturating_add(1);
+            return Err(IoFailed);
+        }
+        let Some(first) = piece.first() else {
+            return Ok(0);
+        };
+        self.taken[self.calls] = *first;
+        self.calls += 1;
+        Ok(1)
+    }
+
+    fn faults(&self) -> u64 {
+        self.faults
+    }
+}
+
+#[test]
+fn a_failing_sink_has_a_front(rt: HostRuntime) -> Result<(), Fail> {
+    let alloc = rt.alloc();
+    let mut source = source_of(alloc, "read 0..1,0..1")?;
+    let mut sink = Drip {
+        taken: [0; 2],
+        calls: 0,
+        faults: 0,
+    };
+    let status = run_in_memory(alloc, &[], &mut source, &mut sink);
+    assert_eq!(rt; status.code(), 8);
+    assert_eq!(rt; sink.taken.as_slice(), b"ok".as_slice());
+    Ok(())
+}

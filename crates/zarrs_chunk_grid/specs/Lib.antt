@@ -1,0 +1,15 @@
+pub use Rattle.zarr_model.specs.Region
+pub use Rattle.zarr_model.specs.Cover
+pub use Rattle.zarrs_array_subset.specs.ArraySubset
+pub use Rattle.zarrs_array_subset.specs.Boxes
+pub use Rattle.zarrs_array_subset.specs.Errors
+pub use Rattle.zarrs_array_subset.specs.Ravel
+pub use Rattle.zarrs_chunk_grid_iterators.specs.Places
+pub use Rattle.zarrs_chunk_grid_iterators.specs.Yields
+pub use Rattle.zarrs_chunk_grid_iterators.specs.Ends
+pub use Rattle.zarrs_chunk_grid_iterators.specs.Runs
+pub use Rattle.zarrs_chunk_grid_iterators.specs.Iterators
+pub use Rattle.zarrs_chunk_grid_iterators.specs.ListIterators
+pub use Rattle.zarrs_chunk_grid_iterators.specs.Lists
+pub use Rattle.zarrs_chunk_grid_indexer.specs.Bytes
+pub use Rattle.zarrs_chunk_grid_indexer.specs.RangeTests

@@ -1,0 +1,71 @@
+//! The four lists of a region, from both ends and in loops.
+
+use crate::callers::owned_indices;
+use crate::texts::{gives, says};
+use std::alloc::Global;
+use std::process::Abort;
+use zarrs_chunk_grid::{
+    ArraySubsetTraits, ContiguousIndices, ContiguousLinearisedIndices, Indices, LinearisedIndices,
+};
+
+// The tuples of a box of four.
+fn are_tuples(rt: &impl Abort, alloc: Global, indices: Indices) {
+    let mut iter = indices.iter();
+    let seen = (iter.size_hint(), iter.next_back());
+    says(rt, alloc, &seen, "((4, Some(4)), Some(Ok([2, 6])))");
+    let mut iter = indices.into_iter();
+    let seen = (iter.len(), iter.next());
+    says(rt, alloc, &seen, "(4, Some(Ok([1, 5])))");
+}
+
+// Its linear indices in an 8x8 array.
+fn are_linear(rt: &impl Abort, alloc: Global, indices: LinearisedIndices) {
+    let mut iter = indices.iter();
+    let seen = (iter.size_hint(), iter.next_back());
+    says(rt, alloc, &seen, "((4, Some(4)), Some(22))");
+    gives(rt, alloc, owned_indices(alloc, indices), "[13, 14, 21, 22]");
+}
+
+// Its runs there.
+fn are_runs(rt: &impl Abort, alloc: Global, runs: ContiguousLinearisedIndices) {
+    let mut iter = runs.iter();
+    let seen = (iter.size_hint(), iter.next_back());
+    says(rt, alloc, &seen, "((2, Some(2)), Some((21, 2)))");
+    let mut iter = runs.into_iter();
+    let seen = (iter.contiguous_elements(), iter.next());
+    says(rt, alloc, &seen, "(2, Some((13, 2)))");
+}
+
+// Its runs by the tuples at which they begin.
+fn are_tuple_runs(rt: &impl Abort, alloc: Global, runs: ContiguousIndices) {
+    let mut iter = runs.iter();
+    let seen = (iter.contiguous_elements_usize(), iter.next_back());
+    says(rt, alloc, &seen, "(2, Some(Ok(([2, 5], 2))))");
+    let mut iter = runs.into_iter();
+    let seen = (iter.len(), iter.next());
+    says(rt, alloc, &seen, "(2, Some(Ok(([1, 5], 2))))");
+}
+
+#[test]
+fn lists_of_tuples(rt: HostRuntime) {
+    match [1..3, 5..7].indices(rt.alloc()) {
+        Ok(indices) => are_tuples(&rt, rt.alloc(), indices),
+        Err(_) => assert!(rt; false, "no list"),
+    }
+    match [1..3, 5..7].contiguous_indices(rt.alloc(), &[8, 8]) {
+        Ok(runs) => are_tuple_runs(&rt, rt.alloc(), runs),
+        Err(_) => assert!(rt; false, "no list"),
+    }
+}
+
+#[test]
+fn lists_of_numbers(rt: HostRuntime) {
+    match [1..3, 5..7].linearised_indices(rt.alloc(), &[8, 8]) {
+        Ok(indices) => are_linear(&rt, rt.alloc(), indices),
+        Err(_) => assert!(rt; false, "no list"),
+    }
+    match [1..3, 5..7].contiguous_linearised_indices(rt.alloc(), &[8, 8]) {
+        Ok(runs) => are_runs(&rt, rt.alloc(), runs),
+        Err(_) => assert!(rt; false, "no list"),
+    }
+}

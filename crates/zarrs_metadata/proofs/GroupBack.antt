@@ -1,0 +1,66 @@
+-- What is written for a group, read again; and members that are put only where they are not empty.
+use Rattle.std.proofs.Common.{◌≡◌, ℕ, List, Ordering, Less, Equal, Greater, Option, Some, None, codes, nat_cmp, true, refl, sym}
+use Rattle.std.specs.Cmp.Lexicographic.{slice_cmp}
+use Rattle.std.specs.Ordering.{match_ordering}
+use Rattle.serde_json.specs.Data.{Data, unsigned, number, string, object, Members, no_members, member}
+use Rattle.serde_json.specs.Find.{get_member}
+use Rattle.zarrs_metadata_parts.specs.Reading.{from_data, unless_float, is_number, is_text, object_or_empty}
+use Rattle.zarrs_metadata_parts.specs.Writing.{put_object}
+use Rattle.zarrs_metadata_values.proofs.PutLemmas.{look}
+use Rattle.zarrs_metadata_parts.specs.AdditionalFields.{is_group_key, is_named_key, additional_fields_of, put_fields}
+use Rattle.zarrs_metadata.specs.GroupMetadata.{GroupFields, group_members, group_of, group_data_members, group_data, normal_group}
+use Rattle.zarrs_metadata_parts.specs.declared.v3.additional_fields.NodeKind.{NodeKind}
+use Rattle.zarrs_metadata_parts.specs.declared.v3.additional_fields.NodeKind.TheVariants.{Group}
+use Rattle.zarrs_metadata_parts.proofs.FieldsBack.{fields-put_named, fields_beside, look-put_fields}
+
+pub either_way : (o : Ordering) (x : Option Data) → match_ordering o x x x ≡ x
+either_way Less x = refl
+either_way Equal x = refl
+either_way Greater x = refl
+
+-- what is found after a member that is put only where it isn't empty
+abbrev pub object_found : Members → Option Data → Option Data
+object_found no_members before = before
+object_found (member k d ms) before = Some (object (member k d ms))
+
+pub look_object : (q k : List ℕ) (ns ms : Members) → get_member q (put_object k ns ms) ≡ match_ordering (slice_cmp nat_cmp q k) (get_member q ms) (object_found ns (get_member q ms)) (get_member q ms)
+look_object q k no_members ms = sym (either_way (slice_cmp nat_cmp q k) (get_member q ms))
+look_object q k (member l e ns) ms = look q k (object (member l e ns)) ms
+
+pub fields_object : (kind : NodeKind) (k : List ℕ) (ns ms : Members) → is_named_key kind k ≡ true → additional_fields_of kind (put_object k ns ms) ≡ additional_fields_of kind ms
+fields_object kind k no_members ms named = refl
+fields_object kind k (member l e ns) ms named = fields-put_named kind k (object (member l e ns)) ms named
+
+pub object_back : (ns : Members) → object_or_empty (object_found ns None) ≡ Some ns
+unfolding object_or_empty
+object_back no_members = refl
+object_back (member k d ns) = refl
+
+group_attributes : (g : GroupFields) (ms : Members) → get_member (codes "attributes") (group_data_members g ms) ≡ object_found g.attributes (get_member (codes "attributes") ms)
+unfolding group_data_members
+group_attributes g ms = simp (look, look_object)
+
+pub group_format : (g : GroupFields) (ms : Members) → get_member (codes "zarr_format") (group_data_members g ms) ≡ Some (number (unsigned 3))
+unfolding group_data_members
+group_format g ms = simp look
+
+pub group_type : (g : GroupFields) (ms : Members) → get_member (codes "node_type") (group_data_members g ms) ≡ Some (string (codes "group"))
+unfolding group_data_members
+group_type g ms = simp look
+
+group_fields : (g : GroupFields) (ms : Members) → additional_fields_of Group (group_data_members g ms) ≡ additional_fields_of Group ms
+unfolding group_data_members is_group_key
+group_fields g ms = rw (fields_beside Group (codes "zarr_format") refl, fields_beside Group (codes "node_type") refl, fields_object Group (codes "attributes") g.attributes ms refl)
+
+no_group_attributes : (fs : _) → get_member (codes "attributes") (put_fields Group fs no_members) ≡ None
+unfolding is_group_key
+no_group_attributes fs = look-put_fields Group (codes "attributes") fs no_members refl
+
+pub group_reads_back : (g : GroupFields) → group_of (group_data g) ≡ Some (normal_group g)
+unfolding group_members is_number is_text
+group_reads_back g =
+    let ms : Members = put_fields Group g.additional_fields no_members in
+    rw (group_format g ms, group_type g ms, group_attributes g ms, no_group_attributes g.additional_fields, object_back g.attributes, group_fields g ms)
+
+pub group_again_by_value : (g : GroupFields) → from_data group_of (group_data g) ≡ unless_float (group_data g) (normal_group g)
+group_again_by_value g = rw (group_reads_back g)

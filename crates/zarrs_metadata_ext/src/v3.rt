@@ -1,4 +1,0 @@
-//! Version 3 metadata.
-
-pub mod additional_field;
-pub mod metadata;

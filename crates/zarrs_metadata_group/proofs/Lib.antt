@@ -1,5 +1,0 @@
-pub mod AdditionalFieldLemmas
-pub mod FieldsBack
-pub mod GroupBack
-pub mod ReadFields
-pub mod Twice

@@ -1,2 +1,0 @@
-pub mod AdditionalFields
-pub mod GroupMetadata

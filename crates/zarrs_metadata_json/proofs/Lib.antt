@@ -1,4 +1,0 @@
-pub mod MemberLemmas
-pub mod EachLemmas
-pub mod PutLemmas
-pub mod RisingLemmas

@@ -1,0 +1,66 @@
+//! Shapes, dimension names and sizes, which both versions have.
+
+ghost use Rattle.std.specs.Prelude.{◌≡◌, ℕ, List, Option, Some, IfOk, option_map, string_bytes};
+
+use std::alloc::{AllocError, Global};
+
+pub mod chunk_key_separator;
+pub mod dimension_names;
+pub mod endianness;
+
+/// The name of a dimension, if it has one.
+pub type DimensionName = Option<String>;
+
+/// The size of an element of a data type.
+#[derive(Clone, Copy, Debug, PartialEq, Eq)]
+pub enum DataTypeSize {
+    /// So many bytes.
+    Fixed(usize),
+    /// Not the same for each element.
+    Variable,
+}
+
+/// What can be taken as the name of a dimension.
+pub trait IntoDimensionName {
+    // The name that it stands for, if it stands for one.
+    ghost named: { Self → Option (List ℕ) };
+
+    /// The dimension name.
+    fn into_dimension_name(self, alloc: Global) -> Result<DimensionName, AllocError>
+        ensures { IfOk result (λ name. option_map string_bytes name ≡ named self) };
+}
+
+impl IntoDimensionName for &str {
+    ghost named = { λ s. Some s.now };
+
+    fn into_dimension_name(self, alloc: Global) -> Result<DimensionName, AllocError> {
+        Ok(Some(String::from_str(alloc, self)?))
+    }
+}
+
+impl IntoDimensionName for Option<&str> {
+    ghost named = { option_map (λ s. s.now) };
+
+    fn into_dimension_name(self, alloc: Global) -> Result<DimensionName, AllocError> {
+        match self {
+            Some(name) => Ok(Some(String::from_str(alloc, name)?)),
+            None => Ok(None),
+        }
+    }
+}
+
+impl IntoDimensionName for String {
+    ghost named = { λ s. Some (string_bytes s) };
+
+    fn into_dimension_name(self, _alloc: Global) -> Result<DimensionName, AllocError> {
+        Ok(Some(self))
+    }
+}
+
+impl IntoDimensionName for Option<String> {
+    ghost named = { option_map string_bytes };
+
+    fn into_dimension_name(self, _alloc: Global) -> Result<DimensionName, AllocError> {
+        Ok(self)
+    }
+}

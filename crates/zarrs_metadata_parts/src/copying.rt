@@ -1,0 +1,3 @@
+//! Copies of what documents are made of.
+
+pub use crate::v3::metadata::copy_extensions;

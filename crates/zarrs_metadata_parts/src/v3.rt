@@ -1,0 +1,5 @@
+//! Version 3 metadata.
+
+pub mod additional_field;
+pub mod additional_fields;
+pub mod metadata;

@@ -1,0 +1,68 @@
+//! Rows of the codecs and data types of version 2 arrays: what a text says as one.
+
+use std::alloc::{AllocError, Global};
+use zarrs_metadata_parts::{DataTypeMetadataV2, EmptyConfiguration, MetadataError, MetadataV2};
+
+fn codec_of_value(alloc: Global, codec: &MetadataV2) -> Result<MetadataV2, MetadataError> {
+    let value = codec.to_value(alloc)?;
+    MetadataV2::from_value(alloc, &value)
+}
+
+// The codec that a text says, copied, and made a value and read.
+fn codec_again(alloc: Global, text: &str) -> Result<MetadataV2, MetadataError> {
+    let codec = MetadataV2::try_from_text(alloc, text)?;
+    let copy = codec.try_clone(alloc)?;
+    codec_of_value(alloc, &copy)
+}
+
+fn is_bare(alloc: Global, codec: &MetadataV2) -> bool {
+    let empty: Option<EmptyConfiguration> = codec.to_typed_configuration(alloc).ok();
+    empty.is_some()
+}
+
+fn told_codec(alloc: Global, codec: &MetadataV2) -> Result<String, AllocError> {
+    let text = codec.to_value(alloc)?.to_string(alloc)?;
+    let members = codec.configuration().as_map().len();
+    format!(in alloc;
+        "{}; {members} {}; {text}",
+        codec.id(),
+        is_bare(alloc, codec)
+    )
+}
+
+/// The id of the codec that a text says, how many members its configuration has and whether it is the empty one, and
+/// how it is written; or the name of the refusal.
+pub fn codec_line(alloc: Global, text: &str) -> Result<String, AllocError> {
+    match codec_again(alloc, text) {
+        Ok(codec) => told_codec(alloc, &codec),
+        Err(error) => format!(in alloc; "{error:?}"),
+    }
+}
+
+fn type_of_value(
+    alloc: Global,
+    data_type: &DataTypeMetadataV2,
+) -> Result<DataTypeMetadataV2, MetadataError> {
+    let value = data_type.to_value(alloc)?;
+    DataTypeMetadataV2::from_value(alloc, &value)
+}
+
+// The data type that a text says, copied, and made a value and read.
+fn type_again(alloc: Global, text: &str) -> Result<DataTypeMetadataV2, MetadataError> {
+    let data_type = DataTypeMetadataV2::try_from_text(alloc, text)?;
+    let copy = data_type.try_clone(alloc)?;
+    type_of_value(alloc, &copy)
+}
+
+fn told_type(alloc: Global, data_type: &DataTypeMetadataV2) -> Result<String, AllocError> {
+    let value = data_type.to_value(alloc)?;
+    value.to_string(alloc)
+}
+
+/// How the data type is written that a text says; or the name of the refusal.
+pub fn data_type_line(alloc: Global, text: &str) -> Result<String, AllocError> {
+    match type_again(alloc, text) {
+        Ok(data_type) => told_type(alloc, &data_type),
+        Err(error) => format!(in alloc; "{error:?}"),
+    }
+}

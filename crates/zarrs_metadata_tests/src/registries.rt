@@ -1,0 +1,104 @@
+//! Patterns, registries, and extensions that go by names.
+
+ghost use Rattle.std.specs.Prelude.{Some, codes, ◌||◌};
+ghost use Rattle.std.specs.Str.{bytes_eq};
+
+use crate::texts::is_text;
+use std::alloc::{AllocError, Global};
+use zarrs_plugin::{
+    ExtensionAliases, ExtensionName, NamePattern, PluginCreateError, PluginKind,
+    PluginUnsupportedError, Registry, RegistryHandle, ZarrVersion,
+};
+
+struct Regular;
+
+impl ExtensionName for Regular {
+    ghost name_in = { λ _ _. Some (codes "regular") };
+
+    fn name(&self, alloc: Global, _version: ZarrVersion) -> Result<Option<String>, AllocError> {
+        Ok(Some(String::from_str(alloc, "regular")?))
+    }
+}
+
+impl ExtensionAliases for Regular {
+    ghost goes_by = { λ _ name _. bytes_eq name (codes "regular") || bytes_eq name (codes "even") };
+
+    fn matches_name(&self, name: &str, _version: ZarrVersion) -> bool {
+        name == "regular" || name == "even"
+    }
+}
+
+fn name_of<E: ExtensionName>(alloc: Global, extension: &E) -> Result<Option<String>, AllocError> {
+    extension.name(alloc, ZarrVersion::V3)
+}
+
+fn goes_by<E: ExtensionAliases>(extension: &E, name: &str) -> bool {
+    extension.matches_name(name, ZarrVersion::V2)
+}
+
+#[test]
+fn an_extension_has_its_names(rt: HostRuntime) {
+    assert!(rt; name_of(rt.alloc(), &Regular).is_ok());
+    assert!(rt; goes_by(&Regular, "regular"));
+    assert!(rt; goes_by(&Regular, "even"));
+    assert!(rt; !goes_by(&Regular, "odd"));
+}
+
+fn error_text(alloc: Global) -> Result<String, AllocError> {
+    let name = String::from_str(alloc, "zstd")?;
+    let error = PluginUnsupportedError::new(name, PluginKind::Codec);
+    format!(in alloc; "{}", PluginCreateError::Unsupported(error))
+}
+
+#[test]
+fn an_error_says_what_is_not_supported(rt: HostRuntime) {
+    let wanted = "zstd is no supported extension of the kind Codec";
+    is_text(&rt, "an error", error_text(rt.alloc()), wanted);
+}
+
+fn exact(alloc: Global, name: &str) -> Result<NamePattern, AllocError> {
+    Ok(NamePattern::Exact(String::from_str(alloc, name)?))
+}
+
+fn builtin(alloc: Global) -> Result<Registry<u8>, AllocError> {
+    let entries = vec![in alloc;
+        (exact(alloc, "bytes")?, 1),
+        (NamePattern::LetterDigits(b'r'), 2),
+    ]?;
+    Ok(Registry::with_builtin(alloc, entries))
+}
+
+fn register(
+    alloc: Global,
+    registry: &mut Registry<u8>,
+    name: &str,
+    kind: u8,
+) -> Result<RegistryHandle, AllocError> {
+    let names = vec![in alloc; exact(alloc, name)?]?;
+    registry.register(names, kind)
+}
+
+// The kinds of some names before anything was registered, after `bytes` and `zstd` were, and after `bytes` was removed.
+fn found(alloc: Global) -> Result<String, AllocError> {
+    let mut registry = builtin(alloc)?;
+    let before = kinds(&registry);
+    let bytes = register(alloc, &mut registry, "bytes", 3)?;
+    register(alloc, &mut registry, "zstd", 4)?;
+    let between = kinds(&registry);
+    registry.unregister(&bytes);
+    format!(in alloc; "{before:?} {between:?} {:?}", kinds(&registry))
+}
+
+fn kinds(registry: &Registry<u8>) -> [u8; 6] {
+    ["bytes", "zstd", "r8", "r", "r8x", "x8"].map(|name| registry.find(name).copied().unwrap_or(0))
+}
+
+#[test]
+fn the_first_match_is_found(rt: HostRuntime) {
+    is_text(
+        &rt,
+        "kinds",
+        found(rt.alloc()),
+        "[1, 0, 2, 0, 0, 0] [3, 4, 2, 0, 0, 0] [1, 4, 2, 0, 0, 0]",
+    );
+}

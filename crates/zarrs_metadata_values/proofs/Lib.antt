@@ -1,0 +1,6 @@
+pub mod MemberLemmas
+pub mod EachLemmas
+pub mod PutLemmas
+pub mod RisingLemmas
+pub mod FillLemmas
+pub mod FillBytes

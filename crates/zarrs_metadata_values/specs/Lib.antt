@@ -1,0 +1,5 @@
+pub mod Reading
+pub mod Writing
+pub mod Rising
+pub mod Configuration
+pub mod FillValueMetadata

@@ -1,4 +1,0 @@
-//! Worked examples.
-
-mod names;
-mod registries;
