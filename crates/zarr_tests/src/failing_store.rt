@@ -32,7 +32,12 @@ impl Store for FailingStore {
     ghost use Rattle.zarrs_storage.specs.MemoryStore.{content_of};
     ghost use Rattle.zarrs_storage.specs.Calls.{count_of, count_of-fits};
 
-    ghost shown = { λ s. record { content = content_of s.store; faults = count_of s.faults; asks = count_of s.asks; taken = count_of s.store.taken } };
+    ghost shown = { λ s. record {
+      content = content_of s.store;
+      faults = count_of s.faults;
+      asks = count_of s.asks;
+      taken = count_of s.store.taken;
+    } };
 
     fn get(&mut self, alloc: Global, key: &StoreKey) -> Result<Option<Vec<u8>>, StorageError> {
         self.asks = self.asks.saturating_add(1);
@@ -88,5 +93,9 @@ impl Store for FailingStore {
         self.store.taken()
     }
 
-    ghost counts_fit = { λ s. (count_of-fits s.faults, count_of-fits s.asks, count_of-fits s.store.taken) };
+    ghost counts_fit = { λ s. (
+      count_of-fits s.faults,
+      count_of-fits s.asks,
+      count_of-fits s.store.taken,
+    ) };
 }

@@ -19,7 +19,8 @@ const TABLE: &str = r#"["bytes"] ["b8"] opened
 
 // The built-in registries, with another name for the grid `regular`.
 fn with_grid_name(alloc: Global, name: String) -> Result<Registries, AllocError>
-    ensures { IfOk result (λ r. (names_of r).grids ≡ with_entry (exact (string_bytes name) ∷ []) GridKind.Regular builtin_names.grids) }
+    ensures { IfOk result (λ r. (names_of r).grids
+        ≡ with_entry (exact (string_bytes name) ∷ []) GridKind.Regular builtin_names.grids) }
 {
     let mut registries = builtin_registries(alloc)?;
     let mut names = Vec::with_capacity(alloc, 1)?;
