@@ -4,14 +4,15 @@
 import sys
 
 DOCUMENT = (
-    '{{"zarr_format":3,"node_type":"array","shape":{shape},"data_type":"uint8",'
+    '{{"zarr_format":3,"node_type":"array","shape":{shape},"data_type":"{data_type}",'
     '"chunk_grid":{{"name":"regular","configuration":{{"chunk_shape":{chunks}}}}},'
-    '"chunk_key_encoding":"default","fill_value":0,"codecs":["bytes"]}}\n'
+    '"chunk_key_encoding":"default","fill_value":0,'
+    '"codecs":[{{"name":"bytes","configuration":{{"endian":"{endian}"}}}}]}}\n'
 )
 
 
-def document(shape, chunks):
-    return DOCUMENT.format(shape=list(shape), chunks=list(chunks))
+def document(shape, chunks, data_type="uint8", endian="little"):
+    return DOCUMENT.format(shape=list(shape), chunks=list(chunks), data_type=data_type, endian=endian)
 
 
 def key_lines(counts, size):
@@ -44,12 +45,13 @@ def small_reads():
     return document((1024, 1024), (128, 128)) + key_lines((8, 8), 128 * 128) + "".join(reads)
 
 
-def write_and_read(shape, chunks):
-    """One write of a whole array and one read of it."""
+def write_and_read(shape, chunks, size=1, data_type="uint8", endian="little"):
+    """One write of a whole array of elements of `size` bytes, and one read of it."""
     count = shape[0] * shape[1]
-    elements = "".join(f" h{n % 251 + 1:02x}" for n in range(count))
+    digits = [f"{n % 251 + 1:02x}" for n in range(count * size)]
+    elements = "".join(" h" + "".join(digits[k * size : k * size + size]) for k in range(count))
     return (
-        document(shape, chunks)
+        document(shape, chunks, data_type, endian)
         + f"write {box(shape)}{elements}\n"
         + f"read {box(shape)}\n"
     )
@@ -72,6 +74,20 @@ def cases():
             "chunks",
             f"write and read {shape[0]} x {shape[1]} in {chunks:,} chunks of 10 x 10",
             lambda shape=shape: write_and_read(shape, (10, 10)),
+        )
+    for data_type, size, endian in (
+        ("int16", 2, "little"),
+        ("int16", 2, "big"),
+        ("int32", 4, "little"),
+        ("int64", 8, "little"),
+    ):
+        shape = (1024, 1024 // size)
+        yield (
+            "types",
+            f"write and read {shape[0]} x {shape[1]} of {data_type}, {endian}, in chunks of 128 x {128 // size}",
+            lambda shape=shape, size=size, data_type=data_type, endian=endian: write_and_read(
+                shape, (128, 128 // size), size, data_type, endian
+            ),
         )
 
 

@@ -1,16 +1,18 @@
 -- Documents, opened and refused, by computation.
-use Rattle.std.proofs.Common.{◌≡◌, ℕ, List, [], ◌∷◌, ◌++◌, refl, codes}
+use Rattle.std.proofs.Common.{◌≡◌, ℕ, List, [], ◌∷◌, ◌++◌, Some, None, refl, codes}
 use Rattle.std.specs.Bool.{⊤}
 use Rattle.serde_json.proofs.OnLiterals.{serde_json_on_literals}
-use Rattle.zarr_model.specs.Prelude.{default_keys, little, big}
+use Rattle.zarr_model.specs.Prelude.{default_keys, v2_keys, big, uint_type}
 use Rattle.zarrs_metadata_parts.specs.Reading.{object_or_empty, whole_numbers, is_number, is_text}
 use Rattle.zarrs_metadata_parts.specs.MetadataV3.{object_extension, extension_of, extensions_of}
 use Rattle.zarrs_metadata.specs.AdditionalFields.{is_array_key}
 use Rattle.zarrs_metadata.specs.ArrayMetadata.{extensions_or_none, is_array, named_fields, required_fields, optional_fields, with_optional_fields, array_members}
 use Rattle.zarrs_metadata.specs.DimensionNames.{dimension_names}
-use Rattle.zarr_basics.specs.Configurations.{chunk_shape_in, given_separator, given_order}
-use Rattle.zarr_array.specs.Document.{ArrayDocument, byte_document}
-use Rattle.zarr_array.specs.Opening.{opened, not_opened, invalid_json, float_number, invalid_metadata, unsupported_field, plugin_unsupported, plugin_create, invalid_fill, chain_order, chunk_too_large, document_of, open_builtin}
+use Rattle.zarr_basics_grids.specs.Configurations.{chunk_shape_in}
+use Rattle.zarr_basics_grids.specs.GridForms.{regular}
+use Rattle.zarr_basics.specs.Configurations.{given_separator, given_order}
+use Rattle.zarr_array.specs.Document.{ArrayDocument, fixed_document}
+use Rattle.zarr_array.specs.Opening.{opened, not_opened, invalid_json, float_number, invalid_metadata, unsupported_field, plugin_unsupported, plugin_create, invalid_fill, chain_order, document_of, open_builtin}
 
 -- what opening a text computes by
 unfoldable pub opening : ⊤
@@ -25,7 +27,7 @@ document_text dims chunk_shape filler =
 
 -- what such a line describes: keys with slashes
 abbrev pub plain_document : List ℕ → List ℕ → ℕ → ArrayDocument
-plain_document dims chunk_shape filler = byte_document (default_keys 47) little dims chunk_shape filler
+plain_document dims chunk_shape filler = fixed_document (default_keys 47) None (uint_type 1) dims (regular chunk_shape) (filler ∷ [])
 
 pub square_opens : open_builtin (document_text (codes "[4,4]") (codes "[2,2]") (codes "0")) ≡ opened (plain_document (4 ∷ 4 ∷ []) (2 ∷ 2 ∷ []) 0)
 unfolding opening
@@ -35,17 +37,17 @@ pub line_opens : open_builtin (document_text (codes "[5]") (codes "[2]") (codes 
 unfolding opening
 line_opens = refl
 
--- at the limits
+-- at rank 0 and with a length 0
 limits_open : (open_builtin (document_text (codes "[]") (codes "[]") (codes "255")) ≡ opened (plain_document [] [] 255))
     × (open_builtin (document_text (codes "[0,65535]") (codes "[65535,1]") (codes "7")) ≡ opened (plain_document (0 ∷ 65535 ∷ []) (65535 ∷ 1 ∷ []) 7))
 unfolding opening
 limits_open = (refl, refl)
 
--- past them: a third dimension and a long one
-limits_refused : (open_builtin (document_text (codes "[1,1,1]") (codes "[1,1,1]") (codes "0")) ≡ not_opened chunk_too_large)
-    × (open_builtin (document_text (codes "[65536]") (codes "[1]") (codes "0")) ≡ not_opened chunk_too_large)
+-- a third dimension and a long one
+large_open : (open_builtin (document_text (codes "[1,1,1]") (codes "[1,1,1]") (codes "0")) ≡ opened (plain_document (1 ∷ 1 ∷ 1 ∷ []) (1 ∷ 1 ∷ 1 ∷ []) 0))
+    × (open_builtin (document_text (codes "[65536]") (codes "[32768]") (codes "0")) ≡ opened (plain_document (65536 ∷ []) (32768 ∷ []) 0))
 unfolding opening
-limits_refused = (refl, refl)
+large_open = (refl, refl)
 
 -- a chunk length 0, a chunk shape of another rank; fills that are no byte; a float, which comes first
 parts_refused : (open_builtin (document_text (codes "[4]") (codes "[0]") (codes "0")) ≡ not_opened plugin_create)
@@ -73,10 +75,11 @@ chain_text keys codecs =
 
 -- keys with dots, a byte order, an unknown name before a bad configuration, and the order of a chain after all names
 chains : (open_builtin (chain_text (codes "{\"name\":\"default\",\"configuration\":{\"separator\":\".\"}}") (codes "[{\"name\":\"bytes\",\"configuration\":{\"endian\":\"big\"}}]"))
-    ≡ opened (byte_document (default_keys 46) big (4 ∷ []) (2 ∷ []) 0))
-    × (open_builtin (chain_text (codes "\"v2\"") (codes "[]")) ≡ not_opened plugin_unsupported)
+    ≡ opened (fixed_document (default_keys 46) (Some big) (uint_type 1) (4 ∷ []) (regular (2 ∷ [])) (0 ∷ [])))
+    × (open_builtin (chain_text (codes "\"v2\"") (codes "[\"bytes\"]")) ≡ opened (fixed_document (v2_keys 46) None (uint_type 1) (4 ∷ []) (regular (2 ∷ [])) (0 ∷ [])))
+    × (open_builtin (chain_text (codes "\"v3\"") (codes "[]")) ≡ not_opened plugin_unsupported)
     × (open_builtin (chain_text (codes "\"default\"") (codes "[{\"name\":\"zstd\",\"configuration\":{\"x\":1}}]")) ≡ not_opened plugin_unsupported)
     × (open_builtin (chain_text (codes "\"default\"") (codes "[{\"name\":\"bytes\",\"configuration\":{\"x\":1}},\"zstd\"]")) ≡ not_opened plugin_create)
     × (open_builtin (chain_text (codes "\"default\"") (codes "[\"bytes\",\"bytes\"]")) ≡ not_opened chain_order)
 unfolding opening
-chains = (refl, refl, refl, refl, refl)
+chains = (refl, refl, refl, refl, refl, refl)

@@ -1,8 +1,8 @@
 pub mod ServedLaws
 pub mod DocumentLaws
 pub mod Documents
-pub mod OneByteLaws
-pub mod CopyLaws
+pub mod FormLaws
+pub mod FixedLaws
 pub mod ReadLaws
 pub mod ChunkLaws
 pub mod StoredLaws
@@ -17,5 +17,5 @@ pub mod WriteLaws
 pub mod HasRun
 pub mod StepRuns
 pub mod EraseLaws
-pub mod ByteCommands
+pub mod FixedCommands
 pub mod RunsLaws

@@ -1,11 +1,9 @@
 -- The steps of opening, one after another.
-use Rattle.std.proofs.Common.{◌≡◌, ℕ, nat_le, ◌&&◌, zero, suc, ◌+◌, ◌<◌, Bool, true, false, if◌then◌else◌, List, [], ◌∷◌, ◌++◌, length, take, get_or, Option, Some, None, Result, Ok, Err, refl, ap, arith, add-one}
-use Rattle.std.specs.List.{list_all}
-use Rattle.std.specs.declared.num.NonZeroU64.{NonZeroU64}
-use Rattle.std.specs.Int.NonZero.{non_zero_u64_get}
+use Rattle.std.proofs.Common.{◌≡◌, ℕ, nat_le, ◌||◌, ◌==◌, zero, suc, ◌+◌, ◌^◌, ◌<◌, ◌≤◌, Bool, true, false, if◌then◌else◌, List, [], ◌∷◌, ◌++◌, length, take, get_or, Option, Some, None, is_some, Result, Ok, Err, IfOk, Fits, w64, refl, sym, ap, ◌∙◌, arith, add-one, eq-eqb, eqb-true}
+use Rattle.std.proofs.lemmas.Bool.{and_from, le-leb, leb-true}
 use Rattle.serde_json.specs.Data.{Data}
 use Rattle.serde_json.specs.Written.{has_float}
-use Rattle.zarr_model.specs.Prelude.{ByteOrder}
+use Rattle.zarr_model.specs.Prelude.{ByteOrder, DataType, bool_type, int_type, uint_type, raw_type, string_type, bytes_type, optional_type, of_bytes, kind_of, fixed_size, component_size, fill_element}
 use Rattle.zarrs_plugin.specs.Registry.{Names}
 use Rattle.zarrs_metadata_parts.specs.MetadataV3.{extension_seen, extensions_seen}
 use Rattle.zarrs_metadata_parts.specs.Reading.{FailsBy as FailsToRead, from_json, or_invalid}
@@ -13,7 +11,22 @@ use Rattle.zarrs_metadata_parts.specs.declared.v3.metadata.MetadataV3.{MetadataV
 use Rattle.zarrs_metadata_values.specs.declared.error.MetadataError.{MetadataError}
 use Rattle.zarrs_metadata_values.specs.declared.error.MetadataError.TheVariants.{InvalidJson, FloatNumber, InvalidMetadata, OutOfMemory}
 use Rattle.zarrs_metadata.specs.ArrayMetadata.{ArrayFields, array_of}
-use Rattle.zarr_basics.specs.RegularGrid.{nonzeros}
+use Rattle.zarrs_plugin.specs.declared.error.PluginCreateError.{PluginCreateError}
+use Rattle.zarrs_data_type_elements.specs.FillValue.{fill_bytes}
+use Rattle.zarrs_data_type_elements.specs.declared.fill_value.FillValue.{FillValue}
+use Rattle.zarrs_data_type_names.specs.DataType.{type_of, is_type}
+use Rattle.zarrs_plugin.specs.Making.{other}
+use Rattle.zarrs_data_type_names.specs.Making.{Makes, type_by, type_in}
+use Rattle.zarrs_data_type_names.specs.declared.data_type.DataType as types
+use Rattle.zarrs_data_type_names.specs.declared.data_type.kind.DataTypeKind.{DataTypeKind}
+use Rattle.zarrs_data_type_names.proofs.TypeLaws.{named_is}
+use Rattle.zarrs_data_type.specs.FillMetadata.{Fills, fill_of}
+use Rattle.zarrs_data_type.specs.declared.fill_metadata.FillMetadataFault.{FillMetadataFault}
+use Rattle.zarrs_data_type.proofs.FillLaws.{fill_denotes}
+use Rattle.zarrs_metadata_parts.specs.MetadataV3.{Extension}
+use Rattle.zarrs_metadata_parts.specs.Configuration.{members_or_none}
+use Rattle.zarr_array.specs.Chunk.{sized_kind, is_part, are_countable}
+use Rattle.zarr_array.proofs.FormLaws.{sized_is}
 use Rattle.zarr_basics.specs.Registries.{KnownNames}
 use Rattle.zarr_basics.specs.declared.registries.CodecKind.{CodecKind}
 use Rattle.zarr_array.specs.Document.{ArrayDocument}
@@ -108,7 +121,74 @@ codecs_fail names (n ∷ ms) (suc i) m cs why lt is front fails =
     let b = bind_ok (codecs_by names (extensions_seen (take i ms))) (λ zs. Ok (a.0 ∷ zs)) cs a.2 in
     rw a.1 (fails_after why (codecs_by names (extensions_seen ms)) (λ zs. Ok (a.0 ∷ zs)) (codecs_fail names ms i m b.0 why (omega arith) is b.1 fails))
 
--- a test of lengths that are not 0 is the test of their numbers
-pub all_nonzeros : (lengths : List NonZeroU64) → list_all (λ p. nat_le (non_zero_u64_get p) 65535) lengths ≡ list_all (λ p. nat_le p 65535) (nonzeros lengths)
-all_nonzeros [] = refl
-all_nonzeros (p ∷ lengths) = ap (λ rest. nat_le (non_zero_u64_get p) 65535 && rest) (all_nonzeros lengths)
+-- numbers of 64 bits are countable
+pub counts_fit : (counts : List ℕ) → ((i : ℕ) → Fits w64 (get_or counts i 0)) → are_countable counts ≡ true
+counts_fit [] all = refl
+counts_fit (n ∷ counts) all =
+    and_from (nat_le n (2 ^ 64)) (are_countable counts) (le-leb n (2 ^ 64) (let h : Fits w64 n = all 0 in omega arith)) (counts_fit counts (λ i. all (suc i)))
+
+-- a type that is served has elements of one size, whose components are one byte or all of it
+module _ (component n : ℕ) where
+  pub type_sized : (type : DataType) → component_size type ≡ component → 0 < component → fixed_size (kind_of type) ≡ Some n → sized_kind (kind_of type) ≡ Some n
+  type_sized bool_type is some has = has
+  type_sized (int_type m) is some has = has
+  type_sized (uint_type m) is some has = has
+  type_sized (raw_type m) is some has = has
+  type_sized string_type is some has = absurd (omega arith)
+  type_sized bytes_type is some has = absurd (omega arith)
+  type_sized (optional_type inner) is some has = absurd (omega arith)
+
+  same_number : (m : ℕ) → Some m ≡ Some n → m ≡ n
+  same_number m e = cc
+
+  pub type_some : (type : DataType) → component_size type ≡ component → 0 < component → is_type type ≡ true → fixed_size (kind_of type) ≡ Some n → 0 < n
+  type_some bool_type is some proper has = let same = same_number 1 has in omega (arith, same)
+  type_some (int_type m) is some proper has = let same = same_number m has in omega (arith, same)
+  type_some (uint_type m) is some proper has = let same = same_number m has in omega (arith, same)
+  type_some (raw_type m) is some proper has = let same = same_number m has in let least : 1 ≤ m = leb-true 1 m proper in omega (arith, same)
+  type_some string_type is some proper has = absurd (omega arith)
+  type_some bytes_type is some proper has = absurd (omega arith)
+  type_some (optional_type inner) is some proper has = absurd (omega arith)
+
+  one_byte : component ≡ 1 → is_part component n ≡ true
+  one_byte e = ap (λ b. b || (component == n)) (eq-eqb component 1 e)
+
+  all_bytes : component ≡ n → is_part component n ≡ true
+  all_bytes e = ap (λ b. (component == 1) || b) (eq-eqb component n e) ∙ or_true (component == 1)
+    where
+      or_true : (b : Bool) → (b || true) ≡ true
+      or_true true = refl
+      or_true false = refl
+
+  pub type_part : (type : DataType) → component_size type ≡ component → 0 < component → fixed_size (kind_of type) ≡ Some n → is_part component n ≡ true
+  type_part bool_type is some has = one_byte (sym is)
+  type_part (int_type m) is some has = all_bytes (sym is ∙ same_number m has)
+  type_part (uint_type m) is some has = all_bytes (sym is ∙ same_number m has)
+  type_part (raw_type m) is some has = one_byte (sym is)
+  type_part string_type is some has = absurd (omega arith)
+  type_part bytes_type is some has = absurd (omega arith)
+  type_part (optional_type inner) is some has = absurd (omega arith)
+
+  pub type_filled : (type : DataType) (bytes : List ℕ) → component_size type ≡ component → 0 < component → fixed_size (kind_of type) ≡ Some n →
+      is_some (fill_element (kind_of type) bytes) ≡ true → length bytes ≡ n
+  type_filled type bytes is some has denotes =
+      go (length bytes == n) refl (ap (λ k. is_some (fill_element k bytes)) (sym (sized_is (kind_of type) n (type_sized type is some has))) ∙ denotes)
+    where
+      go : (b : Bool) → (length bytes == n) ≡ b → is_some (if b then Some (of_bytes bytes) else None) ≡ true → length bytes ≡ n
+      go true is_long e = eqb-true (length bytes) n is_long
+      go false is_long e = cc
+
+-- a type that a document names is proper, and a fill value that it gives denotes an element
+pub proper_type : (names : Names DataTypeKind) (e : Extension) (made : Result types.DataType PluginCreateError) → Makes type_of made (type_by names e) → IfOk made (λ t. is_type (type_of t) ≡ true)
+proper_type names e (Err error) is = tt
+proper_type names e (Ok t) is = go e.must_understand is
+  where
+    go : (b : Bool) → (if b then type_in names e.name (members_or_none e.configuration) else Err other) ≡ Ok (type_of t) → is_type (type_of t) ≡ true
+    go true is = named_is names e.name (members_or_none e.configuration) (type_of t) is
+    go false is = cc
+
+pub denoted_fill : (t : DataType) (d : Data) (filled : Result FillValue FillMetadataFault) → Fills filled (fill_of t d) → IfOk filled (λ fill. is_some (fill_element (kind_of t) (fill_bytes fill)) ≡ true)
+denoted_fill t d (Ok fill) is = fill_denotes t d (fill_bytes fill) is
+denoted_fill t d (Err error) is = tt
+
+pub ruleset of_served = (fails_after)

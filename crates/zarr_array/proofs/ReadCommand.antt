@@ -8,7 +8,7 @@ use Rattle.zarr_array.specs.declared.error.SessionErrorKind.TheVariants.{NotOpen
 use Rattle.zarr_array.specs.OpenArray.{described}
 use Rattle.zarr_array.specs.Session.{HasSessionCause, FailsAt}
 use Rattle.zarr_array.specs.Read.{HasReadCause, FailsToRead}
-use Rattle.zarr_array.proofs.ReadSteps.{described_covers}
+use Rattle.zarr_array.proofs.ServedLaws.{described_covers}
 
 -- the chunks of an accepted read
 pub chunks-read : (description : Description) (region : Region) → region_refusal description region ≡ None → command_chunks description (read region) ≡ chunks_meeting description.grid region

@@ -1,14 +1,15 @@
 -- A region is read chunk by chunk.
-use Rattle.std.proofs.Common.{◌≡◌, ℕ, zero, suc, ◌+◌, ◌<◌, Bool, true, false, if◌then◌else◌, List, [], ◌∷◌, length, map, get_or, slice_get, Some, refl, sym, ap, ap₂, ◌∙◌, subst, subst₂, arith, ⊎_elim}
+use Rattle.std.proofs.Common.{◌≡◌, ℕ, zero, suc, ◌+◌, ◌*◌, ◌<◌, true, false, List, [], ◌∷◌, length, get_or, slice_get, Some, sym, ap, ap₂, ◌∙◌, subst, subst₂, arith, ⊎_elim}
 use Rattle.std.proofs.lemmas.Bool.{cases_Bool, cases_eq, cond-true, cond-false, true≢false}
 use Rattle.std.proofs.lemmas.List.{length-map, get_or-map, same_lists}
-use Rattle.zarr_model.specs.Prelude.{Region, count, contains, tuples, place, tuple_at, ends_within, Array, elements_in, Grid, IsChunk, chunks_meeting, CoversShape, Element, of_bytes, Content, Layout, box_content, chunk_content}
+use Rattle.zarr_model.specs.Prelude.{Region, count, contains, tuples, place, tuple_at, ends_within, Array, elements_in, Grid, IsChunk, chunks_meeting, CoversShape, Element, Content, Layout, box_content, chunk_content}
 use Rattle.zarr_model.proofs.RegionLaws.{length-tuples, get_or-tuples, contains-tuple_at, place_below, tuple_at-place}
 use Rattle.zarr_model.proofs.ArrayLaws.{inside_shape}
 use Rattle.zarr_model.proofs.SessionLaws.{share_tuple-from}
 use Rattle.zarr_model.proofs.FailureLaws.{meets_at}
-use Rattle.zarr_array.specs.Chunk.{byte_elements}
-use Rattle.zarr_array.specs.Overlap.{Copied}
+use Rattle.zarrs_codec_bytes.specs.Elements.{fixed_elements}
+use Rattle.zarrs_codec_bytes.specs.Overlap.{Copied}
+use Rattle.zarrs_codec_bytes.proofs.FixedLaws.{length-elements}
 
 -- the list of a region has the array's elements in the boxes of the first chunks of a list
 pub record HasRead {E : Type 0} (grid : Grid) (region : Region) (chunks : List (List ℕ)) (done : ℕ) (array : Array E) (list : List E) : Type 0 where
@@ -45,6 +46,11 @@ module _ {E : Type 0} (grid : Grid) (region : Region) (chunks : List (List ℕ))
         (cases_Bool (contains (grid.chunk_box chunk) (tuple_at region k)));
   }
 
+-- the region's bytes have room before the first chunk
+pub read_begun : (n : ℕ) (grid : Grid) (region : Region) (chunks : List (List ℕ)) (array : Array Element) (bytes : List ℕ) → 0 < n → length bytes ≡ count region * n →
+    HasRead grid region chunks 0 array (fixed_elements n bytes)
+read_begun n grid region chunks array bytes some long = read-start grid region chunks array (fixed_elements n bytes) (length-elements n some (count region) bytes long)
+
 -- once all chunks that the region meets are read, it is the region of the array
 pub read-end : {E : Type 0} (shape : List ℕ) (grid : Grid) (region : Region) (chunks : List (List ℕ)) (array : Array E) (list : List E) → CoversShape shape grid → ends_within region shape ≡ true →
     chunks ≡ chunks_meeting grid region → HasRead grid region chunks (length chunks) array list → list ≡ elements_in region array
@@ -66,31 +72,14 @@ read-end {E} shape grid region chunks array list covers inside are read =
         listed_below (y ∷ ys) zero x e = omega arith
         listed_below (y ∷ ys) (suc n) x e = let rest : n < length ys = listed_below ys n x e in omega arith
 
--- a copy of lists is one of their images
-pub Copied-map : {A B : Type 0} (f : A → B) (e : A) (target_box source_box : Region) (source old new : List A) → length source ≡ count source_box → length old ≡ count target_box →
-    Copied target_box source_box source old new → Copied target_box source_box (map f source) (map f old) (map f new)
-Copied-map {B = B} f e target_box source_box source old new source_long long copied = record {
-  as_long = length-map new f ∙ (copied.as_long ∙ sym (length-map old f));
-  each = λ k d h.
-      get_or-map f new k e d (subst (λ n. k < n) (sym (copied.as_long ∙ long)) h) ∙ (ap f (copied.each k e h)
-      ∙ turn k d h (contains source_box (tuple_at target_box k)) refl);
-}
-  where
-    turn : (k : ℕ) (d : B) → k < count target_box → (b : Bool) → contains source_box (tuple_at target_box k) ≡ b →
-        f (if b then get_or source (place source_box (tuple_at target_box k)) e else get_or old k e)
-        ≡ (if b then get_or (map f source) (place source_box (tuple_at target_box k)) d else get_or (map f old) k d)
-    turn k d h true is = sym (get_or-map f source (place source_box (tuple_at target_box k)) e d (subst (λ n. place source_box (tuple_at target_box k) < n) (sym source_long) (place_below source_box (tuple_at target_box k) is)))
-    turn k d h false is = sym (get_or-map f old k e d (subst (λ n. k < n) (sym long) h))
-
 -- what a chunk's value gives to a region is the array's part, for each array that the chunk has
-pub chunk_copied : (place : Layout Element) (store : Content) (region box : Region) (chunk key value part old new : List ℕ) (array : Array Element) →
-    box ≡ place.grid.chunk_box chunk → key ≡ place.key chunk → box_content place box (store key) ≡ Some (byte_elements value) →
-    length value ≡ count box → length old ≡ count region → part ≡ value → Copied region box part old new →
+pub chunk_copied : (place : Layout Element) (store : Content) (region box : Region) (chunk key value part old new : List ℕ) (n : ℕ) (array : Array Element) →
+    box ≡ place.grid.chunk_box chunk → key ≡ place.key chunk → box_content place box (store key) ≡ Some (fixed_elements n value) → part ≡ value →
+    Copied region box (fixed_elements n part) (fixed_elements n old) (fixed_elements n new) →
     chunk_content place store chunk ≡ Some (elements_in (place.grid.chunk_box chunk) array) →
-    Copied region (place.grid.chunk_box chunk) (elements_in (place.grid.chunk_box chunk) array) (byte_elements old) (byte_elements new)
-chunk_copied place store region box chunk key value part old new array box_is key_is decoded value_long long part_is copied has =
-    let both : Some (byte_elements value) ≡ Some (elements_in (place.grid.chunk_box chunk) array) =
+    Copied region (place.grid.chunk_box chunk) (elements_in (place.grid.chunk_box chunk) array) (fixed_elements n old) (fixed_elements n new)
+chunk_copied place store region box chunk key value part old new n array box_is key_is decoded part_is copied has =
+    let both : Some (fixed_elements n value) ≡ Some (elements_in (place.grid.chunk_box chunk) array) =
     sym decoded ∙ (ap₂ (λ b k. box_content place b (store k)) box_is key_is ∙ has) in
-    let same : byte_elements value ≡ elements_in (place.grid.chunk_box chunk) array = cc in
-    subst₂ (λ b xs. Copied region b xs (byte_elements old) (byte_elements new)) box_is same
-    (Copied-map (λ b. of_bytes (b ∷ [])) 0 region box value old new value_long long (subst (λ xs. Copied region box xs old new) part_is copied))
+    let same : fixed_elements n part ≡ elements_in (place.grid.chunk_box chunk) array = ap (fixed_elements n) part_is ∙ cc in
+    subst₂ (λ b xs. Copied region b xs (fixed_elements n old) (fixed_elements n new)) box_is same copied

@@ -1,27 +1,14 @@
 -- The steps of reading a region.
-use Rattle.std.proofs.Common.{◌≡◌, ℕ, zero, suc, ◌+◌, ◌<◌, ◌≤◌, ◌⊎◌, true, List, [], ◌∷◌, length, get_or, slice_get, Some, sym, ap, ◌∙◌, subst, arith, inl, inr, ⊎_elim}
+use Rattle.std.proofs.Common.{◌≡◌, ℕ, zero, suc, ◌+◌, ◌<◌, ◌≤◌, ◌⊎◌, true, List, [], ◌∷◌, length, get_or, slice_get, Some, nat_le, refl, sym, ap, ◌∙◌, subst, arith, inl, inr, ⊎_elim}
+use Rattle.std.proofs.lemmas.Bool.{and_parts}
 use Rattle.std.proofs.lemmas.Option.{slice_get_within}
-use Rattle.zarr_model.specs.Prelude.{Region, count, tuples, tuple_at, ends_within, Grid, IsChunk, chunks_meeting, CoversShape, Options, IsSound, box_content, chunk_content, Shown, Description, layout, counted, Rose}
+use Rattle.zarr_model.specs.Prelude.{Region, count, tuples, tuple_at, ends_within, Grid, IsChunk, chunks_meeting, CoversShape, Options, box_content, chunk_content, Shown, Description, layout, counted, Rose}
 use Rattle.zarr_model.proofs.RegionLaws.{length-tuples, get_or-tuples}
 use Rattle.zarr_model.proofs.FailureLaws.{meeting_is}
-use Rattle.zarr_array.specs.declared.open.OpenArray.{OpenArray}
 use Rattle.zarr_array.specs.declared.error.SessionErrorKind.{SessionErrorKind}
 use Rattle.zarr_array.specs.declared.error.SessionErrorKind.TheVariants.{NotOpened, ChunkDecode, Store, OutOfMemory}
-use Rattle.zarr_basics.specs.BytesCodec.{named_order, stored_order}
-use Rattle.zarr_basics.specs.RegularGrid.{nonzeros}
-use Rattle.zarr_array.specs.OpenArray.{described}
 use Rattle.zarr_array.specs.Chunk.{FailsToFetch}
 use Rattle.zarr_array.specs.Read.{HasReadCause, FailsToRead}
-use Rattle.zarr_array.proofs.ServedLaws.{served_covers, served_sound, served_region}
-use Rattle.zarr_basics.proofs.RegularLaws.{rank_within}
-
--- the laws of an opened array's grid and layout
-pub described_covers : (array : OpenArray) → CoversShape (described array).shape (described array).grid
-described_covers array = served_covers array.grid.array_shape.items (nonzeros array.grid.chunk_shape.items) array.within_limits
-
-pub described_sound : (array : OpenArray) (options : Options) → IsSound (layout (described array) options)
-described_sound array options =
-    served_sound array.keys (stored_order (named_order array.codec)) array.grid.array_shape.items (nonzeros array.grid.chunk_shape.items) array.fill options array.within_limits
 
 -- a place of a list
 slice_get-at : {A : Type 0} (xs : List A) (k : ℕ) (x : A) → k < length xs → get_or xs k x ≡ x → slice_get xs k ≡ Some x
@@ -37,6 +24,12 @@ met_at grid region chunks number listed below =
     slice_get-at (tuples chunks) number (tuple_at chunks number) (subst (λ n. number < n) (sym (length-tuples chunks)) below) (get_or-tuples chunks number (tuple_at chunks number) below) in
     let met : slice_get (chunks_meeting grid region) number ≡ Some (tuple_at chunks number) = ap (λ l. slice_get l number) (sym listed) ∙ here in
     (met, (meeting_is grid region number (tuple_at chunks number) met).0)
+
+rank_within : (region : Region) (shape : List ℕ) → ends_within region shape ≡ true → length region ≡ length shape
+rank_within [] [] e = refl
+rank_within [] (n ∷ shape) e = cc
+rank_within (span ∷ region) [] e = cc
+rank_within (span ∷ region) (n ∷ shape) e = ap suc (rank_within region shape (and_parts (nat_le (span.start + span.size) n) (ends_within region shape) e).1)
 
 pub met_rank : (shape : List ℕ) (grid : Grid) (region : Region) (chunk : List ℕ) → CoversShape shape grid → ends_within region shape ≡ true → IsChunk grid chunk →
     length region ≡ length (grid.chunk_box chunk)
@@ -70,5 +63,3 @@ stops_reading description options region k old mid new chunk kind here few same 
     by_kind (ChunkDecode key) fails = (chunk, here, sym fails.0, ap (box_content (layout description options) (description.grid.chunk_box chunk)) (sym (same (description.key chunk))) ∙ fails.1)
     by_kind Store fails = rose_later old.faults mid.faults new.faults later fails
     by_kind OutOfMemory fails = tt
-
-pub ruleset of_regions = (served_region)

@@ -1,21 +1,40 @@
 -- What is stored of a chunk.
-use Rattle.std.specs.Prelude.{◌≡◌, ◌==◌, ◌||◌, not, if◌then◌else◌, ℕ, List, [], ◌∷◌, map, Option, Some, None}
+use Rattle.std.specs.Prelude.{◌≡◌, ◌^◌, ◌==◌, ◌||◌, not, nat_le, if◌then◌else◌, ℕ, Bool, List, Option, Some, None}
 use Rattle.std.specs.List.{list_all}
-use Rattle.zarr_model.specs.Prelude.{Element, of_bytes, Options, Rose, Shown}
+use Rattle.zarr_model.specs.Prelude.{Element, Kind, fixed, ByteOrder, Options, Rose, Shown}
+use Rattle.zarrs_codec_bytes.specs.Elements.{is_all_fill, in_file}
 use Rattle.zarrs_storage.specs.declared.store.StorageError.{StorageError}
 use Rattle.zarrs_storage.specs.declared.store.StorageError.TheVariants as Storage
 use Rattle.zarr_array.specs.declared.error.SessionErrorKind.{SessionErrorKind}
 use Rattle.zarr_array.specs.declared.error.SessionErrorKind.TheVariants.{NotOpened, ChunkDecode, Store, OutOfMemory}
 
--- an element for each byte
-abbrev pub byte_elements : List ℕ → List Element
-byte_elements value = map (λ b. of_bytes (b ∷ [])) value
+-- how elements of one size are stored by the codec `bytes`: their size, the size of the components
+-- whose bytes it orders, that order, and the fill value's bytes
+pub record FixedForm : Type 0 where
+  pub size : ℕ
+  pub component : ℕ
+  pub order : ByteOrder
+  pub fill : List ℕ
 
--- what is put under the key of a chunk with these bytes: the bytes, or nothing where all are the
--- fill and such chunks are not stored
-abbrev pub stored_value : Options → ℕ → List ℕ → Option (List ℕ)
-stored_value options fill value = if options.store_empty_chunks
-    || not (list_all (λ b. b == fill) value) then Some value else None
+-- the size of the elements of a kind, where they are bytes of one length
+abbrev pub sized_kind : Kind → Option ℕ
+sized_kind (fixed n) = Some n
+sized_kind _ = None
+
+-- a component is one byte or the whole element
+abbrev pub is_part : ℕ → ℕ → Bool
+is_part component size = (component == 1) || (component == size)
+
+-- each number of chunks has the range of a `u64`
+abbrev pub are_countable : List ℕ → Bool
+are_countable grid_shape = list_all (λ n. nat_le n (2 ^ 64)) grid_shape
+
+-- what is put under the key of a chunk with these bytes: the bytes in the order of the codec, or
+-- nothing where all elements are the fill and such chunks are not stored
+abbrev pub stored_value : Options → FixedForm → List ℕ → Option (List ℕ)
+stored_value options form bytes = if options.store_empty_chunks
+    || not (is_all_fill form.size form.fill bytes)
+    then Some (in_file form.order form.component bytes) else None
 
 -- an error of the store as one of a session
 abbrev pub storage_kind : StorageError → SessionErrorKind

@@ -7,7 +7,7 @@ use Rattle.zarr_array.specs.declared.command.Command.TheVariants.{Read, Write, E
 use Rattle.zarr_array.specs.declared.command.Reply.{Reply}
 use Rattle.zarr_array.specs.declared.command.Reply.TheVariants.{Elements, Done, Refused}
 use Rattle.zarr_array.specs.declared.refusal.Refusal.{Refusal}
-use Rattle.zarr_array.specs.declared.refusal.Refusal.TheVariants.{IncompatibleDimensionality, SubsetOutOfBounds, UnexpectedChunkDecodedSize}
+use Rattle.zarr_array.specs.declared.refusal.Refusal.TheVariants.{IncompatibleDimensionality, SubsetOutOfBounds, RegionTooLarge, UnexpectedChunkDecodedSize}
 
 abbrev pub command_of : Command → Model.Command
 command_of (Read subset) = Model.read (region subset)
@@ -17,6 +17,7 @@ command_of (Erase chunk) = Model.erase chunk.items
 abbrev pub refusal_of : Refusal → Model.Refusal
 refusal_of IncompatibleDimensionality = Model.incompatible_dimensionality
 refusal_of SubsetOutOfBounds = Model.subset_out_of_bounds
+refusal_of RegionTooLarge = Model.region_too_large
 refusal_of UnexpectedChunkDecodedSize = Model.unexpected_chunk_decoded_size
 
 abbrev pub answer_of : Reply → Model.Answer

@@ -2,7 +2,6 @@ pub mod Document
 pub mod Opening
 pub mod OpenError
 pub mod OpenArray
-pub mod Overlap
 pub mod Command
 pub mod Options
 pub mod Chunk

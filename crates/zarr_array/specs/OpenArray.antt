@@ -1,18 +1,31 @@
 -- What an opened array stands for: its document, and the array that it describes.
 use Rattle.std.specs.Prelude.{◌≡◌, Option, Some, None, Result, Ok, Err}
 use Rattle.zarr_model.specs.Prelude.{Description}
+use Rattle.zarrs_data_type_elements.specs.FillValue.{fill_bytes}
+use Rattle.zarrs_data_type.specs.DataType.{type_of}
+use Rattle.zarr_basics_grids.specs.BasicGrid.{basic_shape, basic_form}
 use Rattle.zarr_basics.specs.BytesCodec.{named_order, stored_order}
 use Rattle.zarr_basics.specs.Keys.{keys_of}
-use Rattle.zarr_basics.specs.RegularGrid.{nonzeros}
-use Rattle.zarr_array.specs.Document.{ArrayDocument, byte_document, describe}
+use Rattle.zarr_array.specs.Chunk.{FixedForm}
+use Rattle.zarr_array.specs.Document.{ArrayDocument, fixed_document, describe}
 use Rattle.zarr_array.specs.Opening.{OpenRefusal, OpenAnswer, opened}
 use Rattle.zarr_array.specs.OpenError.{open_refusal_of, IsRefusedBy}
 use Rattle.zarr_array.specs.declared.open.OpenArray.{OpenArray}
 use Rattle.zarr_array.specs.declared.open_error.OpenError.{OpenError}
 
 abbrev pub documented : OpenArray → ArrayDocument
-documented array = byte_document (keys_of array.keys) (stored_order (named_order array.codec))
-    array.grid.array_shape.items (nonzeros array.grid.chunk_shape.items) array.fill
+documented array = fixed_document (keys_of array.keys) (named_order array.codec)
+    (type_of array.data_type) (basic_shape array.grid) (basic_form array.grid)
+    (fill_bytes array.fill)
+
+-- how its elements are stored
+abbrev pub form_of : OpenArray → FixedForm
+form_of array = record {
+  size = array.size;
+  component = array.component;
+  order = stored_order (named_order array.codec);
+  fill = fill_bytes array.fill;
+}
 
 abbrev pub described : OpenArray → Description
 described array = describe (documented array)

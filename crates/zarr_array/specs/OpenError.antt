@@ -3,6 +3,8 @@
 use Rattle.std.specs.Prelude.{◌≡◌, ℕ, List, codes, Option, Some, None}
 use Rattle.zarrs_metadata_values.specs.declared.error.MetadataError.{MetadataError}
 use Rattle.zarrs_metadata_values.specs.declared.error.MetadataError.TheVariants as Read
+use Rattle.zarrs_plugin.specs.declared.error.PluginCreateError as Made
+use Rattle.zarrs_plugin.specs.declared.error.PluginCreateError.TheVariants as Unmade
 use Rattle.zarr_array.specs.Opening.{OpenRefusal, invalid_json, float_number, invalid_metadata, unsupported_version, unsupported_field, plugin_unsupported, plugin_create, invalid_fill, chain_order, unsupported_data_type, endianness_missing, chunk_too_large, open_refusal_name, OpenAnswer, not_opened}
 use Rattle.zarr_array.specs.declared.error.SessionErrorKind.{SessionErrorKind}
 use Rattle.zarr_array.specs.declared.error.SessionErrorKind.TheVariants.{NotOpened}
@@ -46,12 +48,12 @@ unread_as Read.FloatNumber = FloatNumber
 unread_as Read.InvalidMetadata = InvalidMetadata
 unread_as Read.OutOfMemory = OutOfMemory
 
--- a configuration that is not read
-abbrev pub unmade_as : MetadataError → OpenError
-unmade_as Read.InvalidJson = PluginCreateError
-unmade_as Read.FloatNumber = PluginCreateError
-unmade_as Read.InvalidMetadata = PluginCreateError
-unmade_as Read.OutOfMemory = OutOfMemory
+-- an extension that is not made
+abbrev pub unmade_as : Made.PluginCreateError → OpenError
+unmade_as (Unmade.Unsupported error) = PluginUnsupportedError
+unmade_as Unmade.Config = PluginCreateError
+unmade_as Unmade.Other = PluginCreateError
+unmade_as Unmade.OutOfMemory = OutOfMemory
 
 -- a session whose document is not opened
 abbrev pub ended_for : Option OpenRefusal → OpenError → SessionErrorKind

@@ -1,29 +1,26 @@
 -- Opening a document: what its text describes by the names that some registries know, or the first
 -- reason why it is refused.
-use Rattle.std.specs.Prelude.{ℕ, ⊤, codes, Bool, true, false, ◌&&◌, ◌||◌, nat_le, if◌then◌else◌, List, [], ◌∷◌, length, Option, Some, None, option_map, Result, Ok, Err}
-use Rattle.std.specs.List.{list_all}
-use Rattle.serde_json.specs.Data.{Data, Members}
+use Rattle.std.specs.Prelude.{ℕ, ⊤, codes, Bool, true, false, ◌||◌, nat_lt, if◌then◌else◌, List, [], ◌∷◌, Option, Some, None, Result, Ok, Err}
+use Rattle.serde_json.specs.Data.{Data}
 use Rattle.serde_json.specs.Read.{read as read_json}
 use Rattle.serde_json.specs.Written.{has_float}
-use Rattle.zarr_model.specs.Prelude.{KeyEncoding, default_keys, ByteOrder}
+use Rattle.zarr_model.specs.Prelude.{DataType, kind_of, fixed_size, component_size, KeyEncoding, ByteOrder}
 use Rattle.zarrs_plugin.specs.Registry.{Names, find}
 use Rattle.zarrs_metadata_parts.specs.AdditionalField.{AdditionalField}
-use Rattle.zarrs_metadata_parts.specs.Configuration.{is_none_or_empty}
-use Rattle.zarrs_metadata_parts.specs.FillValueMetadata.{byte}
 use Rattle.zarrs_metadata_parts.specs.MetadataV3.{Extension}
 use Rattle.zarrs_metadata.specs.ArrayMetadata.{ArrayFields, array_of}
-use Rattle.zarr_basics.specs.BytesCodec.{stored_order}
-use Rattle.zarr_basics.specs.Configurations.{are_chunk_lengths, chunk_shape_in, separator_in, order_in}
+use Rattle.zarrs_data_type.specs.FillMetadata.{fill_of}
+use Rattle.zarrs_plugin.specs.Making.{Unmade, unsupported, config, other}
+use Rattle.zarrs_data_type.specs.Making.{type_by}
+use Rattle.zarrs_data_type_names.specs.declared.data_type.kind.DataTypeKind.{DataTypeKind}
+use Rattle.zarr_basics.specs.Making.{grid_form, keys_form, codec_form}
+use Rattle.zarr_basics_grids.specs.Limits.{has_large_chunk}
+use Rattle.zarr_basics_grids.specs.GridForms.{ChunkGrid, grid_of}
 use Rattle.zarr_basics.specs.Registries.{KnownNames, builtin_names}
-use Rattle.zarr_basics.specs.declared.registries.DataTypeKind.{DataTypeKind}
-use Rattle.zarr_basics.specs.declared.registries.DataTypeKind.TheVariants.{UInt8}
-use Rattle.zarr_basics.specs.declared.registries.GridKind.{GridKind}
-use Rattle.zarr_basics.specs.declared.registries.GridKind.TheVariants.{Regular}
+use Rattle.zarr_basics_grids.specs.declared.grid_kind.GridKind.{GridKind}
 use Rattle.zarr_basics.specs.declared.registries.ChunkKeyKind.{ChunkKeyKind}
-use Rattle.zarr_basics.specs.declared.registries.ChunkKeyKind.TheVariants.{Default}
 use Rattle.zarr_basics.specs.declared.registries.CodecKind.{CodecKind}
-use Rattle.zarr_basics.specs.declared.registries.CodecKind.TheVariants.{Bytes}
-use Rattle.zarr_array.specs.Document.{ArrayDocument, byte_document}
+use Rattle.zarr_array.specs.Document.{ArrayDocument, fixed_document}
 
 -- why a document is refused
 pub data OpenRefusal : Type 0 where
@@ -96,32 +93,27 @@ abbrev pub made : {K A : Type 0} → Option K → (K → Option A) → Result A 
 made None grammar = Err plugin_unsupported
 made (Some kind) grammar = or_refused plugin_create (grammar kind)
 
--- what a configuration says under each kind; `uint8` has none
-abbrev pub data_type_form : DataTypeKind → Option Members → Option ⊤
-data_type_form UInt8 configuration = if is_none_or_empty configuration then Some tt else None
+-- why there is no data type
+abbrev pub type_refusal : Unmade → OpenRefusal
+type_refusal (unsupported name) = plugin_unsupported
+type_refusal config = plugin_create
+type_refusal other = plugin_create
 
-abbrev pub grid_form : List ℕ → GridKind → Option Members → Option (List ℕ)
-grid_form dims Regular configuration = chunk_shape_in dims configuration
-
-abbrev pub keys_form : ChunkKeyKind → Option Members → Option KeyEncoding
-keys_form Default configuration = option_map default_keys (separator_in configuration)
-
--- a codec `bytes` is the byte order that it names, if it names one
-abbrev pub codec_form : CodecKind → Option Members → Option (Option ByteOrder)
-codec_form Bytes configuration = order_in configuration
+abbrev pub type_or_refused : Result DataType Unmade → Result DataType OpenRefusal
+type_or_refused (Ok type) = Ok type
+type_or_refused (Err why) = Err (type_refusal why)
 
 -- the data type must be understood, which is tested before its name
-abbrev pub expect_data_type : Names DataTypeKind → Extension → Result ⊤ OpenRefusal
-expect_data_type names e =
-    if e.must_understand then made (find e.name names) (λ kind. data_type_form kind e.configuration)
-    else Err plugin_create
+abbrev pub data_type_by : Names DataTypeKind → Extension → Result DataType OpenRefusal
+data_type_by names e = type_or_refused (type_by names e)
 
-abbrev pub chunk_shape_by : Names GridKind → List ℕ → Extension → Result (List ℕ) OpenRefusal
-chunk_shape_by names dims e = made (find e.name names) (λ kind. grid_form dims kind e.configuration)
+abbrev pub grid_by : Names GridKind → List ℕ → Extension → Result ChunkGrid OpenRefusal
+grid_by names dims e = made (find e.name names) (λ kind. grid_form dims kind e.configuration)
 
 abbrev pub keys_by : Names ChunkKeyKind → Extension → Result KeyEncoding OpenRefusal
 keys_by names e = made (find e.name names) (λ kind. keys_form kind e.configuration)
 
+-- a codec `bytes` is the byte order that it names, if it names one
 abbrev pub codec_by : Names CodecKind → Extension → Result (Option ByteOrder) OpenRefusal
 codec_by names e = made (find e.name names) (λ kind. codec_form kind e.configuration)
 
@@ -137,35 +129,42 @@ only_codec [] = Err chain_order
 only_codec (codec ∷ []) = Ok codec
 only_codec (codec ∷ next ∷ codecs) = Err chain_order
 
--- the limits: at most two dimensions, and lengths up to 65,535
-abbrev pub are_within_limits : List ℕ → List ℕ → Bool
-are_within_limits dims chunk_shape = nat_le (length dims) 2
-    && (list_all (λ n. nat_le n 65535) dims && list_all (λ p. nat_le p 65535) chunk_shape)
+-- the codec `bytes` serves the types whose elements have components of one size
+abbrev pub expect_served : DataType → Result ⊤ OpenRefusal
+expect_served type =
+    if nat_lt 0 (component_size type) then Ok tt else Err unsupported_data_type
 
--- what an opened array keeps of them: its chunk shape has a positive length for each dimension,
--- within the limits
-abbrev pub is_served : List ℕ → List ℕ → Bool
-is_served dims chunk_shape = are_chunk_lengths dims chunk_shape
-    && are_within_limits dims chunk_shape
+-- components of several bytes need an order
+abbrev pub expect_order : DataType → Option ByteOrder → Result ⊤ OpenRefusal
+expect_order type (Some order) = Ok tt
+expect_order type None =
+    if nat_lt 1 (component_size type) then Err endianness_missing else Ok tt
 
-abbrev pub within_limits : KeyEncoding → Option ByteOrder → List ℕ → List ℕ → ℕ →
-    Result ArrayDocument OpenRefusal
-within_limits keys order dims chunk_shape filler =
-    if are_within_limits dims chunk_shape
-    then Ok (byte_document keys (stored_order order) dims chunk_shape filler)
-    else Err chunk_too_large
+-- each chunk can be held and addressed
+abbrev pub expect_small_chunks : List ℕ → ChunkGrid → DataType → Result ⊤ OpenRefusal
+expect_small_chunks dims grid type =
+    if has_large_chunk (grid_of dims grid) (fixed_size (kind_of type)) then Err chunk_too_large
+    else Ok tt
+
+-- the document of these parts, if the codec serves them
+abbrev pub served_document : KeyEncoding → Option ByteOrder → DataType → List ℕ → ChunkGrid →
+    List ℕ → Result ArrayDocument OpenRefusal
+served_document keys order type dims grid filler =
+    expect_served type >>= λ _. expect_order type order >>= λ _.
+    expect_small_chunks dims grid type >>= λ _.
+    Ok (fixed_document keys order type dims grid filler)
 
 -- the array that the fields of a document describe; the first step that refuses decides
 unfoldable pub document_of : KnownNames → ArrayFields → Result ArrayDocument OpenRefusal
 document_of names fields = do
   _ ← expect_known_fields fields
-  _ ← expect_data_type names.data_types fields.data_type
-  chunk_shape ← chunk_shape_by names.grids fields.shape fields.chunk_grid
+  type ← data_type_by names.data_types fields.data_type
+  grid ← grid_by names.grids fields.shape fields.chunk_grid
   keys ← keys_by names.key_encodings fields.chunk_key_encoding
   codecs ← codecs_by names.codecs fields.codecs
-  filler ← or_refused invalid_fill (byte fields.fill_value)
+  filler ← or_refused invalid_fill (fill_of type fields.fill_value)
   order ← only_codec codecs
-  within_limits keys order fields.shape chunk_shape filler
+  served_document keys order type fields.shape grid filler
 
 -- a value without floats that is an array document
 abbrev pub document_if : KnownNames → Bool → Option ArrayFields → Result ArrayDocument OpenRefusal

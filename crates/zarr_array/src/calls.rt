@@ -51,7 +51,8 @@ impl OpenArray {
         }
     }
 
-    /// Writes elements of one byte to a region of the array, in its row-major order: done, or why it is refused.
+    /// Writes elements to a region of the array, in its row-major order: done, or why it is refused. Each element has the
+    /// bytes of its data type, the lowest byte of a whole number first.
     ///
     /// Each chunk that the region meets is asked for once, in row-major order, decoded whole, and stored anew; or its
     /// key is erased where all its elements are the fill value and the options do not have such chunks stored.

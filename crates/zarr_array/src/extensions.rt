@@ -1,38 +1,30 @@
 //! What the extensions of an array document denote by the names of registries.
 
-ghost use Rattle.std.specs.Prelude.{◌≡◌, IsTrue, IfOk, map};
+ghost use Rattle.std.specs.Prelude.{◌≡◌, ◌<◌, true, IfOk, is_some, map};
+ghost use Rattle.zarr_model.specs.Prelude.{fill_element, kind_of, component_size};
 ghost use Rattle.zarrs_metadata.specs.AdditionalFields.{additional_fields_seen};
 ghost use Rattle.zarrs_metadata.specs.ArrayMetadata.{array_seen};
-ghost use Rattle.zarrs_metadata_parts.specs.FillValueMetadata.{byte, fill_view};
+ghost use Rattle.zarrs_metadata_parts.specs.FillValueMetadata.{fill_view};
 ghost use Rattle.zarrs_metadata_parts.specs.MetadataV3.{extension_seen, extensions_seen};
 ghost use Rattle.zarrs_plugin.specs.Registry.{registry_of};
+ghost use Rattle.zarrs_data_type_elements.specs.FillValue.{fill_bytes};
+ghost use Rattle.zarrs_data_type.specs.DataType.{type_of, is_type};
+ghost use Rattle.zarrs_data_type.specs.FillMetadata.{fill_of};
+ghost use Rattle.zarr_basics_grids.specs.BasicGrid.{basic_shape, basic_form};
 ghost use Rattle.zarr_basics.specs.BytesCodec.{named_order};
-ghost use Rattle.zarr_basics.specs.Configurations.{are_chunk_lengths};
 ghost use Rattle.zarr_basics.specs.Keys.{keys_of};
-ghost use Rattle.zarr_basics.specs.RegularGrid.{nonzeros};
 ghost use Rattle.zarr_array.specs.OpenArray.{Opens};
-ghost use Rattle.zarr_array.specs.Opening.{invalid_fill, or_refused, has_required_field, expect_known_fields, expect_data_type, chunk_shape_by, keys_by, codec_by, codecs_by, only_codec};
-ghost use Rattle.zarr_array.specs.OpenError.{unmade_as};
+ghost use Rattle.zarr_array.specs.Opening.{invalid_fill, or_refused, has_required_field, expect_known_fields, data_type_by, grid_by, keys_by, codec_by, codecs_by, only_codec, expect_served};
 
 use crate::open_error::OpenError;
 use std::alloc::Global;
-use zarr_basics::configuration::{read_bytes_codec, read_chunk_shape, read_separator};
-use zarr_basics::{BytesCodec, ChunkKeyEncoding, ChunkKeyKind, CodecKind, DataTypeKind, GridKind};
-use zarrs_array_subset::ChunkShape;
-use zarrs_metadata::{
-    AdditionalFieldsV3, ArrayMetadataV3, FillValueMetadataV3, MetadataError, MetadataV3,
+use zarr_basics::{BasicGrid, BytesCodec, ChunkKeyEncoding, ChunkKeyKind, CodecKind, GridKind};
+use zarrs_chunk_grid_traits::GridMaker;
+use zarrs_data_type::{
+    DataType, DataTypeKind, DataTypeMetadata, DataTypeTraits, FillMetadataFault, FillValue,
 };
+use zarrs_metadata::{AdditionalFieldsV3, ArrayMetadataV3, FillValueMetadataV3, MetadataV3};
 use zarrs_plugin::Registry;
-
-// A configuration that is not read, as an error of opening.
-fn unmade(error: MetadataError) -> OpenError
-    ensures { result ≡ unmade_as error }
-{
-    match error {
-        MetadataError::OutOfMemory => OpenError::OutOfMemory,
-        _ => OpenError::PluginCreateError,
-    }
-}
 
 // Whether a field has to be understood.
 fn has_required_field(fields: &AdditionalFieldsV3) -> bool
@@ -59,47 +51,44 @@ pub(crate) fn expect_known_fields(metadata: &ArrayMetadataV3) -> Result<(), Open
     }
 }
 
-// Refuses a data type that is not known, has a configuration, or need not be understood.
-pub(crate) fn expect_data_type(
+// The data type by its name.
+#[tactic(auto, using(crate::proofs::OpeningLaws::proper_type))]
+pub(crate) fn data_type_by(
+    alloc: Global,
     metadata: &MetadataV3,
     registry: &Registry<DataTypeKind>,
-) -> Result<(), OpenError>
-    ensures { Opens (λ _. tt) result (expect_data_type (registry_of registry.now)
+) -> Result<DataType, OpenError>
+    ensures made { Opens type_of result (data_type_by (registry_of registry.now)
         (extension_seen metadata.now)) }
+    ensures proper { IfOk result (λ t. is_type (type_of t) ≡ true) }
 {
-    if !metadata.must_understand() {
-        return Err(OpenError::PluginCreateError);
-    }
-    match registry.find(metadata.name()) {
-        Some(DataTypeKind::UInt8) if metadata.configuration_is_none_or_empty() => Ok(()),
-        Some(DataTypeKind::UInt8) => Err(OpenError::PluginCreateError),
-        None => Err(OpenError::PluginUnsupportedError),
-    }
+    let data_type = DataType::from_metadata(alloc, DataTypeMetadata::V3(metadata), registry)?;
+    Ok(data_type)
 }
 
-// The chunk shape of a grid.
-pub(crate) fn chunk_shape_by(
+// The grid over an array of this shape.
+pub(crate) fn grid_by(
     alloc: Global,
     array_shape: &[u64],
     metadata: &MetadataV3,
     registry: &Registry<GridKind>,
-) -> Result<ChunkShape, OpenError>
-    ensures made { Opens (λ v. nonzeros v.items) result
-        (chunk_shape_by (registry_of registry.now) array_shape.now (extension_seen metadata.now)) }
-    ensures lengths { IfOk result (λ v.
-        IsTrue (are_chunk_lengths array_shape.now (nonzeros v.items))) }
+) -> Result<BasicGrid, OpenError>
+    ensures made { Opens basic_form result (grid_by (registry_of registry.now) array_shape.now
+        (extension_seen metadata.now)) }
+    ensures shape { IfOk result (λ grid. basic_shape grid ≡ array_shape.now) }
 {
     match registry.find(metadata.name()) {
-        Some(GridKind::Regular) => match read_chunk_shape(alloc, array_shape, metadata) {
-            Ok(chunk_shape) => Ok(chunk_shape),
-            Err(error) => Err(unmade(error)),
-        },
+        Some(kind) => {
+            let grid = kind.make(alloc, metadata, array_shape)?;
+            Ok(grid)
+        }
         None => Err(OpenError::PluginUnsupportedError),
     }
 }
 
 // The encoding of chunk keys.
 pub(crate) fn keys_by(
+    alloc: Global,
     metadata: &MetadataV3,
     registry: &Registry<ChunkKeyKind>,
 ) -> Result<ChunkKeyEncoding, OpenError>
@@ -107,23 +96,27 @@ pub(crate) fn keys_by(
         (extension_seen metadata.now)) }
 {
     match registry.find(metadata.name()) {
-        Some(ChunkKeyKind::Default) => match read_separator(metadata) {
-            Ok(separator) => Ok(ChunkKeyEncoding::Default(separator)),
-            Err(error) => Err(unmade(error)),
-        },
+        Some(kind) => {
+            let keys = kind.make(alloc, metadata)?;
+            Ok(keys)
+        }
         None => Err(OpenError::PluginUnsupportedError),
     }
 }
 
-fn codec_by(metadata: &MetadataV3, registry: &Registry<CodecKind>) -> Result<BytesCodec, OpenError>
+fn codec_by(
+    alloc: Global,
+    metadata: &MetadataV3,
+    registry: &Registry<CodecKind>,
+) -> Result<BytesCodec, OpenError>
     ensures { Opens named_order result (codec_by (registry_of registry.now)
         (extension_seen metadata.now)) }
 {
     match registry.find(metadata.name()) {
-        Some(CodecKind::Bytes) => match read_bytes_codec(metadata) {
-            Ok(codec) => Ok(codec),
-            Err(error) => Err(unmade(error)),
-        },
+        Some(kind) => {
+            let codec = kind.make(alloc, metadata)?;
+            Ok(codec)
+        }
         None => Err(OpenError::PluginUnsupportedError),
     }
 }
@@ -139,7 +132,7 @@ pub(crate) fn codecs_by(
 {
     let mut codecs = Vec::with_capacity(alloc, extensions.len())?;
     for extension in extensions {
-        match codec_by(extension, registry) {
+        match codec_by(alloc, extension, registry) {
             Ok(codec) => codecs.push(codec)?,
             Err(error) => return Err(error),
         }
@@ -147,13 +140,34 @@ pub(crate) fn codecs_by(
     Ok(codecs)
 }
 
-// The byte that a fill value is.
-pub(crate) fn fill_byte(fill_value: &FillValueMetadataV3) -> Result<u8, OpenError>
-    ensures { Opens (λ b. b) result (or_refused invalid_fill (byte (fill_view fill_value.now))) }
+// The fill value of a data type.
+#[tactic(auto, using(crate::proofs::OpeningLaws::denoted_fill))]
+pub(crate) fn fill_value_of(
+    alloc: Global,
+    data_type: &DataType,
+    metadata: &FillValueMetadataV3,
+) -> Result<FillValue, OpenError>
+    ensures read { Opens fill_bytes result (or_refused invalid_fill
+        (fill_of (type_of data_type.now) (fill_view metadata.now))) }
+    ensures filled { IfOk result (λ fill.
+        is_some (fill_element (kind_of (type_of data_type.now)) (fill_bytes fill)) ≡ true) }
 {
-    match fill_value.as_u64() {
-        Some(number) if number < 256 => Ok(number as u8),
-        _ => Err(OpenError::DataTypeFillValueMetadataError),
+    match data_type.fill_value_v3(alloc, metadata) {
+        Ok(fill) => Ok(fill),
+        Err(FillMetadataFault::Metadata(_)) => Err(OpenError::DataTypeFillValueMetadataError),
+        Err(FillMetadataFault::OutOfMemory) => Err(OpenError::OutOfMemory),
+    }
+}
+
+// The size of the components of a data type, if the codec `bytes` serves it.
+pub(crate) fn component_size_of(data_type: &DataType) -> Result<usize, OpenError>
+    ensures served { Opens (λ _. tt) result (expect_served (type_of data_type.now)) }
+    ensures size { IfOk result (λ n. component_size (type_of data_type.now) ≡ n) }
+    ensures some { IfOk result (λ n. 0 < n) }
+{
+    match data_type.codec_bytes() {
+        Ok(support) => Ok(support.component_size()),
+        Err(_) => Err(OpenError::UnsupportedDataTypeCodec),
     }
 }
 

@@ -9,7 +9,6 @@ mod extensions;
 pub mod open;
 mod open_error;
 pub mod options;
-mod overlap;
 mod read;
 pub mod refusal;
 pub mod session;

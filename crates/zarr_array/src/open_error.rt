@@ -5,12 +5,12 @@ ghost use Rattle.std.specs.Prelude.{◌≡◌};
 use std::alloc::{AllocError, AllocFailed};
 use thiserror::Error;
 use zarrs_metadata::MetadataError;
+use zarrs_plugin::PluginCreateError;
 
 /// Why a document is not opened, in the order in which it is tested: the first that applies. Names and configurations are
 /// tested extension by extension: the data type, the chunk grid, the chunk key encoding, and each codec.
 ///
-/// `UnsupportedVersion`, `UnsupportedDataTypeCodec` and `EndiannessMissing` have no cause yet: documents of version 2 are
-/// `InvalidMetadata`, and elements of one byte are served in every byte order.
+/// `UnsupportedVersion` has no cause yet: documents of version 2 are `InvalidMetadata`.
 #[derive(Clone, Copy, Debug, PartialEq, Eq, Error)]
 pub enum OpenError {
     /// The text is not JSON.
@@ -31,7 +31,7 @@ pub enum OpenError {
     /// No entry of a registry goes by the name of an extension.
     #[error("an extension is not supported")]
     PluginUnsupportedError,
-    /// The configuration of an extension is not of its form, or the data type need not be understood.
+    /// The configuration of an extension is not of its form, or the name of a raw type is not; or the data type need not be understood.
     #[error("an extension has a configuration that is not supported")]
     PluginCreateError,
     /// The fill value is no element of the data type.
@@ -46,8 +46,8 @@ pub enum OpenError {
     /// The codec `bytes` has no byte order, and the data type needs one.
     #[error("the codec bytes has no byte order")]
     EndiannessMissing,
-    /// The array or its chunks are past the limits.
-    #[error("the array or its chunks are too large")]
+    /// Some chunk ends past 64 bits, or has more elements or more bytes than can be addressed.
+    #[error("a chunk is too large")]
     ChunkTooLarge,
     /// Memory ran out.
     #[error("out of memory")]
@@ -110,6 +110,21 @@ impl From<MetadataError> for OpenError {
             MetadataError::FloatNumber => OpenError::FloatNumber,
             MetadataError::InvalidMetadata => OpenError::InvalidMetadata,
             MetadataError::OutOfMemory => OpenError::OutOfMemory,
+        }
+    }
+}
+
+impl From<PluginCreateError> for OpenError {
+    ghost use Rattle.zarr_array.specs.OpenError.{unmade_as};
+
+    ghost from_gives = { λ e opened. opened ≡ unmade_as e };
+
+    fn from(error: PluginCreateError) -> OpenError {
+        match error {
+            PluginCreateError::Unsupported(_) => OpenError::PluginUnsupportedError,
+            PluginCreateError::Config => OpenError::PluginCreateError,
+            PluginCreateError::Other => OpenError::PluginCreateError,
+            PluginCreateError::OutOfMemory => OpenError::OutOfMemory,
         }
     }
 }

@@ -1,20 +1,21 @@
 //! Reading a region, chunk by chunk.
 
-ghost use Rattle.std.specs.Prelude.{◌≡◌, ◌≤◌, ◌<◌, ◌^◌, ◌⊎◌, ℕ, List, true, Some, length, slice_get, IsSome, IfOk, IfErr, OnOk, OnErr};
+ghost use Rattle.std.specs.Prelude.{◌≡◌, ◌≤◌, ◌<◌, ◌*◌, ◌^◌, ◌⊎◌, ℕ, List, true, Some, length, slice_get, IsSome, IfOk, IfErr, OnOk, OnErr};
 ghost use Rattle.zarr_model.specs.Prelude.{count, tuples, tuple_at, ends_within, Element, Array, elements_in, IsChunk, chunks_meeting, WhollyMeans, chunk_content, layout, ChunkHas, counted};
 ghost use Rattle.zarrs_array_subset.specs.ArraySubset.{region};
 ghost use Rattle.zarr_array.specs.Options.{options_of};
-ghost use Rattle.zarr_array.specs.Overlap.{Copied};
-ghost use Rattle.zarr_array.specs.Chunk.{byte_elements, FailsToFetch};
+ghost use Rattle.zarrs_codec_bytes.specs.Overlap.{Copied};
+ghost use Rattle.zarrs_codec_bytes.specs.Elements.{fixed_elements};
+ghost use Rattle.zarr_array.specs.Chunk.{FailsToFetch};
 ghost use Rattle.zarr_array.specs.Read.{FailsToRead};
 
-use crate::chunk::{filled, indices_at};
+use crate::chunk::indices_at;
 use crate::error::{CommandError, SessionErrorKind};
 use crate::open::OpenArray;
 use crate::options::CodecOptions;
-use crate::overlap::copy_shared;
 use std::alloc::Global;
 use zarrs_array_subset::ArraySubset;
+use zarrs_codec_bytes::overlap::copy_elements;
 use zarrs_storage::store::Store;
 
 impl OpenArray {
@@ -33,14 +34,14 @@ impl OpenArray {
         requires chunk { IsChunk (described self.now).grid chunk_indices.now }
         requires rank { length (region subset.now)
             ≡ length ((described self.now).grid.chunk_box chunk_indices.now) }
-        requires as_long { length elements.old ≡ count (region subset.now) }
+        requires as_long { length elements.old ≡ count (region subset.now) * self.now.size }
         ensures copied { let chunk_box = (described self.now).grid.chunk_box chunk_indices.now in
             OnOk result ((array : Array Element) →
             ChunkHas (layout (described self.now) (options_of options.now))
             (S.shown store.old).content
             array chunk_indices.now →
             Copied (region subset.now) chunk_box (elements_in chunk_box array)
-            (byte_elements elements.old) (byte_elements elements.new)) }
+            (fixed_elements self.now.size elements.old) (fixed_elements self.now.size elements.new)) }
         ensures decodes { OnOk result (IsSome (chunk_content
             (layout (described self.now) (options_of options.now)) (S.shown store.old).content
             chunk_indices.now)) }
@@ -62,7 +63,7 @@ impl OpenArray {
         let Some(value) = self.fetch_chunk(alloc, &key, &chunk_subset, store, options)? else {
             return Err(SessionErrorKind::ChunkDecode { key });
         };
-        copy_shared(elements, subset, &value, &chunk_subset, 0);
+        copy_elements(elements, subset, &value, &chunk_subset, self.size);
         Ok(())
     }
 
@@ -82,7 +83,7 @@ impl OpenArray {
         requires chunk { IsChunk (described self.now).grid (tuple_at (region chunks.now) number) }
         requires rank { length (region subset.now)
             ≡ length ((described self.now).grid.chunk_box (tuple_at (region chunks.now) number)) }
-        requires as_long { length elements.old ≡ count (region subset.now) }
+        requires as_long { length elements.old ≡ count (region subset.now) * self.now.size }
         ensures copied { let chunk_box = (described self.now).grid.chunk_box
             (tuple_at (region chunks.now) number) in
             OnOk result ((array : Array Element) →
@@ -90,7 +91,7 @@ impl OpenArray {
             (S.shown store.old).content
             array (tuple_at (region chunks.now) number) →
             Copied (region subset.now) chunk_box (elements_in chunk_box array)
-            (byte_elements elements.old) (byte_elements elements.new)) }
+            (fixed_elements self.now.size elements.old) (fixed_elements self.now.size elements.new)) }
         ensures decodes { OnOk result (IsSome (chunk_content
             (layout (described self.now) (options_of options.now)) (S.shown store.old).content
             (tuple_at (region chunks.now) number))) }
@@ -133,11 +134,11 @@ impl OpenArray {
             ≡ chunks_meeting (described self.now).grid (region subset.now) }
         requires few { count (region chunks.now) < 2 ^ 64 }
         requires inside { ends_within (region subset.now) (described self.now).shape ≡ true }
-        requires as_long { length elements.old ≡ count (region subset.now) }
+        requires as_long { length elements.old ≡ count (region subset.now) * self.now.size }
         ensures elements { OnOk result ((array : Array Element) →
             WhollyMeans (layout (described self.now) (options_of options.now))
             (S.shown store.old).content array →
-            byte_elements elements.new ≡ elements_in (region subset.now) array) }
+            fixed_elements self.now.size elements.new ≡ elements_in (region subset.now) array) }
         ensures decodes { OnOk result ((k : ℕ) (chunk : List ℕ) →
             slice_get (chunks_meeting (described self.now).grid (region subset.now)) k
             ≡ Some chunk →
@@ -170,7 +171,6 @@ impl OpenArray {
 
     /// The elements of an accepted region, in row-major order. The room for them is taken first, and then each chunk
     /// that the region meets is asked for once.
-    #[tactic(auto, using(crate::proofs::ReadSteps::of_regions))]
     pub(crate) fn read_elements<S: Store>(
         &self,
         alloc: Global,
@@ -179,17 +179,19 @@ impl OpenArray {
         options: &CodecOptions,
     ) -> Result<Vec<u8>, CommandError>
         requires inside { ends_within (region subset.now) (described self.now).shape ≡ true }
+        requires few { count (region subset.now) < 2 ^ 64 }
+        requires room { count (region subset.now) * self.now.size < 2 ^ 64 }
         ensures elements { IfOk result (λ elements. (array : Array Element) →
             WhollyMeans (layout (described self.now) (options_of options.now))
             (S.shown store.old).content array →
-            byte_elements elements.items ≡ elements_in (region subset.now) array) }
+            fixed_elements self.now.size elements.items ≡ elements_in (region subset.now) array) }
         ensures decodes { OnOk result ((k : ℕ) (chunk : List ℕ) →
             slice_get (chunks_meeting (described self.now).grid (region subset.now)) k
             ≡ Some chunk →
             IsSome (chunk_content (layout (described self.now) (options_of options.now))
             (S.shown store.old).content chunk)) }
         ensures as_long { IfOk result (λ elements. length elements.items
-            ≡ count (region subset.now)) }
+            ≡ count (region subset.now) * self.now.size) }
         ensures same { (key : List ℕ) → (S.shown store.new).content key
             ≡ (S.shown store.old).content key }
         ensures asks { OnOk result ((S.shown store.new).asks ≡ counted (S.shown store.old).asks
@@ -200,7 +202,7 @@ impl OpenArray {
             (region subset.now) error.chunks_done (S.shown store.old) (S.shown store.new)
             error.kind) }
     {
-        let mut elements = filled(alloc, self.fill, subset.num_elements())?;
+        let mut elements = self.blank(alloc, subset)?;
         let chunks = self.chunks_meeting(alloc, subset)?;
         self.read_chunks(
             alloc,

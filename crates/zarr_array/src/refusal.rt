@@ -1,11 +1,12 @@
 //! Why a command is refused.
 
-ghost use Rattle.std.specs.Prelude.{◌≡◌, option_map};
-ghost use Rattle.zarr_model.specs.Prelude.{fixed_bytes, write, erase, region_refusal, refusal, refusal_name};
+ghost use Rattle.std.specs.Prelude.{◌≡◌, Some, option_map};
+ghost use Rattle.zarr_model.specs.Prelude.{fixed_bytes, write, erase, region_refusal, refusal, refusal_name, is_too_large, count};
 ghost use Rattle.zarrs_array_subset.specs.ArraySubset.{region};
 
 use crate::open::OpenArray;
 use zarrs_array_subset::ArraySubset;
+use zarrs_chunk_grid_traits::ChunkGridTraits;
 
 /// Why a command is refused, in the order in which it is tested. A refused command changes nothing and asks the store
 /// for nothing.
@@ -15,7 +16,9 @@ pub enum Refusal {
     IncompatibleDimensionality,
     /// The region ends past the array's shape in some dimension, or no chunk has this index.
     SubsetOutOfBounds,
-    /// The elements that are written are not as many as the region has.
+    /// The region has as many elements as the greatest number, or more, or their bytes are more than it.
+    RegionTooLarge,
+    /// The bytes that are written are not those of as many elements as the region has.
     UnexpectedChunkDecodedSize,
 }
 
@@ -29,6 +32,7 @@ impl Refusal {
         match self {
             Refusal::IncompatibleDimensionality => "IncompatibleDimensionality",
             Refusal::SubsetOutOfBounds => "SubsetOutOfBounds",
+            Refusal::RegionTooLarge => "RegionTooLarge",
             Refusal::UnexpectedChunkDecodedSize => "UnexpectedChunkDecodedSize",
         }
     }
@@ -38,17 +42,30 @@ impl OpenArray {
     ghost use Rattle.zarr_array.specs.Command.{refusal_of};
     ghost use Rattle.zarr_array.specs.OpenArray.{described};
 
-    /// Why a region of the array is refused, if it is: its rank is tested first, and then its end.
-    #[tactic(auto, using(crate::proofs::ServedLaws::small_enough))]
+    // Whether a region has too many elements, or too many bytes of them.
+    fn is_too_large(&self, subset: &ArraySubset) -> bool
+        ensures { result ≡ is_too_large (Some self.now.size) (count (region subset.now)) }
+    {
+        match subset.checked_num_elements() {
+            None | Some(u64::MAX) => true,
+            Some(number) => number.checked_mul(self.size as u64).is_none(),
+        }
+    }
+
+    /// Why a region of the array is refused, if it is: its rank is tested first, then its end, then how many elements
+    /// it has.
     pub(crate) fn region_refusal(&self, subset: &ArraySubset) -> Option<Refusal>
         ensures { option_map refusal_of result
             ≡ region_refusal (described self.now) (region subset.now) }
     {
-        if subset.dimensionality() != self.grid.array_shape.len() {
+        if subset.dimensionality() != self.shape().len() {
             return Some(Refusal::IncompatibleDimensionality);
         }
-        if !subset.inbounds_shape(&self.grid.array_shape) {
+        if !subset.inbounds_shape(self.shape()) {
             return Some(Refusal::SubsetOutOfBounds);
+        }
+        if self.is_too_large(subset) {
+            return Some(Refusal::RegionTooLarge);
         }
         None
     }
@@ -62,7 +79,7 @@ impl OpenArray {
         if refusal.is_some() {
             return refusal;
         }
-        if elements.len() as u64 != subset.num_elements() {
+        if elements.len() != subset.num_elements() as usize * self.size {
             return Some(Refusal::UnexpectedChunkDecodedSize);
         }
         None
@@ -73,7 +90,7 @@ impl OpenArray {
         ensures { option_map refusal_of result
             ≡ refusal (described self.now) (erase chunk_indices.now) }
     {
-        if chunk_indices.len() != self.grid.grid_shape.len() {
+        if chunk_indices.len() != self.grid.grid_shape().len() {
             return Some(Refusal::IncompatibleDimensionality);
         }
         if !self.grid.has_chunk(chunk_indices) {

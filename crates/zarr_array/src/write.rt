@@ -1,11 +1,11 @@
 //! Writing to a region, chunk by chunk.
 
-ghost use Rattle.std.specs.Prelude.{◌≡◌, ◌≤◌, ◌<◌, ◌^◌, ◌⊎◌, true, length, OnOk, OnErr, IfErr};
+ghost use Rattle.std.specs.Prelude.{◌≡◌, ◌≤◌, ◌<◌, ◌*◌, ◌^◌, ◌⊎◌, true, length, OnOk, OnErr, IfErr};
 ghost use Rattle.zarr_model.specs.Prelude.{count, tuples, tuple_at, ends_within, written, IsChunk, chunks_meeting, counted};
 ghost use Rattle.zarrs_array_subset.specs.ArraySubset.{region};
 ghost use Rattle.zarr_array.specs.Options.{options_of};
-ghost use Rattle.zarr_array.specs.Chunk.{byte_elements};
-ghost use Rattle.zarr_array.specs.Overlap.{Copied};
+ghost use Rattle.zarrs_codec_bytes.specs.Overlap.{Copied};
+ghost use Rattle.zarrs_codec_bytes.specs.Elements.{fixed_elements};
 ghost use Rattle.zarr_array.specs.Write.{ChangesChunk, FailsToChange};
 ghost use Rattle.zarr_array.specs.PartWay.{ChangedSome, FailsPartWay};
 
@@ -13,9 +13,9 @@ use crate::chunk::indices_at;
 use crate::error::{CommandError, SessionErrorKind};
 use crate::open::OpenArray;
 use crate::options::CodecOptions;
-use crate::overlap::copy_shared;
 use std::alloc::Global;
 use zarrs_array_subset::ArraySubset;
+use zarrs_codec_bytes::overlap::copy_elements;
 use zarrs_storage::store::Store;
 
 // Puts the elements that a region shares with a chunk in the chunk's place for them.
@@ -24,14 +24,18 @@ fn put_elements(
     chunk_subset: &ArraySubset,
     elements: &[u8],
     subset: &ArraySubset,
+    size: usize,
 )
+    requires some { 0 < size }
     requires rank { length (region subset.now) ≡ length (region chunk_subset.now) }
-    requires chunk_count { length chunk.old.items ≡ count (region chunk_subset.now) }
-    requires count { length elements.now ≡ count (region subset.now) }
-    ensures { Copied (region chunk_subset.now) (region subset.now) elements.now
-        chunk.old.items chunk.new.items }
+    requires chunk_count { length chunk.old.items ≡ count (region chunk_subset.now) * size }
+    requires count { length elements.now ≡ count (region subset.now) * size }
+    ensures as_long { length chunk.new.items ≡ length chunk.old.items }
+    ensures copied { Copied (region chunk_subset.now) (region subset.now)
+        (fixed_elements size elements.now) (fixed_elements size chunk.old.items)
+        (fixed_elements size chunk.new.items) }
 {
-    copy_shared(chunk.as_mut_slice(), chunk_subset, elements, subset, 0);
+    copy_elements(chunk.as_mut_slice(), chunk_subset, elements, subset, size);
 }
 
 impl OpenArray {
@@ -51,16 +55,16 @@ impl OpenArray {
         requires chunk { IsChunk (described self.now).grid chunk_indices.now }
         requires rank { length (region subset.now)
             ≡ length ((described self.now).grid.chunk_box chunk_indices.now) }
-        requires as_long { length elements.now ≡ count (region subset.now) }
+        requires as_long { length elements.now ≡ count (region subset.now) * self.now.size }
         ensures changed { OnOk result (ChangesChunk (described self.now) (options_of options.now)
-            (written (region subset.now) (byte_elements elements.now)) chunk_indices.now
+            (written (region subset.now) (fixed_elements self.now.size elements.now)) chunk_indices.now
             (S.shown store.old).content (S.shown store.new).content) }
         ensures asks { OnOk result ((S.shown store.new).asks ≡ counted (S.shown store.old).asks 1) }
         ensures asks_err { OnErr result (((S.shown store.new).asks ≡ (S.shown store.old).asks)
             ⊎ ((S.shown store.new).asks ≡ counted (S.shown store.old).asks 1)) }
         ensures later { (S.shown store.old).faults ≤ (S.shown store.new).faults }
         ensures failed { IfErr result (FailsToChange (described self.now) (options_of options.now)
-            (written (region subset.now) (byte_elements elements.now)) chunk_indices.now
+            (written (region subset.now) (fixed_elements self.now.size elements.now)) chunk_indices.now
             (S.shown store.old) (S.shown store.new)) }
     {
         let chunk_subset = self.chunk_subset(alloc, chunk_indices)?;
@@ -68,8 +72,8 @@ impl OpenArray {
         let Some(mut value) = self.fetch_chunk(alloc, &key, &chunk_subset, store, options)? else {
             return Err(SessionErrorKind::ChunkDecode { key });
         };
-        put_elements(&mut value, &chunk_subset, elements, subset);
-        self.store_chunk(alloc, &key, &value, store, options)?;
+        put_elements(&mut value, &chunk_subset, elements, subset, self.size);
+        self.store_chunk(alloc, &key, &chunk_subset, value, store, options)?;
         Ok(())
     }
 
@@ -89,9 +93,9 @@ impl OpenArray {
         requires chunk { IsChunk (described self.now).grid (tuple_at (region chunks.now) number) }
         requires rank { length (region subset.now)
             ≡ length ((described self.now).grid.chunk_box (tuple_at (region chunks.now) number)) }
-        requires as_long { length elements.now ≡ count (region subset.now) }
+        requires as_long { length elements.now ≡ count (region subset.now) * self.now.size }
         ensures changed { OnOk result (ChangesChunk (described self.now) (options_of options.now)
-            (written (region subset.now) (byte_elements elements.now))
+            (written (region subset.now) (fixed_elements self.now.size elements.now))
             (tuple_at (region chunks.now) number)
             (S.shown store.old).content (S.shown store.new).content) }
         ensures asks { OnOk result ((S.shown store.new).asks ≡ counted (S.shown store.old).asks 1) }
@@ -99,7 +103,7 @@ impl OpenArray {
             ⊎ ((S.shown store.new).asks ≡ counted (S.shown store.old).asks 1)) }
         ensures later { (S.shown store.old).faults ≤ (S.shown store.new).faults }
         ensures failed { IfErr result (FailsToChange (described self.now) (options_of options.now)
-            (written (region subset.now) (byte_elements elements.now))
+            (written (region subset.now) (fixed_elements self.now.size elements.now))
             (tuple_at (region chunks.now) number)
             (S.shown store.old) (S.shown store.new)) }
     {
@@ -128,15 +132,15 @@ impl OpenArray {
             ≡ chunks_meeting (described self.now).grid (region subset.now) }
         requires few { count (region chunks.now) < 2 ^ 64 }
         requires inside { ends_within (region subset.now) (described self.now).shape ≡ true }
-        requires as_long { length elements.now ≡ count (region subset.now) }
+        requires as_long { length elements.now ≡ count (region subset.now) * self.now.size }
         ensures changed { let chunks = chunks_meeting (described self.now).grid (region subset.now)
             in
             OnOk result (ChangedSome (described self.now) (options_of options.now)
-            (written (region subset.now) (byte_elements elements.now)) chunks (length chunks)
+            (written (region subset.now) (fixed_elements self.now.size elements.now)) chunks (length chunks)
             (S.shown store.old) (S.shown store.new)) }
         ensures failed { IfErr result (λ error.
             FailsPartWay (described self.now) (options_of options.now)
-            (written (region subset.now) (byte_elements elements.now))
+            (written (region subset.now) (fixed_elements self.now.size elements.now))
             (chunks_meeting (described self.now).grid (region subset.now)) error.chunks_done
             (S.shown store.old) (S.shown store.new) error.kind) }
     {
@@ -156,7 +160,6 @@ impl OpenArray {
 
     /// Writes elements to an accepted region. Each chunk that the region meets is asked for once, and then stored or
     /// erased.
-    #[tactic(auto, using(crate::proofs::ReadSteps::of_regions))]
     pub(crate) fn write_elements<S: Store>(
         &self,
         alloc: Global,
@@ -166,15 +169,16 @@ impl OpenArray {
         options: &CodecOptions,
     ) -> Result<(), CommandError>
         requires inside { ends_within (region subset.now) (described self.now).shape ≡ true }
-        requires as_long { length elements.now ≡ count (region subset.now) }
+        requires few { count (region subset.now) < 2 ^ 64 }
+        requires as_long { length elements.now ≡ count (region subset.now) * self.now.size }
         ensures changed { let chunks = chunks_meeting (described self.now).grid (region subset.now)
             in
             OnOk result (ChangedSome (described self.now) (options_of options.now)
-            (written (region subset.now) (byte_elements elements.now)) chunks (length chunks)
+            (written (region subset.now) (fixed_elements self.now.size elements.now)) chunks (length chunks)
             (S.shown store.old) (S.shown store.new)) }
         ensures failed { IfErr result (λ error.
             FailsPartWay (described self.now) (options_of options.now)
-            (written (region subset.now) (byte_elements elements.now))
+            (written (region subset.now) (fixed_elements self.now.size elements.now))
             (chunks_meeting (described self.now).grid (region subset.now)) error.chunks_done
             (S.shown store.old) (S.shown store.new) error.kind) }
     {

@@ -7,14 +7,14 @@ use Rattle.zarr_model.specs.Prelude.{is_store_key}
 use Rattle.zarr_model.proofs.KeyLaws.{IsDigit, AreIndices, decimal_digits}
 
 -- the last byte of a text that begins with this byte is no slash
-abbrev EndsWell : ℕ → List ℕ → Type 0
+abbrev pub EndsWell : ℕ → List ℕ → Type 0
 EndsWell first rest = get_or (first ∷ rest) (length rest) 0 ≡ 47 → ⊥
 
-after_digits : (first : ℕ) (ds rest : List ℕ) → IsDigit first → AllByRecursion IsDigit ds → ((d : ℕ) → IsDigit d → EndsWell d rest) → EndsWell first (ds ++ rest)
+pub after_digits : (first : ℕ) (ds rest : List ℕ) → IsDigit first → AllByRecursion IsDigit ds → ((d : ℕ) → IsDigit d → EndsWell d rest) → EndsWell first (ds ++ rest)
 after_digits first [] rest is all ends = ends first is
 after_digits first (d ∷ ds) rest is all ends = after_digits d ds rest all.0 all.1 ends
 
-ends_well : (separator first : ℕ) (chunk : List ℕ) → (first ≡ 47 → ⊥) → AreIndices chunk → EndsWell first (flat_map (λ index. separator ∷ decimal index) chunk)
+pub ends_well : (separator first : ℕ) (chunk : List ℕ) → (first ≡ 47 → ⊥) → AreIndices chunk → EndsWell first (flat_map (λ index. separator ∷ decimal index) chunk)
 ends_well separator first [] differ all = differ
 ends_well separator first (index ∷ chunk) differ all =
     digits (decimal index) (decimal_digits index all.0) (decimal_nonempty index all.0) (λ e its. ends_well separator e chunk (λ same. absurd (omega (arith, its.0))) all.1)

@@ -1,4 +1,3 @@
-pub mod LengthLaws
-pub mod RegularLaws
-pub mod ChunkTests
 pub mod ChunkKeyLaws
+pub mod V2KeyLaws
+pub mod KeysApart

@@ -1,33 +1,11 @@
 -- The forms of the configurations of extensions.
-use Rattle.std.specs.Prelude.{ℕ, Bool, ◌==◌, ◌&&◌, nat_le, if◌then◌else◌, List, length, codes, bytes_eq, Option, Some, None}
-use Rattle.std.specs.List.{list_all}
-use Rattle.serde_json.specs.Data.{Data, null, boolean, number, string, array, object, Members, no_members, member}
+use Rattle.std.specs.Prelude.{ℕ, if◌then◌else◌, List, codes, bytes_eq, Option, Some, None}
+use Rattle.serde_json.specs.Data.{Data, null, boolean, number, string, array, object, Members}
 use Rattle.serde_json.specs.Find.{as_str}
 use Rattle.zarr_model.specs.Prelude.{ByteOrder, little, big}
 use Rattle.zarrs_metadata_parts.specs.Configuration.{is_none_or_empty}
-use Rattle.zarrs_metadata_parts.specs.Reading.{◌>>=◌, whole_numbers}
-
--- the value of the only member, which has this name
-abbrev pub only_member : List ℕ → Members → Option Data
-only_member name no_members = None
-only_member name (member key value no_members) = if bytes_eq key name then Some value else None
-only_member name (member key value (member other next ms)) = None
-
--- a positive length for each dimension of a shape
-abbrev pub are_chunk_lengths : List ℕ → List ℕ → Bool
-are_chunk_lengths shape lengths = (length lengths == length shape)
-    && list_all (λ p. nat_le 1 p) lengths
-
-abbrev pub if_chunk_lengths : List ℕ → List ℕ → Option (List ℕ)
-if_chunk_lengths shape lengths = if are_chunk_lengths shape lengths then Some lengths else None
-
--- the grid `regular`: exactly `chunk_shape`
-unfoldable pub chunk_shape_in : List ℕ → Option Members → Option (List ℕ)
-chunk_shape_in shape configuration = do
-  ms ← configuration
-  value ← only_member (codes "chunk_shape") ms
-  lengths ← whole_numbers value
-  if_chunk_lengths shape lengths
+use Rattle.zarrs_metadata_parts.specs.Reading.{◌>>=◌}
+pub use Rattle.zarr_basics_grids.specs.Configurations.{only_member, are_chunk_lengths, if_chunk_lengths, chunk_shape_in, chunk_shape_members}
 
 -- a separator by its text
 abbrev pub separator_named : List ℕ → Option ℕ
@@ -41,9 +19,9 @@ given_separator configuration = do
   text ← as_str value
   separator_named text
 
--- the keys `default`: nothing, or exactly `separator`, which is a slash unless it is given
-abbrev pub separator_in : Option Members → Option ℕ
-separator_in configuration = if is_none_or_empty configuration then Some 47
+-- the keys `default` and `v2`: nothing, or exactly `separator`; this one unless it is given
+abbrev pub separator_in : ℕ → Option Members → Option ℕ
+separator_in separator configuration = if is_none_or_empty configuration then Some separator
     else given_separator configuration
 
 -- a byte order by its text, or null

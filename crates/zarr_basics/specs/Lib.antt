@@ -1,6 +1,12 @@
-pub mod RegularGrid
-pub mod GridOf
+pub use Rattle.zarr_basics_grids.specs.RegularGrid
+pub use Rattle.zarr_basics_grids.specs.GridForms
+pub use Rattle.zarr_basics_grids.specs.GridOf
+pub use Rattle.zarr_basics_grids.specs.BasicGrid
+pub use Rattle.zarr_basics_grids.specs.Limits
+pub use Rattle.zarr_basics_grids.specs.Unmade
 pub mod Keys
 pub mod BytesCodec
 pub mod Configurations
+pub mod Making
+pub mod BuiltinTypes
 pub mod Registries

@@ -2,12 +2,12 @@
 use Rattle.std.specs.Prelude.{[], ◌∷◌, codes}
 use Rattle.zarrs_plugin.specs.NamePattern.{exact}
 use Rattle.zarrs_plugin.specs.Registry.{Names, registry_of}
-use Rattle.zarr_basics.specs.declared.registries.DataTypeKind.{DataTypeKind}
-use Rattle.zarr_basics.specs.declared.registries.DataTypeKind.TheVariants.{UInt8}
-use Rattle.zarr_basics.specs.declared.registries.GridKind.{GridKind}
-use Rattle.zarr_basics.specs.declared.registries.GridKind.TheVariants.{Regular}
+use Rattle.zarrs_data_type_names.specs.declared.data_type.kind.DataTypeKind.{DataTypeKind}
+use Rattle.zarr_basics.specs.BuiltinTypes.{builtin_data_types}
+use Rattle.zarr_basics_grids.specs.declared.grid_kind.GridKind.{GridKind}
+use Rattle.zarr_basics_grids.specs.declared.grid_kind.GridKind.TheVariants.{Regular}
 use Rattle.zarr_basics.specs.declared.registries.ChunkKeyKind.{ChunkKeyKind}
-use Rattle.zarr_basics.specs.declared.registries.ChunkKeyKind.TheVariants.{Default}
+use Rattle.zarr_basics.specs.declared.registries.ChunkKeyKind.TheVariants.{Default, V2}
 use Rattle.zarr_basics.specs.declared.registries.CodecKind.{CodecKind}
 use Rattle.zarr_basics.specs.declared.registries.CodecKind.TheVariants.{Bytes}
 use Rattle.zarr_basics.specs.declared.registries.Registries.{Registries}
@@ -30,8 +30,11 @@ names_of r = record {
 -- the names that are known where nothing was registered
 abbrev pub builtin_names : KnownNames
 builtin_names = record {
-  data_types = record { registered = []; builtin = (exact (codes "uint8"), UInt8) ∷ [] };
+  data_types = record { registered = []; builtin = builtin_data_types };
   grids = record { registered = []; builtin = (exact (codes "regular"), Regular) ∷ [] };
-  key_encodings = record { registered = []; builtin = (exact (codes "default"), Default) ∷ [] };
+  key_encodings = record {
+    registered = [];
+    builtin = (exact (codes "default"), Default) ∷ (exact (codes "v2"), V2) ∷ [];
+  };
   codecs = record { registered = []; builtin = (exact (codes "bytes"), Bytes) ∷ [] };
 }

@@ -2,8 +2,8 @@
 //!
 //! See <https://zarr-specs.readthedocs.io/en/latest/v3/core/index.html#chunk-key-encoding>.
 
-ghost use Rattle.std.specs.Prelude.{◌≡◌, IfOk};
-ghost use Rattle.zarr_model.specs.Prelude.{default_keys, chunk_key};
+ghost use Rattle.std.specs.Prelude.{◌≡◌, ◌++◌, ◌∷◌, IfOk, decimal, flat_map, string_bytes};
+ghost use Rattle.zarr_model.specs.Prelude.{default_keys, v2_keys, v2_key, chunk_key};
 ghost use Rattle.zarrs_metadata_parts.specs.Names.{separator_code};
 
 use std::alloc::{AllocError, Global};
@@ -16,6 +16,8 @@ use zarrs_storage::store_key::StoreKey;
 pub enum ChunkKeyEncoding {
     /// `c`, and each index behind the separator.
     Default(ChunkKeySeparator),
+    /// The indices with the separator between them, and `0` where there are none.
+    V2(ChunkKeySeparator),
 }
 
 impl ChunkKeyEncoding {
@@ -27,6 +29,7 @@ impl ChunkKeyEncoding {
     {
         match self {
             ChunkKeyEncoding::Default(separator) => default_chunk_key(alloc, *separator, indices),
+            ChunkKeyEncoding::V2(separator) => v2_chunk_key(alloc, *separator, indices),
         }
     }
 }
@@ -44,6 +47,61 @@ fn default_chunk_key(
     for index in chunk_indices {
         write!(text, "{separator}{index}")?;
     }
+    match StoreKey::new(text) {
+        Ok(key) => Ok(key),
+        Err(_) => unreachable!(),
+    }
+}
+
+// An index, and each other one behind the separator.
+fn joined(
+    alloc: Global,
+    separator: ChunkKeySeparator,
+    first: u64,
+    rest: &[u64],
+) -> Result<String, AllocError>
+    ensures { IfOk result (λ text. string_bytes text ≡ decimal first
+        ++ flat_map (λ index. separator_code separator ∷ decimal index) rest.now) }
+{
+    let mut text = String::new(alloc);
+    write!(text, "{first}")?;
+    for next in rest {
+        write!(text, "{separator}{next}")?;
+    }
+    Ok(text)
+}
+
+// The text of a key under the encoding `v2`.
+fn v2_text(
+    alloc: Global,
+    separator: ChunkKeySeparator,
+    chunk_indices: &[u64],
+) -> Result<String, AllocError>
+    ensures { IfOk result (λ text. string_bytes text
+        ≡ v2_key (separator_code separator) chunk_indices.now) }
+{
+    match chunk_indices {
+        [] => {
+            let text = String::from_str(alloc, "0")?;
+            Ok(text)
+        }
+        [first, rest @ ..] => {
+            let text = joined(alloc, separator, *first, rest)?;
+            Ok(text)
+        }
+    }
+}
+
+// The key of a chunk under the encoding `v2`.
+fn v2_chunk_key(
+    alloc: Global,
+    separator: ChunkKeySeparator,
+    chunk_indices: &[u64],
+) -> Result<StoreKey, AllocError>
+    ensures { IfOk result (λ key. key ≡ chunk_key (v2_keys (separator_code separator))
+        chunk_indices.now) }
+{
+    let text = v2_text(alloc, separator, chunk_indices)?;
     match StoreKey::new(text) {
         Ok(key) => Ok(key),
         Err(_) => unreachable!(),

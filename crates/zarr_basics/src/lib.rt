@@ -1,18 +1,19 @@
-//! What the names in an array document denote here: the chunk grid `regular`, the chunk key encoding `default`, the codec
-//! `bytes`, and the registries that find them.
+//! What the names in an array document denote here: the chunk grid `regular`, the chunk key encodings `default` and `v2`,
+//! the codec `bytes`, and the registries that find them.
 //!
 //! See <https://zarr-specs.readthedocs.io/en/latest/v3/core/index.html#extension-points>.
 #![tactic(auto)]
 
-pub mod bytes_codec;
-pub mod chunk_key_encoding;
-pub mod configuration;
-pub mod registries;
-pub mod regular_grid;
+mod bytes_codec;
+mod chunk_key_encoding;
+mod configuration;
+mod laws;
+mod making;
+mod registries;
 
 pub use bytes_codec::BytesCodec;
 pub use chunk_key_encoding::ChunkKeyEncoding;
-pub use registries::{
-    ChunkKeyKind, CodecKind, DataTypeKind, GridKind, Registries, builtin_registries,
-};
-pub use regular_grid::RegularGrid;
+pub use laws::keys_differ;
+pub use registries::{ChunkKeyKind, CodecKind, Registries, builtin_registries};
+pub use zarr_basics_grids::{BasicGrid, GridKind, RegularGrid};
+pub use zarrs_data_type_names::DataTypeKind;

@@ -1,32 +1,23 @@
 //! The names that array documents may have for data types, chunk grids, chunk key encodings and codecs.
 
-ghost use Rattle.std.specs.Prelude.{◌≡◌, [], ◌∷◌, IfOk};
+ghost use Rattle.std.specs.Prelude.{◌≡◌, IfOk, map};
 ghost use Rattle.zarrs_plugin.specs.NamePattern.{exact};
-ghost use Rattle.zarrs_plugin.specs.Registry.{registry_of};
+ghost use Rattle.zarrs_plugin.specs.Registry.{builtin_of};
+ghost use Rattle.zarr_basics.specs.BuiltinTypes.{builtin_data_types};
 ghost use Rattle.zarr_basics.specs.Registries.{names_of, builtin_names};
 
 use std::alloc::{AllocError, Global};
+use zarr_basics_grids::GridKind;
+use zarrs_data_type_names::DataTypeKind;
 use zarrs_plugin::{NamePattern, Registry};
-
-/// The data types.
-#[derive(Clone, Copy, Debug, PartialEq, Eq)]
-pub enum DataTypeKind {
-    /// Whole numbers of one byte.
-    UInt8,
-}
-
-/// The kinds of chunk grids.
-#[derive(Clone, Copy, Debug, PartialEq, Eq)]
-pub enum GridKind {
-    /// Chunks of one shape.
-    Regular,
-}
 
 /// The kinds of chunk key encodings.
 #[derive(Clone, Copy, Debug, PartialEq, Eq)]
 pub enum ChunkKeyKind {
     /// `c`, and each index behind a separator.
     Default,
+    /// The indices with a separator between them.
+    V2,
 }
 
 /// The kinds of codecs.
@@ -49,29 +40,61 @@ pub struct Registries {
     pub codecs: Registry<CodecKind>,
 }
 
-// A registry with one built-in name.
-fn registry_with<K: Drop>(alloc: Global, name: &str, kind: K) -> Result<Registry<K>, AllocError>
-    ensures { IfOk result (λ r. registry_of r
-        ≡ record { registered = []; builtin = (exact name.now, kind) ∷ [] }) }
+// Entries that go by these names.
+fn named<K: Copy>(alloc: Global, names: &[(&str, K)]) -> Result<Vec<(NamePattern, K)>, AllocError>
+    ensures { IfOk result (λ v. builtin_of v.items ≡ map (λ e. (exact e.0.now, e.1)) names.now) }
 {
-    let name = String::from_str(alloc, name)?;
-    let mut entries = Vec::with_capacity(alloc, 1)?;
-    entries.push((NamePattern::Exact(name), kind))?;
-    Ok(Registry::with_builtin(alloc, entries))
+    let mut entries = Vec::with_capacity(alloc, names.len())?;
+    for entry in names {
+        let name = String::from_str(alloc, entry.0)?;
+        entries.push((NamePattern::Exact(name), entry.1))?;
+    }
+    Ok(entries)
 }
 
-/// The registries with the built-in names alone: `uint8`, `regular`, `default` and `bytes`.
+// The entries of data types.
+fn data_types(alloc: Global) -> Result<Vec<(NamePattern, DataTypeKind)>, AllocError>
+    ensures { IfOk result (λ v. builtin_of v.items ≡ builtin_data_types) }
+{
+    let mut entries = named(
+        alloc,
+        &[
+            ("bool", DataTypeKind::Bool),
+            ("int8", DataTypeKind::Int8),
+            ("int16", DataTypeKind::Int16),
+            ("int32", DataTypeKind::Int32),
+            ("int64", DataTypeKind::Int64),
+            ("uint8", DataTypeKind::UInt8),
+            ("uint16", DataTypeKind::UInt16),
+            ("uint32", DataTypeKind::UInt32),
+            ("uint64", DataTypeKind::UInt64),
+            ("string", DataTypeKind::String),
+            ("bytes", DataTypeKind::Bytes),
+            ("variable_length_bytes", DataTypeKind::Bytes),
+            ("zarrs.optional", DataTypeKind::Optional),
+        ],
+    )?;
+    entries.push((NamePattern::LetterDigits(b'r'), DataTypeKind::RawBits))?;
+    Ok(entries)
+}
+
+/// The registries with the built-in names alone: the data types `bool`, `int8` to `int64`, `uint8` to `uint64`,
+/// `string`, `bytes`, also `variable_length_bytes`, `zarrs.optional` and `r` before digits, the grid `regular`, the key
+/// encodings `default` and `v2`, and the codec `bytes`.
 pub fn builtin_registries(alloc: Global) -> Result<Registries, AllocError>
     ensures { IfOk result (λ r. names_of r ≡ builtin_names) }
 {
-    let data_types = registry_with(alloc, "uint8", DataTypeKind::UInt8)?;
-    let grids = registry_with(alloc, "regular", GridKind::Regular)?;
-    let key_encodings = registry_with(alloc, "default", ChunkKeyKind::Default)?;
-    let codecs = registry_with(alloc, "bytes", CodecKind::Bytes)?;
+    let data_types = data_types(alloc)?;
+    let grids = named(alloc, &[("regular", GridKind::Regular)])?;
+    let keys = named(
+        alloc,
+        &[("default", ChunkKeyKind::Default), ("v2", ChunkKeyKind::V2)],
+    )?;
+    let codecs = named(alloc, &[("bytes", CodecKind::Bytes)])?;
     Ok(Registries {
-        data_types,
-        grids,
-        key_encodings,
-        codecs,
+        data_types: Registry::with_builtin(alloc, data_types),
+        grids: Registry::with_builtin(alloc, grids),
+        key_encodings: Registry::with_builtin(alloc, keys),
+        codecs: Registry::with_builtin(alloc, codecs),
     })
 }

@@ -3,13 +3,15 @@ use Rattle.std.proofs.Common.{◌≡◌, ℕ, List, [], ◌∷◌, refl, codes, 
 use Rattle.std.specs.Fmt.{digits}
 use Rattle.sha2.specs.Sha256.{sha256, digest_bytes, hash_after, compress, rounds, schedule, first_words}
 use Rattle.hex.specs.Hex.{encode_with, decode_pairs}
-use Rattle.zarr_model.specs.Prelude.{whole, tuple_at, linear_index, linear_indices, undamaged, blank_array, of_bytes, null, some, fixed, variable, optional, fixed_size, fill_element, int_type, uint_type, raw_type, string_type, optional_type, fixed_bytes, variable_bytes, optional_bytes, default_keys, v2_keys, chunk_key, Options, offset_codec, bytes_codec, vlen_codec, optional_codec, little, big, decode_array_to_bytes, decode_bytes, decode_levels, Description, layout, write, refusal, bytes_refusal, is_too_large, has_long_step, invalid_variable_sized_array_offsets, invalid_mask, expected_optional_bytes, replies, all_asks, all_bytes, present_in}
+use Rattle.zarr_model.specs.Prelude.{whole, tuple_at, linear_index, linear_indices, undamaged, blank_array, of_bytes, null, some, fixed, variable, optional, fixed_size, fill_element, int_type, uint_type, raw_type, string_type, optional_type, fixed_bytes, variable_bytes, optional_bytes, default_keys, v2_keys, chunk_key, Options, offset_codec, bytes_codec, little, big, decode_array_to_bytes, decode_bytes, decode_levels, Description, layout, write, refusal, bytes_refusal, is_too_large, has_long_step, invalid_variable_sized_array_offsets, invalid_mask, expected_optional_bytes, replies, all_asks, all_bytes, present_in}
 use Rattle.zarr_cli.specs.Words.{Settings, with_words, first_settings, settings_of}
 use Rattle.zarr_cli.specs.Run.{IsDump}
 use Rattle.zarr_array.specs.Opening.{chain_order}
 use Rattle.zarr_cli.specs.Ending.{bad_input, refused_document, damaged_chunk, write_fault, ending_line}
 use Rattle.zarr_cli_lines.specs.Text.{input_lines, first_entries, line_command, replies_text, good_lines}
-use Rattle.zarr_array.specs.Document.{boundaries, offset, transpose, checksum, describe}
+use Rattle.zarr_basics_grids.specs.GridForms.{boundaries}
+use Rattle.zarr_array.specs.Document.{offset, transpose, checksum, describe}
+use Rattle.zarr_array.specs.Document as Doc
 use Rattle.zarr_array.proofs.Documents.{plain_document}
 use Rattle.zarr_cli.proofs.Worked.{reply_lines, left_in_chunks, kept_in_chunks, left_chunks, kept_chunks, its_commands, first_array, empty_store, store_of, holding}
 
@@ -84,7 +86,7 @@ empty_dimension = record { texts = refl; elements = refl; present = refl }
 
 -- strings
 abbrev strings : Description
-strings = describe (record (plain_document (2 ∷ []) (2 ∷ []) 0) { data_type = string_type; fill = of_bytes (97 ∷ []); to_bytes = vlen_codec })
+strings = describe (record (plain_document (2 ∷ []) (2 ∷ []) 0) { data_type = string_type; fill = of_bytes (97 ∷ []); to_bytes = Doc.vlen })
 
 texts_stored : Example strings plain_options (codes "write 0..2 h6161 h\nread 0..2") (codes "done\nok h6161 h\n") (codes "key c/0 h0200000002000000616100000000")
 unfolding digits encode_with decode_pairs
@@ -103,7 +105,7 @@ abbrev optionals : Description
 optionals = describe (record (plain_document (3 ∷ []) (3 ∷ []) 0) {
   data_type = optional_type (optional_type (uint_type 1));
   fill = null;
-  to_bytes = optional_codec (optional_codec (bytes_codec little));
+  to_bytes = Doc.optional (Doc.optional (Doc.bytes (Some little)));
 })
 
 nested_optionals : Example optionals plain_options (codes "write 0..3 - +- ++h2a\nread 0..3") (codes "done\nok - +- ++h2a\n") (codes "key c/0 h00010100000100002a")
@@ -130,10 +132,15 @@ unfolding digits encode_with decode_pairs
 blank_chunk_stored = record { texts = refl; elements = refl; present = refl }
 
 -- big-endian numbers
-big_endian : Example (describe (record (plain_document (1 ∷ []) (1 ∷ []) 0) { data_type = int_type 2; fill = of_bytes (0 ∷ 0 ∷ []); to_bytes = bytes_codec big }))
+big_endian : Example (describe (record (plain_document (1 ∷ []) (1 ∷ []) 0) { data_type = int_type 2; fill = of_bytes (0 ∷ 0 ∷ []); to_bytes = Doc.bytes (Some big) }))
     plain_options (codes "write 0..1 h0100") (codes "done\n") (codes "key c/0 h0001")
 unfolding digits encode_with decode_pairs
 big_endian = record { texts = refl; elements = refl; present = refl }
+
+big_endian_line : Example (describe (record (plain_document (3 ∷ []) (2 ∷ []) 0) { data_type = int_type 2; fill = of_bytes (7 ∷ 0 ∷ []); to_bytes = Doc.bytes (Some big) }))
+    plain_options (codes "write 1..2 h0203\nread 0..3") (codes "done\nok h0700 h0203 h0700\n") (codes "key c/0 h00070302")
+unfolding digits encode_with decode_pairs
+big_endian_line = record { texts = refl; elements = refl; present = refl }
 
 -- an offset
 abbrev with_offset : Description
@@ -292,6 +299,12 @@ known_commands : (good_lines (line_command (fixed 1)) (codes "key c/0 h01" ∷ c
     × (good_lines (line_command (fixed 1)) (codes "key c/0 h01" ∷ codes "read 0..1" ∷ codes "write 0..1 h00" ∷ []) ≡ 3)
 unfolding digits encode_with decode_pairs
 known_commands = (refl, refl)
+
+-- an element of a line has the bytes of its type
+sized_lines : (good_lines (line_command (fixed 2)) (codes "write 0..2 h0100 hFf02" ∷ codes "write 0..1 h01" ∷ []) ≡ 1)
+    × (good_lines (line_command (fixed 2)) (codes "write 0..1 h010203" ∷ []) ≡ 0)
+unfolding digits encode_with decode_pairs
+sized_lines = (refl, refl)
 
 -- the lines of endings
 lines_of_endings : (ending_line (bad_input 12) ≡ Some (codes "input 12\n")) × (ending_line (refused_document chain_order) ≡ Some (codes "document ChainOrder\n"))

@@ -8,7 +8,7 @@ use lib.Utf8.{encode}
 use Rattle.std.specs.Str.Lossy.{utf8_valid_len}
 use Rattle.std.proofs.lemmas.Str.{utf8_valid_len-IsValidUpTo, is_utf8-from_IsUtf8, IsUtf8-from_is_utf8}
 use Rattle.hex.specs.Hex.{encode_with, decode_pairs}
-use Rattle.zarr_model.specs.Prelude.{of_bytes, fixed_bytes, default_keys, Options, little, Content, with_key, WhollyMeans, stored_array, Command, elements, read, write, erase, Description, layout, LeavesArray, command_chunks, asks_store, counted, Rose, Shown, Given, IsPlace, AsksUpTo, IsUndecoded, IsStopped, erases_chunk, IsDamageMet}
+use Rattle.zarr_model.specs.Prelude.{of_bytes, fixed_bytes, regular_grid, Options, Content, with_key, WhollyMeans, stored_array, Command, elements, read, write, erase, Description, layout, LeavesArray, command_chunks, asks_store, counted, Rose, Shown, Given, IsPlace, AsksUpTo, IsUndecoded, IsStopped, erases_chunk, IsDamageMet}
 use Rattle.zarr_array.specs.Document.{ArrayDocument, describe}
 use Rattle.zarr_array.specs.Opening.{opened, open_builtin}
 use Rattle.zarr_cli.specs.Input.{input_limit, document_line, lines_after_document, store_after_keys, command_grammar, IsBadLine}
@@ -16,9 +16,13 @@ use Rattle.zarr_cli.specs.Run.{ListsStore, IsDump, IsDumpAsks, WentThrough}
 use Rattle.zarr_cli.specs.Words.{first_settings}
 use Rattle.zarr_cli.specs.Ending.{bad_words, ending_line, IsGivenFront, IsGivenLine}
 use Rattle.zarr_cli_lines.specs.Text.{line_at, good_lines, replies_text, entries_text}
-use Rattle.zarr_array.proofs.DocumentLaws.{byte_document-means}
-use Rattle.zarr_model.proofs.StoreLaws.{Means-from_whole}
-use Rattle.zarr_model.proofs.GridLaws.{regular_grid-covers}
+use Rattle.zarrs_metadata_parts.specs.declared.array.chunk_key_separator.ChunkKeySeparator.TheVariants.{Slash}
+use Rattle.zarr_basics.specs.declared.chunk_key_encoding.ChunkKeyEncoding.TheVariants.{Default}
+use Rattle.zarr_basics.proofs.KeysApart.{keys_differ}
+use Rattle.zarr_array.specs.Chunk.{are_countable}
+use Rattle.zarr_array.proofs.DocumentLaws.{countable_is, describe-sound}
+use Rattle.zarr_model.proofs.StoreLaws.{stored_array-meant, Means-from_whole}
+use Rattle.zarr_model.proofs.GridLaws.{IsChunkShape, regular_grid-covers}
 use Rattle.zarr_cli.proofs.ProgramLaws.{went_through, one_listing}
 use Rattle.zarr_cli.proofs.Worked.{holding}
 use Rattle.zarr_array.proofs.Documents.{document_text, plain_document, square_opens, line_opens}
@@ -61,12 +65,20 @@ past_the_shape_run went =
     first_settings (plain_document (5 ∷ []) (2 ∷ []) 0) (read (record { start = 4; size = 1 } ∷ []) ∷ []) refl line_opens refl went in
     past_the_shape runs.left
 
+-- what an empty store means under a document
+nothing-means : (dims chunk_shape : List ℕ) (filler : ℕ) (options : Options) → IsChunkShape dims chunk_shape → are_countable (regular_grid dims chunk_shape).grid_shape ≡ true →
+    WhollyMeans (layout (describe (plain_document dims chunk_shape filler)) options) nothing (stored_array (layout (describe (plain_document dims chunk_shape filler)) options) nothing)
+nothing-means dims chunk_shape filler options shape few =
+    stored_array-meant (layout (describe (plain_document dims chunk_shape filler)) options) (regular_grid-covers dims chunk_shape shape)
+    (describe-sound (plain_document dims chunk_shape filler) options
+    (λ chunk other. keys_differ (Default Slash) (regular_grid dims chunk_shape) chunk other (countable_is (regular_grid dims chunk_shape).grid_shape few))) nothing (λ chunk h. refl)
+
 -- a chunk of fill is left out though empty chunks are to be stored
 abbrev small_array : Description
 small_array = describe (plain_document (2 ∷ []) (2 ∷ []) 7)
 
 nothing_meant : (options : Options) → WhollyMeans (layout small_array options) nothing (stored_array (layout small_array options) nothing)
-nothing_meant options = byte_document-means (default_keys 47) little (2 ∷ []) (2 ∷ []) 7 options nothing (λ digit. absurd (omega (arith, digit.0))) (omega arith, tt) (omega arith, tt) (λ chunk h. refl)
+nothing_meant options = nothing-means (2 ∷ []) (2 ∷ []) 7 options (omega arith, tt) refl
 
 blank_left_out : ¬ LeavesArray small_array (options_with true) (write (record { start = 0; size = 2 } ∷ []) (fixed_bytes (7 ∷ 7 ∷ [])) ∷ []) nothing nothing
 unfolding digits
@@ -165,7 +177,7 @@ square_input = document_text (codes "[4,4]") (codes "[2,2]") (codes "0") ++ code
 
 square_meant : WhollyMeans (layout (describe (plain_document (4 ∷ 4 ∷ []) (2 ∷ 2 ∷ []) 0)) first_settings.options) nothing
     (stored_array (layout (describe (plain_document (4 ∷ 4 ∷ []) (2 ∷ 2 ∷ []) 0)) first_settings.options) nothing)
-square_meant = byte_document-means (default_keys 47) little (4 ∷ 4 ∷ []) (2 ∷ 2 ∷ []) 0 first_settings.options nothing (λ digit. absurd (omega (arith, digit.0))) (omega arith, (omega arith, tt)) (omega arith, (omega arith, tt)) (λ chunk h. refl)
+square_meant = nothing-means (4 ∷ 4 ∷ []) (2 ∷ 2 ∷ []) 0 first_settings.options (omega arith, (omega arith, tt)) refl
 
 other_document : ¬ WentThrough [] square_input nothing nothing (λ text. text ≡ codes "refused IncompatibleDimensionality\n")
 unfolding digits encode_with decode_pairs

@@ -1,12 +1,14 @@
 -- Commands that ran, and their text.
-use Rattle.std.proofs.Common.{◌≡◌, ℕ, ◌≤◌, List, [], ◌∷◌, ◌++◌, map, Option, Some, None, IsSome, Result, Ok, Err, IfErr, refl, sym, ap, ap₂, ◌∙◌, subst, arith}
+use Rattle.std.proofs.Common.{◌≡◌, ℕ, ◌<◌, ◌≤◌, List, [], ◌∷◌, ◌++◌, map, Option, Some, None, IsSome, Result, Ok, Err, IfErr, refl, sym, ap, ap₂, ◌∙◌, subst, arith}
 use Rattle.std.specs.List.{AllZip}
-use Rattle.zarr_model.specs.Prelude.{Element, fixed, Array, Content, IsHonest, WhollyMeans, Command, Description, layout, replies, Matches, all_asks, counted, LeavesKeys, LeavesArray, ServesArray, IsDamageMet, MeetsNoDamage, Shown, Options}
+use Rattle.zarr_model.specs.Prelude.{Element, fixed, Array, Content, IsHonest, WhollyMeans, Command, Description, kind, layout, replies, Matches, all_asks, counted, LeavesKeys, LeavesArray, ServesArray, IsDamageMet, MeetsNoDamage, Shown, Options}
 use Rattle.zarr_model.specs.Command as Model
 use Rattle.zarr_model.proofs.FailureLaws.{undecoded-met}
+use Rattle.zarr_array.specs.Chunk.{sized_kind}
 use Rattle.zarr_array.specs.OpenArray.{described}
 use Rattle.zarr_array.specs.Command.{answer_of}
 use Rattle.zarr_array.specs.Session.{HasSessionCause}
+use Rattle.zarr_array.proofs.FormLaws.{sized_is}
 use Rattle.zarr_array.specs.declared.open.OpenArray.{OpenArray}
 use Rattle.zarr_array.specs.declared.command.Reply.{Reply}
 use Rattle.zarr_array.specs.declared.error.SessionErrorKind.{SessionErrorKind}
@@ -21,22 +23,25 @@ use Rattle.zarr_cli.specs.declared.status.Status.{Status}
 use Rattle.zarr_cli.specs.declared.status.Status.TheVariants.{Done, BadWords, BadInput, Document, Chunk, Store, Read, Write, TooLong, OutOfMemory}
 
 -- the lines of replies are those of the model's
-answers_match : (held : List Reply) (answers : List Model.Reply) → AllZip (Matches (fixed 1)) (map answer_of held) answers → answers_text held ≡ replies_text answers
-answers_match [] [] h = refl
-answers_match [] (answer ∷ answers) h = absurd h
-answers_match (reply ∷ held) [] h = absurd h
-answers_match (reply ∷ held) (answer ∷ answers) h = ap₂ (λ text rest. line_of text ++ rest) (sym (answered_text reply answer h.0)) (answers_match held answers h.1)
+answers_match : (n : ℕ) → 0 < n → (held : List Reply) (answers : List Model.Reply) → AllZip (Matches (fixed n)) (map answer_of held) answers → answers_text n held ≡ replies_text answers
+answers_match n some [] [] h = refl
+answers_match n some [] (answer ∷ answers) h = absurd h
+answers_match n some (reply ∷ held) [] h = absurd h
+answers_match n some (reply ∷ held) (answer ∷ answers) h =
+    ap₂ (λ text rest. line_of text ++ rest) (sym (answered_text n reply answer some h.0)) (answers_match n some held answers h.1)
 
 wholly_honest : (description : Description) (options : Options) (store : Content) (array : Array Element) → WhollyMeans (layout description options) store array → IsHonest (layout description options) store
 wholly_honest description options store array meant chunk is_chunk = subst IsSome (sym (meant.each_chunk chunk is_chunk)) refl
 
-pub ran_commands : (array : OpenArray) (options : Options) (commands : List Command) (before now : Shown) (held : List Reply) (text : List ℕ) →
+pub ran_commands : (array : OpenArray) (n : ℕ) (options : Options) (commands : List Command) (before now : Shown) (held : List Reply) (text : List ℕ) →
+    sized_kind (kind (described array)) ≡ Some n → 0 < n →
     (IsHonest (layout (described array) options) before.content → ServesArray (described array) options commands before.content now.content (map answer_of held)) →
     LeavesKeys (described array) options commands before.content now.content → MeetsNoDamage (described array) options commands before.content →
     now.asks ≡ counted before.asks (all_asks (described array) commands) →
-    text ≡ answers_text held → RepliesTo (described array) options commands before now text
-ran_commands array options commands before now held text serves keys undamaged asks is = record {
-  replied = λ meant means. is ∙ answers_match held (replies (described array) commands meant) ((serves means.honest).answers_match meant means);
+    text ≡ answers_text n held → RepliesTo (described array) options commands before now text
+ran_commands array n options commands before now held text sized some serves keys undamaged asks is = record {
+  replied = λ meant means. is ∙ answers_match n some held (replies (described array) commands meant)
+      (subst (λ k. AllZip (Matches k) (map answer_of held) (replies (described array) commands meant)) (sized_is (kind (described array)) n sized) ((serves means.honest).answers_match meant means));
   left = record {
     array_left = λ meant means. (serves means.honest).left.array_left meant means;
     whole_chunks = λ meant means. (serves (wholly_honest (described array) options before.content meant means)).left.whole_chunks meant means;

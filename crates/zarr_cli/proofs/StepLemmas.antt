@@ -3,18 +3,22 @@ use Rattle.std.proofs.Common.{◌≡◌, ℕ, ◌+◌, ◌^◌, ◌<◌, ◌≤�
 use Rattle.std.proofs.Math.Path.{fun_ext}
 use Rattle.std.proofs.Math.Seq.{drop-cons}
 use Rattle.std.proofs.lemmas.List.{get_or-map, length-map}
-use Rattle.zarr_model.specs.Prelude.{Content, with_key, with_keys, ReadsNext, PutsKey}
+use Rattle.zarr_model.specs.Prelude.{fixed, Command, Content, kind, with_key, with_keys, ReadsNext, PutsKey}
 use Rattle.zarr_model.proofs.FailureLaws.{same_bytes, bytes_eq-refl}
 use Rattle.zarr_array.specs.Opening.{opened, open_builtin}
-use Rattle.zarr_array.specs.OpenArray.{documented}
+use Rattle.zarr_array.specs.Chunk.{sized_kind}
+use Rattle.zarr_array.specs.OpenArray.{documented, described}
+use Rattle.zarr_array.specs.Command.{command_of}
+use Rattle.zarr_array.proofs.FormLaws.{sized_is}
 use Rattle.zarr_array.specs.declared.open.OpenArray.{OpenArray}
-use Rattle.zarr_cli_lines.specs.Text.{input_lines, good_lines}
-use Rattle.zarr_cli_lines.specs.Parts.{command_line, IsLineFault}
+use Rattle.zarr_cli.specs.declared.input.ParsedInput.{ParsedInput}
+use Rattle.zarr_cli_lines.specs.Text.{input_lines, first_entries, line_command, commands_of, good_lines}
+use Rattle.zarr_cli_lines.specs.Parts.{entry_view, IsLineFault}
 use Rattle.zarr_cli_lines.specs.declared.parse.LineError.{LineError}
 use Rattle.zarr_cli_lines.specs.declared.parse.LineError.TheVariants.{OutOfForm}
 use Rattle.zarr_cli_lines.proofs.SplitLemmas.{few_lines}
-use Rattle.zarr_cli.specs.Input.{input_limit, first_line, IsBadLine}
-use Rattle.zarr_cli.specs.Steps.{HasTaken, IsKeyOf}
+use Rattle.zarr_cli.specs.Input.{input_limit, first_line, command_grammar, IsBadLine}
+use Rattle.zarr_cli.specs.Steps.{HasTaken, SaysInput, IsKeyOf}
 
 -- nothing was taken yet
 pub taken_none : (left : Option (List ℕ)) → HasTaken left [] left
@@ -98,20 +102,34 @@ listed_key {E} view entries i entry within here key same = (
 )
 
 -- a fault of this form says where
-pub form_fault : (error : LineError) (good : ℕ) (lines : List (List ℕ)) → error ≡ OutOfForm good → IsLineFault error lines → (good ≡ good_lines command_line lines) × (good < length lines)
-form_fault error good lines is fault = subst (λ e. IsLineFault e lines) is fault
+pub form_fault : (grammar : List ℕ → Option Command) (error : LineError) (good : ℕ) (lines : List (List ℕ)) → error ≡ OutOfForm good → IsLineFault error grammar lines →
+    (good ≡ good_lines grammar lines) × (good < length lines)
+form_fault grammar error good lines is fault = subst (λ e. IsLineFault e grammar lines) is fault
 
 -- the first line out of form, of an input whose first line opens
-pub bad_line : (text line : List ℕ) (rest : List (List ℕ)) (array : OpenArray) (good : ℕ) → IsUtf8 text → input_lines text ≡ line ∷ rest → open_builtin line ≡ opened (documented array) →
-    good ≡ good_lines command_line rest → good < length rest → IsBadLine text (good + 2)
-bad_line text line rest array good utf8 lines opens count below =
+pub bad_line : (text line : List ℕ) (rest : List (List ℕ)) (array : OpenArray) (n good : ℕ) → IsUtf8 text → input_lines text ≡ line ∷ rest → open_builtin line ≡ opened (documented array) →
+    sized_kind (kind (described array)) ≡ Some n → good ≡ good_lines (line_command (fixed n)) rest → good < length rest → IsBadLine text (good + 2)
+bad_line text line rest array n good utf8 lines opens sized counted below =
+    let count : good ≡ good_lines (command_grammar (documented array)) rest = counted ∙ ap (λ k. good_lines (line_command k) rest) (sym (sized_is (kind (described array)) n sized)) in
     inr (
       utf8,
       documented array,
       subst (λ all. open_builtin (first_line all) ≡ opened (documented array)) (sym lines) opens,
-      subst (λ all. good_lines command_line (drop 1 all) < length (drop 1 all)) (sym lines) (subst (λ n. n < length rest) count below),
-      subst (λ all. good + 2 ≡ good_lines command_line (drop 1 all) + 2) (sym lines) (ap (λ n. n + 2) count),
+      subst (λ all. good_lines (command_grammar (documented array)) (drop 1 all) < length (drop 1 all)) (sym lines) (subst (λ n. n < length rest) count below),
+      subst (λ all. good + 2 ≡ good_lines (command_grammar (documented array)) (drop 1 all) + 2) (sym lines) (ap (λ n. n + 2) count),
     )
+
+-- what an input in form says
+pub says_input : (text line : List ℕ) (rest : List (List ℕ)) (parsed : ParsedInput) (n : ℕ) → IsUtf8 text → input_lines text ≡ line ∷ rest → open_builtin line ≡ opened (documented parsed.array) →
+    sized_kind (kind (described parsed.array)) ≡ Some n → map entry_view parsed.entries.items ≡ first_entries rest →
+    commands_of (line_command (fixed n)) rest ≡ Some (map command_of parsed.commands.items) → SaysInput text parsed
+says_input text line rest parsed n utf8 lines opens sized entries commands = record {
+  is_text = utf8;
+  is_opened = subst (λ all. open_builtin (first_line all) ≡ opened (documented parsed.array)) (sym lines) opens;
+  entries_are = subst (λ all. map entry_view parsed.entries.items ≡ first_entries (drop 1 all)) (sym lines) entries;
+  commands_are = subst (λ all. commands_of (command_grammar (documented parsed.array)) (drop 1 all) ≡ Some (map command_of parsed.commands.items)) (sym lines)
+      (ap (λ k. commands_of (line_command k) rest) (sized_is (kind (described parsed.array)) n sized) ∙ commands);
+}
 
 -- the number of a line fits
 pub line_fits : (text line : List ℕ) (rest : List (List ℕ)) (good : ℕ) → length text ≤ input_limit → input_lines text ≡ line ∷ rest → good < length rest → good + 2 < 2 ^ 64

@@ -15,9 +15,9 @@ use Rattle.zarrs_storage.specs.declared.store.StorageError.{StorageError}
 use Rattle.zarrs_storage.specs.declared.store.StorageError.TheVariants.{Failed}
 use Rattle.zarrs_storage.specs.declared.store.StorageError.TheVariants as Storage
 use Rattle.zarr_cli_lines.specs.Text.{line_of, commands_of, replies_text}
-use Rattle.zarr_cli_lines.specs.Parts.{entry_view, command_line, answer_text}
+use Rattle.zarr_cli_lines.specs.Parts.{entry_view, answer_text}
 use Rattle.zarr_cli.specs.Words.{Settings, HasBadWords}
-use Rattle.zarr_cli.specs.Input.{input_limit, document_line, lines_after_document, input_entries, with_entries, store_after_keys, IsBadLine, HasLongInput, HasBadLine, HasRefusedDocument}
+use Rattle.zarr_cli.specs.Input.{input_limit, document_line, lines_after_document, command_grammar, input_entries, with_entries, store_after_keys, IsBadLine, HasLongInput, HasBadLine, HasRefusedDocument}
 use Rattle.zarr_cli.specs.Run.{Run, Prints, IsDump, IsDumpAsks, HasDamage}
 use Rattle.zarr_cli.specs.declared.status.Status.{Status}
 use Rattle.zarr_cli.specs.declared.status.Status.TheVariants.{BadWords, BadInput, Document, Chunk, Store, Read, TooLong, OutOfMemory}
@@ -48,7 +48,8 @@ pub record SaysInput (input : List ℕ) (parsed : ParsedInput) : Type 0 where
   pub is_text : IsUtf8 input
   pub is_opened : open_builtin (document_line input) ≡ opened (documented parsed.array)
   pub entries_are : map entry_view parsed.entries.items ≡ input_entries input
-  pub commands_are : commands_of command_line (lines_after_document input)
+  pub commands_are :
+      commands_of (command_grammar (documented parsed.array)) (lines_after_document input)
       ≡ Some (map command_of parsed.commands.items)
 
 -- opening refused for a reason other than memory
@@ -74,9 +75,9 @@ IsInputFault input (Document error) =
 IsInputFault input OutOfMemory = Unit {0}
 IsInputFault _ _ = ⊥
 
--- the lines of replies as the program holds them
-abbrev pub answers_text : List Reply → List ℕ
-answers_text held = flat_map (λ reply. line_of (answer_text reply)) held
+-- the lines of replies as the program holds them, where elements have n bytes
+abbrev pub answers_text : ℕ → List Reply → List ℕ
+answers_text n held = flat_map (λ reply. line_of (answer_text n reply)) held
 
 -- commands were run over a store, and the text is that of their replies
 pub record RepliesTo (description : Description) (options : Options) (commands : List Command)

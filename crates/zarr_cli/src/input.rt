@@ -52,7 +52,7 @@ fn parse_text(alloc: Global, text: &str) -> Result<ParsedInput, Status>
 {
     let (line, rest) = Lines::split_text(text);
     let array = open_line(alloc, line)?;
-    match parse_lines(alloc, rest) {
+    match parse_lines(alloc, rest, array.element_size()) {
         Ok(ParsedLines { entries, commands }) => Ok(ParsedInput {
             array,
             entries,

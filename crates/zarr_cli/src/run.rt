@@ -1,6 +1,6 @@
 //! Running the commands of an input over a store.
 
-ghost use Rattle.std.specs.Prelude.{◌≡◌, ◌≤◌, false, map, List, ℕ, IfOk, IfErr, OnOk};
+ghost use Rattle.std.specs.Prelude.{◌≡◌, ◌<◌, ◌≤◌, false, map, List, ℕ, IfOk, IfErr, OnOk};
 ghost use Rattle.zarr_model.specs.Prelude.{Rose, HasCause, IsHonest, with_keys, layout, AreRefused, IsUntouched};
 ghost use Rattle.zarrs_storage.specs.Store.{IsFault as IsStoreFault};
 ghost use Rattle.zarr_array.specs.OpenArray.{described};
@@ -46,13 +46,14 @@ fn set_entries<S: Store>(
     Ok(())
 }
 
-// The lines of replies.
-fn text_of_replies(alloc: Global, replies: &[Reply]) -> Result<Vec<u8>, AllocError>
-    ensures { IfOk result (λ text. text.items ≡ answers_text replies.now) }
+// The lines of replies, whose elements have `size` bytes.
+fn text_of_replies(alloc: Global, replies: &[Reply], size: usize) -> Result<Vec<u8>, AllocError>
+    requires { 0 < size }
+    ensures { IfOk result (λ text. text.items ≡ answers_text size replies.now) }
 {
     let mut text = Vec::new(alloc);
     for reply in replies {
-        push_reply(&mut text, reply)?;
+        push_reply(&mut text, reply, size)?;
     }
     Ok(text)
 }
@@ -94,7 +95,7 @@ fn text_of_commands<S: Store>(
         IfErr result (λ status. status ≡ Status.OutOfMemory) }
 {
     match array.run_commands(alloc, commands, store, options) {
-        Ok(replies) => Ok(text_of_replies(alloc, &replies)?),
+        Ok(replies) => Ok(text_of_replies(alloc, &replies, array.element_size())?),
         Err(error) => Err(session_status(error.kind)),
     }
 }

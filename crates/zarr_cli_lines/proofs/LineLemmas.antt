@@ -16,13 +16,13 @@ all_some-step {A} x before rest all e = go (all_some rest) e
     go (Some xs) e = ap Some (append_assoc before (x ∷ []) xs) ∙ e
 
 -- no command but a write has three words
-pub no_longer_line : (word first rest : List ℕ) → ¬ (word ≡ codes "write") → None ≡ command_of_words (fixed 1) (word ∷ first ∷ split_at 32 rest)
-no_longer_line word first rest other = go (split_at 32 rest) (split_nonempty 32 rest) (bytes_eq word (codes "write")) refl
+pub no_longer_line : (n : ℕ) (word first rest : List ℕ) → ¬ (word ≡ codes "write") → None ≡ command_of_words (fixed n) (word ∷ first ∷ split_at 32 rest)
+no_longer_line n word first rest other = go (split_at 32 rest) (split_nonempty 32 rest) (bytes_eq word (codes "write")) refl
   where
-    go : (parts : List (List ℕ)) → 0 < length parts → (b : Bool) → bytes_eq word (codes "write") ≡ b → None ≡ command_of_words (fixed 1) (word ∷ first ∷ parts)
+    go : (parts : List (List ℕ)) → 0 < length parts → (b : Bool) → bytes_eq word (codes "write") ≡ b → None ≡ command_of_words (fixed n) (word ∷ first ∷ parts)
     go [] some b is = absurd (omega arith)
     go (part ∷ parts) some true is = absurd (other (same_bytes word (codes "write") is))
-    go (part ∷ parts) some false is = ap (λ t. cond t (write_of (fixed 1) (box_of first) (all_some (map (element_of (fixed 1)) (part ∷ parts)))) None) (sym is)
+    go (part ∷ parts) some false is = ap (λ t. cond t (write_of (fixed n) (box_of first) (all_some (map (element_of (fixed n)) (part ∷ parts)))) None) (sym is)
 
 -- the entries of key lines, with one more of them before
 pub entries_step : (line : List ℕ) (lines : List (List ℕ)) (entry : List ℕ × List ℕ) (before all : List (List ℕ × List ℕ)) →

@@ -1,25 +1,65 @@
 -- The text of a reply, from the bytes of its elements.
-use Rattle.std.proofs.Common.{◌≡◌, ℕ, List, [], ◌∷◌, ◌++◌, length, flat_map, Option, Some, None, IsSome, codes, refl, sym, ap, ◌∙◌, append_assoc, rules}
-use Rattle.zarr_model.specs.Prelude.{Element, fixed, fixed_bytes, meaning, Reply, elements, done, refused, Refusal, answered, answered_done, answered_refused, Matches, refusal_name}
-use Rattle.zarr_array.specs.Chunk.{byte_elements}
-use Rattle.zarr_array.proofs.OneByteLaws.{meaning-bytes, bytes_meaning_length}
+use Rattle.std.proofs.Common.{◌≡◌, ℕ, zero, suc, ◌+◌, ◌*◌, ◌/◌, ◌<◌, List, [], ◌∷◌, ◌++◌, length, map, take, drop, flat_map, Option, Some, None, IsSome, codes, refl, sym, ap, ◌∙◌, append_assoc, rules, arith}
+use Rattle.std.proofs.lemmas.List.{drop-drop}
+use Rattle.std.proofs.Math.Nat.{suc-mul}
+use Rattle.std.proofs.Math.Seq.{take-length}
+use Rattle.hex.specs.Hex.{encode_lower}
+use Rattle.zarr_model.specs.Prelude.{Element, of_bytes, fixed, fixed_bytes, meaning, pieces, Reply, elements, done, refused, Refusal, answered, answered_done, answered_refused, Matches, refusal_name}
+use Rattle.zarrs_codec_bytes.specs.Elements.{elements_of, fixed_elements}
+use Rattle.zarrs_codec_bytes.proofs.FixedLaws.{meaning_is, meaning_long}
 use Rattle.zarr_cli_lines.specs.Text.{element_text, hex_text, reply_text, line_of}
 use Rattle.zarr_cli_lines.specs.Parts.{bytes_text, answer_text, AppendsReply}
 use Rattle.zarr_array.specs.declared.command.Reply.{Reply as Held}
 use Rattle.zarr_array.specs.declared.command.Reply.TheVariants.{Elements, Done, Refused}
 use Rattle.zarr_array.specs.Command.{answer_of, refusal_of}
 
--- the text of bytes, an element for each
-pub elements_text : (value : List ℕ) → flat_map (λ element. 32 ∷ element_text element) (byte_elements value) ≡ bytes_text value
-elements_text [] = refl
-elements_text (b ∷ value) = ap (λ text. (32 ∷ hex_text (b ∷ [])) ++ text) (elements_text value)
+-- the pieces up to a place, and the one there
+more_pieces : (k n : ℕ) (value : List ℕ) → pieces (suc k) n value ≡ pieces k n value ++ take n (drop (k * n) value) ∷ []
+more_pieces zero n value = ap (λ m. take n (drop m value) ∷ []) (let e : 0 ≡ 0 * n = omega arith in e)
+more_pieces (suc k) n value =
+    ap (λ l. take n value ∷ l) (more_pieces k n (drop n value)
+    ∙ ap (λ v. pieces k n (drop n value) ++ take n v ∷ []) (drop-drop (k * n) n value ∙ ap (λ m. drop m value) (let e : n + k * n ≡ suc k * n = omega (arith, suc-mul k n) in e)))
+
+texts_put : {A : Type 0} (f : A → List ℕ) (xs : List A) (x : A) → flat_map f (xs ++ x ∷ []) ≡ flat_map f xs ++ f x
+texts_put f [] x = search rules
+texts_put f (y ∷ xs) x = ap (λ l. f y ++ l) (texts_put f xs x) ∙ sym (append_assoc (f y) (flat_map f xs) (f x))
+
+-- the text of the elements up to a place, and of the one there
+pub next_element : (k n : ℕ) (value before text spaced now : List ℕ) → text ≡ before ++ flat_map (λ element. 32 ∷ hex_text element) (pieces k n value) →
+    spaced ≡ text ++ 32 ∷ 104 ∷ [] → now ≡ spaced ++ encode_lower (take n (drop (k * n) value)) →
+    now ≡ before ++ flat_map (λ element. 32 ∷ hex_text element) (pieces (k + 1) n value)
+next_element k n value before text spaced now so_far space put =
+    put ∙ (ap (λ t. t ++ encode_lower (take n (drop (k * n) value))) (space ∙ ap (λ t. t ++ 32 ∷ 104 ∷ []) so_far)
+    ∙ (append_assoc (before ++ flat_map (λ element. 32 ∷ hex_text element) (pieces k n value)) (32 ∷ 104 ∷ []) (encode_lower (take n (drop (k * n) value)))
+    ∙ (append_assoc before (flat_map (λ element. 32 ∷ hex_text element) (pieces k n value)) (32 ∷ hex_text (take n (drop (k * n) value)))
+    ∙ ap (λ t. before ++ t) (sym (texts_put (λ element. 32 ∷ hex_text element) (pieces k n value) (take n (drop (k * n) value)))
+    ∙ ap (flat_map (λ element. 32 ∷ hex_text element)) (sym (more_pieces k n value) ∙ ap (λ m. pieces m n value) (let e : suc k ≡ k + 1 = omega arith in e))))))
+
+-- the text of elements of one byte is that of each byte
+single_pieces : (value : List ℕ) → flat_map (λ b. 32 ∷ hex_text (b ∷ [])) value ≡ flat_map (λ element. 32 ∷ hex_text element) (pieces (length value) 1 value)
+single_pieces [] = refl
+single_pieces (b ∷ value) = ap (λ text. (32 ∷ hex_text (b ∷ [])) ++ text) (single_pieces value)
+
+pub single_bytes : (before now value : List ℕ) (k : ℕ) → k ≡ length value → now ≡ before ++ flat_map (λ b. 32 ∷ hex_text (b ∷ [])) (take k value) → now ≡ before ++ bytes_text 1 value
+single_bytes before now value k all put =
+    put ∙ ap (λ text. before ++ text) (ap (flat_map (λ b. 32 ∷ hex_text (b ∷ []))) (ap (λ n. take n value) all ∙ take-length value)
+    ∙ (single_pieces value
+    ∙ ap (λ n. flat_map (λ element. 32 ∷ hex_text element) (pieces n 1 value)) (let e : length value ≡ length value / 1 = omega arith in e)))
+
+-- the text of bytes, an element for each piece
+texts_of : (l : List (List ℕ)) → flat_map (λ element. 32 ∷ element_text element) (map of_bytes l) ≡ flat_map (λ element. 32 ∷ hex_text element) l
+texts_of [] = refl
+texts_of (b ∷ l) = ap (λ text. (32 ∷ hex_text b) ++ text) (texts_of l)
+
+pub elements_text : (n : ℕ) (value : List ℕ) → flat_map (λ element. 32 ∷ element_text element) (fixed_elements n value) ≡ bytes_text n value
+elements_text n value = texts_of (elements_of n value)
 
 -- the text of a reply with the elements that bytes mean
-pub matched_text : (value : List ℕ) (answer : Reply) → Matches (fixed 1) (answered (fixed_bytes value)) answer → reply_text answer ≡ codes "ok" ++ bytes_text value
-matched_text value (elements list) h =
-    let long : length value ≡ length list = bytes_meaning_length (length list) value (some_is list (meaning (fixed 1) (length list) (fixed_bytes value)) h) in
-    let same : list ≡ byte_elements value = one list (byte_elements value) (sym h ∙ meaning-bytes (length list) value long) in
-    ap (λ l. codes "ok" ++ flat_map (λ element. 32 ∷ element_text element) l) same ∙ ap (λ text. codes "ok" ++ text) (elements_text value)
+pub matched_text : (n : ℕ) (value : List ℕ) (answer : Reply) → 0 < n → Matches (fixed n) (answered (fixed_bytes value)) answer → reply_text answer ≡ codes "ok" ++ bytes_text n value
+matched_text n value (elements list) some h =
+    let long : length value ≡ length list * n = meaning_long n some (length list) value (some_is list (meaning (fixed n) (length list) (fixed_bytes value)) h) in
+    let same : list ≡ fixed_elements n value = one list (fixed_elements n value) (sym h ∙ meaning_is n some (length list) value long) in
+    ap (λ l. codes "ok" ++ flat_map (λ element. 32 ∷ element_text element) l) same ∙ ap (λ text. codes "ok" ++ text) (elements_text n value)
   where
     some_is : (l : List Element) (o : Option (List Element)) → o ≡ Some l → IsSome o
     some_is l None e = cc
@@ -27,30 +67,30 @@ matched_text value (elements list) h =
 
     one : (a b : List Element) → Some a ≡ Some b → a ≡ b
     one a b e = cc
-matched_text value done h = absurd h
-matched_text value (refused why) h = absurd h
+matched_text n value done some h = absurd h
+matched_text n value (refused why) some h = absurd h
 
 -- the text of a reply that refuses
-pub refused_text : (why : Refusal) (answer : Reply) → Matches (fixed 1) (answered_refused why) answer → reply_text answer ≡ codes "refused " ++ refusal_name why
-refused_text why (elements list) h = absurd h
-refused_text why done h = absurd h
-refused_text why (refused other) h = ap (λ refusal. codes "refused " ++ refusal_name refusal) (sym h)
+pub refused_text : (n : ℕ) (why : Refusal) (answer : Reply) → Matches (fixed n) (answered_refused why) answer → reply_text answer ≡ codes "refused " ++ refusal_name why
+refused_text n why (elements list) h = absurd h
+refused_text n why done h = absurd h
+refused_text n why (refused other) h = ap (λ refusal. codes "refused " ++ refusal_name refusal) (sym h)
 
 -- the text of a reply that says done
-pub done_text : (answer : Reply) → Matches (fixed 1) answered_done answer → reply_text answer ≡ codes "done"
-done_text (elements list) h = absurd h
-done_text done h = refl
-done_text (refused why) h = absurd h
+pub done_text : (n : ℕ) (answer : Reply) → Matches (fixed n) answered_done answer → reply_text answer ≡ codes "done"
+done_text n (elements list) h = absurd h
+done_text n done h = refl
+done_text n (refused why) h = absurd h
 
 -- so it is with each reply, and its line
-pub answered_text : (reply : Held) (answer : Reply) → Matches (fixed 1) (answer_of reply) answer → reply_text answer ≡ answer_text reply
-answered_text (Elements value) answer h = matched_text value.items answer h
-answered_text Done answer h = done_text answer h
-answered_text (Refused why) answer h = refused_text (refusal_of why) answer h
+pub answered_text : (n : ℕ) (reply : Held) (answer : Reply) → 0 < n → Matches (fixed n) (answer_of reply) answer → reply_text answer ≡ answer_text n reply
+answered_text n (Elements value) answer some h = matched_text n value.items answer some h
+answered_text n Done answer some h = done_text n answer h
+answered_text n (Refused why) answer some h = refused_text n (refusal_of why) answer h
 
-pub line_put : (reply : Held) (before text now : List ℕ) → text ≡ before ++ answer_text reply → now ≡ text ++ 10 ∷ [] → now ≡ before ++ line_of (answer_text reply)
-line_put reply before text now put pushed = pushed ∙ (ap (λ t. t ++ 10 ∷ []) put ∙ append_assoc before (answer_text reply) (10 ∷ []))
+pub line_put : (n : ℕ) (reply : Held) (before text now : List ℕ) → text ≡ before ++ answer_text n reply → now ≡ text ++ 10 ∷ [] → now ≡ before ++ line_of (answer_text n reply)
+line_put n reply before text now put pushed = pushed ∙ (ap (λ t. t ++ 10 ∷ []) put ∙ append_assoc before (answer_text n reply) (10 ∷ []))
 
-pub answered_line : (reply : Held) (before text now : List ℕ) → text ≡ before ++ answer_text reply → now ≡ text ++ 10 ∷ [] → AppendsReply reply before now
-answered_line reply before text now put pushed answer h =
-    line_put reply before text now put pushed ∙ ap (λ t. before ++ line_of t) (sym (answered_text reply answer h))
+pub answered_line : (n : ℕ) (reply : Held) (before text now : List ℕ) → 0 < n → text ≡ before ++ answer_text n reply → now ≡ text ++ 10 ∷ [] → AppendsReply n reply before now
+answered_line n reply before text now some put pushed answer h =
+    line_put n reply before text now put pushed ∙ ap (λ t. before ++ line_of t) (sym (answered_text n reply answer some h))

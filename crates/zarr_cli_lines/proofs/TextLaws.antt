@@ -1,31 +1,12 @@
--- The program's texts say one thing each: numbers and elements are read back.
-use Rattle.std.proofs.Common.{◌≡◌, ℕ, suc, ◌+◌, ◌^◌, ◌<◌, ◌≤◌, true, ◌==◌, ◌&&◌, nat_lt, List, [], ◌∷◌, length, map, bytes_eq, decimal, Option, Some, None, option_map, option_and_then, is_some, ◌↔◌, refl, sym, ap, ◌∙◌, subst, arith, cond, ◌-◌, length-drop, if◌then◌else◌, eq-eqb}
+-- The program's texts say one thing each: elements are read back.
+use Rattle.std.proofs.Common.{◌≡◌, ℕ, suc, ◌+◌, ◌<◌, ◌≤◌, true, ◌==◌, List, [], ◌∷◌, length, map, Option, Some, None, option_map, option_and_then, is_some, ◌↔◌, refl, sym, ap, ◌∙◌, arith, cond, ◌-◌, length-drop, eq-eqb}
 use Rattle.std.specs.List.{prefix_len}
 use Rattle.std.specs.Result.{result_ok}
-use Rattle.std.specs.Str.Parse.{digits_value}
-use Rattle.std.proofs.lemmas.Fmt.{decimal_is_IsNumeral}
-use Rattle.std.proofs.lemmas.Bool.{and_parts, and_from, lt-ltb, ltb-true, cond-true}
+use Rattle.std.proofs.lemmas.Bool.{cond-true}
 use Rattle.hex.specs.Hex.{IsBytes}
 use Rattle.hex.proofs.HexLemmas.{decode_of-encode_lower}
 use Rattle.zarr_model.specs.Prelude.{Element, of_bytes, null, some, Kind, fixed, variable, optional, IsOfKind, Command}
-use Rattle.zarr_cli_lines.specs.Text.{number_of, hex_of, hex_text, fixed_element, element_of, element_text, all_some, first_entries, lines_after_entries, commands_of, good_lines, entry_of_line, entries_onto}
-use Rattle.zarr_model.proofs.FailureLaws.{same_bytes, bytes_eq-refl}
-use Rattle.zarr_model.proofs.BytesLaws.{when_some}
-
--- a number is read from its decimal text, and from no other
-pub number_of-decimal : (n : ℕ) → n < 2 ^ 64 → number_of (decimal n) ≡ Some n
-number_of-decimal n h =
-    let value : digits_value 10 (decimal n) ≡ n = (decimal_is_IsNumeral n h).1 in
-    subst (λ m. (if bytes_eq (decimal m) (decimal n) && nat_lt m (2 ^ 64) then Some m else None) ≡ Some n) (sym value)
-    (cond-true (bytes_eq (decimal n) (decimal n) && nat_lt n (2 ^ 64)) (Some n) None (and_from _ _ (bytes_eq-refl (decimal n)) (lt-ltb n (2 ^ 64) h)))
-
-pub number_of-only : (line : List ℕ) (n : ℕ) → number_of line ≡ Some n → (line ≡ decimal n) × (n < 2 ^ 64)
-number_of-only line n e =
-    let parts = when_some (bytes_eq (decimal (digits_value 10 line)) line && nat_lt (digits_value 10 line) (2 ^ 64)) (digits_value 10 line) n e in
-    let tests = and_parts (bytes_eq (decimal (digits_value 10 line)) line) (nat_lt (digits_value 10 line) (2 ^ 64)) parts.0 in (
-      sym (same_bytes (decimal (digits_value 10 line)) line tests.0) ∙ ap decimal parts.1,
-      subst (λ m. m < 2 ^ 64) parts.1 (ltb-true (digits_value 10 line) (2 ^ 64) tests.1),
-    )
+use Rattle.zarr_cli_lines.specs.Text.{hex_of, hex_text, fixed_element, element_of, element_text, all_some, first_entries, lines_after_entries, commands_of, good_lines, entry_of_line, entries_onto}
 
 -- the bytes of an element are bytes
 abbrev pub HoldsBytes : Element → Type 0

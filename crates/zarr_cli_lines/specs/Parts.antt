@@ -5,10 +5,11 @@ use Rattle.std.specs.Borrow.{Bor}
 use Rattle.std.specs.declared.ops.Range.{Range}
 use Rattle.zarr_model.specs.Prelude.{Span, fixed, Command, Matches, refusal_name}
 use Rattle.zarr_model.specs.Command as Model
+use Rattle.zarrs_codec_bytes.specs.Elements.{elements_of}
 use Rattle.zarr_array.specs.declared.command.Reply.{Reply}
 use Rattle.zarr_array.specs.declared.command.Reply.TheVariants.{Elements, Done, Refused}
 use Rattle.zarr_array.specs.Command.{answer_of, refusal_of}
-use Rattle.zarr_cli_lines.specs.Text.{split_at, line_command, good_lines, hex_text, line_of, reply_text}
+use Rattle.zarr_cli_lines.specs.Text.{split_at, good_lines, hex_text, line_of, reply_text}
 use Rattle.zarr_cli_lines.specs.declared.lines.Lines.{Lines}
 use Rattle.zarr_cli_lines.specs.declared.entry.Entry.{Entry}
 use Rattle.zarr_cli_lines.specs.declared.parse.LineError.{LineError}
@@ -40,26 +41,23 @@ words_left text = option_map_or (λ rest. split_at 32 rest.now) text []
 abbrev pub entry_view : Entry → List ℕ × List ℕ
 entry_view entry = (entry.key, entry.value.items)
 
--- the commands of arrays whose elements are one byte each
-abbrev pub command_line : List ℕ → Option Command
-command_line line = line_command (fixed 1) line
+-- lines are out of form after so many good ones, by a grammar of commands, or memory ran out
+abbrev pub IsLineFault : LineError → (List ℕ → Option Command) → List (List ℕ) → Type 0
+IsLineFault (OutOfForm good) grammar lines =
+    (good ≡ good_lines grammar lines) × (good < length lines)
+IsLineFault OutOfMemory grammar lines = Unit {0}
 
--- lines are out of form after so many good ones, or memory ran out
-abbrev pub IsLineFault : LineError → List (List ℕ) → Type 0
-IsLineFault (OutOfForm good) lines = (good ≡ good_lines command_line lines) × (good < length lines)
-IsLineFault OutOfMemory lines = Unit {0}
-
--- the text of bytes that are an element each: a space before each one
-abbrev pub bytes_text : List ℕ → List ℕ
-bytes_text value = flat_map (λ b. 32 ∷ hex_text (b ∷ [])) value
+-- the text of elements of n bytes: a space before each one
+abbrev pub bytes_text : ℕ → List ℕ → List ℕ
+bytes_text n value = flat_map (λ element. 32 ∷ hex_text element) (elements_of n value)
 
 -- the text of a reply as the program holds it
-abbrev pub answer_text : Reply → List ℕ
-answer_text (Elements value) = codes "ok" ++ bytes_text value.items
-answer_text Done = codes "done"
-answer_text (Refused why) = codes "refused " ++ refusal_name (refusal_of why)
+abbrev pub answer_text : ℕ → Reply → List ℕ
+answer_text n (Elements value) = codes "ok" ++ bytes_text n value.items
+answer_text n Done = codes "done"
+answer_text n (Refused why) = codes "refused " ++ refusal_name (refusal_of why)
 
 -- the line of a reply was appended to a text, for each reply of the model that this one is
-abbrev pub AppendsReply : Reply → List ℕ → List ℕ → Type 0
-AppendsReply reply before now = (answer : Model.Reply) →
-    Matches (fixed 1) (answer_of reply) answer → now ≡ before ++ line_of (reply_text answer)
+abbrev pub AppendsReply : ℕ → Reply → List ℕ → List ℕ → Type 0
+AppendsReply n reply before now = (answer : Model.Reply) →
+    Matches (fixed n) (answer_of reply) answer → now ≡ before ++ line_of (reply_text answer)

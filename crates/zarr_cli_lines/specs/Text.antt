@@ -1,9 +1,9 @@
 -- The program's lines: the grammar of its input, and the text of its replies.
-use Rattle.std.specs.Prelude.{ℕ, ◌+◌, ◌-◌, ◌^◌, ◌==◌, ◌&&◌, nat_lt, if◌then◌else◌, List, [], ◌∷◌, ◌++◌, length, map, flat_map, take, drop, codes, decimal, bytes_eq, count_by, Option, Some, None, is_some, option_map, option_and_then}
+use Rattle.std.specs.Prelude.{ℕ, ◌+◌, ◌-◌, ◌==◌, if◌then◌else◌, List, [], ◌∷◌, ◌++◌, length, map, flat_map, take, drop, codes, bytes_eq, count_by, Option, Some, None, is_some, option_map, option_and_then}
 use Rattle.std.specs.List.{slice_split, prefix_len}
 use Rattle.std.specs.Result.{result_ok}
-use Rattle.std.specs.Str.Parse.{digits_value}
 use Rattle.hex.specs.Hex.{encode_lower, decode_of}
+use Rattle.zarrs_data_type_names.specs.Number.{number_of}
 use Rattle.zarr_model.specs.Prelude.{Region, Span, Element, of_bytes, null, some, Kind, fixed, variable, optional, array_bytes, is_store_key, Command, read, write, erase, Reply, elements, done, refused, refusal_name}
 
 -- the parts of a text between the bytes that are this one
@@ -15,11 +15,6 @@ abbrev pub all_some : {A : Type 0} → List (Option A) → Option (List A)
 all_some [] = Some []
 all_some (None ∷ options) = None
 all_some (Some x ∷ options) = option_map (λ xs. x ∷ xs) (all_some options)
-
--- a number below 2 ^ 64 in decimal, without sign or leading zero
-abbrev pub number_of : List ℕ → Option ℕ
-number_of line = let number = digits_value 10 line in
-    if bytes_eq (decimal number) line && nat_lt number (2 ^ 64) then Some number else None
 
 -- the span of `a..b`, which is empty at a where b is below a; the text is split at its dots
 abbrev pub span_between : ℕ → Option ℕ → Option Span

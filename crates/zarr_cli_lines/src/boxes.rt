@@ -6,11 +6,11 @@ ghost use Rattle.zarrs_array_subset.specs.ArraySubset.{region};
 ghost use Rattle.zarr_cli_lines.specs.Text.{split_at, all_some, span_of, box_of};
 ghost use Rattle.zarr_cli_lines.specs.Parts.{span_of_range};
 
-use crate::number::parse_number;
 use crate::parts::{cut, three_parts};
 use std::alloc::{AllocError, Global};
 use std::ops::Range;
 use zarrs_array_subset::ArraySubset;
+use zarrs_data_type_names::parse_number;
 
 // A range `a..b`. One whose end is below its start stands for no index.
 fn parse_range(text: &str) -> Option<Range<u64>>

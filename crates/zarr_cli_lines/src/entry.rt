@@ -1,11 +1,11 @@
 //! Key lines: `key`, a key of the store, and its value in hexadecimal.
 
 ghost use Rattle.std.specs.Prelude.{◌≡◌, ◌++◌, IfOk, OnOk, option_map};
-ghost use Rattle.zarr_cli_lines.specs.Text.{hex_of, hex_text, entry_of_line, entry_text, line_of};
+ghost use Rattle.zarr_cli_lines.specs.Text.{hex_of, entry_of_line, entry_text, line_of};
 ghost use Rattle.zarr_cli_lines.specs.Parts.{entry_view};
 
 use crate::parts::three_parts;
-use crate::reply_text::push_digits;
+use crate::reply_text::push_hex;
 use hex::FromHexError;
 use std::alloc::{AllocError, Global};
 use zarrs_storage::store_key::StoreKey;
@@ -50,17 +50,6 @@ pub fn parse_key_line(alloc: Global, line: &str) -> Result<Option<Entry>, AllocE
         return Ok(None);
     };
     Ok(Some(Entry { key, value }))
-}
-
-// Appends `h` and two lower-case digits for each byte.
-fn push_hex(text: &mut Vec<u8>, value: &[u8]) -> Result<(), AllocError>
-    ensures { OnOk result (text.new.items ≡ text.old.items ++ hex_text value.now) }
-{
-    text.push(b'h')?;
-    for byte in value {
-        push_digits(text, *byte)?;
-    }
-    Ok(())
 }
 
 /// Appends the key line of a key and its value, in lower-case hexadecimal.

@@ -1,12 +1,13 @@
 //! The indices of a chunk: `.` at rank 0, else numbers joined by commas.
 
 ghost use Rattle.std.specs.Prelude.{◌≡◌, map, IfOk, option_map};
-ghost use Rattle.zarr_cli_lines.specs.Text.{split_at, all_some, number_of, indices_of};
+ghost use Rattle.zarr_cli_lines.specs.Text.{split_at, all_some, indices_of};
+ghost use Rattle.zarrs_data_type_names.specs.Number.{number_of};
 
-use crate::number::parse_number;
 use crate::parts::cut;
 use std::alloc::{AllocError, Global};
 use zarrs_array_subset::ArrayIndices;
+use zarrs_data_type_names::parse_number;
 
 // Numbers joined by commas.
 fn parse_numbers(alloc: Global, text: &str) -> Result<Option<Vec<u64>>, AllocError>

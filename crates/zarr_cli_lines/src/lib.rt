@@ -6,7 +6,6 @@ mod elements;
 pub mod entry;
 mod indices;
 pub mod lines;
-mod number;
 pub mod parse;
 mod parts;
 pub mod reply_text;

@@ -4,8 +4,8 @@ ghost use Rattle.std.specs.Prelude.{◌≡◌, ◌<◌, ◌^◌, ℕ, map, lengt
 ghost use Rattle.std.specs.List.{prefix_len};
 ghost use Rattle.zarr_model.specs.Prelude.{fixed};
 ghost use Rattle.zarr_array.specs.Command.{command_of};
-ghost use Rattle.zarr_cli_lines.specs.Text.{first_entries, lines_after_entries, commands_of, all_some, box_of, element_of, write_of};
-ghost use Rattle.zarr_cli_lines.specs.Parts.{lines_left, words_left, entry_view, command_line, IsLineFault};
+ghost use Rattle.zarr_cli_lines.specs.Text.{first_entries, lines_after_entries, line_command, commands_of, all_some, box_of, element_of, write_of};
+ghost use Rattle.zarr_cli_lines.specs.Parts.{lines_left, words_left, entry_view, IsLineFault};
 
 use crate::boxes::parse_box;
 use crate::elements::parse_elements;
@@ -61,29 +61,35 @@ impl<T: Drop> From<AllocFailed<T>> for LineError {
 }
 
 // The write of a box and of elements after it.
-#[tactic(auto, using(crate::proofs::ElementLemmas::bytes_of_elements))]
+#[tactic(auto, using(crate::proofs::ElementLemmas::of_writes))]
 fn parse_write(
     alloc: Global,
     region: &str,
     elements: Option<&str>,
+    size: usize,
 ) -> Result<Option<Command>, AllocError>
     ensures { IfOk result (λ command. option_map command_of command
-        ≡ write_of (fixed 1) (box_of region.now)
-        (all_some (map (element_of (fixed 1)) (words_left elements.entry)))) }
+        ≡ write_of (fixed size) (box_of region.now)
+        (all_some (map (element_of (fixed size)) (words_left elements.entry)))) }
 {
     let Some(region) = parse_box(alloc, region)? else {
         return Ok(None);
     };
-    let Some(value) = parse_elements(alloc, elements)? else {
+    let Some(value) = parse_elements(alloc, elements, size)? else {
         return Ok(None);
     };
     Ok(Some(Command::Write(region, value)))
 }
 
-/// The command of a line, if the line is one. An error comes only for want of memory.
+/// The command of a line, if the line is one; elements have `size` bytes. An error comes only for want of memory.
 #[tactic(auto, using(crate::proofs::LineLemmas::no_longer_line))]
-pub fn parse_command_line(alloc: Global, line: &str) -> Result<Option<Command>, AllocError>
-    ensures { IfOk result (λ command. option_map command_of command ≡ command_line line.now) }
+pub fn parse_command_line(
+    alloc: Global,
+    line: &str,
+    size: usize,
+) -> Result<Option<Command>, AllocError>
+    ensures { IfOk result (λ command.
+        option_map command_of command ≡ line_command (fixed size) line.now) }
 {
     let (word, rest) = cut(line, ' ');
     let Some(rest) = rest else {
@@ -91,7 +97,7 @@ pub fn parse_command_line(alloc: Global, line: &str) -> Result<Option<Command>, 
     };
     let (first, more) = cut(rest, ' ');
     if word == "write" {
-        return parse_write(alloc, first, more);
+        return parse_write(alloc, first, more, size);
     }
     let None = more else {
         return Ok(None);
@@ -122,11 +128,13 @@ fn take_entries(alloc: Global, lines: &mut Lines) -> Result<Vec<Entry>, AllocErr
 }
 
 // The commands of lines, or how many come before the first that is none.
-fn parse_commands(alloc: Global, lines: Lines) -> Result<Vec<Command>, LineError>
-    ensures ok { IfOk result (λ commands. all_some (map command_line (lines_left lines.entry))
+fn parse_commands(alloc: Global, lines: Lines, size: usize) -> Result<Vec<Command>, LineError>
+    ensures ok { IfOk result (λ commands.
+        all_some (map (line_command (fixed size)) (lines_left lines.entry))
         ≡ Some (map command_of commands.items)) }
     ensures fault { IfErr result (λ error. (good : ℕ) → error ≡ LineError.OutOfForm good →
-        (good ≡ prefix_len (λ line. is_some (command_line line)) (lines_left lines.entry))
+        (good ≡ prefix_len (λ line. is_some (line_command (fixed size) line))
+        (lines_left lines.entry))
         × (good < length (lines_left lines.entry))) }
     ensures small { IfErr result (λ error. (good : ℕ) → error ≡ LineError.OutOfForm good →
         good < 2 ^ 63) }
@@ -134,7 +142,7 @@ fn parse_commands(alloc: Global, lines: Lines) -> Result<Vec<Command>, LineError
     let mut commands = Vec::new(alloc);
     let mut left = lines;
     'commands: while let Some((line, rest)) = left.split_first() {
-        let Some(command) = parse_command_line(alloc, line)? else {
+        let Some(command) = parse_command_line(alloc, line, size)? else {
             return Err(LineError::OutOfForm {
                 good_lines: commands.len(),
             });
@@ -145,22 +153,24 @@ fn parse_commands(alloc: Global, lines: Lines) -> Result<Vec<Command>, LineError
     Ok(commands)
 }
 
-/// Parses the lines after the document, each once.
+/// Parses the lines after the document, each once; elements have `size` bytes.
 ///
 /// # Errors
 ///
 /// [`LineError::OutOfForm`] where a line is out of form: how many come before the first such line.
 /// [`LineError::OutOfMemory`] for want of memory.
-pub fn parse_lines(alloc: Global, lines: Lines) -> Result<ParsedLines, LineError>
+pub fn parse_lines(alloc: Global, lines: Lines, size: usize) -> Result<ParsedLines, LineError>
     ensures entries { IfOk result (λ parsed. map entry_view parsed.entries.items
         ≡ first_entries (lines_left lines.entry)) }
-    ensures commands { IfOk result (λ parsed. commands_of command_line (lines_left lines.entry)
+    ensures commands { IfOk result (λ parsed.
+        commands_of (line_command (fixed size)) (lines_left lines.entry)
         ≡ Some (map command_of parsed.commands.items)) }
-    ensures fault { IfErr result (λ error. IsLineFault error (lines_left lines.entry)) }
+    ensures fault { IfErr result (λ error.
+        IsLineFault error (line_command (fixed size)) (lines_left lines.entry)) }
 {
     let mut left = lines;
     let entries = take_entries(alloc, &mut left)?;
-    match parse_commands(alloc, left) {
+    match parse_commands(alloc, left, size) {
         Ok(commands) => Ok(ParsedLines { entries, commands }),
         Err(LineError::OutOfForm { good_lines }) => Err(LineError::OutOfForm {
             good_lines: entries.len() + good_lines,

@@ -69,17 +69,33 @@ fn elements_in(reply: &Reply) -> Option<&[u8]> {
     }
 }
 
+// Whether a write of two elements in two chunks is done.
+fn writes(alloc: Global, array: &OpenArray, store: &mut MemoryStore) -> Result<bool, Fail> {
+    let reply = write(alloc, array, 3..5, &[7, 0, 42, 1], store)?;
+    Ok(is_done(&reply))
+}
+
+// Whether a read gives these and the fill value before them.
+fn reads(alloc: Global, array: &OpenArray, store: &mut MemoryStore) -> Result<bool, Fail> {
+    let reply = read(alloc, array, 2..5, store)?;
+    Ok(elements_in(&reply) == Some([7, 0, 7, 0, 42, 1].as_slice()))
+}
+
+// Whether an erase of the last chunk is done.
+fn erases(alloc: Global, array: &OpenArray, store: &mut MemoryStore) -> Result<bool, Fail> {
+    let reply = erase(alloc, array, &[2], store)?;
+    Ok(is_done(&reply))
+}
+
 #[test]
 fn an_array_is_written_read_and_erased(rt: HostRuntime) -> Result<(), Fail> {
     let array = opened(rt.alloc(), LINE)?;
     let mut store = MemoryStore::new(rt.alloc());
     assert_eq!(rt; array.shape(), [5].as_slice());
-    let reply = write(rt.alloc(), &array, 3..5, &[7, 42], &mut store)?;
-    assert!(rt; is_done(&reply));
-    let reply = read(rt.alloc(), &array, 2..5, &mut store)?;
-    assert_eq!(rt; elements_in(&reply), Some([7, 7, 42].as_slice()));
-    let reply = erase(rt.alloc(), &array, &[2], &mut store)?;
-    assert!(rt; is_done(&reply));
+    assert_eq!(rt; array.element_size(), 2);
+    assert!(rt; writes(rt.alloc(), &array, &mut store)?);
+    assert!(rt; reads(rt.alloc(), &array, &mut store)?);
+    assert!(rt; erases(rt.alloc(), &array, &mut store)?);
     assert_eq!(rt; store.keys(rt.alloc())?.len(), 1);
     Ok(())
 }

@@ -2,8 +2,6 @@
 #![tactic(auto)]
 
 #[cfg(test)]
-mod basics;
-#[cfg(test)]
 mod calls;
 #[cfg(test)]
 mod failing_store;

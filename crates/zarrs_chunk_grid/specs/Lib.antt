@@ -1,5 +1,6 @@
 pub use Rattle.zarr_model.specs.Region
 pub use Rattle.zarr_model.specs.Cover
+pub use Rattle.zarr_model.specs.Grid
 pub use Rattle.zarrs_array_subset.specs.ArraySubset
 pub use Rattle.zarrs_array_subset.specs.Boxes
 pub use Rattle.zarrs_array_subset.specs.Errors
@@ -13,3 +14,8 @@ pub use Rattle.zarrs_chunk_grid_iterators.specs.ListIterators
 pub use Rattle.zarrs_chunk_grid_iterators.specs.Lists
 pub use Rattle.zarrs_chunk_grid_indexer.specs.Bytes
 pub use Rattle.zarrs_chunk_grid_indexer.specs.RangeTests
+pub use Rattle.zarrs_chunk_grid_traits.specs.ChunkGrid
+pub use Rattle.zarrs_chunk_grid_traits.specs.ChunkGridErrors
+pub use Rattle.zarrs_chunk_grid_traits.specs.Making
+pub use Rattle.zarrs_chunk_grid_traits.specs.GridMade
+pub use Rattle.zarrs_chunk_grid_traits.specs.ChunkIterators

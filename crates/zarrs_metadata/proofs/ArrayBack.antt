@@ -10,7 +10,8 @@ use Rattle.zarrs_metadata_parts.specs.Writing.{numbers_data, put_list}
 use Rattle.zarrs_metadata_parts.specs.MetadataV3.{Extension, extension_data, normal_form}
 use Rattle.zarrs_metadata_values.proofs.PutLemmas.{look}
 use Rattle.zarrs_metadata_parts.proofs.ExtensionLemmas.{extension_reads_back}
-use Rattle.zarrs_metadata_parts.proofs.ReadBack.{extensions_read_back, whole_numbers_read_back}
+use Rattle.zarrs_metadata_values.proofs.NumberLists.{whole_numbers_read_back}
+use Rattle.zarrs_metadata_parts.proofs.ReadBack.{extensions_read_back}
 use Rattle.zarrs_metadata_parts.specs.AdditionalFields.{is_array_key, is_named_key, additional_fields_of, put_fields}
 use Rattle.zarrs_metadata_parts.specs.DimensionNames.{dimension_name, dimension_names, dimension_name_data}
 use Rattle.zarrs_metadata.specs.ArrayMetadata.{ArrayFields, extensions_or_none, is_array, named_fields, required_fields, optional_fields, with_optional_fields, array_members, array_of, put_names, optional_data, parts_data, required_data, array_data, normal_array}

@@ -3,10 +3,10 @@ pub use Rattle.zarrs_metadata_values.specs.Writing
 pub use Rattle.zarrs_metadata_values.specs.Rising
 pub use Rattle.zarrs_metadata_values.specs.Configuration
 pub use Rattle.zarrs_metadata_values.specs.FillValueMetadata
+pub use Rattle.zarrs_metadata_v2.specs.MetadataV2
+pub use Rattle.zarrs_metadata_v2.specs.DataTypeV2
 pub mod MetadataV3
 pub mod AdditionalField
 pub mod AdditionalFields
-pub mod MetadataV2
-pub mod DataTypeV2
 pub mod DimensionNames
 pub mod Names

@@ -2,11 +2,9 @@
 
 ghost use Rattle.std.specs.Prelude.{◌≡◌, ℕ, List, None, Some, codes};
 ghost use Rattle.serde_json.specs.Data.{Data};
-ghost use Rattle.serde_json.specs.Find.{get, get_member};
+ghost use Rattle.serde_json.specs.Find.{get};
 ghost use Rattle.zarrs_metadata_parts.specs.AdditionalField.{AdditionalField, additional_field_of, additional_field_data, normal_field};
 ghost use Rattle.zarrs_metadata_parts.specs.AdditionalFields.{normal_fields, normal_each, AreOrderly};
-ghost use Rattle.zarrs_metadata_parts.specs.DataTypeV2.{DataTypeV2, data_type_v2_of, data_type_v2_data};
-ghost use Rattle.zarrs_metadata_parts.specs.MetadataV2.{CodecV2, codec_v2_of, codec_v2_data};
 ghost use Rattle.zarrs_metadata_parts.specs.MetadataV3.{Extension, extension_seen, extension_of, extension_data, normal_form};
 ghost use Rattle.zarrs_metadata_values.specs.Reading.{Gives, unless_float};
 ghost use Rattle.zarrs_metadata_parts.specs.declared.v3.additional_fields.NodeKind.{NodeKind};
@@ -52,19 +50,6 @@ pub fn additional_field_reads_back()
 /// Normalising twice is normalising once.
 pub fn normal_field_once()
     ensures { (a : AdditionalField) → normal_field (normal_field a) ≡ normal_field a }
-{}
-
-/// A version 2 codec whose configuration holds no `id` reads back as itself.
-#[tactic(auto, using(crate::proofs::ReadBack::codec_v2_reads_back))]
-pub fn codec_v2_reads_back()
-    ensures { (c : CodecV2) → get_member (codes "id") c.configuration ≡ None
-        → codec_v2_of (codec_v2_data c) ≡ Some c }
-{}
-
-/// A version 2 data type reads back as itself.
-#[tactic(auto, using(crate::proofs::ReadBack::data_type_v2_reads_back))]
-pub fn data_type_v2_reads_back()
-    ensures { (t : DataTypeV2) → data_type_v2_of (data_type_v2_data t) ≡ Some t }
 {}
 
 /// An additional field that is read of a value with rising keys holds no `must_understand` of its own.

@@ -3,28 +3,27 @@
 //!
 //! See <https://zarr-specs.readthedocs.io/en/latest/v3/core/index.html#array-metadata>. A value that holds a number
 //! which is neither a `u64` nor an `i64` is refused throughout. Configurations, fill values, errors and the values of
-//! JSON come from the crate `zarrs_metadata_values` and are passed on here.
+//! JSON come from the crate `zarrs_metadata_values`, what version 2 documents are made of from `zarrs_metadata_v2`, and are
+//! passed on here.
 #![tactic(auto)]
 
 mod array;
 pub mod copying;
 pub mod laws;
 pub mod reading;
-mod v2;
 mod v3;
 pub mod writing;
 
 pub use array::chunk_key_separator::ChunkKeySeparator;
 pub use array::endianness::Endianness;
 pub use array::{DataTypeSize, DimensionName, IntoDimensionName, dimension_names};
-pub use v2::data_type::{
-    DataTypeMetadataV2, DataTypeMetadataV2EndiannessError, DataTypeMetadataV2Structured,
-};
-pub use v2::metadata::MetadataV2;
 pub use v3::additional_field::{AdditionalFieldV3, AdditionalFieldsV3};
 pub use v3::additional_fields;
 pub use v3::metadata::MetadataV3;
 pub use zarr_model::{ArrayShape, ChunkShape};
+pub use zarrs_metadata_v2::{
+    DataTypeMetadataV2, DataTypeMetadataV2EndiannessError, DataTypeMetadataV2Structured, MetadataV2,
+};
 pub use zarrs_metadata_values::{
     Configuration, ConfigurationError, EmptyConfiguration, FillValueMetadataV3, FromConfiguration,
     FromConfigurationError, MetadataError, ToConfiguration, ToConfigurationFault, json,

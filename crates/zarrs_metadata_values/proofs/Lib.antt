@@ -4,3 +4,4 @@ pub mod PutLemmas
 pub mod RisingLemmas
 pub mod FillLemmas
 pub mod FillBytes
+pub mod NumberLists

@@ -1,3 +1,4 @@
 pub mod NamePattern
 pub mod Registry
 pub mod Error
+pub mod Making

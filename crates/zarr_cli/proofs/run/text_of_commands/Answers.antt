@@ -9,9 +9,9 @@ use Rattle.zarr_cli.proofs.run.text_of_commands.Goals as goal
 
 pub returns-in_ok-text_of_replies-in-Ok-clause-ran : goal.returns-in_ok-text_of_replies-in-Ok-clause-ran
 returns-in_ok-text_of_replies-in-Ok-clause-ran g c =
-    ran_commands c.args.array.now (options_of c.args.options.now) (map command_of c.args.commands.now) (g.S.Store.shown c.args.store.now) (g.S.Store.shown c.run_commands.new.store)
+    ran_commands c.args.array.now c.element_size.result (options_of c.args.options.now) (map command_of c.args.commands.now) (g.S.Store.shown c.args.store.now) (g.S.Store.shown c.run_commands.new.store)
     c.in-Ok.replies.items c.in_ok-text_of_replies-in-Ok.field-0.items
-    c.in-Ok.ensures.serves c.in-Ok.ensures.keys c.in-Ok.ensures.undamaged c.in-Ok.ensures.asks (c.in_ok-text_of_replies-in-Ok.ensures ∙ ap answers_text c.deref.ensures.value)
+    c.element_size.ensures.size c.element_size.ensures.some c.in-Ok.ensures.serves c.in-Ok.ensures.keys c.in-Ok.ensures.undamaged c.in-Ok.ensures.asks (c.in_ok-text_of_replies-in-Ok.ensures ∙ ap (answers_text c.element_size.result) c.deref.ensures.value)
 
 pub returns-in-Err-clause-fault : goal.returns-in-Err-clause-fault
 returns-in-Err-clause-fault g c =

@@ -1,6 +1,8 @@
-use Rattle.std.proofs.Common.{◌≡◌, ◌++◌, take}
-use Rattle.zarr_cli_lines.specs.Parts.{bytes_text}
+use Rattle.std.proofs.Common.{◌≡◌, ◌++◌, ◌∷◌, flat_map}
+use Rattle.zarr_model.specs.Prelude.{pieces}
+use Rattle.zarr_cli_lines.specs.Text.{hex_text}
 use Rattle.zarr_cli_lines.proofs.reply_text.push_elements.Given as goal
 
-abbrev pub invariant-loop-byte : goal.invariant-loop-byte
-invariant-loop-byte l = l.text.items ≡ l.fn.text.items ++ bytes_text (take l.byte-index l.elements)
+abbrev pub invariant-loop-k : goal.invariant-loop-k
+invariant-loop-k l =
+    l.text.items ≡ l.fn.text.items ++ flat_map (λ element. 32 ∷ hex_text element) (pieces l.k l.size l.elements)

@@ -1,14 +1,26 @@
-use Rattle.std.proofs.Common.{◌≡◌, ◌<◌, length, arith, ap, ◌∙◌, le_trans, slice_get, subst}
+use Rattle.std.proofs.Common.{◌≡◌, ◌<◌, length, arith, ap, ◌∙◌, le_trans, slice_get, subst, refl}
 use Rattle.zarr_model.specs.Prelude.{count, tuples, tuple_at, chunks_meeting, box_content, layout}
 use Rattle.zarr_model.proofs.RegionLaws.{length-tuples}
 use Rattle.zarrs_array_subset.specs.ArraySubset.{region}
-use Rattle.zarr_array.specs.Chunk.{byte_elements}
+use Rattle.zarrs_codec_bytes.specs.Elements.{fixed_elements}
 use Rattle.zarr_array.specs.OpenArray.{described}
 use Rattle.zarr_array.specs.Options.{options_of}
-use Rattle.zarr_array.proofs.ReadLaws.{read-step, read-end, HasRead}
+use Rattle.zarr_array.proofs.ReadLaws.{read_begun, read-step, read-end, HasRead}
 use Rattle.zarr_array.proofs.DecodeLaws.{decode-step, decode-all}
-use Rattle.zarr_array.proofs.ReadSteps.{met_at, met_rank, described_covers, stops_reading, count_met, counted_more}
+use Rattle.zarr_array.proofs.ReadSteps.{met_at, met_rank, stops_reading, count_met, counted_more}
+use Rattle.zarr_array.proofs.ServedLaws.{described_covers}
 use Rattle.zarr_array.proofs.open.OpenArray.read_chunks.Goals as goal
+
+pub loop-number-init : goal.loop-number-init
+loop-number-init g c = record {
+  as_long = c.requires.as_long;
+  same = λ key. refl;
+  asks = let fits = (g.met.S.Store.counts_fit c.args.store.now).1 in omega (arith, fits);
+  later = omega arith;
+  decode = λ k chunk below e. absurd (omega arith);
+  read = λ array meant. read_begun c.args.self.now.size (described c.args.self.now).grid (region c.args.subset.now) (tuples (region c.args.chunks.now)) array c.args.elements.now
+      c.args.self.now.some c.requires.as_long;
+}
 
 pub read_numbered-requires-clause-chunk : goal.read_numbered-requires-clause-chunk
 read_numbered-requires-clause-chunk g c =
@@ -50,7 +62,7 @@ loop-number-preserved g c = record {
       let chunk = tuple_at (region c.args.chunks.now) c.loop-number.number in
       let here = met_at grid (region c.args.subset.now) (region c.args.chunks.now) c.loop-number.number c.requires.listed below in
       let place = layout (described c.args.self.now) (options_of c.args.options.now) in
-      read-step grid (region c.args.subset.now) (tuples (region c.args.chunks.now)) array c.loop-number.number chunk (byte_elements c.loop-number.elements) (byte_elements c.read_numbered.new.elements)
+      read-step grid (region c.args.subset.now) (tuples (region c.args.chunks.now)) array c.loop-number.number chunk (fixed_elements c.args.self.now.size c.loop-number.elements) (fixed_elements c.args.self.now.size c.read_numbered.new.elements)
       (ap (λ l. slice_get l c.loop-number.number) c.requires.listed ∙ here.0) (c.loop-number.invariant.read array meant)
       (c.in_default.ensures.copied array (ap (box_content place (grid.chunk_box chunk)) (c.loop-number.invariant.same (place.key chunk)) ∙ meant.each_chunk chunk here.1));
 }
@@ -59,9 +71,9 @@ pub returns-clause-elements : goal.returns-clause-elements
 returns-clause-elements g c = λ array meant.
     let chunks = region c.args.chunks.now in
     let all : c.loop-number.number ≡ length (tuples chunks) = omega (arith, length-tuples chunks) in
-    read-end (described c.args.self.now).shape (described c.args.self.now).grid (region c.args.subset.now) (tuples chunks) array (byte_elements c.loop-number.elements)
+    read-end (described c.args.self.now).shape (described c.args.self.now).grid (region c.args.subset.now) (tuples chunks) array (fixed_elements c.args.self.now.size c.loop-number.elements)
     (described_covers c.args.self.now) c.requires.inside c.requires.listed
-    (subst (λ n. HasRead (described c.args.self.now).grid (region c.args.subset.now) (tuples chunks) n array (byte_elements c.loop-number.elements)) all (c.loop-number.invariant.read array meant))
+    (subst (λ n. HasRead (described c.args.self.now).grid (region c.args.subset.now) (tuples chunks) n array (fixed_elements c.args.self.now.size c.loop-number.elements)) all (c.loop-number.invariant.read array meant))
 
 pub returns-clause-asks : goal.returns-clause-asks
 returns-clause-asks g c =

@@ -4,10 +4,10 @@ use Rattle.zarr_model.specs.Prelude.{read}
 use Rattle.zarrs_array_subset.specs.ArraySubset.{region}
 use Rattle.zarr_array.specs.OpenArray.{described}
 use Rattle.zarr_array.specs.Options.{options_of}
-use Rattle.zarr_array.proofs.ReadSteps.{described_covers, described_sound}
+use Rattle.zarr_array.proofs.ServedLaws.{described_covers, described_sound}
 use Rattle.zarr_array.proofs.RunsLaws.{ran_gives, failed_gives}
 use Rattle.zarr_array.proofs.ReadCommand.{read-fails}
-use Rattle.zarr_array.proofs.ByteCommands.{bytes-read}
+use Rattle.zarr_array.proofs.FixedCommands.{bytes-read}
 use Rattle.zarr_array.proofs.open.OpenArray.run_read.Goals as goal
 
 pub returns-in_err-elements-clause-runs : goal.returns-in_err-elements-clause-runs
@@ -21,4 +21,4 @@ returns-in_err-elements-clause-runs g c =
 pub returns-clause-runs : goal.returns-clause-runs
 returns-clause-runs g c = ran_gives (described c.args.self.now) (options_of c.args.options.now) (described_covers c.args.self.now) (described_sound c.args.self.now (options_of c.args.options.now)) (read (region c.args.subset.now) ∷ []) (g.S.Store.shown c.args.store.now) (g.S.Store.shown c.read_elements.new.store) _
     (bytes-read c.args.self.now (options_of c.args.options.now) (region c.args.subset.now) (g.S.Store.shown c.args.store.now) (g.S.Store.shown c.read_elements.new.store) c.in_ok-elements.elements.items
-    (search rules) c.read_elements.ensures.same c.in_ok-elements.ensures.decodes c.in_ok-elements.ensures.elements c.in_ok-elements.ensures.asks c.read_elements.ensures.later)
+    c.in_ok-elements.ensures.as_long (search rules) c.read_elements.ensures.same c.in_ok-elements.ensures.decodes c.in_ok-elements.ensures.elements c.in_ok-elements.ensures.asks c.read_elements.ensures.later)

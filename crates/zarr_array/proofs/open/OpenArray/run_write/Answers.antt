@@ -4,9 +4,9 @@ use Rattle.zarr_model.specs.Prelude.{fixed_bytes, write}
 use Rattle.zarrs_array_subset.specs.ArraySubset.{region}
 use Rattle.zarr_array.specs.OpenArray.{described}
 use Rattle.zarr_array.specs.Options.{options_of}
-use Rattle.zarr_array.proofs.ReadSteps.{described_covers, described_sound}
+use Rattle.zarr_array.proofs.ServedLaws.{described_covers, described_sound}
 use Rattle.zarr_array.proofs.RunsLaws.{ran_gives, failed_gives}
-use Rattle.zarr_array.proofs.ByteCommands.{bytes-written, bytes-fail, bytes-fail-keys}
+use Rattle.zarr_array.proofs.FixedCommands.{bytes-written, bytes-fail, bytes-fail-keys}
 use Rattle.zarr_array.proofs.open.OpenArray.run_write.Goals as goal
 
 pub returns-in_err-write_elements-clause-runs : goal.returns-in_err-write_elements-clause-runs

@@ -1,6 +1,6 @@
 use Rattle.zarr_model.specs.Prelude.{written, chunks_meeting}
 use Rattle.zarrs_array_subset.specs.ArraySubset.{region}
-use Rattle.zarr_array.specs.Chunk.{byte_elements}
+use Rattle.zarrs_codec_bytes.specs.Elements.{fixed_elements}
 use Rattle.zarr_array.specs.OpenArray.{described}
 use Rattle.zarr_array.specs.Options.{options_of}
 use Rattle.zarr_array.specs.PartWay.{ChangedSome}
@@ -8,5 +8,5 @@ use Rattle.zarr_array.proofs.open.OpenArray.write_chunks.Given as goal
 
 abbrev pub invariant-loop-number : goal.invariant-loop-number
 invariant-loop-number g l =
-    ChangedSome (described l.self) (options_of l.options) (written (region l.subset) (byte_elements l.elements)) (chunks_meeting (described l.self).grid (region l.subset)) l.number
+    ChangedSome (described l.self) (options_of l.options) (written (region l.subset) (fixed_elements l.self.size l.elements)) (chunks_meeting (described l.self).grid (region l.subset)) l.number
     (g.S.Store.shown l.fn.store) (g.S.Store.shown l.store)

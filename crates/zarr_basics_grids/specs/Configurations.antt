@@ -1,0 +1,32 @@
+-- The forms of the configurations of grids, and of those with one member.
+use Rattle.std.specs.Prelude.{ℕ, Bool, ◌==◌, ◌&&◌, nat_le, if◌then◌else◌, List, length, codes, bytes_eq, Option, Some, None}
+use Rattle.std.specs.List.{list_all}
+use Rattle.serde_json.specs.Data.{Data, Members, no_members, member}
+use Rattle.zarrs_metadata_parts.specs.Reading.{◌>>=◌, whole_numbers}
+use Rattle.zarrs_metadata_parts.specs.Writing.{numbers_data}
+
+-- the value of the only member, which has this name
+abbrev pub only_member : List ℕ → Members → Option Data
+only_member name no_members = None
+only_member name (member key value no_members) = if bytes_eq key name then Some value else None
+only_member name (member key value (member other next ms)) = None
+
+-- a positive length for each dimension of a shape
+abbrev pub are_chunk_lengths : List ℕ → List ℕ → Bool
+are_chunk_lengths shape lengths = (length lengths == length shape)
+    && list_all (λ p. nat_le 1 p) lengths
+
+abbrev pub if_chunk_lengths : List ℕ → List ℕ → Option (List ℕ)
+if_chunk_lengths shape lengths = if are_chunk_lengths shape lengths then Some lengths else None
+
+-- the grid `regular`: exactly `chunk_shape`
+unfoldable pub chunk_shape_in : List ℕ → Option Members → Option (List ℕ)
+chunk_shape_in shape configuration = do
+  ms ← configuration
+  value ← only_member (codes "chunk_shape") ms
+  lengths ← whole_numbers value
+  if_chunk_lengths shape lengths
+
+-- it is written so
+abbrev pub chunk_shape_members : List ℕ → Members
+chunk_shape_members lengths = member (codes "chunk_shape") (numbers_data lengths) no_members

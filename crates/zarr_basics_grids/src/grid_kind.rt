@@ -1,0 +1,130 @@
+//! Grids by their metadata.
+
+ghost use Rattle.std.specs.Prelude.{◌≡◌, IfOk, Err};
+ghost use Rattle.zarr_model.specs.Prelude.{Grid};
+ghost use Rattle.zarrs_chunk_grid_traits.specs.Making.{MakesGrid};
+ghost use Rattle.zarrs_metadata_parts.specs.Configuration.{configuration_seen};
+ghost use Rattle.zarrs_metadata_parts.specs.MetadataV3.{extension_seen};
+ghost use Rattle.zarrs_plugin.specs.Making.{IsUnmade, unsupported};
+ghost use Rattle.zarrs_plugin.specs.declared.error.PluginKind.TheVariants as kinds;
+ghost use Rattle.zarr_basics_grids.specs.BasicGrid.{basic_form, basic_shape};
+ghost use Rattle.zarr_basics_grids.specs.Configurations.{chunk_shape_members};
+ghost use Rattle.zarr_basics_grids.specs.GridOf.{form_of_regular, shape_of_regular};
+ghost use Rattle.zarr_basics_grids.specs.Making.{grid_form, or_config};
+ghost use Rattle.zarr_basics_grids.specs.RegularGrid.{nonzeros};
+ghost use Rattle.zarr_basics_grids.specs.Unmade.{unmade_as};
+ghost use Rattle.zarr_basics_grids.specs.declared.grid_kind.GridKind.TheVariants.{Regular};
+
+use crate::basic_grid::BasicGrid;
+use crate::configuration::read_chunk_shape;
+use crate::regular_grid::RegularGrid;
+use crate::regular_grid::numbers::numbers;
+use serde_json::Map;
+use std::alloc::{AllocError, Global};
+use std::num::NonZeroU64;
+use zarrs_chunk_grid_traits::GridMaker;
+use zarrs_metadata_parts::writing::numbers_value;
+use zarrs_metadata_parts::{Configuration, MetadataError, MetadataV3};
+use zarrs_plugin::{PluginCreateError, PluginKind, PluginUnsupportedError};
+
+/// The kinds of chunk grids.
+#[derive(Clone, Copy, Debug, PartialEq, Eq)]
+pub enum GridKind {
+    /// Chunks of one shape.
+    Regular,
+}
+
+/// The error of a configuration that is not read.
+pub fn unmade(error: MetadataError) -> PluginCreateError
+    ensures { result ≡ unmade_as error }
+{
+    match error {
+        MetadataError::OutOfMemory => PluginCreateError::OutOfMemory,
+        _ => PluginCreateError::Config,
+    }
+}
+
+// The error of a grid whose name is not known.
+pub fn unsupported_grid(alloc: Global, name: &str) -> PluginCreateError
+    ensures { IsUnmade {Y = Grid} kinds.ChunkGrid result (Err (unsupported name.now)) }
+{
+    match String::from_str(alloc, name) {
+        Ok(name) => PluginCreateError::Unsupported(PluginUnsupportedError::new(
+            name,
+            PluginKind::ChunkGrid,
+        )),
+        Err(_) => PluginCreateError::OutOfMemory,
+    }
+}
+
+// The configuration of a grid with chunks of this shape.
+pub fn chunk_shape_configuration(
+    alloc: Global,
+    chunk_shape: &[NonZeroU64],
+) -> Result<Configuration, AllocError>
+    ensures { IfOk result (λ c. configuration_seen c
+        ≡ chunk_shape_members (nonzeros chunk_shape.now)) }
+{
+    let numbers = numbers(alloc, chunk_shape)?;
+    let value = numbers_value(alloc, &numbers)?;
+    let mut members = Map::new(alloc);
+    serde_json::put(&mut members, alloc, "chunk_shape", value)?;
+    Ok(Configuration::new(members))
+}
+
+// The regular grid over an array's shape that a configuration says.
+#[tactic(auto, using(crate::proofs::MakingLaws::of_configurations))]
+pub fn regular_by(
+    alloc: Global,
+    metadata: &MetadataV3,
+    array_shape: &[u64],
+) -> Result<RegularGrid, PluginCreateError>
+    ensures made { MakesGrid form_of_regular result
+        (or_config (grid_form array_shape.now Regular
+        (extension_seen metadata.now).configuration)) }
+    ensures over { IfOk result (λ grid. shape_of_regular grid ≡ array_shape.now) }
+{
+    let chunk_shape = match read_chunk_shape(alloc, array_shape, metadata) {
+        Ok(chunk_shape) => chunk_shape,
+        Err(error) => return Err(unmade(error)),
+    };
+    let array_shape = array_shape.to_vec(alloc)?;
+    let grid = RegularGrid::new(alloc, array_shape, chunk_shape)?;
+    Ok(grid)
+}
+
+// The same as a grid of this library.
+fn basic_by(
+    alloc: Global,
+    metadata: &MetadataV3,
+    array_shape: &[u64],
+) -> Result<BasicGrid, PluginCreateError>
+    ensures made { MakesGrid basic_form result
+        (or_config (grid_form array_shape.now Regular
+        (extension_seen metadata.now).configuration)) }
+    ensures over { IfOk result (λ grid. basic_shape grid ≡ array_shape.now) }
+{
+    match regular_by(alloc, metadata, array_shape) {
+        Ok(grid) => Ok(BasicGrid::Regular(grid)),
+        Err(error) => Err(error),
+    }
+}
+
+impl GridMaker for GridKind {
+    type Grid = BasicGrid;
+
+    ghost gives = { λ kind e shape made.
+        MakesGrid basic_form made (or_config (grid_form shape kind e.configuration))
+        × IfOk made (λ grid. basic_shape grid ≡ shape) };
+
+    fn make(
+        &self,
+        alloc: Global,
+        metadata: &MetadataV3,
+        array_shape: &[u64],
+    ) -> Result<BasicGrid, PluginCreateError> {
+        match self {
+            GridKind::Regular => basic_by(alloc, metadata, array_shape),
+        }
+    }
+}

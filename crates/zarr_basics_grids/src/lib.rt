@@ -1,0 +1,15 @@
+//! The chunk grids that an array document may name here, and what makes them of metadata.
+//!
+//! See <https://zarr-specs.readthedocs.io/en/latest/v3/core/index.html#chunk-grids>.
+#![tactic(auto)]
+
+mod basic_grid;
+pub mod configuration;
+mod grid_kind;
+mod laws;
+mod regular_grid;
+
+pub use basic_grid::BasicGrid;
+pub use grid_kind::{GridKind, unmade};
+pub use laws::{chunks_are_small, configuration_reads_back};
+pub use regular_grid::RegularGrid;

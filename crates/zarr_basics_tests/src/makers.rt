@@ -1,0 +1,76 @@
+//! What the kinds of extensions make, and the metadata of grids.
+
+use crate::texts::{gives, metadata};
+use std::alloc::Global;
+use std::process::Abort;
+use std::test::Fail;
+use zarr_basics::{BasicGrid, CodecKind, RegularGrid, builtin_registries};
+use zarrs_chunk_grid::{ChunkGrid, ChunkGridTraits};
+
+// The codec of metadata.
+fn makes_codec(rt: &impl Abort, alloc: Global, text: &str, want: &str) -> Result<(), Fail> {
+    let metadata = metadata(alloc, text)?;
+    gives(rt, alloc, CodecKind::Bytes.make(alloc, &metadata), want);
+    Ok(())
+}
+
+#[test]
+fn codecs(rt: HostRuntime) -> Result<(), Fail> {
+    let big = r#"{"name":"bytes","configuration":{"endian":"big"}}"#;
+    makes_codec(&rt, rt.alloc(), big, "BytesCodec { endianness: Some(Big) }")?;
+    makes_codec(
+        &rt,
+        rt.alloc(),
+        r#""bytes""#,
+        "BytesCodec { endianness: None }",
+    )?;
+    let other = r#"{"name":"bytes","configuration":{"endian":"middle"}}"#;
+    makes_codec(&rt, rt.alloc(), other, "Config")?;
+    Ok(())
+}
+
+// The metadata of the grid that metadata makes over an array of shape [5, 4].
+fn told(alloc: Global, text: &str) -> Result<String, Fail> {
+    let (registries, metadata) = (builtin_registries(alloc)?, metadata(alloc, text)?);
+    let made = ChunkGrid::<BasicGrid>::from_metadata(alloc, &metadata, &[5, 4], &registries.grids);
+    match made {
+        Ok(grid) => {
+            let text = grid.metadata(alloc)?.to_display(alloc)?;
+            Ok(text)
+        }
+        Err(error) => {
+            let text = format!(in alloc; "{error}")?;
+            Ok(text)
+        }
+    }
+}
+
+fn tells(rt: &impl Abort, alloc: Global, text: &str, want: &str) -> Result<(), Fail> {
+    let text = told(alloc, text)?;
+    assert_eq!(rt; text.as_str(), want);
+    Ok(())
+}
+
+// The grid that metadata makes over an array of shape [5, 4], by its shape.
+fn created<G: ChunkGridTraits + Drop>(alloc: Global, text: &str) -> Result<String, Fail> {
+    let metadata = metadata(alloc, text)?;
+    let grid = G::create(alloc, &metadata, &[5, 4]).ok().ok_or("a grid")?;
+    let text = format!(in alloc; "{:?}", grid.grid_shape())?;
+    Ok(text)
+}
+
+#[test]
+fn grids(rt: HostRuntime) -> Result<(), Fail> {
+    let some = r#"{"name":"regular","configuration":{"chunk_shape":[2,4]}}"#;
+    assert_eq!(rt;
+        created::<RegularGrid>(rt.alloc(), some)?.as_str(),
+        "[3, 1]"
+    );
+    assert_eq!(rt; created::<BasicGrid>(rt.alloc(), some)?.as_str(), "[3, 1]");
+    tells(&rt, rt.alloc(), some, r#"regular {"chunk_shape":[2,4]}"#)?;
+    let none = r#"{"name":"regular","configuration":{"chunk_shape":[2,0]}}"#;
+    tells(&rt, rt.alloc(), none, "the configuration is not supported")?;
+    let other = "odd is no supported extension of the kind ChunkGrid";
+    tells(&rt, rt.alloc(), r#""odd""#, other)?;
+    Ok(())
+}

@@ -1,0 +1,19 @@
+-- Elements of one size, from their digits.
+use Rattle.std.specs.Prelude.{◌≡◌, ℕ, Bool, true, false, List, ◌++◌, map, flat_map, Option, Some, None, option_map, if◌then◌else◌}
+use Rattle.zarr_model.specs.Prelude.{Element, fixed, of_bytes, bytes_of}
+use Rattle.zarr_cli_lines.specs.Text.{all_some, element_of}
+
+-- a text is the element with these bytes, or is none
+abbrev pub IsElement : Option Element → Bool → List ℕ → Type 0
+IsElement element found bytes = element ≡ (if found then Some (of_bytes bytes) else None)
+
+-- the bytes of an element were appended, or a text is none
+abbrev pub PushesElement : Option Element → Bool → List ℕ → List ℕ → Type 0
+PushesElement element true before now =
+    (bytes : List ℕ) × (element ≡ Some (of_bytes bytes)) × (now ≡ before ++ bytes)
+PushesElement element false before now = element ≡ None
+
+-- the bytes of the elements that some words are, if each is one
+abbrev pub written_bytes : ℕ → List (List ℕ) → Option (List ℕ)
+written_bytes n words =
+    option_map (flat_map bytes_of) (all_some (map (element_of (fixed n)) words))

@@ -1,0 +1,4 @@
+pub mod GridIndices
+pub mod SmallChunks
+pub mod RegularCovers
+pub mod KnownNames

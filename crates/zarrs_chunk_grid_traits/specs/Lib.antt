@@ -1,0 +1,5 @@
+pub mod ChunkGrid
+pub mod ChunkGridErrors
+pub mod Making
+pub mod GridMade
+pub mod ChunkIterators

@@ -1,0 +1,4 @@
+pub mod CopyLaws
+pub mod ElementLaws
+pub mod FixedLaws
+pub mod FillLaws

@@ -1,0 +1,3 @@
+pub mod FillMetadataLaws
+pub mod TextLaws
+pub mod FillLaws

@@ -1,0 +1,16 @@
+pub use Rattle.zarrs_data_type_elements.specs.FillValue
+pub use Rattle.zarrs_data_type_elements.specs.Pieces
+pub use Rattle.zarrs_data_type_elements.specs.ByteOrder
+pub use Rattle.zarrs_data_type_elements.specs.BytesSupport
+pub use Rattle.zarrs_data_type_elements.specs.Rounding
+pub use Rattle.zarrs_data_type_elements.specs.CodecSupport
+pub use Rattle.zarrs_data_type_names.specs.Number
+pub use Rattle.zarrs_data_type_names.specs.DataType
+pub use Rattle.zarrs_data_type_names.specs.Kinds
+pub use Rattle.zarrs_data_type_names.specs.Making
+pub use Rattle.zarrs_data_type_names.specs.Naming
+pub use Rattle.zarrs_data_type_names.specs.SameType
+pub use Rattle.zarrs_data_type_names.specs.OptionalRef
+pub mod FillMetadata
+pub mod Size
+pub mod Optional

@@ -1,0 +1,6 @@
+pub mod Pieces
+pub mod FillValue
+pub mod Rounding
+pub mod ByteOrder
+pub mod BytesSupport
+pub mod CodecSupport

@@ -1,0 +1,4 @@
+pub mod NumberLaws
+pub mod MakingLaws
+pub mod SameTypeLaws
+pub mod TypeLaws

@@ -1,0 +1,7 @@
+pub mod Number
+pub mod DataType
+pub mod SameType
+pub mod Kinds
+pub mod Making
+pub mod Naming
+pub mod OptionalRef

@@ -1,0 +1,144 @@
+//! Fill values of documents, and the metadata of data types.
+
+use crate::texts::{cut, is_text};
+use crate::types::type_of;
+use std::alloc::{AllocError, Global};
+use std::process::Abort;
+use std::test::Fail;
+use zarrs_data_type::{DataType, DataTypeTraits, FillMetadataFault, FillValue, OptionalDataType};
+use zarrs_metadata_parts::{Configuration, FillValueMetadataV3, MetadataV3};
+use zarrs_plugin::ZarrVersion;
+
+// A type, a fill value in a document, and its bytes and what is written of them.
+const FILLS: &str = r#""bool" | true | [1] true
+"bool" | 1 | refused
+"int16" | -2 | [254, 255] -2
+"int16" | 32768 | refused
+"uint8" | 255 | [255] 255
+"uint8" | 256 | refused
+"r16" | [1,2] | [1, 2] [1,2]
+"string" | "é" | [195, 169] "é"
+"bytes" | "" | [] []
+{"name":"optional","configuration":{"name":"int16","configuration":{}}} | null | [0] null
+{"name":"optional","configuration":{"name":"int16","configuration":{}}} | [5] | [5, 0, 1] [5]"#;
+
+fn told<T: DataTypeTraits>(
+    alloc: Global,
+    data_type: &T,
+    fill: &FillValue,
+) -> Result<String, AllocError> {
+    let Ok(metadata) = data_type.metadata_fill_value(alloc, fill) else {
+        return Err(AllocError);
+    };
+    let value = metadata.to_value(alloc)?;
+    let written = value.to_string(alloc)?;
+    format!(in alloc; "{fill} {written}")
+}
+
+fn is_fill<T: DataTypeTraits>(
+    rt: &impl Abort,
+    alloc: Global,
+    data_type: &T,
+    made: Result<FillValue, FillMetadataFault>,
+    want: &str,
+) {
+    match made {
+        Ok(fill) => is_text(rt, told(alloc, data_type, &fill), want),
+        Err(FillMetadataFault::Metadata(_)) => assert_eq!(rt; want, "refused"),
+        Err(FillMetadataFault::OutOfMemory) => assert!(rt; false, "no memory: {want}"),
+    }
+}
+
+// The fill value by each call of every type that reads one.
+fn are_fills<T: DataTypeTraits>(
+    rt: &impl Abort,
+    alloc: Global,
+    data_type: &T,
+    metadata: &FillValueMetadataV3,
+    want: &str,
+) {
+    let made = data_type.fill_value(alloc, metadata, ZarrVersion::V3);
+    is_fill(rt, alloc, data_type, made, want);
+    let made = data_type.fill_value_v3(alloc, metadata);
+    is_fill(rt, alloc, data_type, made, want);
+    let made = data_type.fill_value_v2(alloc, metadata);
+    is_fill(rt, alloc, data_type, made, want);
+}
+
+// An optional type also as the type inside.
+fn is_row(rt: &impl Abort, alloc: Global, row: &str) -> Result<(), Fail> {
+    let (document, rest) = cut(row);
+    let (fill, want) = cut(rest);
+    let data_type = type_of(alloc, document).ok_or("a type")?;
+    let metadata = FillValueMetadataV3::try_from_text(alloc, fill)
+        .ok()
+        .ok_or("metadata")?;
+    are_fills(rt, alloc, &data_type, &metadata, want);
+    let Some(inner) = data_type.optional_inner() else {
+        return Ok(());
+    };
+    let optional = OptionalDataType::new(inner.try_clone(alloc)?);
+    let copy = optional.try_clone(alloc)?;
+    are_fills(rt, alloc, &copy, &metadata, want);
+    let made = copy.fill_value_from_metadata(alloc, &metadata, ZarrVersion::V3);
+    is_fill(rt, alloc, &copy, made, want);
+    Ok(())
+}
+
+#[test]
+fn fills_are_read(rt: HostRuntime) -> Result<(), Fail> {
+    for row in FILLS.lines() {
+        is_row(&rt, rt.alloc(), row)?;
+    }
+    Ok(())
+}
+
+// The name and the configuration in a version.
+fn named<T: DataTypeTraits>(
+    alloc: Global,
+    data_type: &T,
+    version: ZarrVersion,
+) -> Result<String, AllocError> {
+    let Some(name) = data_type.name(alloc, version)? else {
+        return "no name".to_string(alloc);
+    };
+    let configuration = data_type.configuration(alloc, version)?;
+    MetadataV3::new_with_configuration(name, configuration).to_display(alloc)
+}
+
+// The configuration alone.
+fn configured(
+    alloc: Global,
+    made: Result<Configuration, AllocError>,
+) -> Result<String, AllocError> {
+    let name = "only".to_string(alloc)?;
+    MetadataV3::new_with_configuration(name, made?).to_display(alloc)
+}
+
+#[test]
+fn types_are_named(rt: HostRuntime) {
+    let (optional, alloc) = (OptionalDataType::new(DataType::Int16), rt.alloc());
+    let third = r#"zarrs.optional {"configuration":{},"name":"int16"}"#;
+    is_text(&rt, named(alloc, &optional, ZarrVersion::V3), third);
+    let second = r#"zarrs.optional {"configuration":{},"name":""}"#;
+    is_text(&rt, named(alloc, &optional, ZarrVersion::V2), second);
+    is_text(
+        &rt,
+        named(alloc, &DataType::UInt8, ZarrVersion::V2),
+        "no name",
+    );
+    let third = r#"only {"configuration":{},"name":"int16"}"#;
+    let made = optional.configuration(alloc, ZarrVersion::V3);
+    is_text(&rt, configured(alloc, made), third);
+    is_text(
+        &rt,
+        configured(alloc, optional.configuration_v3(alloc)),
+        third,
+    );
+    let second = r#"only {"configuration":{},"name":""}"#;
+    is_text(
+        &rt,
+        configured(alloc, optional.configuration_v2(alloc)),
+        second,
+    );
+}

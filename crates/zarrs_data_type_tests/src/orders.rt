@@ -1,0 +1,81 @@
+//! Bytes that are brought into an order.
+
+use crate::texts::{bytes_of, cut, is_text};
+use std::alloc::{AllocError, Global};
+use std::borrow::CowSlice;
+use std::process::Abort;
+use zarrs_data_type_elements::{BytesCodecFault, BytesDataTypeTraits, BytesSupport};
+use zarrs_metadata_parts::Endianness;
+
+// The size of a component, an order, some bytes, and these in that order.
+const ORDERED: &str = "1 | none | 1 2 3 | [1, 2, 3]
+1 | big | 1 2 3 | [1, 2, 3]
+2 | none | 1 2 3 | missing
+2 | little | 1 2 3 | [1, 2, 3]
+2 | big | 1 2 3 | [2, 1, 3]
+4 | big | 1 2 3 4 5 6 7 8 9 | [4, 3, 2, 1, 8, 7, 6, 5, 9]
+8 | big | 1 2 3 | [1, 2, 3]
+8 | big | 1 2 3 4 5 6 7 8 | [8, 7, 6, 5, 4, 3, 2, 1]";
+
+fn order_of(order: &str) -> Option<Endianness> {
+    match order {
+        "little" => Some(Endianness::Little),
+        "big" => Some(Endianness::Big),
+        _ => None,
+    }
+}
+
+// There and back, through the bound.
+fn encoded<T: BytesDataTypeTraits>(
+    alloc: Global,
+    support: &T,
+    bytes: &[u8],
+    order: Option<Endianness>,
+) -> Result<Vec<u8>, BytesCodecFault> {
+    let there = support.encode(alloc, CowSlice::Borrowed(bytes), order)?;
+    let back = support.decode(alloc, there, order)?;
+    let again = support.encode(alloc, back, order)?;
+    Ok(again.into_owned(alloc)?)
+}
+
+// In place, and in a list that is handed over.
+fn turned(support: &BytesSupport, bytes: Vec<u8>, order: Option<Endianness>) -> Option<Vec<u8>> {
+    let mut bytes = support.order_bytes(bytes, order).ok()?;
+    support.order_in_place(&mut bytes, order).ok()?;
+    support.order_bytes(bytes, order).ok()
+}
+
+fn told<E: Drop>(alloc: Global, made: Result<Vec<u8>, E>) -> Result<String, AllocError> {
+    match made {
+        Ok(bytes) => format!(in alloc; "{bytes:?}"),
+        Err(_) => "missing".to_string(alloc),
+    }
+}
+
+fn is_row(rt: &impl Abort, alloc: Global, support: &BytesSupport, rest: &str) {
+    let (order, rest) = cut(rest);
+    let (bytes, want) = cut(rest);
+    let order = order_of(order);
+    let bytes = bytes_of(alloc, bytes).unwrap_or(Vec::new(alloc));
+    is_text(
+        rt,
+        told(alloc, encoded(alloc, support, &bytes, order)),
+        want,
+    );
+    is_text(
+        rt,
+        told(alloc, turned(support, bytes, order).ok_or(())),
+        want,
+    );
+}
+
+#[test]
+fn bytes_are_ordered(rt: HostRuntime) {
+    for row in ORDERED.lines() {
+        let (size, rest) = cut(row);
+        match size.parse() {
+            Ok(size) if size > 0 => is_row(&rt, rt.alloc(), &BytesSupport::new(size), rest),
+            _ => assert!(rt; false, "{row}"),
+        }
+    }
+}

@@ -1,4 +1,0 @@
-//! Version 2 metadata.
-
-pub mod data_type;
-pub mod metadata;

@@ -1,0 +1,2 @@
+pub mod MetadataV2
+pub mod DataTypeV2
