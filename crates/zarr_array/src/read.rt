@@ -41,7 +41,8 @@ impl OpenArray {
             (S.shown store.old).content
             array chunk_indices.now →
             Copied (region subset.now) chunk_box (elements_in chunk_box array)
-            (fixed_elements self.now.size elements.old) (fixed_elements self.now.size elements.new)) }
+            (fixed_elements self.now.size elements.old)
+            (fixed_elements self.now.size elements.new)) }
         ensures decodes { OnOk result (IsSome (chunk_content
             (layout (described self.now) (options_of options.now)) (S.shown store.old).content
             chunk_indices.now)) }
@@ -91,7 +92,8 @@ impl OpenArray {
             (S.shown store.old).content
             array (tuple_at (region chunks.now) number) →
             Copied (region subset.now) chunk_box (elements_in chunk_box array)
-            (fixed_elements self.now.size elements.old) (fixed_elements self.now.size elements.new)) }
+            (fixed_elements self.now.size elements.old)
+            (fixed_elements self.now.size elements.new)) }
         ensures decodes { OnOk result (IsSome (chunk_content
             (layout (described self.now) (options_of options.now)) (S.shown store.old).content
             (tuple_at (region chunks.now) number))) }

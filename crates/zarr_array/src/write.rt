@@ -57,14 +57,16 @@ impl OpenArray {
             ≡ length ((described self.now).grid.chunk_box chunk_indices.now) }
         requires as_long { length elements.now ≡ count (region subset.now) * self.now.size }
         ensures changed { OnOk result (ChangesChunk (described self.now) (options_of options.now)
-            (written (region subset.now) (fixed_elements self.now.size elements.now)) chunk_indices.now
+            (written (region subset.now) (fixed_elements self.now.size elements.now))
+            chunk_indices.now
             (S.shown store.old).content (S.shown store.new).content) }
         ensures asks { OnOk result ((S.shown store.new).asks ≡ counted (S.shown store.old).asks 1) }
         ensures asks_err { OnErr result (((S.shown store.new).asks ≡ (S.shown store.old).asks)
             ⊎ ((S.shown store.new).asks ≡ counted (S.shown store.old).asks 1)) }
         ensures later { (S.shown store.old).faults ≤ (S.shown store.new).faults }
         ensures failed { IfErr result (FailsToChange (described self.now) (options_of options.now)
-            (written (region subset.now) (fixed_elements self.now.size elements.now)) chunk_indices.now
+            (written (region subset.now) (fixed_elements self.now.size elements.now))
+            chunk_indices.now
             (S.shown store.old) (S.shown store.new)) }
     {
         let chunk_subset = self.chunk_subset(alloc, chunk_indices)?;
@@ -136,7 +138,8 @@ impl OpenArray {
         ensures changed { let chunks = chunks_meeting (described self.now).grid (region subset.now)
             in
             OnOk result (ChangedSome (described self.now) (options_of options.now)
-            (written (region subset.now) (fixed_elements self.now.size elements.now)) chunks (length chunks)
+            (written (region subset.now) (fixed_elements self.now.size elements.now))
+            chunks (length chunks)
             (S.shown store.old) (S.shown store.new)) }
         ensures failed { IfErr result (λ error.
             FailsPartWay (described self.now) (options_of options.now)
@@ -174,7 +177,8 @@ impl OpenArray {
         ensures changed { let chunks = chunks_meeting (described self.now).grid (region subset.now)
             in
             OnOk result (ChangedSome (described self.now) (options_of options.now)
-            (written (region subset.now) (fixed_elements self.now.size elements.now)) chunks (length chunks)
+            (written (region subset.now) (fixed_elements self.now.size elements.now))
+            chunks (length chunks)
             (S.shown store.old) (S.shown store.new)) }
         ensures failed { IfErr result (λ error.
             FailsPartWay (described self.now) (options_of options.now)
