@@ -1,7 +1,13 @@
 -- Elements of one size, from their digits.
-use Rattle.std.specs.Prelude.{◌≡◌, ℕ, Bool, true, false, List, ◌++◌, map, flat_map, Option, Some, None, option_map, if◌then◌else◌}
+use Rattle.std.specs.Prelude.{◌≡◌, ℕ, Bool, true, false, List, [], ◌∷◌, ◌++◌, map, flat_map, Option, Some, None, option_map, if◌then◌else◌}
+use Rattle.std.specs.Option.{option_map_or}
+use Rattle.std.specs.Borrow.{Bor}
 use Rattle.zarr_model.specs.Prelude.{Element, fixed, of_bytes, bytes_of}
 use Rattle.zarr_cli_lines.specs.Text.{all_some, element_of}
+
+-- what stands behind a word: nothing, or a space and more words
+abbrev pub behind : Option (Bor (List ℕ)) → List ℕ
+behind rest = option_map_or (λ others. 32 ∷ others.now) rest []
 
 -- a text is the element with these bytes, or is none
 abbrev pub IsElement : Option Element → Bool → List ℕ → Type 0

@@ -1,56 +1,49 @@
 //! The elements of a write: `h` and two hexadecimal digits for each byte, and a space between two elements.
 
-ghost use Rattle.std.specs.Prelude.{◌≡◌, ◌*◌, [], ◌∷◌, length, None, IfOk, IfSome, IfNone, option_map};
-ghost use Rattle.zarr_model.specs.Prelude.{fixed, of_bytes};
-ghost use Rattle.zarr_cli_lines.specs.Text.{element_of};
+ghost use Rattle.std.specs.Prelude.{◌≡◌, ◌*◌, ◌∷◌, ◌++◌, length, None, IfOk, IfSome, IfNone, option_map};
+ghost use Rattle.zarr_model.specs.Prelude.{fixed};
+ghost use Rattle.zarr_cli_lines.specs.Text.{split_at, element_of};
 ghost use Rattle.zarr_cli_lines.specs.Parts.{words_left};
-ghost use Rattle.zarr_cli_lines.specs.Elements.{IsElement, PushesElement, written_bytes};
+ghost use Rattle.zarr_cli_lines.specs.Elements.{behind, IsElement, PushesElement, written_bytes};
 
-use crate::parts::cut;
-use hex::FromHex;
 use std::alloc::{AllocError, Global};
 
-// The byte of an element of one byte, with digits of either case.
-fn parse_byte(text: &str) -> Option<u8>
-    ensures { option_map (λ byte. of_bytes (byte ∷ [])) result ≡ element_of (fixed 1) text.now }
+// Digits at the front, two for each byte of an element, and what follows the space behind them.
+#[tactic(auto, using(crate::proofs::ElementLemmas::no_digits))]
+fn digits_first(text: &[u8], size: usize) -> Option<(&[u8], Option<&[u8]>)>
+    ensures text { IfSome result (λ first. text.now ≡ first.0.now ++ behind first.1) }
+    ensures digits { IfSome result (λ first. length first.0.now ≡ 2 * size) }
+    ensures none { IfNone result (written_bytes size (split_at 32 (104 ∷ text.now)) ≡ None) }
 {
-    let digits = text.strip_prefix('h')?;
-    let [byte] = <[u8; 1]>::from_hex(digits).ok()?;
-    Some(byte)
+    let (digits, behind) = text.split_at_checked(size.saturating_mul(2))?;
+    match behind {
+        [] => Some((digits, None)),
+        [separator, rest @ ..] => {
+            if *separator == b' ' {
+                Some((digits, Some(rest)))
+            } else {
+                None
+            }
+        }
+    }
 }
 
-// Appends the byte of an element of one byte, if the text is one. An error comes only for want of memory.
-fn push_byte(value: &mut Vec<u8>, text: &str) -> Result<bool, AllocError>
-    ensures { IfOk result (λ pushed.
-        PushesElement (element_of (fixed 1) text.now) pushed value.old.items value.new.items) }
+// The digits of an element at the front of a text, and what follows the space behind them.
+#[tactic(auto, using(crate::proofs::ElementLemmas::no_h))]
+fn first_digits(text: &[u8], size: usize) -> Option<(&[u8], Option<&[u8]>)>
+    ensures text { IfSome result (λ first. text.now ≡ 104 ∷ (first.0.now ++ behind first.1)) }
+    ensures digits { IfSome result (λ first. length first.0.now ≡ 2 * size) }
+    ensures none { IfNone result (written_bytes size (split_at 32 text.now) ≡ None) }
 {
-    let Some(byte) = parse_byte(text) else {
-        return Ok(false);
-    };
-    value.push(byte)?;
-    Ok(true)
-}
-
-// The digits of an element of so many bytes: two for each of them, behind an `h`.
-#[tactic(auto, using(crate::proofs::ElementLemmas::of_digits))]
-fn digits_of(text: &str, size: usize) -> Option<&str>
-    ensures some { IfSome result (λ digits.
-        (text.now ≡ 104 ∷ digits.now) × (length digits.now ≡ 2 * size)) }
-    ensures none { IfNone result (element_of (fixed size) text.now ≡ None) }
-{
-    let Some(digits) = text.strip_prefix('h') else {
-        return None;
-    };
-    if digits.len() / 2 == size && digits.len() % 2 == 0 {
-        Some(digits)
-    } else {
-        None
+    match text {
+        [b'h', others @ ..] => digits_first(others, size),
+        _ => None,
     }
 }
 
 // Decodes digits into as many bytes as they denote, if all are hexadecimal.
 #[tactic(auto, using(crate::proofs::ElementLemmas::element_of_decoded, crate::proofs::ElementLemmas::element_of_undecoded))]
-fn decode_into(digits: &str, bytes: &mut [u8]) -> bool
+fn decode_into(digits: &[u8], bytes: &mut [u8]) -> bool
     requires { length digits.now ≡ 2 * length bytes.old }
     ensures { IsElement (element_of (fixed (length bytes.old)) (104 ∷ digits.now)) result
         bytes.new }
@@ -58,18 +51,30 @@ fn decode_into(digits: &str, bytes: &mut [u8]) -> bool
     hex::decode_to_slice(digits, bytes).is_ok()
 }
 
-// Appends the bytes of an element, if the text is one. An error comes only for want of memory.
-fn push_element(value: &mut Vec<u8>, text: &str, size: usize) -> Result<bool, AllocError>
-    ensures { IfOk result (λ pushed.
-        PushesElement (element_of (fixed size) text.now) pushed value.old.items value.new.items) }
+// Appends the byte that two digits denote, if both are hexadecimal. An error comes only for want of memory.
+fn push_byte(value: &mut Vec<u8>, digits: &[u8]) -> Result<bool, AllocError>
+    requires { length digits.now ≡ 2 }
+    ensures { IfOk result (λ pushed. PushesElement (element_of (fixed 1) (104 ∷ digits.now)) pushed
+        value.old.items value.new.items) }
+{
+    let mut byte = [0];
+    let decoded = decode_into(digits, &mut byte);
+    if decoded {
+        value.push(byte[0])?;
+    }
+    Ok(decoded)
+}
+
+// Appends the bytes that digits denote, if all are hexadecimal. An error comes only for want of memory.
+fn push_bytes(value: &mut Vec<u8>, digits: &[u8], size: usize) -> Result<bool, AllocError>
+    requires { length digits.now ≡ 2 * size }
+    ensures { IfOk result (λ pushed. PushesElement (element_of (fixed size) (104 ∷ digits.now)) pushed
+        value.old.items value.new.items) }
 {
     // One byte needs no room before it is there.
     if size == 1 {
-        return push_byte(value, text);
+        return push_byte(value, digits);
     }
-    let Some(digits) = digits_of(text, size) else {
-        return Ok(false);
-    };
     let at = value.len();
     value.resize(at + size, 0)?;
     Ok(decode_into(digits, &mut value[at..]))
@@ -89,10 +94,12 @@ pub(crate) fn parse_elements(
 {
     let room = text.map_or(0, |text| text.len() / 2);
     let mut value = Vec::with_capacity(alloc, room)?;
-    let mut left = text;
+    let mut left = text.map(|text| text.as_bytes());
     'elements: while let Some(text) = left {
-        let (element, rest) = cut(text, ' ');
-        if !push_element(&mut value, element, size)? {
+        let Some((digits, rest)) = first_digits(text, size) else {
+            return Ok(None);
+        };
+        if !push_bytes(&mut value, digits, size)? {
             return Ok(None);
         }
         left = rest;

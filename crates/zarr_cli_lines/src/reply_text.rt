@@ -11,16 +11,15 @@ use std::alloc::AllocError;
 use zarr_array::command::Reply;
 use zarr_array::refusal::Refusal;
 
-// Appends the two lower-case digits of a byte.
-fn push_digits(text: &mut Vec<u8>, byte: u8) -> Result<(), AllocError>
-    ensures { OnOk result (text.new.items ≡ text.old.items ++ encode_lower (byte ∷ [])) }
+// The two lower-case digits of a byte.
+fn digits_of(byte: u8) -> [u8; 2]
+    ensures { result ≡ encode_lower (byte ∷ []) }
 {
     let mut digits = [0; 2];
     let Ok(()) = hex::encode_to_slice([byte], &mut digits) else {
         unreachable!();
     };
-    text.extend_from_slice(&digits)?;
-    Ok(())
+    digits
 }
 
 // Appends two lower-case digits for each byte.
@@ -28,7 +27,7 @@ fn push_bytes(text: &mut Vec<u8>, value: &[u8]) -> Result<(), AllocError>
     ensures { OnOk result (text.new.items ≡ text.old.items ++ encode_lower value.now) }
 {
     for byte in value {
-        push_digits(text, *byte)?;
+        text.extend_from_slice(&digits_of(*byte))?;
     }
     Ok(())
 }
@@ -41,13 +40,20 @@ pub(crate) fn push_hex(text: &mut Vec<u8>, value: &[u8]) -> Result<(), AllocErro
     push_bytes(text, value)
 }
 
+// Appends a space and the text of an element of one byte, in one piece.
+fn push_byte_element(text: &mut Vec<u8>, byte: u8) -> Result<(), AllocError>
+    ensures { OnOk result (text.new.items ≡ text.old.items ++ 32 ∷ hex_text (byte ∷ [])) }
+{
+    let [high, low] = digits_of(byte);
+    text.extend_from_slice(&[b' ', b'h', high, low])
+}
+
 // Appends a space and the text of each element of one byte.
 fn push_byte_elements(text: &mut Vec<u8>, elements: &[u8]) -> Result<(), AllocError>
     ensures { OnOk result (text.new.items ≡ text.old.items ++ bytes_text 1 elements.now) }
 {
     for byte in elements {
-        text.extend_from_slice(b" h")?;
-        push_digits(text, *byte)?;
+        push_byte_element(text, *byte)?;
     }
     Ok(())
 }
