@@ -4,4 +4,5 @@
 #![tactic(auto)]
 
 pub mod fill;
+pub mod fill_box;
 pub mod overlap;
