@@ -1,0 +1,6 @@
+pub mod Offsets
+pub mod Raw
+pub mod Levels
+pub mod Steps
+pub mod Selection
+pub mod Refusals

@@ -1,0 +1,140 @@
+-- Why a call on array bytes is refused.
+use Rattle.std.specs.Prelude.{◌≡◌, ℕ, ◌*◌, ◌+◌, ◌-◌, ◌^◌, ◌==◌, ◌⊎◌, min, Bool, true, false, not, length, Option, Some, None, Result, Ok, Err}
+use Rattle.zarr_model.specs.Element.{Kind, fixed, variable, optional, fixed_size}
+use Rattle.zarr_model.specs.ArrayBytes.{ArrayBytes, fixed_bytes, variable_bytes, optional_bytes}
+use Rattle.zarr_model.specs.Command as model
+use Rattle.zarrs_array_subset.specs.declared.error.IndexerError.{IndexerError}
+use Rattle.zarrs_codec_bytes.specs.Picking.{size_in}
+use Rattle.zarrs_codec_error.specs.declared.error.CodecError.{CodecError}
+use Rattle.zarrs_codec_error.specs.declared.error.CodecError.TheVariants as codec
+
+-- what an answer says: nothing against the bytes, a refusal of them, an indexer that does not fit,
+-- a fill value of another size, want of memory, or what no call here says
+pub data Told : Type 0 where
+  fine : Told
+  refused : model.Refusal → Told
+  unfit : Told
+  other_fill : Told
+  no_memory : Told
+  odd : Told
+
+abbrev pub told_by : CodecError → Told
+told_by (codec.ExpectedFixedLengthBytes e) = refused model.expected_fixed_length_bytes
+told_by (codec.ExpectedVariableLengthBytes e) = refused model.expected_variable_length_bytes
+told_by (codec.ExpectedOptionalBytes e) = refused model.expected_optional_bytes
+told_by (codec.UnexpectedChunkDecodedSize e) = refused model.unexpected_chunk_decoded_size
+told_by codec.InvalidVariableSizedArrayOffsets = refused model.invalid_variable_sized_array_offsets
+told_by codec.InvalidMask = refused model.invalid_mask
+told_by (codec.IncompatibleIndexer e) = unfit
+told_by (codec.DataTypeFillValueError e) = other_fill
+told_by codec.OutOfMemory = no_memory
+told_by _ = odd
+
+abbrev pub told : {T : Type 0} → Result T CodecError → Told
+told (Ok v) = fine
+told (Err e) = told_by e
+
+abbrev pub answer_of : Option model.Refusal → Told
+answer_of None = fine
+answer_of (Some why) = refused why
+
+-- the bytes are of another kind than their type, the outermost level first
+abbrev pub kind_refusal : Kind → ArrayBytes → Option model.Refusal
+kind_refusal (fixed n) (fixed_bytes value) = None
+kind_refusal variable (variable_bytes value offsets) = None
+kind_refusal (optional inner) (optional_bytes under mask) = kind_refusal inner under
+kind_refusal (fixed n) _ = Some model.expected_fixed_length_bytes
+kind_refusal variable _ = Some model.expected_variable_length_bytes
+kind_refusal (optional inner) _ = Some model.expected_optional_bytes
+
+-- the bytes are of other lengths than so many elements have, the outermost level first
+abbrev pub lengths_refusal : ℕ → ℕ → ArrayBytes → Option model.Refusal
+lengths_refusal size number (fixed_bytes value) =
+    model.refused_if (not (length value == number * size)) model.unexpected_chunk_decoded_size
+lengths_refusal size number (variable_bytes value offsets) =
+    model.refused_if (not (length offsets == number + 1))
+    model.invalid_variable_sized_array_offsets
+lengths_refusal size number (optional_bytes under mask) =
+    model.or_then (model.refused_if (not (length mask == number)) model.invalid_mask)
+    (lengths_refusal size number under)
+
+-- two array bytes of different kinds, or of another innermost kind than this size says
+abbrev pub mixture_refusal : Option ℕ → model.Refusal
+mixture_refusal None = model.expected_variable_length_bytes
+mixture_refusal (Some n) = model.expected_fixed_length_bytes
+
+abbrev pub fixed_pair_refusal : Option ℕ → Option model.Refusal
+fixed_pair_refusal None = Some model.expected_variable_length_bytes
+fixed_pair_refusal (Some n) = None
+
+abbrev pub variable_pair_refusal : Option ℕ → Option model.Refusal
+variable_pair_refusal None = None
+variable_pair_refusal (Some n) = Some model.expected_fixed_length_bytes
+
+abbrev pub pair_refusal : Option ℕ → ArrayBytes → ArrayBytes → Option model.Refusal
+pair_refusal size (fixed_bytes old) (fixed_bytes new) = fixed_pair_refusal size
+pair_refusal size (variable_bytes old from) (variable_bytes new to) = variable_pair_refusal size
+pair_refusal size (optional_bytes old mask) (optional_bytes new over) = pair_refusal size old new
+pair_refusal size _ _ = Some (mixture_refusal size)
+
+-- the lengths of the old bytes, and then those of an update
+abbrev pub update_refusal : ℕ → ℕ → ArrayBytes → ℕ → ArrayBytes → Option model.Refusal
+update_refusal size number old given new =
+    model.or_then (lengths_refusal size number old) (lengths_refusal size given new)
+
+-- two array bytes are of one kind, level by level
+abbrev pub are_alike : ArrayBytes → ArrayBytes → Bool
+are_alike (fixed_bytes old) (fixed_bytes new) = true
+are_alike (variable_bytes old from) (variable_bytes new to) = true
+are_alike (optional_bytes old mask) (optional_bytes new over) = are_alike old new
+are_alike _ _ = false
+
+-- the innermost data are of one size
+abbrev pub holds_fixed : ArrayBytes → Bool
+holds_fixed (fixed_bytes value) = true
+holds_fixed (variable_bytes value offsets) = false
+holds_fixed (optional_bytes under mask) = holds_fixed under
+
+-- what a call over an indexer answers first: the kinds, then the indexer, then the lengths
+abbrev pub first_answer : Option model.Refusal → Bool → Option model.Refusal → Told
+first_answer (Some why) fits next = refused why
+first_answer None false next = unfit
+first_answer None true next = answer_of next
+
+-- what a call over a fill value answers, by whether the fill value has the size of the type
+abbrev pub fill_answer : Bool → Told
+fill_answer true = fine
+fill_answer false = other_fill
+
+-- what an extraction answers, and an update
+abbrev pub extract_answer : Kind → Bool → ℕ → ArrayBytes → Told
+extract_answer kind fits number value =
+    first_answer (kind_refusal kind value) fits
+    (lengths_refusal (size_in (fixed_size kind)) number value)
+
+abbrev pub update_answer : Option ℕ → Bool → ℕ → ArrayBytes → ℕ → ArrayBytes → Told
+update_answer size fits number old given new =
+    first_answer (pair_refusal size old new) fits
+    (update_refusal (size_in size) number old given new)
+
+-- the call answers so, or memory ran out
+abbrev pub Answers : {T : Type 0} → Told → Result T CodecError → Type 0
+Answers wanted (Ok v) = wanted ≡ fine
+Answers wanted (Err e) = (e ≡ codec.OutOfMemory) ⊎ (told_by e ≡ wanted)
+
+-- where the error holds one of an indexer, it is one of these
+abbrev pub IfUnfit : (IndexerError → Type 0) → CodecError → Type 0
+IfUnfit Refuses (codec.IncompatibleIndexer e) = Refuses e
+IfUnfit Refuses _ = Unit {0}
+
+-- an error on a length tells it and the expected one, which stops at the greatest number
+abbrev pub TellsLength : ℕ → ℕ → CodecError → Type 0
+TellsLength len expected (codec.UnexpectedChunkDecodedSize e) =
+    (e.len ≡ len) × (e.expected_len ≡ min expected (2 ^ 64 - 1))
+TellsLength len expected _ = Unit {0}
+
+-- of two values the first is told of where it is refused, else the second
+abbrev pub TellsFirst : Option model.Refusal → (CodecError → Type 0) → (CodecError → Type 0)
+    → CodecError → Type 0
+TellsFirst (Some why) Old New = Old
+TellsFirst None Old New = New
