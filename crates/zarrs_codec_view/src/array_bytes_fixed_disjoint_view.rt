@@ -1,6 +1,6 @@
 //! A view of a box of an array's bytes.
 
-ghost use Rattle.std.specs.Prelude.{◌≡◌, ◌<◌, ◌*◌, ◌==◌, length, is_ok, IfOk, IfErr};
+ghost use Rattle.std.specs.Prelude.{◌≡◌, ◌<◌, ◌*◌, ◌==◌, ◌&&◌, if◌then◌else◌, length, is_ok, IfOk, IfErr};
 ghost use Rattle.zarr_model.specs.Region.{count, whole, sizes};
 ghost use Rattle.zarr_model.specs.Prelude.{of_bytes};
 ghost use Rattle.zarrs_array_subset.specs.ArraySubset.{region};
@@ -10,7 +10,7 @@ ghost use Rattle.zarrs_codec_bytes.specs.Filled.{Filled};
 ghost use Rattle.zarrs_codec_bytes.specs.Overlap.{Copied};
 ghost use Rattle.zarrs_codec_view.specs.Answers.{Answers, create_answer, part_answer, write_answer};
 
-use crate::part::{Part, copy_into, elements_in, fill_into, inner_part, part_of};
+use crate::part::{Part, copy_into, elements_in, expect_len, fill_into, inner_part, part_of};
 use std::alloc::Global;
 use zarrs_array_subset::ArraySubset;
 use zarrs_codec_error::{ArrayBytesFixedDisjointViewCreateError, InvalidBytesLengthError};
@@ -122,6 +122,19 @@ impl<'a> ArrayBytesFixedDisjointView<'a> {
             * self.now.part.size }
     {
         self.part.contiguous_len
+    }
+
+    // Tells another length than that of the box's elements.
+    pub(crate) fn expect_len(&self, len: usize) -> Result<(), InvalidBytesLengthError>
+        ensures exact { is_ok result ≡ (length self.now.bytes.now == self.now.part.array_len
+            && len == count (region self.now.part.subset) * self.now.part.size) }
+        ensures told { IfErr result (λ e. e ≡ (if length self.now.bytes.now == self.now.part.array_len
+            then record { len = len; expected_len = count (region self.now.part.subset) * self.now.part.size }
+            else record { len = length self.now.bytes.now; expected_len = self.now.part.array_len })) }
+    {
+        expect_len(self.bytes.len(), self.part.array_len)?;
+        expect_len(len, self.part.len)?;
+        Ok(())
     }
 
     /// Makes each element of the view's box the fill value.

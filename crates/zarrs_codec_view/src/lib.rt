@@ -2,6 +2,8 @@
 #![tactic(auto)]
 
 mod array_bytes_fixed_disjoint_view;
+mod decode_into_target;
 mod part;
 
 pub use array_bytes_fixed_disjoint_view::ArrayBytesFixedDisjointView;
+pub use decode_into_target::{ArrayBytesDecodeIntoTarget, decode_into_array_bytes_target};

@@ -194,7 +194,7 @@ pub fn inner_part(
 }
 
 // Tells another length than the expected one.
-fn expect_len(len: usize, expected_len: usize) -> Result<(), InvalidBytesLengthError>
+pub fn expect_len(len: usize, expected_len: usize) -> Result<(), InvalidBytesLengthError>
     ensures exact { is_ok result ≡ (len == expected_len) }
     ensures told { IfErr result
         (λ e. e ≡ record { len = len; expected_len = expected_len }) }
