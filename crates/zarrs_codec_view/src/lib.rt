@@ -3,6 +3,7 @@
 
 mod array_bytes_fixed_disjoint_view;
 mod decode_into_target;
+pub mod laws;
 mod part;
 
 pub use array_bytes_fixed_disjoint_view::ArrayBytesFixedDisjointView;
