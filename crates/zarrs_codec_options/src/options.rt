@@ -36,20 +36,20 @@ impl CodecOptions {
     }
 
     /// Sets whether digests are tested.
-    pub fn set_validate_checksums(&mut self, validate_checksums: bool) -> &mut Self
+    pub fn set_validate_checksums(&mut self, value: bool) -> &mut Self
         ensures same { result.ghost_name ≡ self.entry.ghost_name }
-        ensures value { result.now ≡ record self.old { validate_checksums = validate_checksums } }
+        ensures value { result.now ≡ record self.old { validate_checksums = value } }
     {
-        self.validate_checksums = validate_checksums;
+        self.validate_checksums = value;
         self
     }
 
     /// These options with another `validate_checksums`.
-    pub fn with_validate_checksums(self, validate_checksums: bool) -> Self
-        ensures { result ≡ record self { validate_checksums = validate_checksums } }
+    pub fn with_validate_checksums(self, value: bool) -> Self
+        ensures { result ≡ record self { validate_checksums = value } }
     {
         CodecOptions {
-            validate_checksums,
+            validate_checksums: value,
             ..self
         }
     }
@@ -63,20 +63,20 @@ impl CodecOptions {
     }
 
     /// Sets whether chunks are stored that are all fill.
-    pub fn set_store_empty_chunks(&mut self, store_empty_chunks: bool) -> &mut Self
+    pub fn set_store_empty_chunks(&mut self, value: bool) -> &mut Self
         ensures same { result.ghost_name ≡ self.entry.ghost_name }
-        ensures value { result.now ≡ record self.old { store_empty_chunks = store_empty_chunks } }
+        ensures value { result.now ≡ record self.old { store_empty_chunks = value } }
     {
-        self.store_empty_chunks = store_empty_chunks;
+        self.store_empty_chunks = value;
         self
     }
 
     /// These options with another `store_empty_chunks`.
-    pub fn with_store_empty_chunks(self, store_empty_chunks: bool) -> Self
-        ensures { result ≡ record self { store_empty_chunks = store_empty_chunks } }
+    pub fn with_store_empty_chunks(self, value: bool) -> Self
+        ensures { result ≡ record self { store_empty_chunks = value } }
     {
         CodecOptions {
-            store_empty_chunks,
+            store_empty_chunks: value,
             ..self
         }
     }
@@ -89,20 +89,20 @@ impl CodecOptions {
     }
 
     /// Sets how many threads a call aims at.
-    pub fn set_concurrent_target(&mut self, concurrent_target: usize) -> &mut Self
+    pub fn set_concurrent_target(&mut self, value: usize) -> &mut Self
         ensures same { result.ghost_name ≡ self.entry.ghost_name }
-        ensures value { result.now ≡ record self.old { concurrent_target = concurrent_target } }
+        ensures value { result.now ≡ record self.old { concurrent_target = value } }
     {
-        self.concurrent_target = concurrent_target;
+        self.concurrent_target = value;
         self
     }
 
     /// These options with another `concurrent_target`.
-    pub fn with_concurrent_target(self, concurrent_target: usize) -> Self
-        ensures { result ≡ record self { concurrent_target = concurrent_target } }
+    pub fn with_concurrent_target(self, value: usize) -> Self
+        ensures { result ≡ record self { concurrent_target = value } }
     {
         CodecOptions {
-            concurrent_target,
+            concurrent_target: value,
             ..self
         }
     }
@@ -115,20 +115,20 @@ impl CodecOptions {
     }
 
     /// Sets how many chunks a call works on at a time at least.
-    pub fn set_chunk_concurrent_minimum(&mut self, chunk_concurrent_minimum: usize) -> &mut Self
+    pub fn set_chunk_concurrent_minimum(&mut self, value: usize) -> &mut Self
         ensures same { result.ghost_name ≡ self.entry.ghost_name }
-        ensures value { result.now ≡ record self.old { chunk_concurrent_minimum = chunk_concurrent_minimum } }
+        ensures value { result.now ≡ record self.old { chunk_concurrent_minimum = value } }
     {
-        self.chunk_concurrent_minimum = chunk_concurrent_minimum;
+        self.chunk_concurrent_minimum = value;
         self
     }
 
     /// These options with another `chunk_concurrent_minimum`.
-    pub fn with_chunk_concurrent_minimum(self, chunk_concurrent_minimum: usize) -> Self
-        ensures { result ≡ record self { chunk_concurrent_minimum = chunk_concurrent_minimum } }
+    pub fn with_chunk_concurrent_minimum(self, value: usize) -> Self
+        ensures { result ≡ record self { chunk_concurrent_minimum = value } }
     {
         CodecOptions {
-            chunk_concurrent_minimum,
+            chunk_concurrent_minimum: value,
             ..self
         }
     }
@@ -141,23 +141,20 @@ impl CodecOptions {
     }
 
     /// Sets whether a part of a value is encoded alone where it can be.
-    pub fn set_experimental_partial_encoding(
-        &mut self,
-        experimental_partial_encoding: bool,
-    ) -> &mut Self
+    pub fn set_experimental_partial_encoding(&mut self, value: bool) -> &mut Self
         ensures same { result.ghost_name ≡ self.entry.ghost_name }
-        ensures value { result.now ≡ record self.old { experimental_partial_encoding = experimental_partial_encoding } }
+        ensures value { result.now ≡ record self.old { experimental_partial_encoding = value } }
     {
-        self.experimental_partial_encoding = experimental_partial_encoding;
+        self.experimental_partial_encoding = value;
         self
     }
 
     /// These options with another `experimental_partial_encoding`.
-    pub fn with_experimental_partial_encoding(self, experimental_partial_encoding: bool) -> Self
-        ensures { result ≡ record self { experimental_partial_encoding = experimental_partial_encoding } }
+    pub fn with_experimental_partial_encoding(self, value: bool) -> Self
+        ensures { result ≡ record self { experimental_partial_encoding = value } }
     {
         CodecOptions {
-            experimental_partial_encoding,
+            experimental_partial_encoding: value,
             ..self
         }
     }
@@ -189,26 +186,21 @@ impl CodecMetadataOptions {
     }
 
     /// Sets whether the metadata has a codec also where only encoding needs it.
-    pub fn set_codec_store_metadata_if_encode_only(
-        &mut self,
-        codec_store_metadata_if_encode_only: bool,
-    ) -> &mut Self
+    pub fn set_codec_store_metadata_if_encode_only(&mut self, value: bool) -> &mut Self
         ensures same { result.ghost_name ≡ self.entry.ghost_name }
-        ensures value { result.now ≡ record self.old { codec_store_metadata_if_encode_only = codec_store_metadata_if_encode_only } }
+        ensures value { result.now
+            ≡ record self.old { codec_store_metadata_if_encode_only = value } }
     {
-        self.codec_store_metadata_if_encode_only = codec_store_metadata_if_encode_only;
+        self.codec_store_metadata_if_encode_only = value;
         self
     }
 
     /// These options with another `codec_store_metadata_if_encode_only`.
-    pub fn with_codec_store_metadata_if_encode_only(
-        self,
-        codec_store_metadata_if_encode_only: bool,
-    ) -> Self
-        ensures { result ≡ record self { codec_store_metadata_if_encode_only = codec_store_metadata_if_encode_only } }
+    pub fn with_codec_store_metadata_if_encode_only(self, value: bool) -> Self
+        ensures { result ≡ record self { codec_store_metadata_if_encode_only = value } }
     {
         CodecMetadataOptions {
-            codec_store_metadata_if_encode_only,
+            codec_store_metadata_if_encode_only: value,
         }
     }
 }
