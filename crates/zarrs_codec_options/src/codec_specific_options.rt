@@ -3,7 +3,7 @@
 ghost use Rattle.std.specs.Prelude.{◌≡◌, IfOk, option_map};
 ghost use Rattle.std.specs.FinMap as finite;
 ghost use Rattle.zarrs_metadata_values.specs.Configuration.{configuration_seen};
-ghost use Rattle.zarrs_codec_options.specs.CodecSpecificOptions.{options_seen};
+ghost use Rattle.zarrs_codec_options.specs.CodecSpecificOptions.{entries_seen, options_seen};
 
 use std::alloc::{AllocError, Global};
 use std::collections::BTreeMap;
@@ -40,7 +40,7 @@ impl CodecSpecificOptions {
     {
         let name = String::from_str(alloc, name)?;
         let mut options = self.options;
-        options.insert(name, option).map_err(AllocError::from)?;
+        options.insert(name, option)?;
         Ok(CodecSpecificOptions { options })
     }
 
@@ -51,4 +51,30 @@ impl CodecSpecificOptions {
     {
         self.options.get(name)
     }
+
+    /// A copy.
+    ///
+    /// # Errors
+    /// [`AllocError`] where there is not enough memory.
+    pub fn try_clone(&self, alloc: Global) -> Result<Self, AllocError>
+        ensures { IfOk result (λ copy. options_seen copy ≡ options_seen self.now) }
+    {
+        let options = copy_options(alloc, &self.options)?;
+        Ok(CodecSpecificOptions { options })
+    }
+}
+
+fn copy_options(
+    alloc: Global,
+    options: &BTreeMap<String, Configuration>,
+) -> Result<BTreeMap<String, Configuration>, AllocError>
+    ensures { IfOk result (λ copies. entries_seen copies.entries
+        ≡ entries_seen options.now.entries) }
+{
+    let mut copies = BTreeMap::new(alloc);
+    for (name, option) in options.iter() {
+        let name = name.clone()?;
+        drop(copies.insert(name, option.try_clone(alloc)?)?);
+    }
+    Ok(copies)
 }

@@ -13,12 +13,13 @@ fn level(alloc: Global, level: u64) -> Result<Configuration, AllocError> {
     Ok(Configuration::new(members))
 }
 
-// A level of gzip that is replaced, and one of zstd.
+// A copy of options: a level of gzip that was replaced, and one of zstd.
 fn levels(alloc: Global) -> Result<CodecSpecificOptions, AllocError> {
     let options = CodecSpecificOptions::new(alloc);
     let options = options.with_option(alloc, "gzip", level(alloc, 1)?)?;
     let options = options.with_option(alloc, "zstd", level(alloc, 2)?)?;
-    options.with_option(alloc, "gzip", level(alloc, 3)?)
+    let options = options.with_option(alloc, "gzip", level(alloc, 3)?)?;
+    options.try_clone(alloc)
 }
 
 // The level that a codec was given.
