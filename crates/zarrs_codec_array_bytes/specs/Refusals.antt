@@ -5,14 +5,17 @@ use Rattle.zarr_model.specs.ArrayBytes.{ArrayBytes, fixed_bytes, variable_bytes,
 use Rattle.zarr_model.specs.Command as model
 use Rattle.zarrs_array_subset.specs.declared.error.IndexerError.{IndexerError}
 use Rattle.zarrs_codec_bytes.specs.Picking.{size_in}
+use Rattle.zarrs_codec_array_bytes.specs.Levels.{inner_length}
 use Rattle.zarrs_codec_error.specs.declared.error.CodecError.{CodecError}
 use Rattle.zarrs_codec_error.specs.declared.error.CodecError.TheVariants as codec
 
--- what an answer says: nothing against the bytes, a refusal of them, an indexer that does not fit,
--- a fill value of another size, want of memory, or what no call here says
+-- what an answer says: nothing against the bytes, a refusal of them, their length and the expected
+-- one, an indexer that does not fit, a fill value of another size, want of memory, or what no call
+-- here says
 pub data Told : Type 0 where
   fine : Told
   refused : model.Refusal → Told
+  wrong_length : ℕ → ℕ → Told
   unfit : Told
   other_fill : Told
   no_memory : Told
@@ -22,7 +25,7 @@ abbrev pub told_by : CodecError → Told
 told_by (codec.ExpectedFixedLengthBytes e) = refused model.expected_fixed_length_bytes
 told_by (codec.ExpectedVariableLengthBytes e) = refused model.expected_variable_length_bytes
 told_by (codec.ExpectedOptionalBytes e) = refused model.expected_optional_bytes
-told_by (codec.UnexpectedChunkDecodedSize e) = refused model.unexpected_chunk_decoded_size
+told_by (codec.UnexpectedChunkDecodedSize e) = wrong_length e.len e.expected_len
 told_by codec.InvalidVariableSizedArrayOffsets = refused model.invalid_variable_sized_array_offsets
 told_by codec.InvalidMask = refused model.invalid_mask
 told_by (codec.IncompatibleIndexer e) = unfit
@@ -37,6 +40,14 @@ told (Err e) = told_by e
 abbrev pub answer_of : Option model.Refusal → Told
 answer_of None = fine
 answer_of (Some why) = refused why
+
+-- the same with the length of the data and the expected one, which is told as the greatest number
+-- where it is greater
+abbrev pub sized_answer : ℕ → ℕ → Option model.Refusal → Told
+sized_answer len expected None = fine
+sized_answer len expected (Some model.unexpected_chunk_decoded_size) =
+    wrong_length len (min expected (2 ^ 64 - 1))
+sized_answer len expected (Some why) = refused why
 
 -- the bytes are of another kind than their type, the outermost level first
 abbrev pub kind_refusal : Kind → ArrayBytes → Option model.Refusal
@@ -77,10 +88,24 @@ pair_refusal size (variable_bytes old from) (variable_bytes new to) = variable_p
 pair_refusal size (optional_bytes old mask) (optional_bytes new over) = pair_refusal size old new
 pair_refusal size _ _ = Some (mixture_refusal size)
 
--- the lengths of the old bytes, and then those of an update
-abbrev pub update_refusal : ℕ → ℕ → ArrayBytes → ℕ → ArrayBytes → Option model.Refusal
-update_refusal size number old given new =
-    model.or_then (lengths_refusal size number old) (lengths_refusal size given new)
+-- what is said of the bytes as so many elements of a kind, of their lengths alone, and of those of
+-- old bytes and then of an update
+abbrev pub validity : Kind → ℕ → ArrayBytes → Told
+validity kind number value =
+    sized_answer (inner_length value) (number * size_in (fixed_size kind))
+    (model.bytes_refusal kind number value)
+
+abbrev pub lengths_answer : ℕ → ℕ → ArrayBytes → Told
+lengths_answer size number value =
+    sized_answer (inner_length value) (number * size) (lengths_refusal size number value)
+
+abbrev pub then_answer : Told → Told → Told
+then_answer fine next = next
+then_answer first next = first
+
+abbrev pub both_answer : ℕ → ℕ → ArrayBytes → ℕ → ArrayBytes → Told
+both_answer size number old given new =
+    then_answer (lengths_answer size number old) (lengths_answer size given new)
 
 -- two array bytes are of one kind, level by level
 abbrev pub are_alike : ArrayBytes → ArrayBytes → Bool
@@ -96,10 +121,10 @@ holds_fixed (variable_bytes value offsets) = false
 holds_fixed (optional_bytes under mask) = holds_fixed under
 
 -- what a call over an indexer answers first: the kinds, then the indexer, then the lengths
-abbrev pub first_answer : Option model.Refusal → Bool → Option model.Refusal → Told
+abbrev pub first_answer : Option model.Refusal → Bool → Told → Told
 first_answer (Some why) fits next = refused why
 first_answer None false next = unfit
-first_answer None true next = answer_of next
+first_answer None true next = next
 
 -- what a call over a fill value answers, by whether the fill value has the size of the type
 abbrev pub fill_answer : Bool → Told
@@ -110,12 +135,12 @@ fill_answer false = other_fill
 abbrev pub extract_answer : Kind → Bool → ℕ → ArrayBytes → Told
 extract_answer kind fits number value =
     first_answer (kind_refusal kind value) fits
-    (lengths_refusal (size_in (fixed_size kind)) number value)
+    (lengths_answer (size_in (fixed_size kind)) number value)
 
 abbrev pub update_answer : Option ℕ → Bool → ℕ → ArrayBytes → ℕ → ArrayBytes → Told
 update_answer size fits number old given new =
     first_answer (pair_refusal size old new) fits
-    (update_refusal (size_in size) number old given new)
+    (both_answer (size_in size) number old given new)
 
 -- the call answers so, or memory ran out
 abbrev pub Answers : {T : Type 0} → Told → Result T CodecError → Type 0
@@ -126,15 +151,3 @@ Answers wanted (Err e) = (e ≡ codec.OutOfMemory) ⊎ (told_by e ≡ wanted)
 abbrev pub IfUnfit : (IndexerError → Type 0) → CodecError → Type 0
 IfUnfit Refuses (codec.IncompatibleIndexer e) = Refuses e
 IfUnfit Refuses _ = Unit {0}
-
--- an error on a length tells it and the expected one, which stops at the greatest number
-abbrev pub TellsLength : ℕ → ℕ → CodecError → Type 0
-TellsLength len expected (codec.UnexpectedChunkDecodedSize e) =
-    (e.len ≡ len) × (e.expected_len ≡ min expected (2 ^ 64 - 1))
-TellsLength len expected _ = Unit {0}
-
--- of two values the first is told of where it is refused, else the second
-abbrev pub TellsFirst : Option model.Refusal → (CodecError → Type 0) → (CodecError → Type 0)
-    → CodecError → Type 0
-TellsFirst (Some why) Old New = Old
-TellsFirst None Old New = New

@@ -4,16 +4,21 @@ ghost use Rattle.std.specs.Prelude.{◌≡◌, length, is_ok, ◌≤◌, option_
 ghost use Rattle.std.specs.Cow.{cow_slice_items};
 
 mod checks;
+mod extract;
+mod gather;
 mod offsets;
 mod optional;
 mod owned;
+mod rows;
 mod step;
+mod update;
 mod validate;
 mod variable_length;
 
 pub use offsets::ArrayBytesOffsets;
 use std::alloc::{AllocError, Global};
 use std::borrow::CowSlice;
+pub use update::update_array_bytes;
 pub use variable_length::ArrayBytesVariableLength;
 use zarrs_codec_error::{
     ArrayBytesRawOffsetsOutOfBoundsError, ExpectedFixedLengthBytesError,

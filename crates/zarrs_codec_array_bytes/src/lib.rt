@@ -8,4 +8,5 @@ mod array_bytes;
 
 pub use array_bytes::{
     ArrayBytes, ArrayBytesOffsets, ArrayBytesOptional, ArrayBytesRaw, ArrayBytesVariableLength,
+    update_array_bytes,
 };

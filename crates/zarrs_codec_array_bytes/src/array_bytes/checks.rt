@@ -3,10 +3,9 @@
 ghost use Rattle.std.specs.Prelude.{◌≡◌, ◌==◌, ◌*◌, ◌+◌, ◌-◌, ◌^◌, ℕ, Some, None, min, is_ok, true, ◌<◌, IfOk, IfErr};
 ghost use Rattle.zarr_model.specs.Region.{count_of};
 ghost use Rattle.zarr_model.specs.Command.{expected_fixed_length_bytes, expected_variable_length_bytes, expected_optional_bytes};
-ghost use Rattle.zarrs_codec_array_bytes.specs.Levels.{inner_length};
 ghost use Rattle.zarrs_codec_array_bytes.specs.Steps.{kind_seen, size_seen};
 ghost use Rattle.zarrs_codec_array_bytes.specs.Raw.{raw_of};
-ghost use Rattle.zarrs_codec_array_bytes.specs.Refusals.{told, told_by, refused, answer_of, Answers, first_answer, IfUnfit, TellsLength, kind_refusal, lengths_refusal, pair_refusal, mixture_refusal, fixed_pair_refusal, variable_pair_refusal, holds_fixed};
+ghost use Rattle.zarrs_codec_array_bytes.specs.Refusals.{told, told_by, refused, fine, answer_of, Answers, first_answer, IfUnfit, kind_refusal, lengths_refusal, lengths_answer, pair_refusal, mixture_refusal, fixed_pair_refusal, variable_pair_refusal, holds_fixed};
 
 use super::step::{Step, step_of};
 use super::{ArrayBytes, bytes_in};
@@ -21,24 +20,21 @@ use zarrs_metadata_parts::DataTypeSize;
 
 /// The refusal of bytes that are not of one size.
 pub fn not_fixed() -> CodecError
-    ensures told { told_by result ≡ refused expected_fixed_length_bytes }
-    ensures other { (len expected : ℕ) → TellsLength len expected result }
+    ensures { told_by result ≡ refused expected_fixed_length_bytes }
 {
     CodecError::ExpectedFixedLengthBytes(ExpectedFixedLengthBytesError)
 }
 
 /// The refusal of bytes that are not of any size.
 pub fn not_variable() -> CodecError
-    ensures told { told_by result ≡ refused expected_variable_length_bytes }
-    ensures other { (len expected : ℕ) → TellsLength len expected result }
+    ensures { told_by result ≡ refused expected_variable_length_bytes }
 {
     CodecError::ExpectedVariableLengthBytes(ExpectedVariableLengthBytesError)
 }
 
 /// The refusal of bytes that have no mask.
 pub fn not_optional() -> CodecError
-    ensures told { told_by result ≡ refused expected_optional_bytes }
-    ensures other { (len expected : ℕ) → TellsLength len expected result }
+    ensures { told_by result ≡ refused expected_optional_bytes }
 {
     CodecError::ExpectedOptionalBytes(ExpectedOptionalBytesError)
 }
@@ -48,9 +44,8 @@ pub fn not_optional() -> CodecError
 /// # Errors
 /// [`CodecError`] with the name of the kind that is expected.
 pub fn expect_kind(bytes: &ArrayBytes<'_>, data_type: &DataType) -> Result<(), CodecError>
-    ensures answer { told result
+    ensures { told result
         ≡ answer_of (kind_refusal (kind_seen data_type.now) (raw_of bytes.now)) }
-    ensures other { (len expected : ℕ) → IfErr result (TellsLength len expected) }
 {
     match step_of(data_type) {
         Step::Fixed(_) => match bytes {
@@ -100,9 +95,8 @@ fn is_one_more(len: usize, number: u64) -> bool
 /// # Errors
 /// [`CodecError`] with the name of the length that is wrong.
 pub fn expect_lengths(bytes: &ArrayBytes<'_>, number: u64, size: usize) -> Result<(), CodecError>
-    ensures answer { told result ≡ answer_of (lengths_refusal size number (raw_of bytes.now)) }
-    ensures lengths { IfErr result
-        (TellsLength (inner_length (raw_of bytes.now)) (number * size)) }
+    ensures answer { told result ≡ lengths_answer size number (raw_of bytes.now) }
+    ensures ok { IfOk result (λ _. lengths_refusal size number (raw_of bytes.now) ≡ None) }
 {
     match bytes {
         ArrayBytes::Fixed(items) => {
@@ -132,8 +126,7 @@ pub fn expect_lengths(bytes: &ArrayBytes<'_>, number: u64, size: usize) -> Resul
 
 // The refusal of two values of different kinds.
 fn mixture(size: DataTypeSize) -> Result<(), CodecError>
-    ensures answer { told result ≡ answer_of (Some (mixture_refusal (size_seen size))) }
-    ensures other { (len expected : ℕ) → IfErr result (TellsLength len expected) }
+    ensures { told result ≡ answer_of (Some (mixture_refusal (size_seen size))) }
 {
     match size {
         DataTypeSize::Variable => Err(not_variable()),
@@ -143,8 +136,7 @@ fn mixture(size: DataTypeSize) -> Result<(), CodecError>
 
 // The innermost level, where both are of one size, and where both are of any size.
 fn fixed_pair(size: DataTypeSize) -> Result<(), CodecError>
-    ensures answer { told result ≡ answer_of (fixed_pair_refusal (size_seen size)) }
-    ensures other { (len expected : ℕ) → IfErr result (TellsLength len expected) }
+    ensures { told result ≡ answer_of (fixed_pair_refusal (size_seen size)) }
 {
     match size {
         DataTypeSize::Variable => Err(not_variable()),
@@ -153,8 +145,7 @@ fn fixed_pair(size: DataTypeSize) -> Result<(), CodecError>
 }
 
 fn variable_pair(size: DataTypeSize) -> Result<(), CodecError>
-    ensures answer { told result ≡ answer_of (variable_pair_refusal (size_seen size)) }
-    ensures other { (len expected : ℕ) → IfErr result (TellsLength len expected) }
+    ensures { told result ≡ answer_of (variable_pair_refusal (size_seen size)) }
 {
     match size {
         DataTypeSize::Variable => Ok(()),
@@ -171,9 +162,8 @@ pub fn expect_pair(
     old: &ArrayBytes<'_>,
     new: &ArrayBytes<'_>,
 ) -> Result<(), CodecError>
-    ensures answer { told result
+    ensures { told result
         ≡ answer_of (pair_refusal (size_seen size) (raw_of old.now) (raw_of new.now)) }
-    ensures other { (len expected : ℕ) → IfErr result (TellsLength len expected) }
 {
     match old {
         ArrayBytes::Fixed(_) => match new {
@@ -212,9 +202,8 @@ pub fn is_fixed_inside(bytes: &ArrayBytes<'_>) -> bool
 pub fn expect_fit<I: Indexer>(alloc: Global, indexer: &I, shape: &[u64]) -> Result<(), CodecError>
     requires { count_of shape.now < 2 ^ 64 }
     ensures fits { IfOk result (λ _. I.fits indexer.now shape.now ≡ true) }
-    ensures answer { Answers (first_answer None (I.fits indexer.now shape.now) None) result }
+    ensures answer { Answers (first_answer None (I.fits indexer.now shape.now) fine) result }
     ensures unfit { IfErr result (IfUnfit (I.refuses indexer.now shape.now)) }
-    ensures other { (len expected : ℕ) → IfErr result (TellsLength len expected) }
 {
     match indexer.iter_contiguous_linearised_indices(alloc, shape) {
         Ok(_) => Ok(()),

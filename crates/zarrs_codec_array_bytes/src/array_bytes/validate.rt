@@ -3,11 +3,9 @@
 ghost use Rattle.std.specs.Prelude.{◌≡◌, ◌<◌, ◌*◌, ◌^◌, ◌+◌, nat_le, IfErr};
 ghost use Rattle.std.specs.List.{list_all};
 ghost use Rattle.zarr_model.specs.ArrayBytes.{are_offsets, offsets_rise_to, is_mask};
-ghost use Rattle.zarr_model.specs.Command.{bytes_refusal};
-ghost use Rattle.zarrs_codec_array_bytes.specs.Levels.{inner_length};
 ghost use Rattle.zarrs_codec_array_bytes.specs.Steps.{kind_seen, bytes_seen};
 ghost use Rattle.zarrs_codec_array_bytes.specs.Raw.{raw_of};
-ghost use Rattle.zarrs_codec_array_bytes.specs.Refusals.{told, answer_of, TellsLength};
+ghost use Rattle.zarrs_codec_array_bytes.specs.Refusals.{told, validity};
 
 use super::checks::{not_fixed, not_optional, not_variable};
 use super::step::{Step, step_of};
@@ -70,10 +68,7 @@ impl<'a> ArrayBytes<'a> {
     pub fn validate(&self, num_elements: u64, data_type: &DataType) -> Result<(), CodecError>
         requires count { num_elements + 1 < 2 ^ 64 }
         requires bytes { num_elements * bytes_seen data_type.now < 2 ^ 64 }
-        ensures answer { told result
-            ≡ answer_of (bytes_refusal (kind_seen data_type.now) num_elements (raw_of self.now)) }
-        ensures lengths { IfErr result (TellsLength (inner_length (raw_of self.now))
-            (num_elements * bytes_seen data_type.now)) }
+        ensures { told result ≡ validity (kind_seen data_type.now) num_elements (raw_of self.now) }
     {
         match step_of(data_type) {
             Step::Fixed(size) => match self {
