@@ -1,4 +1,4 @@
-//! Worked examples of byte ranges, of options of codecs, and of the texts of their errors.
+//! Worked examples of byte ranges, of options of codecs, of the texts of their errors, and of views.
 #![tactic(auto)]
 
 #[cfg(test)]
@@ -9,3 +9,5 @@ mod options;
 mod ranges;
 #[cfg(test)]
 mod texts;
+#[cfg(test)]
+mod views;
