@@ -1,5 +1,6 @@
 -- Ranges of bytes in a value.
-use Rattle.std.specs.Prelude.{◌≡◌, ℕ, ◌+◌, ◌-◌, Bool, false, nat_le, if◌then◌else◌, List, [], ◌∷◌, length, take, drop, map, Option, Some, None, Vec}
+use Rattle.std.specs.Prelude.{◌≡◌, ℕ, ◌+◌, ◌-◌, ◌^◌, min, Bool, false, nat_le, if◌then◌else◌, List, [], ◌∷◌, length, take, drop, map, Option, Some, None, Vec}
+use Rattle.std.specs.List.{concat}
 use Rattle.zarrs_storage.specs.declared.byte_range.ByteRange.{ByteRange}
 use Rattle.zarrs_storage.specs.declared.byte_range.ByteRange.TheVariants.{FromStart, Suffix}
 use Rattle.zarrs_storage.specs.declared.byte_range.InvalidByteRangeError.{InvalidByteRangeError}
@@ -35,6 +36,10 @@ slice_of range value =
 -- the bytes that each of some ranges names, in order
 abbrev pub slices_of : List ByteRange → List ℕ → List (List ℕ)
 slices_of ranges value = map (λ range. slice_of range value) ranges
+
+-- how many bytes ranges name together, or the greatest `usize` where they are more
+abbrev pub room_of : List ByteRange → List ℕ → ℕ
+room_of ranges value = min (length (concat (slices_of ranges value))) (2 ^ 64 - 1)
 
 -- the first range that is not valid
 abbrev pub first_invalid : ℕ → List ByteRange → Option ByteRange

@@ -2,7 +2,7 @@
 
 ghost use Rattle.std.specs.Prelude.{◌≡◌, ◌-◌, ◌≤◌, true, length, None, IfOk, IfErr};
 ghost use Rattle.std.specs.List.{concat};
-ghost use Rattle.zarrs_storage.specs.ByteRange.{is_valid, start_in, end_in, slice_of, slices_of, first_invalid, parts_of, IsFirstInvalid, IsRefusal};
+ghost use Rattle.zarrs_storage.specs.ByteRange.{is_valid, start_in, end_in, slice_of, slices_of, first_invalid, parts_of, IsFirstInvalid, IsRefusal, room_of};
 
 use std::alloc::{AllocError, AllocFailed, Global};
 use thiserror::Error;
@@ -160,15 +160,16 @@ pub fn extract_byte_ranges(
 
 // How many bytes the ranges have together, or `usize::MAX` where they are more.
 fn joined_length(bytes: &[u8], ranges: &[ByteRange]) -> Result<usize, ByteRangeFault>
-    ensures { IfErr result
+    ensures value { IfOk result (λ room. room ≡ room_of ranges.now bytes.now) }
+    ensures refused { IfErr result
         (IsFirstInvalid (first_invalid (length bytes.now) ranges.now) (length bytes.now)) }
 {
-    let mut length = 0_usize;
+    let mut room = 0_usize;
     for range in ranges {
         let part = part_of(bytes, *range)?;
-        length = length.saturating_add(part.len());
+        room = room.saturating_add(part.len());
     }
-    Ok(length)
+    Ok(room)
 }
 
 /// The bytes of all ranges of a value, one after another in the order of the ranges.
