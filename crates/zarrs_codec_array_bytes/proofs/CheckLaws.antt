@@ -1,13 +1,11 @@
 -- Lengths that are not refused.
-use Rattle.std.proofs.Common.{◌≡◌, ℕ, ◌+◌, ◌*◌, ◌==◌, Bool, true, false, not, List, [], ◌∷◌, length, map, get_or, ◌<◌, zero, suc, Option, Some, None, Result, IfErr, arith, refl, ap, sym, subst, eqb-true}
+use Rattle.std.proofs.Common.{◌≡◌, ℕ, ◌+◌, ◌*◌, ◌==◌, Bool, true, false, not, List, length, get_or, ◌<◌, Option, Some, None, arith, refl, ap, sym, subst, eqb-true}
 use Rattle.zarr_model.specs.Command.{Refusal, incompatible_dimensionality, subset_out_of_bounds, region_too_large, expected_fixed_length_bytes, expected_variable_length_bytes, expected_optional_bytes, invalid_mask, unexpected_chunk_decoded_size, invalid_variable_sized_array_offsets, element_too_long, refused_if, or_then, has_long_element}
 use Rattle.zarr_model.specs.ArrayBytes.{ArrayBytes, fixed_bytes, variable_bytes, optional_bytes}
 use Rattle.zarrs_codec_array_bytes.specs.Refusals.{lengths_refusal, are_alike, pair_refusal, Told, told_by, fine, sized_answer, then_answer}
 use Rattle.zarrs_codec_error.specs.declared.error.CodecError.{CodecError}
 use Rattle.zarrs_codec_error.specs.declared.error.CodecError.TheVariants as codec
-use Rattle.std.specs.List.{range_with_len, AllByRecursion}
-use Rattle.zarr_model.specs.Region.{contains, count_of, linear_index, whole, count, place}
-use Rattle.zarr_model.proofs.RegionLaws.{place_below}
+use Rattle.std.specs.List.{range_with_len}
 use Rattle.zarrs_codec_bytes.specs.Picking.{AllBelow, gathered, replaced}
 use Rattle.zarrs_codec_bytes.proofs.ShortLaws.{gathered_short}
 use Rattle.zarrs_codec_bytes.proofs.ReplaceLaws.{picks_below}

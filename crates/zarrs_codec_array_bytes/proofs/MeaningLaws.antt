@@ -1,15 +1,17 @@
 -- What calls on array bytes answer, by what the bytes mean.
-use Rattle.std.proofs.Common.{◌≡◌, ℕ, ◌+◌, ◌<◌, List, length, map, get_or, false, true, Bool, Option, Some, None, Result, Ok, Err, IfOk, sym, ap, ◌∙◌, subst, refl, arith}
-use Rattle.std.specs.List.{range_with_len, AllByRecursion}
+use Rattle.std.proofs.Common.{◌≡◌, ℕ, ◌^◌, ◌<◌, List, length, replicate, false, true, Bool, Option, Some, None, Result, Ok, Err, IfOk, sym, ap, ◌∙◌, refl}
+use Rattle.std.specs.List.{AllByRecursion}
 use Rattle.std.proofs.lemmas.List.{length-map}
 use Rattle.zarr_model.specs.Region.{count_of, linear_index, whole, contains}
-use Rattle.zarr_model.specs.Element.{Element, Kind, null, fixed_size}
+use Rattle.zarr_model.specs.Element.{Element, Kind, null, fixed_size, fill_element}
 use Rattle.zarr_model.specs.ArrayBytes.{ArrayBytes, meaning}
 use Rattle.zarr_model.specs.Command.{has_long_element}
 use Rattle.zarr_model.specs.Command as model
 use Rattle.zarrs_codec_error.specs.declared.error.CodecError.{CodecError}
 use Rattle.zarrs_codec_bytes.specs.Picking.{AllBelow, gathered, picked, replaced, size_in}
 use Rattle.zarrs_codec_bytes.proofs.GatherLaws.{extract_means, update_means}
+use Rattle.zarrs_codec_bytes.specs.Filling.{filled_with, innermost_fill}
+use Rattle.zarrs_codec_bytes.proofs.FilledLaws.{filled_means, filled_short}
 use Rattle.zarrs_codec_bytes.proofs.RowLaws.{indices_below}
 use Rattle.zarrs_codec_array_bytes.specs.Selection.{linear, update_picks}
 use Rattle.zarrs_codec_array_bytes.specs.Refusals.{Told, fine, refused, wrong_length, unfit, other_fill, no_memory, odd, Answers, first_answer, then_answer, lengths_refusal, lengths_answer, extract_answer, update_answer}
@@ -83,3 +85,14 @@ updated_short raw size shape places fits old new (Ok v) answers is a b =
     ∙ still_short (size_in size) (count_of shape) (length (linear shape places)) (update_picks (count_of shape) (linear shape places)) old new
     old_long (ap (λ n. lengths_refusal (size_in size) n new) given ∙ new_long) a b (picks_in (count_of shape) (linear shape places) _ refl)
 updated_short raw size shape places fits old new (Err e') answers is a b = tt
+
+-- what is filled
+pub filled_answer : {T E : Type 0} (raw : T → ArrayBytes) (kind : Kind) (number : ℕ) (fill : List ℕ) (r : Result T E) → IfOk r (λ v. raw v ≡ filled_with kind number fill) →
+    (x : Element) → fill_element kind fill ≡ Some x → IfOk r (λ v. meaning kind number (raw v) ≡ Some (replicate number x))
+filled_answer raw kind number fill (Ok v) is x e = ap (meaning kind number) is ∙ filled_means kind number fill x e
+filled_answer raw kind number fill (Err e') is x e = tt
+
+pub short_answer : {T E : Type 0} (raw : T → ArrayBytes) (kind : Kind) (number : ℕ) (fill : List ℕ) (r : Result T E) → IfOk r (λ v. raw v ≡ filled_with kind number fill) →
+    length (innermost_fill kind fill) < 2 ^ 32 → IfOk r (λ v. has_long_element (raw v) ≡ false)
+short_answer raw kind number fill (Ok v) is h = ap has_long_element is ∙ filled_short kind number fill h
+short_answer raw kind number fill (Err e') is h = tt

@@ -1,5 +1,5 @@
 -- Offsets of variable-length elements.
-use Rattle.std.proofs.Common.{◌≡◌, ℕ, suc, ◌+◌, ◌-◌, ◌<◌, ◌≤◌, Bool, true, false, nat_le, if◌then◌else◌, List, [], ◌∷◌, length, get_or, Option, Some, None, arith, ap, sym, refl, ◌∙◌, subst}
+use Rattle.std.proofs.Common.{◌≡◌, ℕ, suc, ◌-◌, ◌<◌, ◌≤◌, Bool, true, false, nat_le, List, [], ◌∷◌, length, get_or, None, arith, ap, sym, refl, subst}
 use Rattle.std.proofs.lemmas.Bool.{and_parts, and_from, le-leb, leb-true}
 use Rattle.zarrs_codec_bytes.specs.Picking.{stay_within, are_within}
 use Rattle.zarrs_codec_array_bytes.specs.Offsets.{rises_from, never_falls, offsets_error, last_of}

@@ -1,5 +1,6 @@
 pub mod Offsets
 pub mod Raw
+pub mod Created
 pub mod Levels
 pub mod Steps
 pub mod Selection

@@ -1,5 +1,5 @@
 -- Offsets of variable-length elements.
-use Rattle.std.specs.Prelude.{ℕ, ◌-◌, Bool, true, nat_le, ◌&&◌, if◌then◌else◌, List, [], ◌∷◌, length, get_or, Option, Some, None, Result, Ok, Err}
+use Rattle.std.specs.Prelude.{ℕ, ◌-◌, Bool, true, nat_le, ◌&&◌, if◌then◌else◌, List, [], ◌∷◌, length, get_or, Option, Some, None}
 use Rattle.zarrs_codec_error.specs.declared.array_bytes_error.ArrayBytesRawOffsetsCreateError.{ArrayBytesRawOffsetsCreateError}
 use Rattle.zarrs_codec_error.specs.declared.array_bytes_error.ArrayBytesRawOffsetsCreateError.TheVariants.{ZeroLength, NotMonotonicallyIncreasing}
 
@@ -21,8 +21,3 @@ offsets_error (first ∷ numbers) =
 -- the last number
 abbrev pub last_of : List ℕ → ℕ
 last_of numbers = get_or numbers (length numbers - 1) 0
-
--- the error of an answer, if it is one
-abbrev pub error_of : {T E : Type 0} → Result T E → Option E
-error_of (Ok value) = None
-error_of (Err error) = Some error

@@ -18,10 +18,13 @@ values_of variable = cow_slice_items variable.bytes
 abbrev pub offsets_of : ArrayBytesVariableLength → List ℕ
 offsets_of variable = numbers_of variable.offsets
 
+abbrev pub variable_of : ArrayBytesVariableLength → bytes.ArrayBytes
+variable_of variable = bytes.variable_bytes (values_of variable) (offsets_of variable)
+
 -- array bytes as those of the model
 abbrev pub raw_of : code.ArrayBytes → bytes.ArrayBytes
 raw_of (code.Fixed fixed) = bytes.fixed_bytes (cow_slice_items fixed)
-raw_of (code.Variable variable) = bytes.variable_bytes (values_of variable) (offsets_of variable)
+raw_of (code.Variable variable) = variable_of variable
 raw_of (code.Optional' pointer inner mask) =
     bytes.optional_bytes (raw_of inner) (cow_slice_items mask)
 

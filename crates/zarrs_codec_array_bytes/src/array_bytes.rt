@@ -4,7 +4,10 @@ ghost use Rattle.std.specs.Prelude.{◌≡◌, length, is_ok, ◌≤◌, option_
 ghost use Rattle.std.specs.Cow.{cow_slice_items};
 
 mod checks;
+mod conversions;
+mod equality;
 mod extract;
+mod fill;
 mod gather;
 mod offsets;
 mod optional;

@@ -18,3 +18,4 @@ pub mod SameLaws
 pub mod SeenLaws
 pub mod ValidLaws
 pub mod RepeatLaws
+pub mod EqualityLaws

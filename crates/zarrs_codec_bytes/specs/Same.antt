@@ -36,6 +36,13 @@ abbrev pub same_optional : List ℕ → ArrayBytes → List ℕ → ArrayBytes �
 same_optional m a k b = bytes_eq m k
     && (same_shape a b && list_all (same_under m a b) (range_with_len 0 (length m)))
 
+-- array bytes are equal: the same bytes, the same bytes and offsets, or equal optional ones
+abbrev pub same_array_bytes : ArrayBytes → ArrayBytes → Bool
+same_array_bytes (fixed_bytes a) (fixed_bytes b) = bytes_eq a b
+same_array_bytes (variable_bytes a p) (variable_bytes b q) = bytes_eq a b && bytes_eq p q
+same_array_bytes (optional_bytes a m) (optional_bytes b k) = same_optional m a k b
+same_array_bytes _ _ = false
+
 -- what equality sees of an element: its bytes, or the mask byte and what is under it, or that there
 -- is none
 pub data Seen : Type 0 where

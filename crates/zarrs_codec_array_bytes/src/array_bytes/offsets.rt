@@ -2,7 +2,7 @@
 
 ghost use Rattle.std.specs.Prelude.{◌≡◌, ◌<◌, ◌∷◌, true, length, IfOk, IsTrue, option_map};
 ghost use Rattle.std.specs.Cow.{cow_slice_items};
-ghost use Rattle.zarrs_codec_array_bytes.specs.Offsets.{rises_from, never_falls, offsets_error, last_of, error_of};
+ghost use Rattle.zarrs_codec_array_bytes.specs.Offsets.{rises_from, never_falls, offsets_error, last_of};
 
 use std::alloc::{AllocError, Global};
 use std::borrow::CowSlice;
@@ -59,6 +59,7 @@ fn create_error(numbers: &[usize]) -> Option<ArrayBytesRawOffsetsCreateError>
 
 impl<'a> ArrayBytesOffsets<'a> {
     ghost use Rattle.zarrs_codec_array_bytes.specs.Raw.{numbers_of};
+    ghost use Rattle.zarrs_codec_array_bytes.specs.Created.{GivesOffsets};
 
     /// These numbers as offsets.
     ///
@@ -66,8 +67,7 @@ impl<'a> ArrayBytesOffsets<'a> {
     /// [`ArrayBytesRawOffsetsCreateError`] where there is none, or one is less than the one before it.
     #[tactic(auto, using(crate::proofs::OffsetLaws::some_offset, crate::proofs::OffsetLaws::rising_offsets))]
     pub fn new(offsets: CowSlice<'a, usize>) -> Result<Self, ArrayBytesRawOffsetsCreateError>
-        ensures exact { error_of result ≡ offsets_error (cow_slice_items offsets.entry) }
-        ensures value { IfOk result (λ o. numbers_of o ≡ cow_slice_items offsets.entry) }
+        ensures { GivesOffsets (cow_slice_items offsets.entry) result }
     {
         match create_error(numbers_in(&offsets)) {
             Some(error) => Err(error),
