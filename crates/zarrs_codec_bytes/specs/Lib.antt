@@ -1,2 +1,7 @@
 pub mod Elements
+pub mod Filled
 pub mod Overlap
+pub mod Picking
+pub mod Filling
+pub mod Same
+pub mod Laws

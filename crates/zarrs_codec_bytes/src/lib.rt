@@ -1,7 +1,14 @@
-//! Elements of one size in memory: copies of what two boxes of an array share, and fill values.
+//! Elements in memory, as slices: copies of what two boxes of an array share, fill values, and elements that are picked
+//! and replaced.
 //!
 //! See <https://zarr-specs.readthedocs.io/en/latest/v3/core/index.html#fill-value>.
 #![tactic(auto)]
 
 pub mod fill;
+pub mod fill_box;
+pub mod laws;
 pub mod overlap;
+pub mod picks;
+pub mod pieces;
+pub mod rows;
+pub mod values;

@@ -40,8 +40,8 @@ fn all_pieces(fill: &[u8], bytes: &[u8]) -> bool
     true
 }
 
-// Whether bytes are a fill at least once, and nothing else.
-fn repeats(fill: &[u8], bytes: &[u8]) -> bool
+/// Whether bytes are those of a fill value repeated at least once; empty ones equal only empty bytes.
+pub fn repeats(fill: &[u8], bytes: &[u8]) -> bool
     ensures { IsTrue result ↔ Repeats fill.now bytes.now }
 {
     if fill.is_empty() {
@@ -56,8 +56,8 @@ fn repeats(fill: &[u8], bytes: &[u8]) -> bool
     all_pieces(fill, bytes)
 }
 
-// Whether the last byte is 0.
-fn ends_in_zero(bytes: &[u8]) -> bool
+/// Whether the last byte is 0, which makes a fill value of an optional type null.
+pub fn ends_in_zero(bytes: &[u8]) -> bool
     ensures { result ≡ ends_in_zero bytes.now }
 {
     match bytes {

@@ -3,12 +3,17 @@
 //! See <https://zarr-specs.readthedocs.io/en/latest/v3/core/index.html#stores>.
 #![tactic(auto)]
 
+pub mod byte_range;
 pub mod memory_store;
 pub mod sink;
 pub mod source;
 pub mod store;
 pub mod store_key;
 
+pub use byte_range::{
+    ByteRange, ByteRangeFault, InvalidByteRangeError, OffsetBytes, extract_byte_ranges,
+    extract_byte_ranges_concat,
+};
 pub use memory_store::MemoryStore;
 pub use sink::{MemorySink, Sink, WriteSink};
 pub use source::{IoFailed, MemorySource, ReadSource, Source};

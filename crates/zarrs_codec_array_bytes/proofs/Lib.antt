@@ -1,0 +1,4 @@
+pub mod OffsetLaws
+pub mod CheckLaws
+pub mod RowLaws
+pub mod MeaningLaws

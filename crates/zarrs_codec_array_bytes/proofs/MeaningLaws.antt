@@ -1,0 +1,98 @@
+-- What calls on array bytes answer, by what the bytes mean.
+use Rattle.std.proofs.Common.{◌≡◌, ℕ, ◌^◌, ◌<◌, List, length, replicate, false, true, Bool, Option, Some, None, Result, Ok, Err, IfOk, sym, ap, ◌∙◌, refl}
+use Rattle.std.specs.List.{AllByRecursion}
+use Rattle.std.proofs.lemmas.List.{length-map}
+use Rattle.zarr_model.specs.Region.{count_of, linear_index, whole, contains}
+use Rattle.zarr_model.specs.Element.{Element, Kind, null, fixed_size, fill_element}
+use Rattle.zarr_model.specs.ArrayBytes.{ArrayBytes, meaning}
+use Rattle.zarr_model.specs.Command.{has_long_element}
+use Rattle.zarr_model.specs.Command as model
+use Rattle.zarrs_codec_error.specs.declared.error.CodecError.{CodecError}
+use Rattle.zarrs_codec_bytes.specs.Picking.{AllBelow, gathered, picked, replaced, size_in}
+use Rattle.zarrs_codec_bytes.proofs.GatherLaws.{extract_means, update_means}
+use Rattle.zarrs_codec_bytes.specs.Filling.{filled_with, innermost_fill}
+use Rattle.zarrs_codec_bytes.proofs.FilledLaws.{filled_means, filled_short}
+use Rattle.zarrs_codec_bytes.proofs.RowLaws.{indices_below}
+use Rattle.zarrs_codec_array_bytes.specs.Selection.{linear, update_picks}
+use Rattle.zarrs_codec_array_bytes.specs.Refusals.{Told, fine, refused, wrong_length, unfit, other_fill, no_memory, odd, Answers, first_answer, then_answer, lengths_refusal, lengths_answer, extract_answer, update_answer}
+use Rattle.zarrs_codec_array_bytes.proofs.CheckLaws.{still_short, picks_in, below_twice, sized_fine}
+
+-- an answer over an indexer that is fine
+pub record IsFine (first : Option model.Refusal) (fits : Bool) (next : Told) : Type 0 where
+  pub kind : first ≡ None
+  pub fit : fits ≡ true
+  pub lengths : next ≡ fine
+
+pub is_fine : (first : Option model.Refusal) (fits : Bool) (next : Told) → first_answer first fits next ≡ fine → IsFine first fits next
+is_fine (Some why) fits next e = cc
+is_fine None false next e = cc
+is_fine None true next e = record { kind = refl; fit = refl; lengths = e }
+
+first_fine : (first next : Told) → then_answer first next ≡ fine → first ≡ fine
+first_fine fine next e = refl
+first_fine (refused why) next e = cc
+first_fine (wrong_length len expected) next e = cc
+first_fine unfit next e = cc
+first_fine other_fill next e = cc
+first_fine no_memory next e = cc
+first_fine odd next e = cc
+
+both_fine : (first next : Told) → then_answer first next ≡ fine → (first ≡ fine) × (next ≡ fine)
+both_fine first next e = let is : first ≡ fine = first_fine first next e in (is, sym (ap (λ t. then_answer t next) is) ∙ e)
+
+pub selected : {T : Type 0} (raw : T → ArrayBytes) (kind : Kind) (shape : List ℕ) (places : List (List ℕ)) (fits : Bool) (old : ArrayBytes) (r : Result T CodecError) →
+    (fits ≡ true → AllByRecursion (λ tuple. contains (whole shape) tuple ≡ true) places) → Answers (extract_answer kind fits (count_of shape) old) r →
+    IfOk r (λ v. raw v ≡ gathered (size_in (fixed_size kind)) (count_of shape) (linear shape places) old old) →
+    (xs : List Element) → meaning kind (count_of shape) old ≡ Some xs → IfOk r (λ v. meaning kind (length places) (raw v) ≡ Some (picked null (linear shape places) xs))
+selected raw kind shape places fits old (Ok v) inside answers is xs e =
+    let below : AllBelow (count_of shape) (linear shape places) = indices_below shape places (inside (is_fine _ _ _ answers).fit) in
+    ap (meaning kind (length places)) is
+    ∙ (ap (λ k. meaning kind k (gathered (size_in (fixed_size kind)) (count_of shape) (linear shape places) old old)) (sym (length-map places (linear_index shape)))
+    ∙ extract_means kind (count_of shape) (linear shape places) old xs below e)
+selected raw kind shape places fits old (Err e') inside answers is xs e = tt
+
+pub selected_short : {T : Type 0} (raw : T → ArrayBytes) (kind : Kind) (shape : List ℕ) (places : List (List ℕ)) (fits : Bool) (old : ArrayBytes) (r : Result T CodecError) →
+    (fits ≡ true → AllByRecursion (λ tuple. contains (whole shape) tuple ≡ true) places) → Answers (extract_answer kind fits (count_of shape) old) r →
+    IfOk r (λ v. raw v ≡ gathered (size_in (fixed_size kind)) (count_of shape) (linear shape places) old old) →
+    has_long_element old ≡ false → IfOk r (λ v. has_long_element (raw v) ≡ false)
+selected_short raw kind shape places fits old (Ok v) inside answers is short =
+    let all = is_fine _ _ _ answers in
+    let long : lengths_refusal (size_in (fixed_size kind)) (count_of shape) old ≡ None = sized_fine _ _ _ all.lengths in
+    let below : AllBelow (count_of shape) (linear shape places) = indices_below shape places (inside all.fit) in
+    ap has_long_element is
+    ∙ still_short (size_in (fixed_size kind)) (count_of shape) (count_of shape) (linear shape places) old old long long short short (below_twice (count_of shape) (linear shape places) below)
+selected_short raw kind shape places fits old (Err e') inside answers is short = tt
+
+pub updated : {T : Type 0} (raw : T → ArrayBytes) (size : Option ℕ) (shape : List ℕ) (places : List (List ℕ)) (old new : ArrayBytes) (r : Result T CodecError) →
+    IfOk r (λ v. raw v ≡ gathered (size_in size) (count_of shape) (update_picks (count_of shape) (linear shape places)) old new) →
+    (kind : Kind) (xs ys : List Element) → fixed_size kind ≡ size → meaning kind (count_of shape) old ≡ Some xs → meaning kind (length places) new ≡ Some ys →
+    IfOk r (λ v. meaning kind (count_of shape) (raw v) ≡ Some (replaced (linear shape places) ys xs))
+updated raw size shape places old new (Ok v) is kind xs ys same e f =
+    ap (meaning kind (count_of shape)) (is ∙ ap (λ s. gathered (size_in s) (count_of shape) (update_picks (count_of shape) (linear shape places)) old new) (sym same))
+    ∙ update_means kind (count_of shape) (linear shape places) old new xs ys e (ap (λ k. meaning kind k new) (length-map places (linear_index shape)) ∙ f)
+updated raw size shape places old new (Err e') is kind xs ys same e f = tt
+
+pub updated_short : {T : Type 0} (raw : T → ArrayBytes) (size : Option ℕ) (shape : List ℕ) (places : List (List ℕ)) (fits : Bool) (old new : ArrayBytes) (r : Result T CodecError) →
+    Answers (update_answer size fits (count_of shape) old (length places) new) r →
+    IfOk r (λ v. raw v ≡ gathered (size_in size) (count_of shape) (update_picks (count_of shape) (linear shape places)) old new) →
+    has_long_element old ≡ false → has_long_element new ≡ false → IfOk r (λ v. has_long_element (raw v) ≡ false)
+updated_short raw size shape places fits old new (Ok v) answers is a b =
+    let lengths = both_fine (lengths_answer (size_in size) (count_of shape) old) (lengths_answer (size_in size) (length places) new) (is_fine _ _ _ answers).lengths in
+    let old_long : lengths_refusal (size_in size) (count_of shape) old ≡ None = sized_fine _ _ _ lengths.0 in
+    let new_long : lengths_refusal (size_in size) (length places) new ≡ None = sized_fine _ _ _ lengths.1 in
+    let given : length (linear shape places) ≡ length places = length-map places (linear_index shape) in
+    ap has_long_element is
+    ∙ still_short (size_in size) (count_of shape) (length (linear shape places)) (update_picks (count_of shape) (linear shape places)) old new
+    old_long (ap (λ n. lengths_refusal (size_in size) n new) given ∙ new_long) a b (picks_in (count_of shape) (linear shape places) _ refl)
+updated_short raw size shape places fits old new (Err e') answers is a b = tt
+
+-- what is filled
+pub filled_answer : {T E : Type 0} (raw : T → ArrayBytes) (kind : Kind) (number : ℕ) (fill : List ℕ) (r : Result T E) → IfOk r (λ v. raw v ≡ filled_with kind number fill) →
+    (x : Element) → fill_element kind fill ≡ Some x → IfOk r (λ v. meaning kind number (raw v) ≡ Some (replicate number x))
+filled_answer raw kind number fill (Ok v) is x e = ap (meaning kind number) is ∙ filled_means kind number fill x e
+filled_answer raw kind number fill (Err e') is x e = tt
+
+pub short_answer : {T E : Type 0} (raw : T → ArrayBytes) (kind : Kind) (number : ℕ) (fill : List ℕ) (r : Result T E) → IfOk r (λ v. raw v ≡ filled_with kind number fill) →
+    length (innermost_fill kind fill) < 2 ^ 32 → IfOk r (λ v. has_long_element (raw v) ≡ false)
+short_answer raw kind number fill (Ok v) is h = ap has_long_element is ∙ filled_short kind number fill h
+short_answer raw kind number fill (Err e') is h = tt

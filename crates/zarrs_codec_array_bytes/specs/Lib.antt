@@ -1,0 +1,7 @@
+pub mod Offsets
+pub mod Raw
+pub mod Created
+pub mod Levels
+pub mod Steps
+pub mod Selection
+pub mod Refusals

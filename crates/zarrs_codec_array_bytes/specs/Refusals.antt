@@ -1,0 +1,153 @@
+-- Why a call on array bytes is refused.
+use Rattle.std.specs.Prelude.{◌≡◌, ℕ, ◌*◌, ◌+◌, ◌-◌, ◌^◌, ◌==◌, ◌⊎◌, min, Bool, true, false, not, length, Option, Some, None, Result, Ok, Err}
+use Rattle.zarr_model.specs.Element.{Kind, fixed, variable, optional, fixed_size}
+use Rattle.zarr_model.specs.ArrayBytes.{ArrayBytes, fixed_bytes, variable_bytes, optional_bytes}
+use Rattle.zarr_model.specs.Command as model
+use Rattle.zarrs_array_subset.specs.declared.error.IndexerError.{IndexerError}
+use Rattle.zarrs_codec_bytes.specs.Picking.{size_in}
+use Rattle.zarrs_codec_array_bytes.specs.Levels.{inner_length}
+use Rattle.zarrs_codec_error.specs.declared.error.CodecError.{CodecError}
+use Rattle.zarrs_codec_error.specs.declared.error.CodecError.TheVariants as codec
+
+-- what an answer says: nothing against the bytes, a refusal of them, their length and the expected
+-- one, an indexer that does not fit, a fill value of another size, want of memory, or what no call
+-- here says
+pub data Told : Type 0 where
+  fine : Told
+  refused : model.Refusal → Told
+  wrong_length : ℕ → ℕ → Told
+  unfit : Told
+  other_fill : Told
+  no_memory : Told
+  odd : Told
+
+abbrev pub told_by : CodecError → Told
+told_by (codec.ExpectedFixedLengthBytes e) = refused model.expected_fixed_length_bytes
+told_by (codec.ExpectedVariableLengthBytes e) = refused model.expected_variable_length_bytes
+told_by (codec.ExpectedOptionalBytes e) = refused model.expected_optional_bytes
+told_by (codec.UnexpectedChunkDecodedSize e) = wrong_length e.len e.expected_len
+told_by codec.InvalidVariableSizedArrayOffsets = refused model.invalid_variable_sized_array_offsets
+told_by codec.InvalidMask = refused model.invalid_mask
+told_by (codec.IncompatibleIndexer e) = unfit
+told_by (codec.DataTypeFillValueError e) = other_fill
+told_by codec.OutOfMemory = no_memory
+told_by _ = odd
+
+abbrev pub told : {T : Type 0} → Result T CodecError → Told
+told (Ok v) = fine
+told (Err e) = told_by e
+
+abbrev pub answer_of : Option model.Refusal → Told
+answer_of None = fine
+answer_of (Some why) = refused why
+
+-- the same with the length of the data and the expected one, which is told as the greatest number
+-- where it is greater
+abbrev pub sized_answer : ℕ → ℕ → Option model.Refusal → Told
+sized_answer len expected None = fine
+sized_answer len expected (Some model.unexpected_chunk_decoded_size) =
+    wrong_length len (min expected (2 ^ 64 - 1))
+sized_answer len expected (Some why) = refused why
+
+-- the bytes are of another kind than their type, the outermost level first
+abbrev pub kind_refusal : Kind → ArrayBytes → Option model.Refusal
+kind_refusal (fixed n) (fixed_bytes value) = None
+kind_refusal variable (variable_bytes value offsets) = None
+kind_refusal (optional inner) (optional_bytes under mask) = kind_refusal inner under
+kind_refusal (fixed n) _ = Some model.expected_fixed_length_bytes
+kind_refusal variable _ = Some model.expected_variable_length_bytes
+kind_refusal (optional inner) _ = Some model.expected_optional_bytes
+
+-- the bytes are of other lengths than so many elements have, the outermost level first
+abbrev pub lengths_refusal : ℕ → ℕ → ArrayBytes → Option model.Refusal
+lengths_refusal size number (fixed_bytes value) =
+    model.refused_if (not (length value == number * size)) model.unexpected_chunk_decoded_size
+lengths_refusal size number (variable_bytes value offsets) =
+    model.refused_if (not (length offsets == number + 1))
+    model.invalid_variable_sized_array_offsets
+lengths_refusal size number (optional_bytes under mask) =
+    model.or_then (model.refused_if (not (length mask == number)) model.invalid_mask)
+    (lengths_refusal size number under)
+
+-- two array bytes of different kinds, or of another innermost kind than this size says
+abbrev pub mixture_refusal : Option ℕ → model.Refusal
+mixture_refusal None = model.expected_variable_length_bytes
+mixture_refusal (Some n) = model.expected_fixed_length_bytes
+
+abbrev pub fixed_pair_refusal : Option ℕ → Option model.Refusal
+fixed_pair_refusal None = Some model.expected_variable_length_bytes
+fixed_pair_refusal (Some n) = None
+
+abbrev pub variable_pair_refusal : Option ℕ → Option model.Refusal
+variable_pair_refusal None = None
+variable_pair_refusal (Some n) = Some model.expected_fixed_length_bytes
+
+abbrev pub pair_refusal : Option ℕ → ArrayBytes → ArrayBytes → Option model.Refusal
+pair_refusal size (fixed_bytes old) (fixed_bytes new) = fixed_pair_refusal size
+pair_refusal size (variable_bytes old from) (variable_bytes new to) = variable_pair_refusal size
+pair_refusal size (optional_bytes old mask) (optional_bytes new over) = pair_refusal size old new
+pair_refusal size _ _ = Some (mixture_refusal size)
+
+-- what is said of the bytes as so many elements of a kind, of their lengths alone, and of those of
+-- old bytes and then of an update
+abbrev pub validity : Kind → ℕ → ArrayBytes → Told
+validity kind number value =
+    sized_answer (inner_length value) (number * size_in (fixed_size kind))
+    (model.bytes_refusal kind number value)
+
+abbrev pub lengths_answer : ℕ → ℕ → ArrayBytes → Told
+lengths_answer size number value =
+    sized_answer (inner_length value) (number * size) (lengths_refusal size number value)
+
+abbrev pub then_answer : Told → Told → Told
+then_answer fine next = next
+then_answer first next = first
+
+abbrev pub both_answer : ℕ → ℕ → ArrayBytes → ℕ → ArrayBytes → Told
+both_answer size number old given new =
+    then_answer (lengths_answer size number old) (lengths_answer size given new)
+
+-- two array bytes are of one kind, level by level
+abbrev pub are_alike : ArrayBytes → ArrayBytes → Bool
+are_alike (fixed_bytes old) (fixed_bytes new) = true
+are_alike (variable_bytes old from) (variable_bytes new to) = true
+are_alike (optional_bytes old mask) (optional_bytes new over) = are_alike old new
+are_alike _ _ = false
+
+-- the innermost data are of one size
+abbrev pub holds_fixed : ArrayBytes → Bool
+holds_fixed (fixed_bytes value) = true
+holds_fixed (variable_bytes value offsets) = false
+holds_fixed (optional_bytes under mask) = holds_fixed under
+
+-- what a call over an indexer answers first: the kinds, then the indexer, then the lengths
+abbrev pub first_answer : Option model.Refusal → Bool → Told → Told
+first_answer (Some why) fits next = refused why
+first_answer None false next = unfit
+first_answer None true next = next
+
+-- what a call over a fill value answers, by whether the fill value has the size of the type
+abbrev pub fill_answer : Bool → Told
+fill_answer true = fine
+fill_answer false = other_fill
+
+-- what an extraction answers, and an update
+abbrev pub extract_answer : Kind → Bool → ℕ → ArrayBytes → Told
+extract_answer kind fits number value =
+    first_answer (kind_refusal kind value) fits
+    (lengths_answer (size_in (fixed_size kind)) number value)
+
+abbrev pub update_answer : Option ℕ → Bool → ℕ → ArrayBytes → ℕ → ArrayBytes → Told
+update_answer size fits number old given new =
+    first_answer (pair_refusal size old new) fits
+    (both_answer (size_in size) number old given new)
+
+-- the call answers so, or memory ran out
+abbrev pub Answers : {T : Type 0} → Told → Result T CodecError → Type 0
+Answers wanted (Ok v) = wanted ≡ fine
+Answers wanted (Err e) = (e ≡ codec.OutOfMemory) ⊎ (told_by e ≡ wanted)
+
+-- where the error holds one of an indexer, it is one of these
+abbrev pub IfUnfit : (IndexerError → Type 0) → CodecError → Type 0
+IfUnfit Refuses (codec.IncompatibleIndexer e) = Refuses e
+IfUnfit Refuses _ = Unit {0}

@@ -1,0 +1,188 @@
+//! Elements of boxes in arrays, row by row.
+
+ghost use Rattle.std.specs.Prelude.{◌≡◌, ◌*◌, ◌<◌, ◌^◌, true, None, length, map, IfOk, IfErr, IfSome};
+ghost use Rattle.std.specs.List.{AllByRecursion};
+ghost use Rattle.zarr_model.specs.Region.{count, whole, contains, place, tuples};
+ghost use Rattle.zarrs_array_subset.specs.ArraySubset.{region};
+ghost use Rattle.zarrs_codec_bytes.specs.Picking.{gathered};
+ghost use Rattle.zarrs_codec_array_bytes.specs.Raw.{raw_of};
+ghost use Rattle.zarrs_codec_array_bytes.specs.Selection.{update_picks};
+ghost use Rattle.zarrs_codec_array_bytes.specs.Refusals.{lengths_refusal, are_alike, holds_fixed};
+ghost use Rattle.zarrs_codec_error.specs.declared.error.CodecError.TheVariants as codec;
+
+use super::gather::optional_of;
+use super::{ArrayBytes, bytes_in};
+use std::alloc::{AllocError, Global};
+use std::borrow::CowSlice;
+use zarrs_array_subset::ArraySubset;
+use zarrs_chunk_grid_indexer::Indexer;
+use zarrs_codec_bytes::rows::{extract_rows, update_rows};
+use zarrs_codec_error::CodecError;
+
+/// A box in an array, whose elements can be copied row by row.
+#[derive(Drop)]
+pub struct Rows {
+    outer: ArraySubset,
+    subset: ArraySubset,
+    size: usize,
+    ghost some: { 0 < size },
+    ghost rank: { length (region subset) ≡ length (region outer) },
+    ghost few: { count (region subset) < 2 ^ 64 },
+    ghost fits: { count (region subset) * size < 2 ^ 64 },
+}
+
+impl Rows {
+    /// The number of elements of the box.
+    pub fn num_elements(&self) -> u64
+        ensures { result ≡ count (region self.now.subset) }
+    {
+        self.subset.num_elements()
+    }
+
+    /// The size of an element in bytes.
+    pub fn element_size(&self) -> usize
+        ensures { result ≡ self.now.size }
+    {
+        self.size
+    }
+
+    // The box in an array of this shape, where its rank is the array's and its bytes have room.
+    fn new(
+        alloc: Global,
+        subset: ArraySubset,
+        shape: &[u64],
+        size: usize,
+    ) -> Result<Option<Self>, AllocError>
+        requires { 0 < size }
+        ensures subset { IfOk result (λ o. IfSome o (λ rows. region rows.subset ≡ region subset)) }
+        ensures outer { IfOk result (λ o. IfSome o (λ rows. region rows.outer ≡ whole shape.now)) }
+        ensures size { IfOk result (λ o. IfSome o (λ rows. rows.size ≡ size)) }
+    {
+        let outer = ArraySubset::new_with_shape(alloc, Vec::from_slice(alloc, shape)?)?;
+        if subset.dimensionality() != outer.dimensionality() {
+            return Ok(None);
+        }
+        let Some(count) = subset.checked_num_elements() else {
+            return Ok(None);
+        };
+        if count.checked_mul(size as u64).is_none() {
+            return Ok(None);
+        }
+        Ok(Some(Rows {
+            outer,
+            subset,
+            size,
+        }))
+    }
+
+    /// The box that an indexer is in an array of this shape, where it is one and its elements of `size` bytes can be copied
+    /// row by row.
+    ///
+    /// # Errors
+    /// [`AllocError`] where memory runs out.
+    pub fn of_indexer<I: Indexer>(
+        alloc: Global,
+        indexer: &I,
+        shape: &[u64],
+        size: usize,
+    ) -> Result<Option<Self>, AllocError>
+        ensures places { IfOk result
+            (λ o. IfSome o (λ rows. I.places indexer.now ≡ tuples (region rows.subset))) }
+        ensures outer { IfOk result (λ o. IfSome o (λ rows. region rows.outer ≡ whole shape.now)) }
+        ensures size { IfOk result (λ o. IfSome o (λ rows. rows.size ≡ size)) }
+    {
+        if size == 0 {
+            return Ok(None);
+        }
+        let Some(subset) = indexer.as_array_subset(alloc)? else {
+            return Ok(None);
+        };
+        let rows = Rows::new(alloc, subset, shape, size)?;
+        Ok(rows)
+    }
+
+    /// The elements of the box.
+    ///
+    /// # Errors
+    /// [`CodecError::OutOfMemory`] where memory runs out.
+    #[tactic(auto, using(crate::proofs::CheckLaws::fixed_long, crate::proofs::CheckLaws::mask_long, crate::proofs::CheckLaws::inner_long, crate::proofs::RowLaws::one_byte))]
+    pub fn select(
+        &self,
+        alloc: Global,
+        bytes: &ArrayBytes<'_>,
+    ) -> Result<ArrayBytes<'static>, CodecError>
+        requires fixed { holds_fixed (raw_of bytes.now) ≡ true }
+        requires inside { AllByRecursion (λ tuple. contains (region self.now.outer) tuple ≡ true)
+            (tuples (region self.now.subset)) }
+        requires long { lengths_refusal self.now.size (count (region self.now.outer))
+            (raw_of bytes.now) ≡ None }
+        ensures value { IfOk result (λ v. raw_of v
+            ≡ gathered self.now.size (count (region self.now.outer))
+            (map (place (region self.now.outer)) (tuples (region self.now.subset)))
+            (raw_of bytes.now) (raw_of bytes.now)) }
+        ensures memory { IfErr result (λ e. e ≡ codec.OutOfMemory) }
+    {
+        match bytes {
+            ArrayBytes::Fixed(a) => {
+                let out = extract_rows(alloc, bytes_in(a), &self.outer, &self.subset, self.size)?;
+                Ok(ArrayBytes::Fixed(CowSlice::Owned(out)))
+            }
+            ArrayBytes::Variable(_) => unreachable!(),
+            ArrayBytes::Optional(a) => {
+                let mask = extract_rows(alloc, a.flags(), &self.outer, &self.subset, 1)?;
+                let inner = self.select(alloc, a.data())?;
+                optional_of(alloc, inner, mask)
+            }
+        }
+    }
+
+    /// The elements of the array, with those of the box replaced.
+    ///
+    /// # Errors
+    /// [`CodecError::OutOfMemory`] where memory runs out.
+    #[tactic(auto, using(crate::proofs::CheckLaws::fixed_long, crate::proofs::CheckLaws::mask_long, crate::proofs::CheckLaws::inner_long, crate::proofs::RowLaws::one_byte))]
+    pub fn replace(
+        &self,
+        alloc: Global,
+        old: &ArrayBytes<'_>,
+        new: &ArrayBytes<'_>,
+    ) -> Result<ArrayBytes<'static>, CodecError>
+        requires fixed { holds_fixed (raw_of old.now) ≡ true }
+        requires alike { are_alike (raw_of old.now) (raw_of new.now) ≡ true }
+        requires inside { AllByRecursion (λ tuple. contains (region self.now.outer) tuple ≡ true)
+            (tuples (region self.now.subset)) }
+        requires old_long { lengths_refusal self.now.size (count (region self.now.outer))
+            (raw_of old.now) ≡ None }
+        requires new_long { lengths_refusal self.now.size (count (region self.now.subset))
+            (raw_of new.now) ≡ None }
+        ensures value { IfOk result (λ v. raw_of v
+            ≡ gathered self.now.size (count (region self.now.outer))
+            (update_picks (count (region self.now.outer))
+            (map (place (region self.now.outer)) (tuples (region self.now.subset))))
+            (raw_of old.now) (raw_of new.now)) }
+        ensures memory { IfErr result (λ e. e ≡ codec.OutOfMemory) }
+    {
+        match old {
+            ArrayBytes::Fixed(a) => match new {
+                ArrayBytes::Fixed(b) => {
+                    let (a, b) = (bytes_in(a), bytes_in(b));
+                    let out = update_rows(alloc, a, &self.outer, b, &self.subset, self.size)?;
+                    Ok(ArrayBytes::Fixed(CowSlice::Owned(out)))
+                }
+                ArrayBytes::Variable(_) => unreachable!(),
+                ArrayBytes::Optional(_) => unreachable!(),
+            },
+            ArrayBytes::Variable(_) => unreachable!(),
+            ArrayBytes::Optional(a) => match new {
+                ArrayBytes::Optional(b) => {
+                    let (over, under) = (a.flags(), b.flags());
+                    let mask = update_rows(alloc, over, &self.outer, under, &self.subset, 1)?;
+                    let inner = self.replace(alloc, a.data(), b.data())?;
+                    optional_of(alloc, inner, mask)
+                }
+                ArrayBytes::Fixed(_) => unreachable!(),
+                ArrayBytes::Variable(_) => unreachable!(),
+            },
+        }
+    }
+}

@@ -1,0 +1,12 @@
+//! Array bytes: the elements of an array in memory, with what they mean, when they are valid, and how elements are taken
+//! out of them and put into them.
+//!
+//! See <https://zarr-specs.readthedocs.io/en/latest/v3/core/index.html#data-types>.
+#![tactic(auto)]
+
+mod array_bytes;
+
+pub use array_bytes::{
+    ArrayBytes, ArrayBytesOffsets, ArrayBytesOptional, ArrayBytesRaw, ArrayBytesVariableLength,
+    update_array_bytes,
+};

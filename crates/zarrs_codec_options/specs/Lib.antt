@@ -1,0 +1,4 @@
+pub mod Options
+pub mod CodecSpecificOptions
+pub mod RecommendedConcurrency
+pub mod BytesRepresentation

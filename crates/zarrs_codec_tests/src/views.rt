@@ -1,0 +1,144 @@
+//! Views of boxes of an array's bytes, and targets.
+
+ghost use Rattle.std.specs.Prelude.{◌<◌};
+
+use crate::texts::is_text;
+use std::alloc::{AllocError, Global};
+use std::borrow::CowSlice;
+use std::ops::Range;
+use zarrs_array_subset::ArraySubset;
+use zarrs_codec_array_bytes::ArrayBytes;
+use zarrs_codec_error::{ArrayBytesFixedDisjointViewCreateError, CodecError};
+use zarrs_codec_view::{
+    ArrayBytesDecodeIntoTarget, ArrayBytesFixedDisjointView, decode_into_array_bytes_target,
+};
+
+// A box of three rows of three elements is written, through a view of it.
+fn copy_box(
+    alloc: Global,
+    bytes: &mut [u8],
+    ranges: &[Range<u64>],
+    source: &[u8],
+) -> Result<(), CodecError> {
+    let subset = ArraySubset::new_with_ranges(alloc, ranges)?;
+    let mut view = ArrayBytesFixedDisjointView::new(alloc, bytes, 1, &[3, 3], subset)?;
+    view.copy_from_slice(source)?;
+    Ok(())
+}
+
+// It is written through a smaller view of a view of the two last columns.
+fn copy_inner(
+    alloc: Global,
+    bytes: &mut [u8],
+    ranges: &[Range<u64>],
+    source: &[u8],
+) -> Result<(), CodecError> {
+    let columns = ArraySubset::new_with_ranges(alloc, &[0..3, 1..3])?;
+    let mut view = ArrayBytesFixedDisjointView::new(alloc, bytes, 1, &[3, 3], columns)?;
+    let subset = ArraySubset::new_with_ranges(alloc, ranges)?;
+    let mut inner = view.subdivide(alloc, subset)?;
+    inner.copy_from_slice(source)?;
+    Ok(())
+}
+
+// It is filled.
+fn fill_box(
+    alloc: Global,
+    bytes: &mut [u8],
+    ranges: &[Range<u64>],
+    fill_value: &[u8],
+) -> Result<(), CodecError> {
+    let subset = ArraySubset::new_with_ranges(alloc, ranges)?;
+    let mut view = ArrayBytesFixedDisjointView::new(alloc, bytes, 1, &[3, 3], subset)?;
+    view.fill(fill_value)?;
+    Ok(())
+}
+
+fn written(alloc: Global) -> Result<String, CodecError> {
+    let mut bytes: [u8; 9] = [0, 1, 2, 3, 4, 5, 6, 7, 8];
+    copy_box(alloc, &mut bytes, &[0..2, 1..3], &[11, 12, 14, 15])?;
+    copy_inner(alloc, &mut bytes, &[1..2, 1..3], &[24, 25])?;
+    fill_box(alloc, &mut bytes, &[2..3, 1..3], &[255])?;
+    let text = format!(in alloc; "{bytes:?}")?;
+    Ok(text)
+}
+
+// What is told of a view of nine bytes.
+fn told(alloc: Global, size: usize, ranges: &[Range<u64>]) -> Result<String, AllocError>
+    requires { 0 < size }
+{
+    let mut bytes: [u8; 9] = [0; 9];
+    let subset = ArraySubset::new_with_ranges(alloc, ranges)?;
+    match ArrayBytesFixedDisjointView::new(alloc, &mut bytes, size, &[3, 3], subset) {
+        Ok(view) => {
+            format!(in alloc;
+                "{} elements, {} together",
+                view.num_elements(),
+                view.contiguous_bytes_len()
+            )
+        }
+        Err(error) => told_error(alloc, error),
+    }
+}
+
+fn told_error(
+    alloc: Global,
+    error: ArrayBytesFixedDisjointViewCreateError,
+) -> Result<String, AllocError> {
+    format!(in alloc; "{error}")
+}
+
+#[test]
+fn views_write_their_boxes(rt: HostRuntime) {
+    let alloc = rt.alloc();
+    is_text(&rt, written(alloc), "[0, 11, 12, 3, 24, 25, 6, 255, 255]");
+    is_text(&rt, told(alloc, 1, &[1..3, 0..3]), "6 elements, 6 together");
+    is_text(
+        &rt,
+        told(alloc, 2, &[0..3, 0..3]),
+        "9 bytes, where 18 are expected",
+    );
+    is_text(
+        &rt,
+        told(alloc, 1, &[0..2, 1..10]),
+        "the subset [0..2, 1..10] does not lie within [0..3, 0..3]",
+    );
+}
+
+// Two optional elements of two bytes are put into two buffers.
+fn put<'b>(
+    alloc: Global,
+    inner: &'b mut [u8],
+    mask: &'b mut [u8],
+    given: &[u8],
+) -> Result<(), CodecError> {
+    let all = ArraySubset::new_with_ranges(alloc, &[0..2])?;
+    let mut view = ArrayBytesFixedDisjointView::new(alloc, inner, 2, &[2], all)?;
+    let all = ArraySubset::new_with_ranges(alloc, &[0..2])?;
+    let mut masks = [ArrayBytesFixedDisjointView::new(alloc, mask, 1, &[2], all)?];
+    let bytes = ArrayBytes::new_flen(CowSlice::Borrowed(&[1, 2, 3, 4]));
+    let bytes = bytes.with_optional_mask(alloc, CowSlice::Borrowed(given))?;
+    decode_into_array_bytes_target(
+        &bytes,
+        ArrayBytesDecodeIntoTarget::Optional(&mut view, &mut masks),
+    )
+}
+
+fn put_text(alloc: Global, given: &[u8]) -> Result<String, AllocError> {
+    let (mut inner, mut mask): ([u8; 4], [u8; 2]) = ([0; 4], [9; 2]);
+    match put(alloc, &mut inner, &mut mask, given) {
+        Ok(()) => format!(in alloc; "{inner:?} {mask:?}"),
+        Err(error) => format!(in alloc; "{error} {inner:?} {mask:?}"),
+    }
+}
+
+#[test]
+fn targets_hold_what_is_put(rt: HostRuntime) {
+    let alloc = rt.alloc();
+    is_text(&rt, put_text(alloc, &[1, 0]), "[1, 2, 3, 4] [1, 0]");
+    is_text(
+        &rt,
+        put_text(alloc, &[1]),
+        "a chunk has another size than it must: 1 bytes, where 2 are expected [0, 0, 0, 0] [9, 9]",
+    );
+}

@@ -1,0 +1,30 @@
+-- Parts of a value, one after another.
+use Rattle.std.proofs.Common.{◌≡◌, ◌∙◌, ap, ℕ, ◌+◌, ◌<◌, List, [], ◌∷◌, ◌++◌, length, take, get_or, sym, min, ◌-◌, ◌^◌, arith}
+use Rattle.std.specs.List.{concat}
+use Rattle.std.proofs.lemmas.List.{append-nil, map_more, length-append}
+use Rattle.std.proofs.lemmas.List.Folds.{concat-append}
+use Rattle.zarrs_storage.specs.declared.byte_range.ByteRange.{ByteRange}
+use Rattle.zarrs_storage.specs.ByteRange.{slice_of, slices_of, room_of}
+
+-- one more part stands at the end
+concat_more : (parts : List (List ℕ)) (part : List ℕ) → concat (parts ++ part ∷ []) ≡ concat parts ++ part
+concat_more parts part = concat-append parts (part ∷ []) ∙ ap (λ xs. concat parts ++ xs) (append-nil part)
+
+-- and so does the slice of one more range
+pub slices_more : (ranges : List ByteRange) (value : List ℕ) (i : ℕ) (d : ByteRange) → i < length ranges →
+    concat (slices_of (take (i + 1) ranges) value) ≡ concat (slices_of (take i ranges) value) ++ slice_of (get_or ranges i d) value
+slices_more ranges value i d h =
+    ap concat (map_more (λ range. slice_of range value) ranges i d h)
+    ∙ concat_more (slices_of (take i ranges) value) (slice_of (get_or ranges i d) value)
+
+least_more : (n m k : ℕ) → min (min n k + m) k ≡ min (n + m) k
+least_more n m k = omega arith
+
+-- the room of one more range
+pub room_more : (ranges : List ByteRange) (value : List ℕ) (i : ℕ) (d : ByteRange) → i < length ranges →
+    min (room_of (take i ranges) value + length (slice_of (get_or ranges i d) value)) (2 ^ 64 - 1) ≡ room_of (take (i + 1) ranges) value
+room_more ranges value i d h =
+    let before = concat (slices_of (take i ranges) value) in
+    let part = slice_of (get_or ranges i d) value in
+    least_more (length before) (length part) (2 ^ 64 - 1)
+    ∙ ap (λ n. min n (2 ^ 64 - 1)) (sym (length-append before part) ∙ ap length (sym (slices_more ranges value i d h)))
