@@ -176,7 +176,6 @@ fn joined_length(bytes: &[u8], ranges: &[ByteRange]) -> Result<usize, ByteRangeF
 ///
 /// # Errors
 /// [`ByteRangeFault::Invalid`] exactly where a range is not valid; it names the first such one.
-
 pub fn extract_byte_ranges_concat(
     alloc: Global,
     bytes: &[u8],
