@@ -1,14 +1,10 @@
 -- Lengths that are not refused.
-use Rattle.std.proofs.Common.{◌≡◌, ℕ, ◌+◌, ◌*◌, ◌==◌, Bool, true, false, not, List, length, get_or, ◌<◌, Option, Some, None, arith, refl, ap, sym, subst, eqb-true}
+use Rattle.std.proofs.Common.{◌≡◌, ℕ, ◌+◌, ◌*◌, ◌==◌, Bool, true, false, not, List, length, get_or, ◌<◌, Option, Some, None, arith, refl, eqb-true}
 use Rattle.zarr_model.specs.Command.{Refusal, incompatible_dimensionality, subset_out_of_bounds, region_too_large, expected_fixed_length_bytes, expected_variable_length_bytes, expected_optional_bytes, invalid_mask, unexpected_chunk_decoded_size, invalid_variable_sized_array_offsets, element_too_long, refused_if, or_then, has_long_element}
 use Rattle.zarr_model.specs.ArrayBytes.{ArrayBytes, fixed_bytes, variable_bytes, optional_bytes}
-use Rattle.zarrs_codec_array_bytes.specs.Refusals.{lengths_refusal, are_alike, pair_refusal, Told, told_by, fine, sized_answer, then_answer}
-use Rattle.zarrs_codec_error.specs.declared.error.CodecError.{CodecError}
-use Rattle.zarrs_codec_error.specs.declared.error.CodecError.TheVariants as codec
-use Rattle.std.specs.List.{range_with_len}
-use Rattle.zarrs_codec_bytes.specs.Picking.{AllBelow, gathered, replaced}
+use Rattle.zarrs_codec_array_bytes.specs.Refusals.{lengths_refusal, fine, sized_answer}
+use Rattle.zarrs_codec_bytes.specs.Picking.{AllBelow, gathered}
 use Rattle.zarrs_codec_bytes.proofs.ShortLaws.{gathered_short}
-use Rattle.zarrs_codec_bytes.proofs.ReplaceLaws.{picks_below}
 
 not_refused : (b : Bool) (why : Refusal) → refused_if (not b) why ≡ None → b ≡ true
 not_refused true why e = refl
@@ -30,26 +26,6 @@ mask_long size number under mask e =
 
 pub inner_long : (size number : ℕ) (under : ArrayBytes) (mask : List ℕ) → lengths_refusal size number (optional_bytes under mask) ≡ None → lengths_refusal size number under ≡ None
 inner_long size number under mask e = (first_none _ _ e).1
-
-pub pair_alike : (size : Option ℕ) (old new : ArrayBytes) → pair_refusal size old new ≡ None → are_alike old new ≡ true
-pair_alike size (fixed_bytes old) (fixed_bytes new) e = refl
-pair_alike size (fixed_bytes old) (variable_bytes new to) e = cc
-pair_alike size (fixed_bytes old) (optional_bytes new over) e = cc
-pair_alike size (variable_bytes old from) (fixed_bytes new) e = cc
-pair_alike size (variable_bytes old from) (variable_bytes new to) e = refl
-pair_alike size (variable_bytes old from) (optional_bytes new over) e = cc
-pair_alike size (optional_bytes old mask) (fixed_bytes new) e = cc
-pair_alike size (optional_bytes old mask) (variable_bytes new to) e = cc
-pair_alike size (optional_bytes old mask) (optional_bytes new over) e = pair_alike size old new e
-
-pub alike_self : (value : ArrayBytes) → are_alike value value ≡ true
-alike_self (fixed_bytes value) = refl
-alike_self (variable_bytes value offsets) = refl
-alike_self (optional_bytes under mask) = alike_self under
-
--- the picks of an update are below both counts
-pub picks_in : (number : ℕ) (indices picks : List ℕ) → picks ≡ replaced indices (range_with_len number (length indices)) (range_with_len 0 number) → AllBelow (number + length indices) picks
-picks_in number indices picks is = λ k h. subst (λ l. (k : ℕ) → k < length l → get_or l k 0 < number + length indices) (sym is) (picks_below number (length indices) indices refl) k h
 
 -- indices below a count are below twice the count
 pub below_twice : (number : ℕ) (indices : List ℕ) → AllBelow number indices → AllBelow (number + number) indices
@@ -83,26 +59,3 @@ sized_fine len expected (Some expected_optional_bytes) e = cc
 sized_fine len expected (Some invalid_mask) e = cc
 sized_fine len expected (Some invalid_variable_sized_array_offsets) e = cc
 sized_fine len expected (Some element_too_long) e = cc
-
--- an error is what is told first
-pub then_first : (e : CodecError) (first next : Told) → told_by e ≡ first → told_by e ≡ then_answer first next
-then_first (codec.IncompatibleDimensionalityError e) first next h = ap (λ t. then_answer t next) h
-then_first (codec.InvalidByteRangeError e) first next h = ap (λ t. then_answer t next) h
-then_first (codec.IncompatibleIndexer e) first next h = ap (λ t. then_answer t next) h
-then_first (codec.UnexpectedChunkDecodedSize e) first next h = ap (λ t. then_answer t next) h
-then_first (codec.StorageError e) first next h = ap (λ t. then_answer t next) h
-then_first (codec.UnsupportedDataTypeCodec e) first next h = ap (λ t. then_answer t next) h
-then_first (codec.ExpectedFixedLengthBytes e) first next h = ap (λ t. then_answer t next) h
-then_first (codec.ExpectedVariableLengthBytes e) first next h = ap (λ t. then_answer t next) h
-then_first (codec.ExpectedOptionalBytes e) first next h = ap (λ t. then_answer t next) h
-then_first (codec.InvalidNumberOfElements e) first next h = ap (λ t. then_answer t next) h
-then_first (codec.SubsetOutOfBounds e) first next h = ap (λ t. then_answer t next) h
-then_first (codec.RawBytesOffsetsCreate e) first next h = ap (λ t. then_answer t next) h
-then_first (codec.RawBytesOffsetsOutOfBounds e) first next h = ap (λ t. then_answer t next) h
-then_first (codec.DataTypeFillValueError e) first next h = ap (λ t. then_answer t next) h
-then_first (codec.ArraySubsetError e) first next h = ap (λ t. then_answer t next) h
-then_first codec.InvalidChecksum first next h = ap (λ t. then_answer t next) h
-then_first codec.EndiannessMissing first next h = ap (λ t. then_answer t next) h
-then_first codec.InvalidVariableSizedArrayOffsets first next h = ap (λ t. then_answer t next) h
-then_first codec.InvalidMask first next h = ap (λ t. then_answer t next) h
-then_first codec.OutOfMemory first next h = ap (λ t. then_answer t next) h

@@ -8,14 +8,14 @@ use Rattle.zarr_model.specs.ArrayBytes.{ArrayBytes, meaning}
 use Rattle.zarr_model.specs.Command.{has_long_element}
 use Rattle.zarr_model.specs.Command as model
 use Rattle.zarrs_codec_error.specs.declared.error.CodecError.{CodecError}
-use Rattle.zarrs_codec_bytes.specs.Picking.{AllBelow, gathered, picked, replaced, size_in}
-use Rattle.zarrs_codec_bytes.proofs.GatherLaws.{extract_means, update_means}
+use Rattle.zarrs_codec_bytes.specs.Picking.{AllBelow, gathered, picked, size_in}
+use Rattle.zarrs_codec_bytes.proofs.GatherLaws.{extract_means}
 use Rattle.zarrs_codec_bytes.specs.Filling.{filled_with, innermost_fill}
 use Rattle.zarrs_codec_bytes.proofs.FilledLaws.{filled_means, filled_short}
 use Rattle.zarrs_codec_bytes.proofs.RowLaws.{indices_below}
-use Rattle.zarrs_codec_array_bytes.specs.Selection.{linear, update_picks}
-use Rattle.zarrs_codec_array_bytes.specs.Refusals.{Told, fine, refused, wrong_length, unfit, other_fill, no_memory, odd, Answers, first_answer, then_answer, lengths_refusal, lengths_answer, extract_answer, update_answer}
-use Rattle.zarrs_codec_array_bytes.proofs.CheckLaws.{still_short, picks_in, below_twice, sized_fine}
+use Rattle.zarrs_codec_array_bytes.specs.Selection.{linear}
+use Rattle.zarrs_codec_array_bytes.specs.Refusals.{Told, fine, Answers, first_answer, lengths_refusal, extract_answer}
+use Rattle.zarrs_codec_array_bytes.proofs.CheckLaws.{still_short, below_twice, sized_fine}
 
 -- an answer over an indexer that is fine
 pub record IsFine (first : Option model.Refusal) (fits : Bool) (next : Told) : Type 0 where
@@ -27,18 +27,6 @@ pub is_fine : (first : Option model.Refusal) (fits : Bool) (next : Told) → fir
 is_fine (Some why) fits next e = cc
 is_fine None false next e = cc
 is_fine None true next e = record { kind = refl; fit = refl; lengths = e }
-
-first_fine : (first next : Told) → then_answer first next ≡ fine → first ≡ fine
-first_fine fine next e = refl
-first_fine (refused why) next e = cc
-first_fine (wrong_length len expected) next e = cc
-first_fine unfit next e = cc
-first_fine other_fill next e = cc
-first_fine no_memory next e = cc
-first_fine odd next e = cc
-
-both_fine : (first next : Told) → then_answer first next ≡ fine → (first ≡ fine) × (next ≡ fine)
-both_fine first next e = let is : first ≡ fine = first_fine first next e in (is, sym (ap (λ t. then_answer t next) is) ∙ e)
 
 pub selected : {T : Type 0} (raw : T → ArrayBytes) (kind : Kind) (shape : List ℕ) (places : List (List ℕ)) (fits : Bool) (old : ArrayBytes) (r : Result T CodecError) →
     (fits ≡ true → AllByRecursion (λ tuple. contains (whole shape) tuple ≡ true) places) → Answers (extract_answer kind fits (count_of shape) old) r →
@@ -62,29 +50,6 @@ selected_short raw kind shape places fits old (Ok v) inside answers is short =
     ap has_long_element is
     ∙ still_short (size_in (fixed_size kind)) (count_of shape) (count_of shape) (linear shape places) old old long long short short (below_twice (count_of shape) (linear shape places) below)
 selected_short raw kind shape places fits old (Err e') inside answers is short = tt
-
-pub updated : {T : Type 0} (raw : T → ArrayBytes) (size : Option ℕ) (shape : List ℕ) (places : List (List ℕ)) (old new : ArrayBytes) (r : Result T CodecError) →
-    IfOk r (λ v. raw v ≡ gathered (size_in size) (count_of shape) (update_picks (count_of shape) (linear shape places)) old new) →
-    (kind : Kind) (xs ys : List Element) → fixed_size kind ≡ size → meaning kind (count_of shape) old ≡ Some xs → meaning kind (length places) new ≡ Some ys →
-    IfOk r (λ v. meaning kind (count_of shape) (raw v) ≡ Some (replaced (linear shape places) ys xs))
-updated raw size shape places old new (Ok v) is kind xs ys same e f =
-    ap (meaning kind (count_of shape)) (is ∙ ap (λ s. gathered (size_in s) (count_of shape) (update_picks (count_of shape) (linear shape places)) old new) (sym same))
-    ∙ update_means kind (count_of shape) (linear shape places) old new xs ys e (ap (λ k. meaning kind k new) (length-map places (linear_index shape)) ∙ f)
-updated raw size shape places old new (Err e') is kind xs ys same e f = tt
-
-pub updated_short : {T : Type 0} (raw : T → ArrayBytes) (size : Option ℕ) (shape : List ℕ) (places : List (List ℕ)) (fits : Bool) (old new : ArrayBytes) (r : Result T CodecError) →
-    Answers (update_answer size fits (count_of shape) old (length places) new) r →
-    IfOk r (λ v. raw v ≡ gathered (size_in size) (count_of shape) (update_picks (count_of shape) (linear shape places)) old new) →
-    has_long_element old ≡ false → has_long_element new ≡ false → IfOk r (λ v. has_long_element (raw v) ≡ false)
-updated_short raw size shape places fits old new (Ok v) answers is a b =
-    let lengths = both_fine (lengths_answer (size_in size) (count_of shape) old) (lengths_answer (size_in size) (length places) new) (is_fine _ _ _ answers).lengths in
-    let old_long : lengths_refusal (size_in size) (count_of shape) old ≡ None = sized_fine _ _ _ lengths.0 in
-    let new_long : lengths_refusal (size_in size) (length places) new ≡ None = sized_fine _ _ _ lengths.1 in
-    let given : length (linear shape places) ≡ length places = length-map places (linear_index shape) in
-    ap has_long_element is
-    ∙ still_short (size_in size) (count_of shape) (length (linear shape places)) (update_picks (count_of shape) (linear shape places)) old new
-    old_long (ap (λ n. lengths_refusal (size_in size) n new) given ∙ new_long) a b (picks_in (count_of shape) (linear shape places) _ refl)
-updated_short raw size shape places fits old new (Err e') answers is a b = tt
 
 -- what is filled
 pub filled_answer : {T E : Type 0} (raw : T → ArrayBytes) (kind : Kind) (number : ℕ) (fill : List ℕ) (r : Result T E) → IfOk r (λ v. raw v ≡ filled_with kind number fill) →

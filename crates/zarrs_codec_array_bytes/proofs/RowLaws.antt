@@ -6,7 +6,7 @@ use Rattle.zarr_model.specs.ArrayBytes.{ArrayBytes}
 use Rattle.zarr_model.proofs.RegionLaws.{length-tuples}
 use Rattle.zarrs_codec_bytes.specs.Picking.{gathered}
 use Rattle.zarrs_codec_bytes.proofs.RowLaws.{count-whole}
-use Rattle.zarrs_codec_array_bytes.specs.Selection.{linear, update_picks}
+use Rattle.zarrs_codec_array_bytes.specs.Selection.{linear}
 use Rattle.zarrs_codec_array_bytes.specs.Refusals.{lengths_refusal}
 
 pub one_byte : (n : ℕ) → n < 2 ^ 64 → n * 1 < 2 ^ 64
@@ -32,14 +32,6 @@ rows_selected shape outer box places size old new value is listed e =
     ∙ (ap (λ r. gathered size (count_of shape) (map (place r) (tuples box)) old new) is
     ∙ ap (λ l. gathered size (count_of shape) (map (place (whole shape)) l) old new) (sym listed)))
 
-pub rows_replaced : (shape : List ℕ) (outer box : Region) (places : List (List ℕ)) (size : ℕ) (old new value : ArrayBytes) → outer ≡ whole shape → places ≡ tuples box →
-    value ≡ gathered size (count outer) (update_picks (count outer) (map (place outer) (tuples box))) old new →
-    value ≡ gathered size (count_of shape) (update_picks (count_of shape) (linear shape places)) old new
-rows_replaced shape outer box places size old new value is listed e =
-    e ∙ (ap (λ n. gathered size n (update_picks n (map (place outer) (tuples box))) old new) (outer_count shape outer is)
-    ∙ (ap (λ r. gathered size (count_of shape) (update_picks (count_of shape) (map (place r) (tuples box))) old new) is
-    ∙ ap (λ l. gathered size (count_of shape) (update_picks (count_of shape) (map (place (whole shape)) l)) old new) (sym listed)))
-
 -- as many places as the box has elements
 pub place_count : (box : Region) (places : List (List ℕ)) → places ≡ tuples box → length places ≡ count box
 place_count box places listed = ap length listed ∙ length-tuples box
@@ -49,9 +41,3 @@ pub answer_selected : {T E : Type 0} (raw : T → ArrayBytes) (shape : List ℕ)
     IfOk r (λ v. raw v ≡ gathered size (count outer) (map (place outer) (tuples box)) old new) → IfOk r (λ v. raw v ≡ gathered size (count_of shape) (linear shape places) old new)
 answer_selected raw shape outer box places size old new (Ok v) is listed e = rows_selected shape outer box places size old new (raw v) is listed e
 answer_selected raw shape outer box places size old new (Err e') is listed e = tt
-
-pub answer_replaced : {T E : Type 0} (raw : T → ArrayBytes) (shape : List ℕ) (outer box : Region) (places : List (List ℕ)) (size : ℕ) (old new : ArrayBytes) (r : Result T E) → outer ≡ whole shape → places ≡ tuples box →
-    IfOk r (λ v. raw v ≡ gathered size (count outer) (update_picks (count outer) (map (place outer) (tuples box))) old new) →
-    IfOk r (λ v. raw v ≡ gathered size (count_of shape) (update_picks (count_of shape) (linear shape places)) old new)
-answer_replaced raw shape outer box places size old new (Ok v) is listed e = rows_replaced shape outer box places size old new (raw v) is listed e
-answer_replaced raw shape outer box places size old new (Err e') is listed e = tt

@@ -4,4 +4,5 @@ pub mod Created
 pub mod Levels
 pub mod Steps
 pub mod Selection
+pub mod Rows
 pub mod Refusals

@@ -69,27 +69,7 @@ lengths_refusal size number (optional_bytes under mask) =
     model.or_then (model.refused_if (not (length mask == number)) model.invalid_mask)
     (lengths_refusal size number under)
 
--- two array bytes of different kinds, or of another innermost kind than this size says
-abbrev pub mixture_refusal : Option ℕ → model.Refusal
-mixture_refusal None = model.expected_variable_length_bytes
-mixture_refusal (Some n) = model.expected_fixed_length_bytes
-
-abbrev pub fixed_pair_refusal : Option ℕ → Option model.Refusal
-fixed_pair_refusal None = Some model.expected_variable_length_bytes
-fixed_pair_refusal (Some n) = None
-
-abbrev pub variable_pair_refusal : Option ℕ → Option model.Refusal
-variable_pair_refusal None = None
-variable_pair_refusal (Some n) = Some model.expected_fixed_length_bytes
-
-abbrev pub pair_refusal : Option ℕ → ArrayBytes → ArrayBytes → Option model.Refusal
-pair_refusal size (fixed_bytes old) (fixed_bytes new) = fixed_pair_refusal size
-pair_refusal size (variable_bytes old from) (variable_bytes new to) = variable_pair_refusal size
-pair_refusal size (optional_bytes old mask) (optional_bytes new over) = pair_refusal size old new
-pair_refusal size _ _ = Some (mixture_refusal size)
-
--- what is said of the bytes as so many elements of a kind, of their lengths alone, and of those of
--- old bytes and then of an update
+-- what is said of the bytes as so many elements of a kind, and of their lengths alone
 abbrev pub validity : Kind → ℕ → ArrayBytes → Told
 validity kind number value =
     sized_answer (inner_length value) (number * size_in (fixed_size kind))
@@ -98,21 +78,6 @@ validity kind number value =
 abbrev pub lengths_answer : ℕ → ℕ → ArrayBytes → Told
 lengths_answer size number value =
     sized_answer (inner_length value) (number * size) (lengths_refusal size number value)
-
-abbrev pub then_answer : Told → Told → Told
-then_answer fine next = next
-then_answer first next = first
-
-abbrev pub both_answer : ℕ → ℕ → ArrayBytes → ℕ → ArrayBytes → Told
-both_answer size number old given new =
-    then_answer (lengths_answer size number old) (lengths_answer size given new)
-
--- two array bytes are of one kind, level by level
-abbrev pub are_alike : ArrayBytes → ArrayBytes → Bool
-are_alike (fixed_bytes old) (fixed_bytes new) = true
-are_alike (variable_bytes old from) (variable_bytes new to) = true
-are_alike (optional_bytes old mask) (optional_bytes new over) = are_alike old new
-are_alike _ _ = false
 
 -- the innermost data are of one size
 abbrev pub holds_fixed : ArrayBytes → Bool
@@ -131,16 +96,11 @@ abbrev pub fill_answer : Bool → Told
 fill_answer true = fine
 fill_answer false = other_fill
 
--- what an extraction answers, and an update
+-- what an extraction answers
 abbrev pub extract_answer : Kind → Bool → ℕ → ArrayBytes → Told
 extract_answer kind fits number value =
     first_answer (kind_refusal kind value) fits
     (lengths_answer (size_in (fixed_size kind)) number value)
-
-abbrev pub update_answer : Option ℕ → Bool → ℕ → ArrayBytes → ℕ → ArrayBytes → Told
-update_answer size fits number old given new =
-    first_answer (pair_refusal size old new) fits
-    (both_answer (size_in size) number old given new)
 
 -- the call answers so, or memory ran out
 abbrev pub Answers : {T : Type 0} → Told → Result T CodecError → Type 0

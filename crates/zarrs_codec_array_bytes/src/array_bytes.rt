@@ -3,25 +3,23 @@
 ghost use Rattle.std.specs.Prelude.{◌≡◌, length, is_ok, ◌≤◌, option_map, IfOk, IfErr, nat_le};
 ghost use Rattle.std.specs.Cow.{cow_slice_items};
 
-mod checks;
+pub mod checks;
 mod conversions;
 mod equality;
-mod extract;
+pub mod extract;
 mod fill;
-mod gather;
+pub mod gather;
 mod offsets;
 mod optional;
 mod owned;
-mod rows;
-mod step;
-mod update;
+pub mod rows;
+pub mod step;
 mod validate;
 mod variable_length;
 
 pub use offsets::ArrayBytesOffsets;
 use std::alloc::{AllocError, Global};
 use std::borrow::CowSlice;
-pub use update::update_array_bytes;
 pub use variable_length::ArrayBytesVariableLength;
 use zarrs_codec_error::{
     ArrayBytesRawOffsetsOutOfBoundsError, ExpectedFixedLengthBytesError,
@@ -51,8 +49,8 @@ pub struct ArrayBytesOptional<'a> {
     mask: ArrayBytesRaw<'a>,
 }
 
-// The bytes that are borrowed or owned.
-fn bytes_in<'b>(bytes: &'b ArrayBytesRaw<'_>) -> &'b [u8]
+/// The bytes that are borrowed or owned.
+pub fn bytes_in<'b>(bytes: &'b ArrayBytesRaw<'_>) -> &'b [u8]
     ensures { result.now ≡ cow_slice_items bytes.now }
 {
     match bytes {

@@ -4,9 +4,8 @@
 //! See <https://zarr-specs.readthedocs.io/en/latest/v3/core/index.html#data-types>.
 #![tactic(auto)]
 
-mod array_bytes;
+pub mod array_bytes;
 
 pub use array_bytes::{
     ArrayBytes, ArrayBytesOffsets, ArrayBytesOptional, ArrayBytesRaw, ArrayBytesVariableLength,
-    update_array_bytes,
 };

@@ -3,9 +3,9 @@
 ghost use Rattle.std.specs.Prelude.{◌≡◌, ◌==◌, ◌*◌, ◌+◌, ◌-◌, ◌^◌, ℕ, Some, None, min, is_ok, true, ◌<◌, IfOk, IfErr};
 ghost use Rattle.zarr_model.specs.Region.{count_of};
 ghost use Rattle.zarr_model.specs.Command.{expected_fixed_length_bytes, expected_variable_length_bytes, expected_optional_bytes};
-ghost use Rattle.zarrs_codec_array_bytes.specs.Steps.{kind_seen, size_seen};
+ghost use Rattle.zarrs_codec_array_bytes.specs.Steps.{kind_seen};
 ghost use Rattle.zarrs_codec_array_bytes.specs.Raw.{raw_of};
-ghost use Rattle.zarrs_codec_array_bytes.specs.Refusals.{told, told_by, refused, fine, answer_of, Answers, first_answer, IfUnfit, kind_refusal, lengths_refusal, lengths_answer, pair_refusal, mixture_refusal, fixed_pair_refusal, variable_pair_refusal, holds_fixed};
+ghost use Rattle.zarrs_codec_array_bytes.specs.Refusals.{told, told_by, refused, fine, answer_of, Answers, first_answer, IfUnfit, kind_refusal, lengths_refusal, lengths_answer, holds_fixed};
 
 use super::step::{Step, step_of};
 use super::{ArrayBytes, bytes_in};
@@ -16,7 +16,6 @@ use zarrs_codec_error::{
     ExpectedVariableLengthBytesError, InvalidBytesLengthError,
 };
 use zarrs_data_type_names::DataType;
-use zarrs_metadata_parts::DataTypeSize;
 
 /// The refusal of bytes that are not of one size.
 pub fn not_fixed() -> CodecError
@@ -121,66 +120,6 @@ pub fn expect_lengths(bytes: &ArrayBytes<'_>, number: u64, size: usize) -> Resul
             }
             expect_lengths(optional.data(), number, size)
         }
-    }
-}
-
-// The refusal of two values of different kinds.
-fn mixture(size: DataTypeSize) -> Result<(), CodecError>
-    ensures { told result ≡ answer_of (Some (mixture_refusal (size_seen size))) }
-{
-    match size {
-        DataTypeSize::Variable => Err(not_variable()),
-        DataTypeSize::Fixed(_) => Err(not_fixed()),
-    }
-}
-
-// The innermost level, where both are of one size, and where both are of any size.
-fn fixed_pair(size: DataTypeSize) -> Result<(), CodecError>
-    ensures { told result ≡ answer_of (fixed_pair_refusal (size_seen size)) }
-{
-    match size {
-        DataTypeSize::Variable => Err(not_variable()),
-        DataTypeSize::Fixed(_) => Ok(()),
-    }
-}
-
-fn variable_pair(size: DataTypeSize) -> Result<(), CodecError>
-    ensures { told result ≡ answer_of (variable_pair_refusal (size_seen size)) }
-{
-    match size {
-        DataTypeSize::Variable => Ok(()),
-        DataTypeSize::Fixed(_) => Err(not_fixed()),
-    }
-}
-
-/// Whether both are of one kind, level by level, and the innermost ones of this size.
-///
-/// # Errors
-/// [`CodecError`] with the name of the kind that is expected.
-pub fn expect_pair(
-    size: DataTypeSize,
-    old: &ArrayBytes<'_>,
-    new: &ArrayBytes<'_>,
-) -> Result<(), CodecError>
-    ensures { told result
-        ≡ answer_of (pair_refusal (size_seen size) (raw_of old.now) (raw_of new.now)) }
-{
-    match old {
-        ArrayBytes::Fixed(_) => match new {
-            ArrayBytes::Fixed(_) => fixed_pair(size),
-            ArrayBytes::Variable(_) => mixture(size),
-            ArrayBytes::Optional(_) => mixture(size),
-        },
-        ArrayBytes::Variable(_) => match new {
-            ArrayBytes::Variable(_) => variable_pair(size),
-            ArrayBytes::Fixed(_) => mixture(size),
-            ArrayBytes::Optional(_) => mixture(size),
-        },
-        ArrayBytes::Optional(a) => match new {
-            ArrayBytes::Optional(b) => expect_pair(size, a.data(), b.data()),
-            ArrayBytes::Fixed(_) => mixture(size),
-            ArrayBytes::Variable(_) => mixture(size),
-        },
     }
 }
 

@@ -5,11 +5,11 @@ ghost use Rattle.zarr_model.specs.Region.{count_of, whole, tuples};
 ghost use Rattle.zarr_model.specs.Element.{Element, null};
 ghost use Rattle.zarr_model.specs.ArrayBytes.{meaning};
 ghost use Rattle.zarr_model.specs.Command.{has_long_element};
-ghost use Rattle.zarrs_array_subset.specs.ArraySubset.{region};
 ghost use Rattle.zarrs_codec_bytes.specs.Picking.{AllBelow, gathered, picked};
 ghost use Rattle.zarrs_codec_array_bytes.specs.Steps.{kind_seen, bytes_seen};
 ghost use Rattle.zarrs_codec_array_bytes.specs.Raw.{raw_of};
 ghost use Rattle.zarrs_codec_array_bytes.specs.Selection.{linear};
+ghost use Rattle.zarrs_codec_array_bytes.specs.Rows.{outer_box, inner_box, element_bytes};
 ghost use Rattle.zarrs_codec_array_bytes.specs.Refusals.{Answers, fine, first_answer, extract_answer, lengths_answer, IfUnfit, holds_fixed};
 
 use super::ArrayBytes;
@@ -77,12 +77,12 @@ fn extract_rows<I: Indexer>(
 ) -> Result<ArrayBytes<'static>, CodecError>
     requires count { count_of shape.now < 2 ^ 64 }
     requires fixed { holds_fixed (raw_of bytes.now) ≡ true }
-    requires places { I.places indexer.now ≡ tuples (region rows.now.subset) }
-    requires outer { region rows.now.outer ≡ whole shape.now }
+    requires places { I.places indexer.now ≡ tuples (inner_box rows.now) }
+    requires outer { outer_box rows.now ≡ whole shape.now }
     ensures answer { Answers (first_answer None (I.fits indexer.now shape.now)
-        (lengths_answer rows.now.size (count_of shape.now) (raw_of bytes.now))) result }
+        (lengths_answer (element_bytes rows.now) (count_of shape.now) (raw_of bytes.now))) result }
     ensures unfit { IfErr result (IfUnfit (I.refuses indexer.now shape.now)) }
-    ensures value { IfOk result (λ v. raw_of v ≡ gathered rows.now.size (count_of shape.now)
+    ensures value { IfOk result (λ v. raw_of v ≡ gathered (element_bytes rows.now) (count_of shape.now)
         (linear shape.now (I.places indexer.now)) (raw_of bytes.now) (raw_of bytes.now)) }
 {
     expect_fit(alloc, indexer, shape)?;

@@ -1,10 +1,10 @@
-//! Elements picked out of two array bytes.
+//! Elements picked out of array bytes.
 
-ghost use Rattle.std.specs.Prelude.{◌≡◌, ◌+◌, true, None, IfOk, IfErr};
+ghost use Rattle.std.specs.Prelude.{◌≡◌, None, IfOk, IfErr};
 ghost use Rattle.zarr_model.specs.ArrayBytes.{optional_bytes};
 ghost use Rattle.zarrs_codec_bytes.specs.Picking.{AllBelow, gathered};
 ghost use Rattle.zarrs_codec_array_bytes.specs.Raw.{raw_of};
-ghost use Rattle.zarrs_codec_array_bytes.specs.Refusals.{lengths_refusal, are_alike};
+ghost use Rattle.zarrs_codec_array_bytes.specs.Refusals.{lengths_refusal};
 ghost use Rattle.zarrs_codec_error.specs.declared.error.CodecError.TheVariants as codec;
 
 use super::{ArrayBytes, ArrayBytesOptional, ArrayBytesVariableLength, bytes_in};
@@ -28,68 +28,6 @@ pub fn optional_of(
 {
     let inner = Box::new(alloc, inner)?;
     Ok(ArrayBytes::Optional(ArrayBytesOptional::new(inner, CowSlice::Owned(mask))))
-}
-
-/// The elements that the picks name: those below the count of the old ones, the others of the new ones. Both are of one
-/// kind, level by level.
-///
-/// # Errors
-/// [`CodecError::OutOfMemory`] where memory runs out.
-#[tactic(auto, using(crate::proofs::CheckLaws::fixed_long, crate::proofs::CheckLaws::variable_long, crate::proofs::CheckLaws::mask_long, crate::proofs::CheckLaws::inner_long))]
-pub fn gather(
-    alloc: Global,
-    picks: &[u64],
-    count: u64,
-    old: &ArrayBytes<'_>,
-    new_count: u64,
-    new: &ArrayBytes<'_>,
-    size: usize,
-) -> Result<ArrayBytes<'static>, CodecError>
-    requires within { AllBelow (count + new_count) picks.now }
-    requires alike { are_alike (raw_of old.now) (raw_of new.now) ≡ true }
-    requires old_long { lengths_refusal size count (raw_of old.now) ≡ None }
-    requires new_long { lengths_refusal size new_count (raw_of new.now) ≡ None }
-    ensures value { IfOk result (λ v. raw_of v
-        ≡ gathered size count picks.now (raw_of old.now) (raw_of new.now)) }
-    ensures memory { IfErr result (λ e. e ≡ codec.OutOfMemory) }
-{
-    match old {
-        ArrayBytes::Fixed(a) => match new {
-            ArrayBytes::Fixed(b) => {
-                let (a, b) = (bytes_in(a), bytes_in(b));
-                let out = gather_pieces(alloc, picks, count, a, new_count, b, size)?;
-                Ok(ArrayBytes::Fixed(CowSlice::Owned(out)))
-            }
-            ArrayBytes::Variable(_) => unreachable!(),
-            ArrayBytes::Optional(_) => unreachable!(),
-        },
-        ArrayBytes::Variable(a) => match new {
-            ArrayBytes::Variable(b) => {
-                let (bytes, offsets) = gather_values(
-                    alloc,
-                    picks,
-                    count,
-                    a.items(),
-                    a.numbers(),
-                    new_count,
-                    b.items(),
-                    b.numbers(),
-                )?;
-                Ok(ArrayBytes::Variable(ArrayBytesVariableLength::from_gathered(bytes, offsets)))
-            }
-            ArrayBytes::Fixed(_) => unreachable!(),
-            ArrayBytes::Optional(_) => unreachable!(),
-        },
-        ArrayBytes::Optional(a) => match new {
-            ArrayBytes::Optional(b) => {
-                let mask = gather_pieces(alloc, picks, count, a.flags(), new_count, b.flags(), 1)?;
-                let inner = gather(alloc, picks, count, a.data(), new_count, b.data(), size)?;
-                optional_of(alloc, inner, mask)
-            }
-            ArrayBytes::Fixed(_) => unreachable!(),
-            ArrayBytes::Variable(_) => unreachable!(),
-        },
-    }
 }
 
 /// The elements at these places.

@@ -46,8 +46,8 @@ impl<'a> ArrayBytesOptional<'a> {
         (inner, mask)
     }
 
-    // The mask as a slice.
-    pub(super) fn flags(&self) -> &[u8]
+    /// The mask as a slice.
+    pub fn flags(&self) -> &[u8]
         ensures { result.now ≡ mask_of self.now }
     {
         bytes_in(&self.mask)

@@ -6,8 +6,7 @@ ghost use Rattle.zarr_model.specs.Region.{count, whole, contains, place, tuples}
 ghost use Rattle.zarrs_array_subset.specs.ArraySubset.{region};
 ghost use Rattle.zarrs_codec_bytes.specs.Picking.{gathered};
 ghost use Rattle.zarrs_codec_array_bytes.specs.Raw.{raw_of};
-ghost use Rattle.zarrs_codec_array_bytes.specs.Selection.{update_picks};
-ghost use Rattle.zarrs_codec_array_bytes.specs.Refusals.{lengths_refusal, are_alike, holds_fixed};
+ghost use Rattle.zarrs_codec_array_bytes.specs.Refusals.{lengths_refusal, holds_fixed};
 ghost use Rattle.zarrs_codec_error.specs.declared.error.CodecError.TheVariants as codec;
 
 use super::gather::optional_of;
@@ -16,7 +15,7 @@ use std::alloc::{AllocError, Global};
 use std::borrow::CowSlice;
 use zarrs_array_subset::ArraySubset;
 use zarrs_chunk_grid_indexer::Indexer;
-use zarrs_codec_bytes::rows::{extract_rows, update_rows};
+use zarrs_codec_bytes::rows::extract_rows;
 use zarrs_codec_error::CodecError;
 
 /// A box in an array, whose elements can be copied row by row.
@@ -32,16 +31,34 @@ pub struct Rows {
 }
 
 impl Rows {
+    ghost use Rattle.zarrs_codec_array_bytes.specs.Rows.{outer_box, inner_box, element_bytes};
+
     /// The number of elements of the box.
     pub fn num_elements(&self) -> u64
-        ensures { result ≡ count (region self.now.subset) }
+        ensures { result ≡ count (inner_box self.now) }
     {
         self.subset.num_elements()
     }
 
+    /// The whole array, as the outer box.
+    pub fn outer(&self) -> &ArraySubset
+        ensures { region result.now ≡ outer_box self.now }
+    {
+        &self.outer
+    }
+
+    /// The box in it.
+    pub fn subset(&self) -> &ArraySubset
+        ensures value { region result.now ≡ inner_box self.now }
+        ensures rank { length (inner_box self.now) ≡ length (outer_box self.now) }
+    {
+        &self.subset
+    }
+
     /// The size of an element in bytes.
     pub fn element_size(&self) -> usize
-        ensures { result ≡ self.now.size }
+        ensures value { result ≡ element_bytes self.now }
+        ensures some { 0 < element_bytes self.now }
     {
         self.size
     }
@@ -54,9 +71,9 @@ impl Rows {
         size: usize,
     ) -> Result<Option<Self>, AllocError>
         requires { 0 < size }
-        ensures subset { IfOk result (λ o. IfSome o (λ rows. region rows.subset ≡ region subset)) }
-        ensures outer { IfOk result (λ o. IfSome o (λ rows. region rows.outer ≡ whole shape.now)) }
-        ensures size { IfOk result (λ o. IfSome o (λ rows. rows.size ≡ size)) }
+        ensures subset { IfOk result (λ o. IfSome o (λ rows. inner_box rows ≡ region subset)) }
+        ensures outer { IfOk result (λ o. IfSome o (λ rows. outer_box rows ≡ whole shape.now)) }
+        ensures size { IfOk result (λ o. IfSome o (λ rows. element_bytes rows ≡ size)) }
     {
         let outer = ArraySubset::new_with_shape(alloc, Vec::from_slice(alloc, shape)?)?;
         if subset.dimensionality() != outer.dimensionality() {
@@ -87,9 +104,9 @@ impl Rows {
         size: usize,
     ) -> Result<Option<Self>, AllocError>
         ensures places { IfOk result
-            (λ o. IfSome o (λ rows. I.places indexer.now ≡ tuples (region rows.subset))) }
-        ensures outer { IfOk result (λ o. IfSome o (λ rows. region rows.outer ≡ whole shape.now)) }
-        ensures size { IfOk result (λ o. IfSome o (λ rows. rows.size ≡ size)) }
+            (λ o. IfSome o (λ rows. I.places indexer.now ≡ tuples (inner_box rows))) }
+        ensures outer { IfOk result (λ o. IfSome o (λ rows. outer_box rows ≡ whole shape.now)) }
+        ensures size { IfOk result (λ o. IfSome o (λ rows. element_bytes rows ≡ size)) }
     {
         if size == 0 {
             return Ok(None);
@@ -112,13 +129,13 @@ impl Rows {
         bytes: &ArrayBytes<'_>,
     ) -> Result<ArrayBytes<'static>, CodecError>
         requires fixed { holds_fixed (raw_of bytes.now) ≡ true }
-        requires inside { AllByRecursion (λ tuple. contains (region self.now.outer) tuple ≡ true)
-            (tuples (region self.now.subset)) }
-        requires long { lengths_refusal self.now.size (count (region self.now.outer))
+        requires inside { AllByRecursion (λ tuple. contains (outer_box self.now) tuple ≡ true)
+            (tuples (inner_box self.now)) }
+        requires long { lengths_refusal (element_bytes self.now) (count (outer_box self.now))
             (raw_of bytes.now) ≡ None }
         ensures value { IfOk result (λ v. raw_of v
-            ≡ gathered self.now.size (count (region self.now.outer))
-            (map (place (region self.now.outer)) (tuples (region self.now.subset)))
+            ≡ gathered (element_bytes self.now) (count (outer_box self.now))
+            (map (place (outer_box self.now)) (tuples (inner_box self.now)))
             (raw_of bytes.now) (raw_of bytes.now)) }
         ensures memory { IfErr result (λ e. e ≡ codec.OutOfMemory) }
     {
@@ -133,56 +150,6 @@ impl Rows {
                 let inner = self.select(alloc, a.data())?;
                 optional_of(alloc, inner, mask)
             }
-        }
-    }
-
-    /// The elements of the array, with those of the box replaced.
-    ///
-    /// # Errors
-    /// [`CodecError::OutOfMemory`] where memory runs out.
-    #[tactic(auto, using(crate::proofs::CheckLaws::fixed_long, crate::proofs::CheckLaws::mask_long, crate::proofs::CheckLaws::inner_long, crate::proofs::RowLaws::one_byte))]
-    pub fn replace(
-        &self,
-        alloc: Global,
-        old: &ArrayBytes<'_>,
-        new: &ArrayBytes<'_>,
-    ) -> Result<ArrayBytes<'static>, CodecError>
-        requires fixed { holds_fixed (raw_of old.now) ≡ true }
-        requires alike { are_alike (raw_of old.now) (raw_of new.now) ≡ true }
-        requires inside { AllByRecursion (λ tuple. contains (region self.now.outer) tuple ≡ true)
-            (tuples (region self.now.subset)) }
-        requires old_long { lengths_refusal self.now.size (count (region self.now.outer))
-            (raw_of old.now) ≡ None }
-        requires new_long { lengths_refusal self.now.size (count (region self.now.subset))
-            (raw_of new.now) ≡ None }
-        ensures value { IfOk result (λ v. raw_of v
-            ≡ gathered self.now.size (count (region self.now.outer))
-            (update_picks (count (region self.now.outer))
-            (map (place (region self.now.outer)) (tuples (region self.now.subset))))
-            (raw_of old.now) (raw_of new.now)) }
-        ensures memory { IfErr result (λ e. e ≡ codec.OutOfMemory) }
-    {
-        match old {
-            ArrayBytes::Fixed(a) => match new {
-                ArrayBytes::Fixed(b) => {
-                    let (a, b) = (bytes_in(a), bytes_in(b));
-                    let out = update_rows(alloc, a, &self.outer, b, &self.subset, self.size)?;
-                    Ok(ArrayBytes::Fixed(CowSlice::Owned(out)))
-                }
-                ArrayBytes::Variable(_) => unreachable!(),
-                ArrayBytes::Optional(_) => unreachable!(),
-            },
-            ArrayBytes::Variable(_) => unreachable!(),
-            ArrayBytes::Optional(a) => match new {
-                ArrayBytes::Optional(b) => {
-                    let (over, under) = (a.flags(), b.flags());
-                    let mask = update_rows(alloc, over, &self.outer, under, &self.subset, 1)?;
-                    let inner = self.replace(alloc, a.data(), b.data())?;
-                    optional_of(alloc, inner, mask)
-                }
-                ArrayBytes::Fixed(_) => unreachable!(),
-                ArrayBytes::Variable(_) => unreachable!(),
-            },
         }
     }
 }

@@ -97,27 +97,26 @@ impl<'a> ArrayBytesVariableLength<'a> {
         Ok(ArrayBytesVariableLength::new_unchecked(CowSlice::Owned(bytes), offsets))
     }
 
-    // The bytes and the offsets as slices.
-    pub(super) fn items(&self) -> &[u8]
+    /// The bytes of all elements, as a slice.
+    pub fn items(&self) -> &[u8]
         ensures { result.now ≡ values_of self.now }
     {
         bytes_in(&self.bytes)
     }
 
+    /// The offsets as a slice.
     #[tactic(auto, using(crate::proofs::OffsetLaws::offsets_stay))]
-    pub(super) fn numbers(&self) -> &[usize]
+    pub fn numbers(&self) -> &[usize]
         ensures value { result.now ≡ offsets_of self.now }
         ensures within { IsTrue (are_within (values_of self.now) (offsets_of self.now)) }
     {
         self.offsets.as_slice()
     }
 
-    // Elements that were gathered, with the offsets between them.
+    /// Elements that are owned: their bytes, and offsets of which none is less than the one before it and the last one is
+    /// within the bytes.
     #[tactic(auto, using(crate::proofs::OffsetLaws::offsets_rise, crate::proofs::OffsetLaws::offsets_end))]
-    pub(super) fn from_gathered(
-        bytes: Vec<u8>,
-        offsets: Vec<usize>,
-    ) -> ArrayBytesVariableLength<'static>
+    pub fn from_gathered(bytes: Vec<u8>, offsets: Vec<usize>) -> ArrayBytesVariableLength<'static>
         requires some { 0 < length offsets.items }
         requires within { are_within bytes.items offsets.items ≡ true }
         ensures values { values_of result ≡ bytes.items }

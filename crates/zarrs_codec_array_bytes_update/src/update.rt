@@ -5,28 +5,32 @@ ghost use Rattle.zarr_model.specs.Region.{count, count_of, whole, tuples};
 ghost use Rattle.zarr_model.specs.Element.{Element, Kind, null, fixed_size};
 ghost use Rattle.zarr_model.specs.ArrayBytes.{meaning};
 ghost use Rattle.zarr_model.specs.Command.{has_long_element};
-ghost use Rattle.zarrs_array_subset.specs.ArraySubset.{region};
 ghost use Rattle.zarrs_codec_bytes.specs.Picking.{gathered, replaced, size_in};
 ghost use Rattle.zarrs_codec_array_bytes.specs.Steps.{size_seen};
 ghost use Rattle.zarrs_codec_array_bytes.specs.Raw.{raw_of};
-ghost use Rattle.zarrs_codec_array_bytes.specs.Selection.{linear, update_picks};
-ghost use Rattle.zarrs_codec_array_bytes.specs.Refusals.{Answers, told, first_answer, update_answer, both_answer, lengths_refusal, IfUnfit, are_alike, holds_fixed};
+ghost use Rattle.zarrs_codec_array_bytes.specs.Selection.{linear};
+ghost use Rattle.zarrs_codec_array_bytes.specs.Rows.{outer_box, inner_box, element_bytes};
+ghost use Rattle.zarrs_codec_array_bytes.specs.Refusals.{Answers, told, first_answer, lengths_refusal, IfUnfit, holds_fixed};
+ghost use Rattle.zarrs_codec_array_bytes_update.specs.Pairs.{update_answer, both_answer, are_alike};
+ghost use Rattle.zarrs_codec_array_bytes_update.specs.Picks.{update_picks};
 
-use super::ArrayBytes;
-use super::checks::{expect_fit, expect_lengths, expect_pair, is_fixed_inside};
-use super::extract::linear_indices;
-use super::gather::gather;
-use super::rows::Rows;
-use super::step::size_bytes;
+use crate::gather::gather;
+use crate::pairs::expect_pair;
+use crate::rows::replace_rows;
 use std::alloc::Global;
 use zarrs_array_subset::shape_product;
 use zarrs_chunk_grid_indexer::Indexer;
+use zarrs_codec_array_bytes::ArrayBytes;
+use zarrs_codec_array_bytes::array_bytes::checks::{expect_fit, expect_lengths, is_fixed_inside};
+use zarrs_codec_array_bytes::array_bytes::extract::linear_indices;
+use zarrs_codec_array_bytes::array_bytes::rows::Rows;
+use zarrs_codec_array_bytes::array_bytes::step::size_bytes;
 use zarrs_codec_bytes::picks::picks_of;
 use zarrs_codec_error::CodecError;
 use zarrs_metadata_parts::DataTypeSize;
 
 // Whether both are as long as so many elements are, the old bytes first.
-#[tactic(auto, using(crate::proofs::CheckLaws::then_first))]
+#[tactic(auto, using(crate::proofs::UpdateLaws::then_first))]
 fn expect_both(
     bytes: &ArrayBytes<'_>,
     count: u64,
@@ -46,7 +50,7 @@ fn expect_both(
 }
 
 // The elements with those at the indexer's indices replaced, one by one.
-#[tactic(auto, using(crate::proofs::CheckLaws::picks_in))]
+#[tactic(auto, using(crate::proofs::UpdateLaws::picks_in))]
 fn update_listed<I: Indexer>(
     alloc: Global,
     bytes: &ArrayBytes<'_>,
@@ -74,7 +78,7 @@ fn update_listed<I: Indexer>(
 }
 
 // The elements with those of the box that the indexer is replaced, row by row.
-#[tactic(auto, using(crate::proofs::RowLaws::in_outer, crate::proofs::RowLaws::outer_lengths))]
+#[tactic(auto, using(zarrs_codec_array_bytes::proofs::RowLaws::in_outer, zarrs_codec_array_bytes::proofs::RowLaws::outer_lengths))]
 fn update_rows<I: Indexer>(
     alloc: Global,
     bytes: &ArrayBytes<'_>,
@@ -86,13 +90,13 @@ fn update_rows<I: Indexer>(
     requires count { count_of shape.now < 2 ^ 64 }
     requires alike { are_alike (raw_of bytes.now) (raw_of update_bytes.now) ≡ true }
     requires fixed { holds_fixed (raw_of bytes.now) ≡ true }
-    requires places { I.places update_indexer.now ≡ tuples (region rows.now.subset) }
-    requires outer { region rows.now.outer ≡ whole shape.now }
+    requires places { I.places update_indexer.now ≡ tuples (inner_box rows.now) }
+    requires outer { outer_box rows.now ≡ whole shape.now }
     ensures answer { Answers (first_answer None (I.fits update_indexer.now shape.now)
-        (both_answer rows.now.size (count_of shape.now) (raw_of bytes.now)
+        (both_answer (element_bytes rows.now) (count_of shape.now) (raw_of bytes.now)
         (length (I.places update_indexer.now)) (raw_of update_bytes.now))) result }
     ensures unfit { IfErr result (IfUnfit (I.refuses update_indexer.now shape.now)) }
-    ensures value { IfOk result (λ v. raw_of v ≡ gathered rows.now.size (count_of shape.now)
+    ensures value { IfOk result (λ v. raw_of v ≡ gathered (element_bytes rows.now) (count_of shape.now)
         (update_picks (count_of shape.now) (linear shape.now (I.places update_indexer.now)))
         (raw_of bytes.now) (raw_of update_bytes.now)) }
 {
@@ -100,15 +104,15 @@ fn update_rows<I: Indexer>(
     let count = shape_product(shape).unwrap();
     let given = count_places(update_indexer, rows);
     expect_both(bytes, count, update_bytes, given, rows.element_size())?;
-    rows.replace(alloc, bytes, update_bytes)
+    replace_rows(alloc, rows, bytes, update_bytes)
 }
 
 // The number of an indexer's places that are those of a box.
-#[tactic(auto, using(crate::proofs::RowLaws::place_count))]
+#[tactic(auto, using(zarrs_codec_array_bytes::proofs::RowLaws::place_count))]
 fn count_places<I: Indexer>(indexer: &I, rows: &Rows) -> u64
-    requires { I.places indexer.now ≡ tuples (region rows.now.subset) }
+    requires { I.places indexer.now ≡ tuples (inner_box rows.now) }
     ensures places { result ≡ length (I.places indexer.now) }
-    ensures elements { result ≡ count (region rows.now.subset) }
+    ensures elements { result ≡ count (inner_box rows.now) }
 {
     rows.num_elements()
 }
@@ -141,7 +145,7 @@ fn update_any<I: Indexer>(
 }
 
 // The same, once the kinds of both are tested.
-#[tactic(auto, using(crate::proofs::CheckLaws::pair_alike))]
+#[tactic(auto, using(crate::proofs::UpdateLaws::pair_alike))]
 fn update_by<I: Indexer>(
     alloc: Global,
     bytes: &ArrayBytes<'_>,

@@ -1,7 +1,7 @@
 use Rattle.zarrs_codec_array_bytes.specs.Steps.{size_seen}
 use Rattle.zarrs_codec_array_bytes.specs.Raw.{raw_of}
-use Rattle.zarrs_codec_array_bytes.proofs.MeaningLaws.{updated, updated_short}
-use Rattle.zarrs_codec_array_bytes.proofs.array_bytes.update.update_array_bytes.Goals as goal
+use Rattle.zarrs_codec_array_bytes_update.proofs.UpdateLaws.{updated, updated_short}
+use Rattle.zarrs_codec_array_bytes_update.proofs.update.update_array_bytes.Goals as goal
 
 pub returns-clause-updated : goal.returns-clause-updated
 returns-clause-updated g c =

@@ -1,0 +1,9 @@
+//! Elements put into array bytes.
+#![tactic(auto)]
+
+mod gather;
+mod pairs;
+mod rows;
+mod update;
+
+pub use update::update_array_bytes;
