@@ -105,6 +105,32 @@ fn views_write_their_boxes(rt: HostRuntime) {
     );
 }
 
+fn view_of<'b>(
+    alloc: Global,
+    bytes: &'b mut [u8],
+    size: usize,
+) -> Result<ArrayBytesFixedDisjointView<'b>, CodecError>
+    requires { 0 < size }
+{
+    let all = ArraySubset::new_with_ranges(alloc, &[0..2])?;
+    let view = ArrayBytesFixedDisjointView::new(alloc, bytes, size, &[2], all)?;
+    Ok(view)
+}
+
+fn put_views<'b>(
+    alloc: Global,
+    mut view: ArrayBytesFixedDisjointView<'b>,
+    mask: ArrayBytesFixedDisjointView<'b>,
+    bytes: &ArrayBytes<'_>,
+) -> Result<(), CodecError> {
+    let mut masks = Vec::new(alloc);
+    masks.push(mask)?;
+    decode_into_array_bytes_target(
+        bytes,
+        ArrayBytesDecodeIntoTarget::Optional(&mut view, masks.as_mut_slice()),
+    )
+}
+
 // Two optional elements of two bytes are put into two buffers.
 fn put<'b>(
     alloc: Global,
@@ -112,16 +138,11 @@ fn put<'b>(
     mask: &'b mut [u8],
     given: &[u8],
 ) -> Result<(), CodecError> {
-    let all = ArraySubset::new_with_ranges(alloc, &[0..2])?;
-    let mut view = ArrayBytesFixedDisjointView::new(alloc, inner, 2, &[2], all)?;
-    let all = ArraySubset::new_with_ranges(alloc, &[0..2])?;
-    let mut masks = [ArrayBytesFixedDisjointView::new(alloc, mask, 1, &[2], all)?];
     let bytes = ArrayBytes::new_flen(CowSlice::Borrowed(&[1, 2, 3, 4]));
     let bytes = bytes.with_optional_mask(alloc, CowSlice::Borrowed(given))?;
-    decode_into_array_bytes_target(
-        &bytes,
-        ArrayBytesDecodeIntoTarget::Optional(&mut view, &mut masks),
-    )
+    let view = view_of(alloc, inner, 2)?;
+    let mask = view_of(alloc, mask, 1)?;
+    put_views(alloc, view, mask, &bytes)
 }
 
 fn put_text(alloc: Global, given: &[u8]) -> Result<String, AllocError> {

@@ -4,42 +4,45 @@ use Rattle.std.proofs.lemmas.Bool.{cases_lt}
 use Rattle.std.proofs.lemmas.List.{drop_more, drop_all, same_lists, get_or-drop, length-drop}
 use Rattle.zarr_model.specs.ArrayBytes.{ArrayBytes, fixed_bytes, variable_bytes, optional_bytes}
 use Rattle.zarrs_codec_view.specs.declared.array_bytes_fixed_disjoint_view.ArrayBytesFixedDisjointView.{ArrayBytesFixedDisjointView}
-use Rattle.zarrs_codec_view.specs.Targets.{Putting, put, not_fixed, not_optional, other_size, failed, and_then, kinds_putting, view_putting, sizes_putting, putting, IsWritten, ArePut}
+use Rattle.zarrs_codec_array_bytes.specs.Refusals.{Told, fine, refused, wrong_length, unfit, other_fill, no_memory, odd, then_answer}
+use Rattle.zarrs_codec_view.specs.Targets.{kinds_answer, view_answer, sizes_answer, target_answer, IsWritten, ArePut}
 
-both : (a b : Putting) → and_then a b ≡ put → (a ≡ put) × (b ≡ put)
-both put b h = (refl, h)
-both not_fixed b h = cc
-both not_optional b h = cc
-both (other_size len expected) b h = cc
-both failed b h = cc
+both : (a b : Told) → then_answer a b ≡ fine → (a ≡ fine) × (b ≡ fine)
+both fine b h = (refl, h)
+both (refused why) b h = cc
+both (wrong_length len expected) b h = cc
+both unfit b h = cc
+both other_fill b h = cc
+both no_memory b h = cc
+both odd b h = cc
 
 -- elements of one size are put where there is no mask
 pub fixed_opened : (value : List ℕ) (views : List ArrayBytesFixedDisjointView) (inner : ArrayBytesFixedDisjointView) →
-    putting (fixed_bytes value) views inner ≡ put → view_putting (length value) inner ≡ put
-fixed_opened value views inner h = (both (kinds_putting (length views) (fixed_bytes value)) (view_putting (length value) inner) h).1
+    target_answer (fixed_bytes value) views inner ≡ fine → view_answer (length value) inner ≡ fine
+fixed_opened value views inner h = (both (kinds_answer (length views) (fixed_bytes value)) (view_answer (length value) inner) h).1
 
 pub variable_opened : (value offsets : List ℕ) (views : List ArrayBytesFixedDisjointView) (inner : ArrayBytesFixedDisjointView) →
-    putting (variable_bytes value offsets) views inner ≡ put → ⊥
+    target_answer (variable_bytes value offsets) views inner ≡ fine → ⊥
 variable_opened value offsets views inner h = cc
 
 -- optional ones have a mask, and what is under it
 pub optional_opened : (under : ArrayBytes) (mask : List ℕ) (views : List ArrayBytesFixedDisjointView) (i : ℕ) (inner d : ArrayBytesFixedDisjointView) →
-    putting (optional_bytes under mask) (drop i views) inner ≡ put →
-    (i < length views) × (view_putting (length mask) (get_or views i d) ≡ put) × (putting under (drop (i + 1) views) inner ≡ put)
+    target_answer (optional_bytes under mask) (drop i views) inner ≡ fine →
+    (i < length views) × (view_answer (length mask) (get_or views i d) ≡ fine) × (target_answer under (drop (i + 1) views) inner ≡ fine)
 optional_opened under mask views i inner d h = ⊎_elim
-    (λ (low : i < length views). some low (subst (λ l. putting (optional_bytes under mask) l inner ≡ put) (drop_more views i d low) h))
-    (λ (high : length views ≤ i). absurd (none (subst (λ l. putting (optional_bytes under mask) l inner ≡ put) (drop_all i views high) h)))
+    (λ (low : i < length views). some low (subst (λ l. target_answer (optional_bytes under mask) l inner ≡ fine) (drop_more views i d low) h))
+    (λ (high : length views ≤ i). absurd (none (subst (λ l. target_answer (optional_bytes under mask) l inner ≡ fine) (drop_all i views high) h)))
     (cases_lt i (length views))
   where
-    none : putting (optional_bytes under mask) [] inner ≡ put → ⊥
+    none : target_answer (optional_bytes under mask) [] inner ≡ fine → ⊥
     none h = cc
 
-    some : i < length views → putting (optional_bytes under mask) (get_or views i d ∷ drop (i + 1) views) inner ≡ put →
-        (i < length views) × (view_putting (length mask) (get_or views i d) ≡ put) × (putting under (drop (i + 1) views) inner ≡ put)
+    some : i < length views → target_answer (optional_bytes under mask) (get_or views i d ∷ drop (i + 1) views) inner ≡ fine →
+        (i < length views) × (view_answer (length mask) (get_or views i d) ≡ fine) × (target_answer under (drop (i + 1) views) inner ≡ fine)
     some low h =
-        let outer = both (kinds_putting (length (drop (i + 1) views)) under) (and_then (view_putting (length mask) (get_or views i d)) (sizes_putting under (drop (i + 1) views) inner)) h in
-        let sizes = both (view_putting (length mask) (get_or views i d)) (sizes_putting under (drop (i + 1) views) inner) outer.1 in
-        (low, sizes.0, ap (λ k. and_then k (sizes_putting under (drop (i + 1) views) inner)) outer.0 ∙ sizes.1)
+        let outer = both (kinds_answer (length (drop (i + 1) views)) under) (then_answer (view_answer (length mask) (get_or views i d)) (sizes_answer under (drop (i + 1) views) inner)) h in
+        let sizes = both (view_answer (length mask) (get_or views i d)) (sizes_answer under (drop (i + 1) views) inner) outer.1 in
+        (low, sizes.0, ap (λ k. then_answer k (sizes_answer under (drop (i + 1) views) inner)) outer.0 ∙ sizes.1)
 
 pub drop_same : {A : Type 0} (xs ys : List A) (i : ℕ) → length xs ≡ length ys → ((k : ℕ) (d : A) → i ≤ k → get_or xs k d ≡ get_or ys k d) → drop i xs ≡ drop i ys
 drop_same xs ys i long same =

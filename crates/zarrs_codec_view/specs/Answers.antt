@@ -41,6 +41,7 @@ write_answer subset within num_elements size len =
     else other_length len (num_elements * size)) else outside subset within
 
 -- a call answers so, but for want of memory
-abbrev pub Answers : {T : Type 0} → Answer → Result T ArrayBytesFixedDisjointViewCreateError → Type 0
+abbrev pub Answers : {T : Type 0} → Answer → Result T ArrayBytesFixedDisjointViewCreateError
+    → Type 0
 Answers wanted (Ok v) = wanted ≡ done
 Answers wanted (Err e) = (e ≡ create.OutOfMemory) ⊎ (error_answer e ≡ wanted)

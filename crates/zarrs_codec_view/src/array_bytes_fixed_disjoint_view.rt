@@ -128,9 +128,14 @@ impl<'a> ArrayBytesFixedDisjointView<'a> {
     pub(crate) fn expect_len(&self, len: usize) -> Result<(), InvalidBytesLengthError>
         ensures exact { is_ok result ≡ (length self.now.bytes.now == self.now.part.array_len
             && len == count (region self.now.part.subset) * self.now.part.size) }
-        ensures told { IfErr result (λ e. e ≡ (if length self.now.bytes.now == self.now.part.array_len
-            then record { len = len; expected_len = count (region self.now.part.subset) * self.now.part.size }
-            else record { len = length self.now.bytes.now; expected_len = self.now.part.array_len })) }
+        ensures told { IfErr result
+            (λ e. e ≡ (if length self.now.bytes.now == self.now.part.array_len then record {
+              len = len;
+              expected_len = count (region self.now.part.subset) * self.now.part.size;
+            } else record {
+              len = length self.now.bytes.now;
+              expected_len = self.now.part.array_len;
+            })) }
     {
         expect_len(self.bytes.len(), self.part.array_len)?;
         expect_len(len, self.part.len)?;

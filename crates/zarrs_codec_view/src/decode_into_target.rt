@@ -7,7 +7,8 @@ ghost use Rattle.zarrs_array_subset.specs.ArraySubset.{region};
 ghost use Rattle.zarrs_codec_array_bytes.specs.Raw.{raw_of};
 ghost use Rattle.zarrs_codec_view.specs.declared.array_bytes_fixed_disjoint_view.ArrayBytesFixedDisjointView.{ArrayBytesFixedDisjointView};
 ghost use Rattle.zarrs_codec_view.specs.TargetViews.{inner_view, mask_views};
-ghost use Rattle.zarrs_codec_view.specs.Targets.{LeftBehind, Puts, kinds_putting, view_putting, sizes_putting, putting, put, IsWritten, ArePut};
+ghost use Rattle.zarrs_codec_array_bytes.specs.Refusals.{told, fine};
+ghost use Rattle.zarrs_codec_view.specs.Targets.{LeftBehind, kinds_answer, view_answer, sizes_answer, target_answer, IsWritten, ArePut};
 
 use crate::array_bytes_fixed_disjoint_view::ArrayBytesFixedDisjointView;
 use std::borrow::CowSlice;
@@ -37,7 +38,7 @@ fn slice_of<'b>(bytes: &'b ArrayBytesRaw<'_>) -> &'b [u8]
 
 // Tests the kinds of all levels, the outermost first.
 fn expect_kinds(bytes: &ArrayBytes<'_>, num_masks: usize) -> Result<(), CodecError>
-    ensures { Puts (kinds_putting num_masks (raw_of bytes.now)) result }
+    ensures { told result ≡ kinds_answer num_masks (raw_of bytes.now) }
 {
     match bytes {
         ArrayBytes::Fixed(_) => {
@@ -60,7 +61,7 @@ fn expect_kinds(bytes: &ArrayBytes<'_>, num_masks: usize) -> Result<(), CodecErr
 
 // Tests that so many bytes are the elements of a view's box.
 fn expect_size(len: usize, view: &ArrayBytesFixedDisjointView<'_>) -> Result<(), CodecError>
-    ensures { Puts (view_putting len view.now) result }
+    ensures { told result ≡ view_answer len view.now }
 {
     match view.expect_len(len) {
         Ok(()) => Ok(()),
@@ -74,7 +75,7 @@ fn expect_sizes(
     masks: &[ArrayBytesFixedDisjointView<'_>],
     data: &ArrayBytesFixedDisjointView<'_>,
 ) -> Result<(), CodecError>
-    ensures { Puts (sizes_putting (raw_of bytes.now) masks.now «data».now) result }
+    ensures { told result ≡ sizes_answer (raw_of bytes.now) masks.now «data».now }
 {
     match bytes {
         ArrayBytes::Fixed(value) => expect_size(slice_of(value).len(), data),
@@ -91,7 +92,7 @@ fn expect_sizes(
 
 // Writes bytes that are the elements of a view's box.
 fn write(view: &mut ArrayBytesFixedDisjointView<'_>, bytes: &[u8])
-    requires { view_putting (length bytes.now) view.old ≡ put }
+    requires { view_answer (length bytes.now) view.old ≡ fine }
     ensures { IsWritten bytes.now view.old view.new }
 {
     match view.copy_from_slice(bytes) {
@@ -104,7 +105,7 @@ fn write(view: &mut ArrayBytesFixedDisjointView<'_>, bytes: &[u8])
 fn write_at(masks: &mut [ArrayBytesFixedDisjointView<'_>], level: usize, bytes: &[u8])
     requires within { level < length masks.old }
     requires fits { (d : ArrayBytesFixedDisjointView) →
-        view_putting (length bytes.now) (slice_index_or masks.old level d) ≡ put }
+        view_answer (length bytes.now) (slice_index_or masks.old level d) ≡ fine }
     ensures long { length masks.new ≡ length masks.old }
     ensures before { (k : ℕ) (d : ArrayBytesFixedDisjointView) → k < level →
         slice_index_or masks.new k d ≡ slice_index_or masks.old k d }
@@ -124,7 +125,7 @@ fn write_levels(
     data: &mut ArrayBytesFixedDisjointView<'_>,
 )
     requires within { level ≤ length masks.old }
-    requires fits { putting (raw_of bytes.now) (drop level masks.old) «data».old ≡ put }
+    requires fits { target_answer (raw_of bytes.now) (drop level masks.old) «data».old ≡ fine }
     ensures long { length masks.new ≡ length masks.old }
     ensures before { (k : ℕ) (d : ArrayBytesFixedDisjointView) → k < level →
         slice_index_or masks.new k d ≡ slice_index_or masks.old k d }
@@ -147,18 +148,18 @@ fn expect_levels(
     masks: &[ArrayBytesFixedDisjointView<'_>],
     data: &ArrayBytesFixedDisjointView<'_>,
 ) -> Result<(), CodecError>
-    ensures { Puts (putting (raw_of bytes.now) masks.now «data».now) result }
+    ensures { told result ≡ target_answer (raw_of bytes.now) masks.now «data».now }
 {
     expect_kinds(bytes, masks.len())?;
     expect_sizes(bytes, masks, data)
 }
 
 // Puts elements of one size.
-fn decode_into_fixed(
+pub(crate) fn decode_into_fixed(
     bytes: &ArrayBytes<'_>,
     data: &mut ArrayBytesFixedDisjointView<'_>,
 ) -> Result<(), CodecError>
-    ensures exact { Puts (putting (raw_of bytes.now) [] «data».old) result }
+    ensures exact { told result ≡ target_answer (raw_of bytes.now) [] «data».old }
     ensures put { IfOk result (λ _. ArePut (raw_of bytes.now) [] [] «data».old «data».new) }
     ensures kept { IfErr result (λ _. «data».new ≡ «data».old) }
 {
@@ -172,12 +173,12 @@ fn decode_into_fixed(
 }
 
 // Puts optional elements.
-fn decode_into_optional(
+pub(crate) fn decode_into_optional(
     bytes: &ArrayBytes<'_>,
     data: &mut ArrayBytesFixedDisjointView<'_>,
     masks: &mut [ArrayBytesFixedDisjointView<'_>],
 ) -> Result<(), CodecError>
-    ensures exact { Puts (putting (raw_of bytes.now) masks.old «data».old) result }
+    ensures exact { told result ≡ target_answer (raw_of bytes.now) masks.old «data».old }
     ensures put { IfOk result
         (λ _. ArePut (raw_of bytes.now) masks.old masks.new «data».old «data».new) }
     ensures kept { IfErr result (λ _. («data».new ≡ «data».old) × (masks.new ≡ masks.old)) }
@@ -212,8 +213,8 @@ pub fn decode_into_array_bytes_target(
     bytes: &ArrayBytes<'_>,
     target: ArrayBytesDecodeIntoTarget<'_, '_>,
 ) -> Result<(), CodecError>
-    ensures exact { Puts (putting (raw_of bytes.now) (mask_views target.entry)
-        (inner_view target.entry)) result }
+    ensures exact { told result ≡ target_answer (raw_of bytes.now) (mask_views target.entry)
+        (inner_view target.entry) }
     ensures put { IfOk result (λ _. LeftBehind
         (λ left. ArePut (raw_of bytes.now) [] [] (inner_view target.entry) left.0.now)
         (λ left. ArePut (raw_of bytes.now) (mask_views target.entry) left.1.0.now

@@ -2,7 +2,8 @@ use Rattle.std.proofs.Common.{◌≡◌, ◌+◌, get_or, drop, arith, sym, ap, 
 use Rattle.std.specs.Cow.{cow_slice_items}
 use Rattle.zarr_model.specs.ArrayBytes.{optional_bytes}
 use Rattle.zarrs_codec_array_bytes.specs.Raw.{raw_of}
-use Rattle.zarrs_codec_view.specs.Targets.{putting, put, IsWritten, ArePut}
+use Rattle.zarrs_codec_array_bytes.specs.Refusals.{fine}
+use Rattle.zarrs_codec_view.specs.Targets.{target_answer, IsWritten, ArePut}
 use Rattle.zarrs_codec_view.proofs.TargetLaws.{optional_opened, optional_put, drop_same}
 use Rattle.zarrs_codec_view.proofs.decode_into_target.+write_levels.Goals as goal
 
@@ -11,13 +12,13 @@ write_levels-requires t c =
     let level : raw_of c.args.bytes.now ≡ optional_bytes (raw_of c.data.result.now) (cow_slice_items c.mask.result.now) =
     ap raw_of c.in-Optional.is ∙ ap₂ optional_bytes (sym c.data.ensures.value) (sym c.mask.ensures) in
     let opened = optional_opened (raw_of c.data.result.now) (cow_slice_items c.mask.result.now) c.args.masks.now c.args.level c.args.data.now c.args.data.now
-    (subst (λ b. putting b (drop c.args.level c.args.masks.now) c.args.data.now ≡ put) level c.requires.fits) in
+    (subst (λ b. target_answer b (drop c.args.level c.args.masks.now) c.args.data.now ≡ fine) level c.requires.fits) in
     let same : drop (c.args.level + 1) c.args.masks.now ≡ drop (c.args.level + 1) c.write_at.new.masks =
     sym (drop_same c.write_at.new.masks c.args.masks.now (c.args.level + 1) c.write_at.ensures.long (λ k d h. c.write_at.ensures.after k d (omega (arith, h)))) in (
       omega (arith, opened.0, c.write_at.ensures.long),
       (
         omega (arith, opened.0, c.write_at.ensures.long),
-        subst (λ l. putting (raw_of c.data.result.now) l c.args.data.now ≡ put) same opened.2,
+        subst (λ l. target_answer (raw_of c.data.result.now) l c.args.data.now ≡ fine) same opened.2,
       ),
     )
 
@@ -26,7 +27,7 @@ returns-in-Optional-clause-put t c =
     let level : raw_of c.args.bytes.now ≡ optional_bytes (raw_of c.data.result.now) (cow_slice_items c.mask.result.now) =
     ap raw_of c.in-Optional.is ∙ ap₂ optional_bytes (sym c.data.ensures.value) (sym c.mask.ensures) in
     let opened = optional_opened (raw_of c.data.result.now) (cow_slice_items c.mask.result.now) c.args.masks.now c.args.level c.args.data.now c.args.data.now
-    (subst (λ b. putting b (drop c.args.level c.args.masks.now) c.args.data.now ≡ put) level c.requires.fits) in
+    (subst (λ b. target_answer b (drop c.args.level c.args.masks.now) c.args.data.now ≡ fine) level c.requires.fits) in
     let same : drop (c.args.level + 1) c.write_at.new.masks ≡ drop (c.args.level + 1) c.args.masks.now =
     drop_same c.write_at.new.masks c.args.masks.now (c.args.level + 1) c.write_at.ensures.long (λ k d h. c.write_at.ensures.after k d (omega (arith, h))) in
     let written : IsWritten (cow_slice_items c.mask.result.now) (get_or c.args.masks.now c.args.level c.args.data.now) (get_or c.write_levels.new.masks c.args.level c.args.data.now) =
