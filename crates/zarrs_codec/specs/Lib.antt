@@ -16,6 +16,8 @@ pub use Rattle.zarrs_codec_array_bytes.specs.Created
 pub use Rattle.zarrs_codec_array_bytes.specs.Steps
 pub use Rattle.zarrs_codec_array_bytes.specs.Selection
 pub use Rattle.zarrs_codec_array_bytes.specs.Refusals
+pub use Rattle.zarrs_codec_array_bytes_update.specs.Pairs
+pub use Rattle.zarrs_codec_array_bytes_update.specs.Picks
 pub use Rattle.zarrs_codec_view.specs.Answers
 pub use Rattle.zarrs_codec_view.specs.TargetViews
 pub use Rattle.zarrs_codec_view.specs.Targets

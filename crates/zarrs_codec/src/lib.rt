@@ -1,13 +1,13 @@
 //! Array bytes, views and targets for decoded elements, the options of codecs and their errors.
 //!
-//! All of it comes from the crates `zarrs_codec_array_bytes`, `zarrs_codec_view`, `zarrs_codec_options` and
-//! `zarrs_codec_error`, and is passed on here.
+//! All of it comes from the crates `zarrs_codec_array_bytes`, `zarrs_codec_array_bytes_update`, `zarrs_codec_view`,
+//! `zarrs_codec_options` and `zarrs_codec_error`, and is passed on here.
 #![tactic(auto)]
 
 pub use zarrs_codec_array_bytes::{
     ArrayBytes, ArrayBytesOffsets, ArrayBytesOptional, ArrayBytesRaw, ArrayBytesVariableLength,
-    update_array_bytes,
 };
+pub use zarrs_codec_array_bytes_update::update_array_bytes;
 pub use zarrs_codec_error::{
     ArrayBytesFixedDisjointViewCreateError, ArrayBytesRawOffsetsCreateError,
     ArrayBytesRawOffsetsOutOfBoundsError, CodecError, ExpectedFixedLengthBytesError,

@@ -79,6 +79,11 @@ abbrev pub lengths_answer : ℕ → ℕ → ArrayBytes → Told
 lengths_answer size number value =
     sized_answer (inner_length value) (number * size) (lengths_refusal size number value)
 
+-- the first of two answers that is not fine
+abbrev pub then_answer : Told → Told → Told
+then_answer fine next = next
+then_answer first next = first
+
 -- the innermost data are of one size
 abbrev pub holds_fixed : ArrayBytes → Bool
 holds_fixed (fixed_bytes value) = true

@@ -12,11 +12,11 @@ use Rattle.zarrs_codec_bytes.specs.Picking.{AllBelow, gathered, replaced, size_i
 use Rattle.zarrs_codec_bytes.proofs.GatherLaws.{update_means}
 use Rattle.zarrs_codec_bytes.proofs.ReplaceLaws.{picks_below}
 use Rattle.zarrs_codec_array_bytes.specs.Selection.{linear}
-use Rattle.zarrs_codec_array_bytes.specs.Refusals.{Told, fine, refused, wrong_length, unfit, other_fill, no_memory, odd, told_by, Answers, lengths_refusal, lengths_answer}
+use Rattle.zarrs_codec_array_bytes.specs.Refusals.{Told, fine, refused, wrong_length, unfit, other_fill, no_memory, odd, told_by, then_answer, Answers, lengths_refusal, lengths_answer}
 use Rattle.zarrs_codec_array_bytes.proofs.CheckLaws.{still_short, sized_fine}
 use Rattle.zarrs_codec_array_bytes.proofs.MeaningLaws.{is_fine}
 use Rattle.zarrs_codec_array_bytes.proofs.RowLaws.{outer_count}
-use Rattle.zarrs_codec_array_bytes_update.specs.Pairs.{pair_refusal, are_alike, then_answer, update_answer}
+use Rattle.zarrs_codec_array_bytes_update.specs.Pairs.{pair_refusal, are_alike, update_answer}
 use Rattle.zarrs_codec_array_bytes_update.specs.Picks.{update_picks}
 
 pub pair_alike : (size : Option ℕ) (old new : ArrayBytes) → pair_refusal size old new ≡ None → are_alike old new ≡ true

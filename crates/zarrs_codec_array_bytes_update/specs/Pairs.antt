@@ -3,7 +3,7 @@ use Rattle.std.specs.Prelude.{ℕ, Bool, true, false, Option, Some, None}
 use Rattle.zarr_model.specs.ArrayBytes.{ArrayBytes, fixed_bytes, variable_bytes, optional_bytes}
 use Rattle.zarr_model.specs.Command as model
 use Rattle.zarrs_codec_bytes.specs.Picking.{size_in}
-use Rattle.zarrs_codec_array_bytes.specs.Refusals.{Told, fine, first_answer, lengths_answer}
+use Rattle.zarrs_codec_array_bytes.specs.Refusals.{Told, first_answer, then_answer, lengths_answer}
 
 -- two array bytes of different kinds, or of another innermost kind than this size says
 abbrev pub mixture_refusal : Option ℕ → model.Refusal
@@ -32,10 +32,6 @@ are_alike (optional_bytes old mask) (optional_bytes new over) = are_alike old ne
 are_alike _ _ = false
 
 -- what is said of the lengths of old bytes, and then of those of an update
-abbrev pub then_answer : Told → Told → Told
-then_answer fine next = next
-then_answer first next = first
-
 abbrev pub both_answer : ℕ → ℕ → ArrayBytes → ℕ → ArrayBytes → Told
 both_answer size number old given new =
     then_answer (lengths_answer size number old) (lengths_answer size given new)
