@@ -2,6 +2,8 @@
 #![tactic(auto)]
 
 #[cfg(test)]
+mod array_bytes;
+#[cfg(test)]
 mod errors;
 #[cfg(test)]
 mod options;
