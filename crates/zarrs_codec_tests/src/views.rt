@@ -10,8 +10,11 @@ use zarrs_array_subset::ArraySubset;
 use zarrs_codec_array_bytes::ArrayBytes;
 use zarrs_codec_error::{ArrayBytesFixedDisjointViewCreateError, CodecError};
 use zarrs_codec_view::{
-    ArrayBytesDecodeIntoTarget, ArrayBytesFixedDisjointView, decode_into_array_bytes_target,
+    ArrayBytesDecodeIntoTarget, ArrayBytesFixedDisjointView, copy_fill_value_into,
+    decode_into_array_bytes_target,
 };
+use zarrs_data_type_elements::FillValue;
+use zarrs_data_type_names::DataType;
 
 // A box of three rows of three elements is written, through a view of it.
 fn copy_box(
@@ -153,9 +156,32 @@ fn put_text(alloc: Global, given: &[u8]) -> Result<String, AllocError> {
     }
 }
 
+// Two elements of two bytes are filled.
+fn fill_target(alloc: Global, bytes: &mut [u8]) -> Result<(), CodecError> {
+    let fill_value = FillValue::new(vec![in alloc; 7, 8]?);
+    let mut view = view_of(alloc, bytes, 2)?;
+    if view.num_elements() != 2 {
+        return Ok(());
+    }
+    copy_fill_value_into(
+        alloc,
+        &DataType::UInt16,
+        &fill_value,
+        ArrayBytesDecodeIntoTarget::Fixed(&mut view),
+    )
+}
+
+fn filled_text(alloc: Global) -> Result<String, CodecError> {
+    let mut bytes: [u8; 4] = [0; 4];
+    fill_target(alloc, &mut bytes)?;
+    let text = format!(in alloc; "{bytes:?}")?;
+    Ok(text)
+}
+
 #[test]
 fn targets_hold_what_is_put(rt: HostRuntime) {
     let alloc = rt.alloc();
+    is_text(&rt, filled_text(alloc), "[7, 8, 7, 8]");
     is_text(&rt, put_text(alloc, &[1, 0]), "[1, 2, 3, 4] [1, 0]");
     is_text(
         &rt,
