@@ -68,8 +68,8 @@ fn push_byte(value: &mut Vec<u8>, digits: &[u8]) -> Result<bool, AllocError>
 // Appends the bytes that digits denote, if all are hexadecimal. An error comes only for want of memory.
 fn push_bytes(value: &mut Vec<u8>, digits: &[u8], size: usize) -> Result<bool, AllocError>
     requires { length digits.now ≡ 2 * size }
-    ensures { IfOk result (λ pushed. PushesElement (element_of (fixed size) (104 ∷ digits.now)) pushed
-        value.old.items value.new.items) }
+    ensures { IfOk result (λ pushed. PushesElement (element_of (fixed size)
+        (104 ∷ digits.now)) pushed value.old.items value.new.items) }
 {
     // One byte needs no room before it is there.
     if size == 1 {

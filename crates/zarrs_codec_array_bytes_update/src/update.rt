@@ -96,7 +96,8 @@ fn update_rows<I: Indexer>(
         (both_answer (element_bytes rows.now) (count_of shape.now) (raw_of bytes.now)
         (length (I.places update_indexer.now)) (raw_of update_bytes.now))) result }
     ensures unfit { IfErr result (IfUnfit (I.refuses update_indexer.now shape.now)) }
-    ensures value { IfOk result (λ v. raw_of v ≡ gathered (element_bytes rows.now) (count_of shape.now)
+    ensures value { IfOk result (λ v. raw_of v
+        ≡ gathered (element_bytes rows.now) (count_of shape.now)
         (update_picks (count_of shape.now) (linear shape.now (I.places update_indexer.now)))
         (raw_of bytes.now) (raw_of update_bytes.now)) }
 {

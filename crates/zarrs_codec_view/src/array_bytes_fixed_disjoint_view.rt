@@ -176,8 +176,8 @@ impl<'a> ArrayBytesFixedDisjointView<'a> {
         ensures same_reference { self.new.bytes.ghost_name ≡ self.old.bytes.ghost_name }
         ensures part { self.new.part ≡ self.old.part }
         ensures exact { length self.old.bytes.now ≡ self.old.part.array_len →
-            is_ok result
-            ≡ (length subset_bytes.now == count (region self.old.part.subset) * self.old.part.size) }
+            is_ok result ≡ (length subset_bytes.now
+            == count (region self.old.part.subset) * self.old.part.size) }
         ensures told { length self.old.bytes.now ≡ self.old.part.array_len →
             IfErr result (λ e. e ≡ record {
               len = length subset_bytes.now;

@@ -82,7 +82,8 @@ fn extract_rows<I: Indexer>(
     ensures answer { Answers (first_answer None (I.fits indexer.now shape.now)
         (lengths_answer (element_bytes rows.now) (count_of shape.now) (raw_of bytes.now))) result }
     ensures unfit { IfErr result (IfUnfit (I.refuses indexer.now shape.now)) }
-    ensures value { IfOk result (λ v. raw_of v ≡ gathered (element_bytes rows.now) (count_of shape.now)
+    ensures value { IfOk result (λ v. raw_of v
+        ≡ gathered (element_bytes rows.now) (count_of shape.now)
         (linear shape.now (I.places indexer.now)) (raw_of bytes.now) (raw_of bytes.now)) }
 {
     expect_fit(alloc, indexer, shape)?;
