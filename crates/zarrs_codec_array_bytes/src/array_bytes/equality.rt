@@ -150,7 +150,8 @@ fn are_same_under(mask: &[u8], a: &ArrayBytes<'_>, b: &ArrayBytes<'_>) -> bool
 
 // Whether the masks are equal, the data are of one kind, and the elements that are there are equal.
 fn are_same_optional(a: &ArrayBytesOptional<'_>, b: &ArrayBytesOptional<'_>) -> bool
-    ensures { result ≡ same_optional (mask_of a.now) (data_of a.now) (mask_of b.now) (data_of b.now) }
+    ensures { result
+        ≡ same_optional (mask_of a.now) (data_of a.now) (mask_of b.now) (data_of b.now) }
 {
     same_bytes(a.flags(), b.flags())
         && (have_same_shape(a.data(), b.data()) && are_same_under(a.flags(), a.data(), b.data()))
