@@ -1,5 +1,5 @@
 -- Updates of array bytes: kinds, lengths, picks, and what the updated bytes mean.
-use Rattle.std.proofs.Common.{◌≡◌, ℕ, ◌+◌, ◌<◌, List, length, map, get_or, false, true, Bool, Option, Some, None, Result, Ok, Err, IfOk, sym, ap, ◌∙◌, subst, refl, arith}
+use Rattle.std.proofs.Common.{◌≡◌, ℕ, ◌+◌, ◌<◌, List, length, map, get_or, false, true, Bool, Option, Some, None, Result, Ok, Err, IfOk, sym, ap, ◌∙◌, subst, refl}
 use Rattle.std.specs.List.{range_with_len}
 use Rattle.std.proofs.lemmas.List.{length-map}
 use Rattle.zarr_model.specs.Region.{Region, count, count_of, linear_index, whole, place, tuples}

@@ -1,6 +1,6 @@
 //! Array bytes: when they are valid, and elements taken out of them, put into them and filled.
 
-ghost use Rattle.std.specs.Prelude.{◌≡◌, ◌*◌, ◌<◌, ◌^◌};
+ghost use Rattle.std.specs.Prelude.{◌≡◌, ◌*◌, ◌<◌, ◌^◌, IfOk};
 ghost use Rattle.zarr_model.specs.Region.{count_of};
 ghost use Rattle.zarrs_codec_array_bytes.specs.Steps.{bytes_seen};
 
@@ -39,7 +39,11 @@ optional 1 0 > 0 2 3 @ 97 98 99 | valid
 optional 0 2 3 @ 97 98 99 | optional elements are expected
 optional 1 0 > 1 2 | elements of variable length are expected
 optional 1 > 1 2 | the mask of optional elements is not of its form
-optional 2 0 > 1 2 | the mask of optional elements is not of its form";
+optional 2 0 > 1 2 | the mask of optional elements is not of its form
+nested 1 0 > 0 1 > 0 2 3 @ 97 98 99 | valid
+nested 1 0 > 0 2 3 @ 97 98 99 | optional elements are expected
+nested 1 0 > 0 2 > 1 2 3 @ 97 98 99 | the mask of optional elements is not of its form
+nested 1 0 > 0 1 > 0 2 2 @ 97 98 99 | the offsets of variable-length elements are not of their form";
 
 // The bytes of a fill value and elements, and whether all are that fill value.
 const FILLS: &str = "97 | 0 2 2 @ 97 97 | false
@@ -88,13 +92,27 @@ fn leaf(alloc: Global, text: &str) -> Result<ArrayBytes<'static>, CodecError> {
     }
 }
 
+// Optional elements under a mask.
+fn masked(
+    alloc: Global,
+    mask: &str,
+    inner: ArrayBytes<'static>,
+) -> Result<ArrayBytes<'static>, CodecError> {
+    let mask = bytes_of(alloc, mask)?;
+    let value = inner.with_optional_mask(alloc, CowSlice::Owned(mask))?;
+    Ok(value)
+}
+
+fn optional(alloc: Global, text: &str) -> Result<ArrayBytes<'static>, CodecError> {
+    match text.split_once('>') {
+        Some((mask, inner)) => masked(alloc, mask, leaf(alloc, inner)?),
+        None => leaf(alloc, text),
+    }
+}
+
 fn value_of(alloc: Global, text: &str) -> Result<ArrayBytes<'static>, CodecError> {
     match text.split_once('>') {
-        Some((mask, inner)) => {
-            let mask = bytes_of(alloc, mask)?;
-            let value = leaf(alloc, inner)?.with_optional_mask(alloc, CowSlice::Owned(mask))?;
-            Ok(value)
-        }
+        Some((mask, inner)) => masked(alloc, mask, optional(alloc, inner)?),
         None => leaf(alloc, text),
     }
 }
@@ -150,10 +168,22 @@ fn validity(alloc: Global, text: &str, data_type: &DataType) -> Result<String, A
     }
 }
 
+// Optional elements of optional texts.
+fn nested(alloc: Global) -> Result<DataType, AllocError>
+    ensures { IfOk result (λ data_type. bytes_seen data_type ≡ 0) }
+{
+    let inner = Box::new(alloc, DataType::String)?;
+    let middle = Box::new(alloc, DataType::Optional(inner))?;
+    Ok(DataType::Optional(middle))
+}
+
 fn validity_row(alloc: Global, words: &str) -> Result<String, AllocError> {
     if let Some(text) = words.strip_prefix("optional") {
         let inner = Box::new(alloc, DataType::String)?;
         return validity(alloc, text, &DataType::Optional(inner));
+    }
+    if let Some(text) = words.strip_prefix("nested") {
+        return validity(alloc, text, &nested(alloc)?);
     }
     if let Some(text) = words.strip_prefix("string") {
         return validity(alloc, text, &DataType::String);
