@@ -108,6 +108,15 @@ pub struct ExpectedVariableLengthBytesError;
 #[error("optional elements are expected")]
 pub struct ExpectedOptionalBytesError;
 
+/// A call for elements of one length was made on others. No call makes this error; each of them names the kind that it
+/// expects instead.
+#[derive(Clone, Copy, Debug, Error)]
+pub enum ArrayBytesError {
+    /// The elements have different lengths.
+    #[error("used a method for elements of one length on elements of variable length")]
+    UsedFixedLengthMethodOnVariableLengthArray,
+}
+
 /// Numbers that are no offsets of variable-length elements.
 #[derive(Clone, Copy, Debug, Error)]
 pub enum ArrayBytesRawOffsetsCreateError {
