@@ -108,8 +108,8 @@ pub struct ExpectedVariableLengthBytesError;
 #[error("optional elements are expected")]
 pub struct ExpectedOptionalBytesError;
 
-/// A call for elements of one length was made on others. No call makes this error; each of them names the kind that it
-/// expects instead.
+/// A method for elements of one length was used on others. No call answers this: each names the kind that it
+/// expects.
 #[derive(Clone, Copy, Debug, Error)]
 pub enum ArrayBytesError {
     /// The elements have different lengths.
