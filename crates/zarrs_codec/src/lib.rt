@@ -9,7 +9,7 @@ pub use zarrs_codec_array_bytes::{
 };
 pub use zarrs_codec_array_bytes_update::update_array_bytes;
 pub use zarrs_codec_error::{
-    ArrayBytesFixedDisjointViewCreateError, ArrayBytesRawOffsetsCreateError,
+    ArrayBytesError, ArrayBytesFixedDisjointViewCreateError, ArrayBytesRawOffsetsCreateError,
     ArrayBytesRawOffsetsOutOfBoundsError, CodecError, ExpectedFixedLengthBytesError,
     ExpectedOptionalBytesError, ExpectedVariableLengthBytesError, InvalidArrayShapeError,
     InvalidBytesLengthError, InvalidNumberOfElementsError, SubsetOutOfBoundsError,

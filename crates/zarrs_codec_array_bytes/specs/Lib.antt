@@ -1,5 +1,6 @@
 pub mod Offsets
 pub mod Raw
+pub mod Owned
 pub mod Created
 pub mod Levels
 pub mod Steps

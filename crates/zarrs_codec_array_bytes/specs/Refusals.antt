@@ -4,6 +4,7 @@ use Rattle.zarr_model.specs.Element.{Kind, fixed, variable, optional, fixed_size
 use Rattle.zarr_model.specs.ArrayBytes.{ArrayBytes, fixed_bytes, variable_bytes, optional_bytes}
 use Rattle.zarr_model.specs.Command as model
 use Rattle.zarrs_array_subset.specs.declared.error.IndexerError.{IndexerError}
+use Rattle.zarrs_array_subset.specs.declared.error.IndexerError.TheVariants as indexer
 use Rattle.zarrs_codec_bytes.specs.Picking.{size_in}
 use Rattle.zarrs_codec_array_bytes.specs.Levels.{inner_length}
 use Rattle.zarrs_codec_error.specs.declared.error.CodecError.{CodecError}
@@ -112,7 +113,12 @@ abbrev pub Answers : {T : Type 0} → Told → Result T CodecError → Type 0
 Answers wanted (Ok v) = wanted ≡ fine
 Answers wanted (Err e) = (e ≡ codec.OutOfMemory) ⊎ (told_by e ≡ wanted)
 
--- where the error holds one of an indexer, it is one of these
+-- the error of an indexer says something else than that memory ran out
+abbrev pub is_not_memory : IndexerError → Bool
+is_not_memory indexer.OutOfMemory = false
+is_not_memory _ = true
+
+-- where the error holds one of an indexer, it is one of these, and no want of memory
 abbrev pub IfUnfit : (IndexerError → Type 0) → CodecError → Type 0
-IfUnfit Refuses (codec.IncompatibleIndexer e) = Refuses e
+IfUnfit Refuses (codec.IncompatibleIndexer e) = Refuses e × (is_not_memory e ≡ true)
 IfUnfit Refuses _ = Unit {0}

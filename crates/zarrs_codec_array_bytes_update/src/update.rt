@@ -177,9 +177,9 @@ fn update_by<I: Indexer>(
 /// The old elements with those at the indexer's indices replaced in order, so that the last one wins.
 ///
 /// # Errors
-/// [`CodecError`] where both are not of one kind with elements of this size, else where the indexer does not fit the
-/// shape, else where the old bytes, a mask or the offsets have another length than the shape's elements have, else where
-/// those of the update have another length than the indexer's elements have.
+/// [`CodecError`] where both are not of one kind with elements of this size, else where the indexer does not fit
+/// the shape, else where the old bytes, a mask or the offsets have another length than the shape's elements have,
+/// else where those of the update have another length than the indexer's elements have.
 pub fn update_array_bytes<I: Indexer>(
     alloc: Global,
     bytes: &ArrayBytes<'_>,

@@ -108,6 +108,15 @@ pub struct ExpectedVariableLengthBytesError;
 #[error("optional elements are expected")]
 pub struct ExpectedOptionalBytesError;
 
+/// A method for elements of one length was used on others. No call answers this: each names the kind that it
+/// expects.
+#[derive(Clone, Copy, Debug, Error)]
+pub enum ArrayBytesError {
+    /// The elements have different lengths.
+    #[error("used a method for elements of one length on elements of variable length")]
+    UsedFixedLengthMethodOnVariableLengthArray,
+}
+
 /// Numbers that are no offsets of variable-length elements.
 #[derive(Clone, Copy, Debug, Error)]
 pub enum ArrayBytesRawOffsetsCreateError {

@@ -6,7 +6,7 @@ mod error;
 mod from;
 
 pub use array_bytes_error::{
-    ArrayBytesFixedDisjointViewCreateError, ArrayBytesRawOffsetsCreateError,
+    ArrayBytesError, ArrayBytesFixedDisjointViewCreateError, ArrayBytesRawOffsetsCreateError,
     ArrayBytesRawOffsetsOutOfBoundsError, ExpectedFixedLengthBytesError,
     ExpectedOptionalBytesError, ExpectedVariableLengthBytesError, InvalidArrayShapeError,
     InvalidBytesLengthError, InvalidNumberOfElementsError, SubsetOutOfBoundsError,

@@ -351,3 +351,92 @@ fn elements_of_boxes_and_lists_are_replaced(rt: HostRuntime) {
         "[1, 1, 1, 1, 1, 1, 0, 1, 1, 1, 1, 1, 0, 1, 0, 1] > [1, 2, 3, 4, 5, 99, 98, 8, 9, 97, 96, 12, 13, 14, 0, 255]",
     );
 }
+
+// Elements of each kind, and a copy of them.
+const COPIES: &str = "5 6 | [5, 6]
+0 1 3 @ 97 98 99 | [0, 1, 3] @ [97, 98, 99]
+1 0 > 0 2 3 @ 97 98 99 | [1, 0] > [0, 2, 3] @ [97, 98, 99]";
+
+fn copied(alloc: Global, text: &str) -> Result<ArrayBytes<'static>, CodecError> {
+    let value = value_of(alloc, text)?;
+    let copy = value.try_clone(alloc)?;
+    Ok(copy)
+}
+
+#[test]
+fn a_copy_has_the_same_elements(rt: HostRuntime) {
+    let alloc = rt.alloc();
+    for row in COPIES.lines() {
+        let (text, want) = cut(row);
+        is_text(&rt, answer(alloc, copied(alloc, text)), want);
+    }
+}
+
+// Texts that are optional twice, under the same mask, all of it borrowed.
+fn nested<'a>(
+    alloc: Global,
+    bytes: &'a [u8],
+    offsets: &'a [usize],
+    mask: &'a [u8],
+) -> Result<ArrayBytes<'a>, CodecError> {
+    let offsets = ArrayBytesOffsets::try_from(offsets)?;
+    let texts = ArrayBytes::new_vlen(CowSlice::Borrowed(bytes), offsets)?;
+    let inner = texts.with_optional_mask(alloc, CowSlice::Borrowed(mask))?;
+    let value = inner.with_optional_mask(alloc, CowSlice::Borrowed(mask))?;
+    Ok(value)
+}
+
+fn nested_owned(alloc: Global) -> Result<ArrayBytes<'static>, CodecError> {
+    let value = nested(alloc, &[97, 98, 99], &[0, 2, 3], &[1, 0])?;
+    let owned = value.into_owned(alloc)?;
+    Ok(owned)
+}
+
+#[test]
+fn what_is_made_owned_has_the_same_elements(rt: HostRuntime) {
+    let alloc = rt.alloc();
+    is_text(
+        &rt,
+        answer(alloc, nested_owned(alloc)),
+        "[1, 0] > [1, 0] > [0, 2, 3] @ [97, 98, 99]",
+    );
+}
+
+// The bytes of a fill value of a type, and three elements that are it.
+const FILLED: &str = "int16 1 2 | [1, 2, 1, 2, 1, 2]
+string 97 98 | [0, 2, 4, 6] @ [97, 98, 97, 98, 97, 98]
+optional 97 1 | [1, 1, 1] > [0, 1, 2, 3] @ [97, 97, 97]
+optional 97 0 | [0, 0, 0] > [0, 0, 0, 0] @ []";
+
+fn filled(alloc: Global, text: &str, data_type: &DataType) -> Result<String, AllocError>
+    requires { 3 * bytes_seen data_type.now < 2 ^ 64 }
+{
+    let fill = FillValue::new(bytes_of(alloc, text)?);
+    answer(
+        alloc,
+        ArrayBytes::new_fill_value(alloc, data_type, 3, &fill),
+    )
+}
+
+fn filled_row(alloc: Global, words: &str) -> Result<String, AllocError> {
+    if let Some(text) = words.strip_prefix("optional") {
+        let inner = Box::new(alloc, DataType::String)?;
+        return filled(alloc, text, &DataType::Optional(inner));
+    }
+    if let Some(text) = words.strip_prefix("string") {
+        return filled(alloc, text, &DataType::String);
+    }
+    match words.strip_prefix("int16") {
+        Some(text) => filled(alloc, text, &DataType::Int16),
+        None => format!(in alloc; "no such type"),
+    }
+}
+
+#[test]
+fn a_fill_value_is_repeated(rt: HostRuntime) {
+    let alloc = rt.alloc();
+    for row in FILLED.lines() {
+        let (words, want) = cut(row);
+        is_text(&rt, filled_row(alloc, words), want);
+    }
+}

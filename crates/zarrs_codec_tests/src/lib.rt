@@ -1,4 +1,4 @@
-//! Worked examples of byte ranges, of options of codecs, of the texts of their errors, and of views.
+//! Worked examples of byte ranges, of options of codecs, of the texts of their errors, of array bytes and of views.
 #![tactic(auto)]
 
 #[cfg(test)]

@@ -141,8 +141,9 @@ impl<'a> ArrayBytes<'a> {
     /// The elements at the indexer's indices, in their order.
     ///
     /// # Errors
-    /// [`CodecError`] where the bytes are of another kind than the data type's elements, else where the indexer does not
-    /// fit the shape, else where the bytes, a mask or the offsets have another length than the shape's elements have.
+    /// [`CodecError`] where the bytes are of another kind than the data type's elements, else where the indexer
+    /// does not fit the shape, else where the bytes, a mask or the offsets have another length than the shape's
+    /// elements have.
     pub fn extract_array_subset<I: Indexer>(
         &self,
         alloc: Global,

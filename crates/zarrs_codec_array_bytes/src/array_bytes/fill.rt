@@ -128,12 +128,12 @@ fn are_fill(bytes: &ArrayBytes<'_>, fill: &[u8]) -> bool
 impl ArrayBytes<'_> {
     /// So many elements of a data type that are all the fill value.
     ///
-    /// A fill value of an optional type is null exactly where its last byte is 0; under it the data are zero bytes of the
-    /// type's size, or empty elements where the sizes differ.
+    /// A fill value of an optional type is null exactly where its last byte is 0; under it the data are zero bytes
+    /// of the type's size, or empty elements where the sizes differ.
     ///
     /// # Errors
-    /// [`CodecError`] where the innermost elements have one size and the innermost fill value has another, or where memory
-    /// runs out.
+    /// [`CodecError`] where the innermost elements have one size and the innermost fill value has another, or
+    /// where memory runs out.
     pub fn new_fill_value(
         alloc: Global,
         data_type: &DataType,

@@ -60,6 +60,7 @@ fn create_error(numbers: &[usize]) -> Option<ArrayBytesRawOffsetsCreateError>
 impl<'a> ArrayBytesOffsets<'a> {
     ghost use Rattle.zarrs_codec_array_bytes.specs.Raw.{numbers_of};
     ghost use Rattle.zarrs_codec_array_bytes.specs.Created.{GivesOffsets};
+    ghost use Rattle.zarrs_codec_array_bytes.specs.Owned.{owns_offsets};
 
     /// These numbers as offsets.
     ///
@@ -89,9 +90,24 @@ impl<'a> ArrayBytesOffsets<'a> {
     /// # Errors
     /// [`AllocError`] where memory runs out.
     pub fn into_owned(self, alloc: Global) -> Result<ArrayBytesOffsets<'static>, AllocError>
-        ensures { IfOk result (λ o. numbers_of o ≡ numbers_of self.entry) }
+        ensures value { IfOk result (λ o. numbers_of o ≡ numbers_of self.entry) }
+        ensures owned { IfOk result (λ o. owns_offsets o ≡ true) }
     {
         let numbers = self.numbers.into_owned(alloc)?;
+        Ok(ArrayBytesOffsets {
+            numbers: CowSlice::Owned(numbers),
+        })
+    }
+
+    /// A copy, which is owned.
+    ///
+    /// # Errors
+    /// [`AllocError`] where memory runs out.
+    pub fn try_clone(&self, alloc: Global) -> Result<ArrayBytesOffsets<'static>, AllocError>
+        ensures value { IfOk result (λ c. numbers_of c ≡ numbers_of self.now) }
+        ensures owned { IfOk result (λ c. owns_offsets c ≡ true) }
+    {
+        let numbers = self.as_slice().to_vec(alloc)?;
         Ok(ArrayBytesOffsets {
             numbers: CowSlice::Owned(numbers),
         })

@@ -92,8 +92,8 @@ impl Rows {
         }))
     }
 
-    /// The box that an indexer is in an array of this shape, where it is one and its elements of `size` bytes can be copied
-    /// row by row.
+    /// The box that an indexer is in an array of this shape, where it is one and its elements of `size` bytes can
+    /// be copied row by row.
     ///
     /// # Errors
     /// [`AllocError`] where memory runs out.

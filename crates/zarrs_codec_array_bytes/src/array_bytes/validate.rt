@@ -62,9 +62,9 @@ impl<'a> ArrayBytes<'a> {
     /// Whether the bytes mean so many elements of the data type.
     ///
     /// # Errors
-    /// [`CodecError`] with the first refusal, the outermost level first: the bytes are of another kind, a mask has another
-    /// length or a byte that is neither 0 nor 1, the bytes have another length, or the offsets do not begin at 0, fall, or
-    /// do not end where the bytes end.
+    /// [`CodecError`] with the first refusal, the outermost level first: the bytes are of another kind, a mask has
+    /// another length or a byte that is neither 0 nor 1, the bytes have another length, or the offsets do not begin
+    /// at 0, fall, or do not end where the bytes end.
     pub fn validate(&self, num_elements: u64, data_type: &DataType) -> Result<(), CodecError>
         requires count { num_elements + 1 < 2 ^ 64 }
         requires bytes { num_elements * bytes_seen data_type.now < 2 ^ 64 }

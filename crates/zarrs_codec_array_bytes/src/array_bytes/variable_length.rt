@@ -20,7 +20,8 @@ pub struct ArrayBytesVariableLength<'a> {
 }
 
 impl<'a> ArrayBytesVariableLength<'a> {
-    ghost use Rattle.zarrs_codec_array_bytes.specs.Raw.{numbers_of, values_of, offsets_of};
+    ghost use Rattle.zarrs_codec_array_bytes.specs.Raw.{numbers_of, values_of, offsets_of, variable_of};
+    ghost use Rattle.zarrs_codec_array_bytes.specs.Owned.{owns_variable};
 
     /// Elements between offsets.
     ///
@@ -90,11 +91,31 @@ impl<'a> ArrayBytesVariableLength<'a> {
     ) -> Result<ArrayBytesVariableLength<'static>, AllocError>
         ensures values { IfOk result (λ v. values_of v ≡ values_of self.entry) }
         ensures offsets { IfOk result (λ v. offsets_of v ≡ offsets_of self.entry) }
+        ensures owned { IfOk result (λ v. owns_variable v ≡ true) }
     {
         let (bytes, offsets) = self.into_parts();
         let bytes = bytes.into_owned(alloc)?;
         let offsets = offsets.into_owned(alloc)?;
-        Ok(ArrayBytesVariableLength::new_unchecked(CowSlice::Owned(bytes), offsets))
+        Ok(ArrayBytesVariableLength {
+            bytes: CowSlice::Owned(bytes),
+            offsets,
+        })
+    }
+
+    /// A copy, which is owned.
+    ///
+    /// # Errors
+    /// [`AllocError`] where memory runs out.
+    pub fn try_clone(&self, alloc: Global) -> Result<ArrayBytesVariableLength<'static>, AllocError>
+        ensures value { IfOk result (λ c. variable_of c ≡ variable_of self.now) }
+        ensures owned { IfOk result (λ c. owns_variable c ≡ true) }
+    {
+        let bytes = self.items().to_vec(alloc)?;
+        let offsets = self.offsets().try_clone(alloc)?;
+        Ok(ArrayBytesVariableLength {
+            bytes: CowSlice::Owned(bytes),
+            offsets,
+        })
     }
 
     /// The bytes of all elements, as a slice.
@@ -113,8 +134,8 @@ impl<'a> ArrayBytesVariableLength<'a> {
         self.offsets.as_slice()
     }
 
-    /// Elements that are owned: their bytes, and offsets of which none is less than the one before it and the last one is
-    /// within the bytes.
+    /// Elements that are owned: their bytes, and offsets of which none is less than the one before it and the
+    /// last one is within the bytes.
     #[tactic(auto, using(crate::proofs::OffsetLaws::offsets_rise, crate::proofs::OffsetLaws::offsets_end))]
     pub fn from_gathered(bytes: Vec<u8>, offsets: Vec<usize>) -> ArrayBytesVariableLength<'static>
         requires some { 0 < length offsets.items }
