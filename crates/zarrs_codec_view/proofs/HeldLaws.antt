@@ -1,10 +1,9 @@
 -- What views and targets hold once they are written.
 use Rattle.std.proofs.Common.{◌≡◌, ℕ, zero, suc, ◌*◌, ◌<◌, ◌==◌, true, if◌then◌else◌, List, [], ◌∷◌, ◌++◌, length, get_or, map, flat_map, take, drop, Some, refl, sym, ap, ap₂, ◌∙◌, subst, arith, eqb-true}
-use Rattle.std.proofs.lemmas.Bool.{cond-true}
 use Rattle.std.proofs.lemmas.List.{length-drop, take-append-drop}
 use Rattle.std.proofs.Math.Nat.{suc-mul}
-use Rattle.zarr_model.specs.Prelude.{Element, of_bytes, null, Kind, fixed, variable, optional, Region, count, sizes, contains, tuples, place, tuple_at, linear_index, whole, ends_within, Array, SameArray, elements_in, written, pieces, bytes_of, mask_over, meaning}
-use Rattle.zarr_model.specs.ArrayBytes.{ArrayBytes, fixed_bytes, variable_bytes, optional_bytes}
+use Rattle.zarr_model.specs.Prelude.{Element, of_bytes, null, fixed, variable, optional, Region, count, sizes, contains, tuples, place, tuple_at, linear_index, whole, ends_within, Array, SameArray, elements_in, written, pieces, bytes_of, mask_over, meaning}
+use Rattle.zarr_model.specs.ArrayBytes.{fixed_bytes, variable_bytes, optional_bytes}
 use Rattle.zarr_model.proofs.RegionLaws.{place_below, tuple_at-place, contains-tuple_at, get_or-tuples, length-tuples}
 use Rattle.zarr_model.proofs.ArrayLaws.{elements_in-written, inside_shape}
 use Rattle.zarr_model.proofs.BytesLaws.{when_some, mask_length}
@@ -16,9 +15,9 @@ use Rattle.zarrs_codec_bytes.proofs.FixedLaws.{elements_are, length-elements}
 use Rattle.zarrs_codec_bytes.proofs.MaskLaws.{IsMasked, masked_parts}
 use Rattle.zarrs_codec_view.specs.declared.array_bytes_fixed_disjoint_view.ArrayBytesFixedDisjointView.{ArrayBytesFixedDisjointView}
 use Rattle.zarrs_codec_view.specs.declared.part.Part.{Part}
-use Rattle.zarrs_codec_view.specs.Held.{array_of, box_elements, box_bytes, held_by, HasElements, IsTargetOf}
+use Rattle.zarrs_codec_view.specs.Held.{box_elements, box_bytes, held_by, HasElements}
 use Rattle.zarrs_codec_view.specs.Laws.{WritesArray, HoldsWritten, HoldsMeaning}
-use Rattle.zarrs_codec_view.specs.Targets.{IsWritten, ArePut}
+use Rattle.zarrs_codec_view.specs.Targets.{IsWritten}
 
 -- an element of a whole shape's list, by its tuple
 copied_at : (shape : List ℕ) (box : Region) (source old new : List Element) (tuple : List ℕ) → Copied (whole shape) box source old new → contains (whole shape) tuple ≡ true →

@@ -1,5 +1,5 @@
 -- The elements that views and targets hold.
-use Rattle.std.specs.Prelude.{◌≡◌, ◌*◌, ℕ, List, [], ◌∷◌, get_or, flat_map}
+use Rattle.std.specs.Prelude.{◌≡◌, ℕ, List, [], ◌∷◌, get_or, flat_map}
 use Rattle.zarr_model.specs.Prelude.{Element, null, Kind, fixed, optional, count, sizes, linear_index, Array, elements_in, bytes_of, mask_over}
 use Rattle.zarrs_array_subset.specs.ArraySubset.{region}
 use Rattle.zarrs_codec_bytes.specs.Elements.{fixed_elements}
