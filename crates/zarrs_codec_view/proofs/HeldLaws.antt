@@ -1,23 +1,24 @@
 -- What views and targets hold once they are written.
-use Rattle.std.proofs.Common.{◌≡◌, ℕ, zero, suc, ◌*◌, ◌<◌, ◌==◌, true, if◌then◌else◌, List, [], ◌∷◌, ◌++◌, length, get_or, map, flat_map, take, drop, Some, refl, sym, ap, ap₂, ◌∙◌, subst, arith, eqb-true}
-use Rattle.std.proofs.lemmas.List.{length-drop, take-append-drop}
+use Rattle.std.proofs.Common.{◌≡◌, ℕ, zero, suc, ◌*◌, ◌<◌, ◌==◌, true, if◌then◌else◌, List, [], ◌∷◌, ◌++◌, length, get_or, map, flat_map, take, drop, Some, refl, sym, ap, ap₂, ◌∙◌, subst, arith, eqb-true, eq-eqb}
+use Rattle.std.proofs.lemmas.Bool.{cond-true}
+use Rattle.std.proofs.lemmas.List.{length-drop, take-append-drop, same_lists, get_or-map, length-map}
 use Rattle.std.proofs.Math.Nat.{suc-mul}
-use Rattle.zarr_model.specs.Prelude.{Element, of_bytes, null, fixed, variable, optional, Region, count, sizes, contains, tuples, place, tuple_at, linear_index, whole, ends_within, Array, SameArray, elements_in, written, pieces, bytes_of, mask_over, meaning}
-use Rattle.zarr_model.specs.ArrayBytes.{fixed_bytes, variable_bytes, optional_bytes}
+use Rattle.zarr_model.specs.Prelude.{Element, of_bytes, null, Kind, fixed, variable, optional, Region, count, sizes, contains, tuples, place, tuple_at, linear_index, whole, ends_within, Array, SameArray, elements_in, written, pieces, bytes_of, mask_over, meaning}
+use Rattle.zarr_model.specs.ArrayBytes.{ArrayBytes, fixed_bytes, variable_bytes, optional_bytes}
 use Rattle.zarr_model.proofs.RegionLaws.{place_below, tuple_at-place, contains-tuple_at, get_or-tuples, length-tuples}
 use Rattle.zarr_model.proofs.ArrayLaws.{elements_in-written, inside_shape}
 use Rattle.zarr_model.proofs.BytesLaws.{when_some, mask_length}
-use Rattle.std.proofs.lemmas.List.{same_lists, get_or-map, length-map}
 use Rattle.zarrs_array_subset.specs.ArraySubset.{region}
+use Rattle.zarrs_codec_array_bytes.specs.Refusals.{fine, then_answer}
 use Rattle.zarrs_codec_bytes.specs.Elements.{fixed_elements}
 use Rattle.zarrs_codec_bytes.specs.Overlap.{Copied}
 use Rattle.zarrs_codec_bytes.proofs.FixedLaws.{elements_are, length-elements}
 use Rattle.zarrs_codec_bytes.proofs.MaskLaws.{IsMasked, masked_parts}
 use Rattle.zarrs_codec_view.specs.declared.array_bytes_fixed_disjoint_view.ArrayBytesFixedDisjointView.{ArrayBytesFixedDisjointView}
 use Rattle.zarrs_codec_view.specs.declared.part.Part.{Part}
-use Rattle.zarrs_codec_view.specs.Held.{box_elements, box_bytes, held_by, HasElements}
-use Rattle.zarrs_codec_view.specs.Laws.{WritesArray, HoldsWritten, HoldsMeaning}
-use Rattle.zarrs_codec_view.specs.Targets.{IsWritten}
+use Rattle.zarrs_codec_view.specs.Held.{box_elements, box_bytes, held_by, HasElements, IsTargetOf, HaveBytes}
+use Rattle.zarrs_codec_view.specs.Laws.{WritesArray, HoldsWritten, HoldsMeaning, TakesMeaning}
+use Rattle.zarrs_codec_view.specs.Targets.{IsWritten, kinds_answer, view_answer, sizes_answer}
 
 -- an element of a whole shape's list, by its tuple
 copied_at : (shape : List ℕ) (box : Region) (source old new : List Element) (tuple : List ℕ) → Copied (whole shape) box source old new → contains (whole shape) tuple ≡ true →
@@ -108,3 +109,49 @@ holds_meaning (optional kind) number (optional_bytes under mask) (old ∷ olds) 
     (mask_bytes number mask old new target.0 put.0 (mask_length number mask parts.mask_is))
     (holds_meaning kind number under olds news from to parts.list target.1 parts.inner put.1)
     ∙ parts.over
+
+-- bytes that are as many as a view's box are taken by it
+view_takes : (size number : ℕ) (value : List ℕ) (view : ArrayBytesFixedDisjointView) → HasElements size number view → length view.bytes.now ≡ view.part.array_len → length value ≡ number * size →
+    view_answer (length value) view ≡ fine
+view_takes size number value view has full long =
+    cond-true (length view.bytes.now == view.part.array_len) _ _ (eq-eqb (length view.bytes.now) view.part.array_len full)
+    ∙ cond-true (length value == count (region view.part.subset) * view.part.size) _ _
+    (eq-eqb (length value) (count (region view.part.subset) * view.part.size) (long ∙ ap₂ (λ a b. a * b) (sym has.counted) (sym has.sized)))
+
+value_long : (size number : ℕ) (value : List ℕ) (xs : List Element) → meaning (fixed size) number (fixed_bytes value) ≡ Some xs → length value ≡ number * size
+value_long size number value xs means = eqb-true (length value) (number * size) (when_some (length value == number * size) (map of_bytes (pieces number size value)) xs means).0
+
+kinds_taken : (kind : Kind) (number : ℕ) (bytes : ArrayBytes) (views : List ArrayBytesFixedDisjointView) (inner : ArrayBytesFixedDisjointView) (xs : List Element) →
+    IsTargetOf kind number views inner → meaning kind number bytes ≡ Some xs → kinds_answer (length views) bytes ≡ fine
+kinds_taken (fixed size) number (fixed_bytes value) [] inner xs target means = refl
+kinds_taken (fixed size) number (fixed_bytes value) (view ∷ views) inner xs target means = absurd target
+kinds_taken (fixed size) number (variable_bytes value offsets) views inner xs target means = cc
+kinds_taken (fixed size) number (optional_bytes under mask) views inner xs target means = cc
+kinds_taken variable number bytes views inner xs target means = absurd target
+kinds_taken (optional kind) number (fixed_bytes value) views inner xs target means = cc
+kinds_taken (optional kind) number (variable_bytes value offsets) views inner xs target means = cc
+kinds_taken (optional kind) number (optional_bytes under mask) [] inner xs target means = absurd target
+kinds_taken (optional kind) number (optional_bytes under mask) (view ∷ views) inner xs target means =
+    let parts : IsMasked kind number mask under xs = masked_parts kind number mask under xs means in
+    kinds_taken kind number under views inner parts.list target.1 parts.inner
+
+sizes_taken : (kind : Kind) (number : ℕ) (bytes : ArrayBytes) (views : List ArrayBytesFixedDisjointView) (inner : ArrayBytesFixedDisjointView) (xs : List Element) →
+    IsTargetOf kind number views inner → HaveBytes views inner → meaning kind number bytes ≡ Some xs → sizes_answer bytes views inner ≡ fine
+sizes_taken (fixed size) number (fixed_bytes value) [] inner xs target full means = view_takes size number value inner target full (value_long size number value xs means)
+sizes_taken (fixed size) number (fixed_bytes value) (view ∷ views) inner xs target full means = absurd target
+sizes_taken (fixed size) number (variable_bytes value offsets) views inner xs target full means = cc
+sizes_taken (fixed size) number (optional_bytes under mask) views inner xs target full means = cc
+sizes_taken variable number bytes views inner xs target full means = absurd target
+sizes_taken (optional kind) number (fixed_bytes value) views inner xs target full means = cc
+sizes_taken (optional kind) number (variable_bytes value offsets) views inner xs target full means = cc
+sizes_taken (optional kind) number (optional_bytes under mask) [] inner xs target full means = absurd target
+sizes_taken (optional kind) number (optional_bytes under mask) (view ∷ views) inner xs target full means =
+    let parts : IsMasked kind number mask under xs = masked_parts kind number mask under xs means in
+    let long : length mask ≡ number = mask_length number mask parts.mask_is in
+    ap (λ answer. then_answer answer (sizes_answer under views inner)) (view_takes 1 number mask view target.0 full.0 (omega (arith, long)))
+    ∙ sizes_taken kind number under views inner parts.list target.1 full.1 parts.inner
+
+pub takes_meaning : TakesMeaning
+takes_meaning kind number bytes views inner xs target full means =
+    ap (λ answer. then_answer answer (sizes_answer bytes views inner)) (kinds_taken kind number bytes views inner xs target means)
+    ∙ sizes_taken kind number bytes views inner xs target full means

@@ -1,5 +1,5 @@
 -- The elements that views and targets hold.
-use Rattle.std.specs.Prelude.{◌≡◌, ℕ, List, [], ◌∷◌, get_or, flat_map}
+use Rattle.std.specs.Prelude.{◌≡◌, ℕ, List, [], ◌∷◌, length, get_or, flat_map}
 use Rattle.zarr_model.specs.Prelude.{Element, null, Kind, fixed, optional, count, sizes, linear_index, Array, elements_in, bytes_of, mask_over}
 use Rattle.zarrs_array_subset.specs.ArraySubset.{region}
 use Rattle.zarrs_codec_bytes.specs.Elements.{fixed_elements}
@@ -39,3 +39,9 @@ IsTargetOf (fixed size) number [] inner = HasElements size number inner
 IsTargetOf (optional kind) number (view ∷ views) inner =
     HasElements 1 number view × IsTargetOf kind number views inner
 IsTargetOf _ number views inner = ⊥
+
+-- each view of a target has all its array's bytes
+abbrev pub HaveBytes : List ArrayBytesFixedDisjointView → ArrayBytesFixedDisjointView → Type 0
+HaveBytes [] inner = length inner.bytes.now ≡ inner.part.array_len
+HaveBytes (view ∷ views) inner =
+    (length view.bytes.now ≡ view.part.array_len) × HaveBytes views inner

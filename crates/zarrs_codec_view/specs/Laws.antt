@@ -3,10 +3,11 @@ use Rattle.std.specs.Prelude.{◌≡◌, ◌<◌, ◌*◌, ℕ, true, false, if�
 use Rattle.zarr_model.specs.Prelude.{Element, Kind, Region, count, count_of, contains, place, tuple_at, whole, SameArray, written, meaning}
 use Rattle.zarr_model.specs.ArrayBytes.{ArrayBytes}
 use Rattle.zarrs_array_subset.specs.ArraySubset.{region}
+use Rattle.zarrs_codec_array_bytes.specs.Refusals.{fine}
 use Rattle.zarrs_codec_bytes.specs.Elements.{fixed_elements}
 use Rattle.zarrs_codec_bytes.specs.Overlap.{Copied}
-use Rattle.zarrs_codec_view.specs.Held.{array_of, box_elements, held_by, IsTargetOf}
-use Rattle.zarrs_codec_view.specs.Targets.{IsWritten, ArePut}
+use Rattle.zarrs_codec_view.specs.Held.{array_of, box_elements, held_by, IsTargetOf, HaveBytes}
+use Rattle.zarrs_codec_view.specs.Targets.{IsWritten, ArePut, target_answer}
 use Rattle.zarrs_codec_view.specs.declared.array_bytes_fixed_disjoint_view.ArrayBytesFixedDisjointView.{ArrayBytesFixedDisjointView}
 
 -- no tuple is in both
@@ -50,3 +51,10 @@ HoldsMeaning = (kind : Kind) (number : ℕ) (bytes : ArrayBytes)
     (olds news : List ArrayBytesFixedDisjointView) (from to : ArrayBytesFixedDisjointView)
     (xs : List Element) → IsTargetOf kind number olds from → meaning kind number bytes ≡ Some xs
     → ArePut bytes olds news from to → held_by news to ≡ xs
+
+-- array bytes that mean a list are taken by a target for it
+abbrev pub TakesMeaning : Type 0
+TakesMeaning = (kind : Kind) (number : ℕ) (bytes : ArrayBytes)
+    (views : List ArrayBytesFixedDisjointView) (inner : ArrayBytesFixedDisjointView)
+    (xs : List Element) → IsTargetOf kind number views inner → HaveBytes views inner
+    → meaning kind number bytes ≡ Some xs → target_answer bytes views inner ≡ fine

@@ -1,6 +1,6 @@
 //! Laws of views.
 
-ghost use Rattle.zarrs_codec_view.specs.Laws.{StandSideBySide, WritesArray, HoldsWritten, HoldsMeaning};
+ghost use Rattle.zarrs_codec_view.specs.Laws.{StandSideBySide, WritesArray, HoldsWritten, HoldsMeaning, TakesMeaning};
 
 /// Views of one array whose boxes share no element leave each other's elements, one written after the
 /// other: the array then has both boxes', and its old ones elsewhere.
@@ -15,7 +15,8 @@ pub fn view_holds_what_is_written()
     ensures elements { HoldsWritten }
 {}
 
-/// A target holds the list of elements that the array bytes mean which were put into it.
+/// A target takes array bytes that mean a list of its kind and number of elements, and then holds that list.
 pub fn target_holds_what_is_put()
-    ensures { HoldsMeaning }
+    ensures takes { TakesMeaning }
+    ensures holds { HoldsMeaning }
 {}
