@@ -64,8 +64,8 @@ impl<'a> ArrayBytesFixedDisjointView<'a> {
 
     /// A view of a smaller subset of the same bytes.
     ///
-    /// What is written through it is written into this view's bytes. A caller's proof knows nothing of
-    /// them once the smaller view has ended; `copy_subset_from_slice` and `fill_subset` tell it.
+    /// What is written through it is written into this view's bytes. To write a smaller box and go on with this
+    /// view, call `copy_subset_from_slice` or `fill_subset`.
     ///
     /// # Errors
     /// [`ArrayBytesFixedDisjointViewCreateError`] where the subset is not within the view's own, or where
