@@ -20,4 +20,5 @@ pub use Rattle.zarrs_codec_array_bytes_update.specs.Pairs
 pub use Rattle.zarrs_codec_array_bytes_update.specs.Picks
 pub use Rattle.zarrs_codec_view.specs.Answers
 pub use Rattle.zarrs_codec_view.specs.TargetViews
+pub use Rattle.zarrs_codec_view.specs.Held
 pub use Rattle.zarrs_codec_view.specs.Targets

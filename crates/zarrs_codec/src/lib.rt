@@ -8,6 +8,9 @@ pub use zarrs_codec_array_bytes::{
     ArrayBytes, ArrayBytesOffsets, ArrayBytesOptional, ArrayBytesRaw, ArrayBytesVariableLength,
 };
 pub use zarrs_codec_array_bytes_update::update_array_bytes;
+pub use zarrs_codec_bytes::laws::{
+    equality_is_equivalence, equality_of_valid, extract_after_update, test_is_equality,
+};
 pub use zarrs_codec_error::{
     ArrayBytesError, ArrayBytesFixedDisjointViewCreateError, ArrayBytesRawOffsetsCreateError,
     ArrayBytesRawOffsetsOutOfBoundsError, CodecError, ExpectedFixedLengthBytesError,
@@ -17,6 +20,9 @@ pub use zarrs_codec_error::{
 pub use zarrs_codec_options::{
     BytesRepresentation, CodecMetadataOptions, CodecOptions, CodecSpecificOptions,
     PartialDecoderCapability, PartialEncoderCapability, RecommendedConcurrency,
+};
+pub use zarrs_codec_view::laws::{
+    target_holds_what_is_put, view_holds_what_is_written, views_side_by_side,
 };
 pub use zarrs_codec_view::{
     ArrayBytesDecodeIntoTarget, ArrayBytesFixedDisjointView, copy_fill_value_into,
