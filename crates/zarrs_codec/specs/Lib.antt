@@ -10,6 +10,7 @@ pub use Rattle.zarrs_codec_options.specs.RecommendedConcurrency
 pub use Rattle.zarrs_codec_options.specs.BytesRepresentation
 pub use Rattle.zarrs_codec_error.specs.CodecError
 pub use Rattle.zarrs_codec_array_bytes.specs.Raw
+pub use Rattle.zarrs_codec_array_bytes.specs.Owned
 pub use Rattle.zarrs_codec_array_bytes.specs.Levels
 pub use Rattle.zarrs_codec_array_bytes.specs.Offsets
 pub use Rattle.zarrs_codec_array_bytes.specs.Created
