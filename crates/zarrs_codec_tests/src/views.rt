@@ -44,17 +44,6 @@ fn copy_inner(
     Ok(())
 }
 
-// Smaller boxes are written and filled through a view of the two last columns.
-fn write_subsets(alloc: Global, bytes: &mut [u8]) -> Result<(), CodecError> {
-    let columns = ArraySubset::new_with_ranges(alloc, &[0..3, 1..3])?;
-    let mut view = ArrayBytesFixedDisjointView::new(alloc, bytes, 1, &[3, 3], columns)?;
-    let last = ArraySubset::new_with_ranges(alloc, &[0..2, 2..3])?;
-    view.copy_subset_from_slice(alloc, last, &[32, 35])?;
-    let middle = ArraySubset::new_with_ranges(alloc, &[1..2, 1..2])?;
-    view.fill_subset(alloc, middle, &[7])?;
-    Ok(())
-}
-
 // It is filled.
 fn fill_box(
     alloc: Global,
@@ -65,6 +54,17 @@ fn fill_box(
     let subset = ArraySubset::new_with_ranges(alloc, ranges)?;
     let mut view = ArrayBytesFixedDisjointView::new(alloc, bytes, 1, &[3, 3], subset)?;
     view.fill(fill_value)?;
+    Ok(())
+}
+
+// Smaller boxes are written and filled through a view of the two last columns.
+fn write_subsets(alloc: Global, bytes: &mut [u8]) -> Result<(), CodecError> {
+    let columns = ArraySubset::new_with_ranges(alloc, &[0..3, 1..3])?;
+    let mut view = ArrayBytesFixedDisjointView::new(alloc, bytes, 1, &[3, 3], columns)?;
+    let last = ArraySubset::new_with_ranges(alloc, &[0..2, 2..3])?;
+    view.copy_subset_from_slice(alloc, last, &[32, 35])?;
+    let middle = ArraySubset::new_with_ranges(alloc, &[1..2, 1..2])?;
+    view.fill_subset(alloc, middle, &[7])?;
     Ok(())
 }
 
