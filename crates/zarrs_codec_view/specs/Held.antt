@@ -5,7 +5,7 @@ use Rattle.zarrs_array_subset.specs.ArraySubset.{region}
 use Rattle.zarrs_codec_bytes.specs.Elements.{fixed_elements}
 use Rattle.zarrs_codec_view.specs.declared.array_bytes_fixed_disjoint_view.ArrayBytesFixedDisjointView.{ArrayBytesFixedDisjointView}
 
--- the array whose elements a view's bytes are, one after another in row-major order
+-- the array whose elements a view's bytes are, one after another in row-major order; null past them
 abbrev pub array_of : ArrayBytesFixedDisjointView → Array Element
 array_of view = record {
   shape = sizes (region view.part.array);
