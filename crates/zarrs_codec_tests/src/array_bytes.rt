@@ -373,7 +373,7 @@ fn a_copy_has_the_same_elements(rt: HostRuntime) {
 }
 
 // Texts that are optional twice, under the same mask, all of it borrowed.
-fn nested<'a>(
+fn borrowed_texts<'a>(
     alloc: Global,
     bytes: &'a [u8],
     offsets: &'a [usize],
@@ -387,7 +387,7 @@ fn nested<'a>(
 }
 
 fn nested_owned(alloc: Global) -> Result<ArrayBytes<'static>, CodecError> {
-    let value = nested(alloc, &[97, 98, 99], &[0, 2, 3], &[1, 0])?;
+    let value = borrowed_texts(alloc, &[97, 98, 99], &[0, 2, 3], &[1, 0])?;
     let owned = value.into_owned(alloc)?;
     Ok(owned)
 }
