@@ -1,9 +1,9 @@
 -- A data type of version 2 holds no float.
-use Rattle.std.proofs.Common.{◌≡◌, ℕ, Bool, true, false, ◌||◌, if◌then◌else◌, List, Option, Some, None, Result, Ok, Err, refl}
-use Rattle.serde_json.specs.Data.{Num, unsigned, negative, float, Data, null, boolean, number, string, array, object, Items, no_items, item}
-use Rattle.serde_json.specs.Find.{as_str, as_array}
+use Rattle.std.proofs.Common.{◌≡◌, ℕ, Bool, true, false, ◌||◌, if◌then◌else◌, List, Option, Some, None, Err, refl}
+use Rattle.serde_json.specs.Data.{unsigned, negative, float, Data, null, boolean, number, string, array, object, Items, no_items, item}
+use Rattle.serde_json.specs.Find.{as_str}
 use Rattle.serde_json.specs.Written.{has_float, items_have_float}
-use Rattle.zarrs_metadata_values.specs.Reading.{◌>>=◌, each, whole_number, from_data, or_invalid}
+use Rattle.zarrs_metadata_values.specs.Reading.{each, whole_number, from_data, or_invalid}
 use Rattle.zarrs_metadata_values.specs.declared.error.MetadataError.TheVariants.{FloatNumber}
 use Rattle.zarrs_metadata_values.proofs.EachLemmas.{bind_some}
 use Rattle.zarrs_metadata_v2.specs.DataTypeV2.{FieldV2, DataTypeV2, field_v2_of, field_items, named_field, last_shape, optional_numbers, data_type_v2_of}

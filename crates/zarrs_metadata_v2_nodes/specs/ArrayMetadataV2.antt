@@ -1,6 +1,7 @@
 -- A version 2 array document: what it says, how it is read and how it is written.
-use Rattle.std.specs.Prelude.{ℕ, ◌==◌, if◌then◌else◌, ⊤, List, [], map, Option, Some, None, option_map, codes}
+use Rattle.std.specs.Prelude.{◌≡◌, ℕ, ◌==◌, nat_le, true, if◌then◌else◌, List, map, Option, Some, None, option_map, codes}
 use Rattle.std.specs.Str.{bytes_eq}
+use Rattle.std.specs.List.{list_all}
 use Rattle.std.specs.Int.NonZero.{non_zero_u64_get}
 use Rattle.serde_json.specs.Data.{unsigned, Data, number, string, object, Members, no_members, put}
 use Rattle.serde_json.specs.Find.{get_member, as_str, as_array, as_object}
@@ -183,6 +184,10 @@ normal_array_v2 f = record f {
   compressor = normal_compressor f.compressor;
   filters = normal_filters f.filters;
 }
+
+-- no length of a chunk is 0
+abbrev pub HasChunks : ArrayV2 → Type 0
+HasChunks f = list_all (λ n. nat_le 1 n) f.chunks ≡ true
 
 -- the fields that must be there, with the others as a new array has them
 abbrev pub required_part_v2 : ArrayV2 → ArrayV2

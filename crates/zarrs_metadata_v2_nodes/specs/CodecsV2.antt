@@ -1,5 +1,5 @@
 -- The compressor and the filters of a version 2 array.
-use Rattle.std.specs.Prelude.{ℕ, List, [], ◌∷◌, map, Option, Some, None, codes}
+use Rattle.std.specs.Prelude.{List, [], ◌∷◌, map, Option, Some, None, codes}
 use Rattle.serde_json.specs.Data.{Data, null, array, object, string, put}
 use Rattle.serde_json.specs.View.{items_of}
 use Rattle.zarrs_metadata_values.specs.Reading.{◌>>=◌, each, without}

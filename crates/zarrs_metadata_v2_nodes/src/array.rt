@@ -13,7 +13,7 @@ ghost use Rattle.zarrs_metadata_v2.specs.MetadataV2.{codec_v2_seen};
 ghost use Rattle.zarrs_metadata_v2.specs.DataTypeV2.{data_type_v2_seen};
 ghost use Rattle.zarrs_metadata_parts.specs.declared.array.chunk_key_separator.ChunkKeySeparator.TheVariants.{Dot};
 ghost use Rattle.zarrs_metadata_v2_nodes.specs.CodecsV2.{codecs_v2_seen, present_filters};
-ghost use Rattle.zarrs_metadata_v2_nodes.specs.ArrayMetadataV2.{array_v2_seen, array_v2_of, array_v2_data};
+ghost use Rattle.zarrs_metadata_v2_nodes.specs.ArrayMetadataV2.{array_v2_seen, array_v2_of, array_v2_data, normal_array_v2};
 ghost use Rattle.zarrs_metadata_v2_nodes.specs.declared.array.order.ArrayMetadataV2Order.TheVariants.{C};
 
 use crate::array::copying::copy_array;
@@ -123,13 +123,16 @@ impl ArrayMetadataV2 {
         ArrayMetadataV2 { attributes, ..self }
     }
 
-    /// The document that a value is.
+    /// The document that a value is. It is the same when it is written and read again.
     ///
     /// # Errors
     /// `FloatNumber` exactly where the value holds a float, attributes included, else `InvalidMetadata` exactly where it
     /// is no version 2 array document.
+    #[tactic(auto, using(crate::proofs::Stays::read_array_stays))]
     pub fn from_value(alloc: Global, value: &Value) -> Result<Self, MetadataError>
-        ensures { Gives array_v2_seen result (from_data array_v2_of (view value.now)) }
+        ensures gives { Gives array_v2_seen result (from_data array_v2_of (view value.now)) }
+        ensures stays { IfOk result
+            (λ a. normal_array_v2 (array_v2_seen a) ≡ array_v2_seen a) }
     {
         refuse_floats(value)?;
         read_array_v2(alloc, value)
@@ -147,8 +150,11 @@ impl ArrayMetadataV2 {
     ///
     /// # Errors
     /// `InvalidJson` exactly where the text is not JSON, else as for the value.
+    #[tactic(auto, using(crate::proofs::Stays::read_array_stays))]
     pub fn try_from_text(alloc: Global, text: &str) -> Result<Self, MetadataError>
-        ensures { Gives array_v2_seen result (from_json array_v2_of (read text.now)) }
+        ensures gives { Gives array_v2_seen result (from_json array_v2_of (read text.now)) }
+        ensures stays { IfOk result
+            (λ a. normal_array_v2 (array_v2_seen a) ≡ array_v2_seen a) }
     {
         let value = read_value(alloc, text)?;
         read_array_v2(alloc, &value)

@@ -7,7 +7,7 @@ ghost use Rattle.serde_json.specs.Data.{no_members, depth};
 ghost use Rattle.serde_json.specs.Read.{read, max_depth};
 ghost use Rattle.serde_json.specs.View.{view, members_view};
 ghost use Rattle.zarrs_metadata_values.specs.Reading.{Reads, Gives, from_data, from_json};
-ghost use Rattle.zarrs_metadata_v2_nodes.specs.GroupMetadataV2.{group_v2_seen, group_v2_of, group_v2_members, group_v2_data};
+ghost use Rattle.zarrs_metadata_v2_nodes.specs.GroupMetadataV2.{group_v2_seen, group_v2_of, group_v2_members, group_v2_data, normal_group_v2};
 
 use serde_json::{Map, Value};
 use std::alloc::{AllocError, Global};
@@ -41,13 +41,16 @@ impl GroupMetadataV2 {
         GroupMetadataV2 { attributes }
     }
 
-    /// The document that a value is.
+    /// The document that a value is. It is the same when it is written and read again.
     ///
     /// # Errors
     /// `FloatNumber` exactly where the value holds a float, else `InvalidMetadata` exactly where it is no object with
     /// `zarr_format` 2.
+    #[tactic(auto, using(crate::proofs::Stays::read_group_stays))]
     pub fn from_value(alloc: Global, value: &Value) -> Result<Self, MetadataError>
-        ensures { Gives group_v2_seen result (from_data group_v2_of (view value.now)) }
+        ensures gives { Gives group_v2_seen result (from_data group_v2_of (view value.now)) }
+        ensures stays { IfOk result
+            (λ g. normal_group_v2 (group_v2_seen g) ≡ group_v2_seen g) }
     {
         refuse_floats(value)?;
         read_group_v2(alloc, value)
@@ -66,8 +69,11 @@ impl GroupMetadataV2 {
     ///
     /// # Errors
     /// `InvalidJson` exactly where the text is not JSON, else as for the value.
+    #[tactic(auto, using(crate::proofs::Stays::read_group_stays))]
     pub fn try_from_text(alloc: Global, text: &str) -> Result<Self, MetadataError>
-        ensures { Gives group_v2_seen result (from_json group_v2_of (read text.now)) }
+        ensures gives { Gives group_v2_seen result (from_json group_v2_of (read text.now)) }
+        ensures stays { IfOk result
+            (λ g. normal_group_v2 (group_v2_seen g) ≡ group_v2_seen g) }
     {
         let value = read_value(alloc, text)?;
         read_group_v2(alloc, &value)

@@ -8,6 +8,7 @@ pub mod array;
 mod codecs;
 mod endianness;
 mod group;
+pub mod laws;
 mod node;
 pub mod reading;
 
