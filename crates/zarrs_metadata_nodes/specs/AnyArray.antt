@@ -2,8 +2,8 @@
 use Rattle.std.specs.Prelude.{Option, Some, None}
 use Rattle.serde_json.specs.Data.{Data}
 use Rattle.zarrs_metadata_values.specs.Reading.{◌>>=◌}
-use Rattle.zarrs_metadata.specs.ArrayMetadata.{ArrayFields, array_seen, array_of, array_data}
-use Rattle.zarrs_metadata_v2_nodes.specs.ArrayMetadataV2.{ArrayV2, array_v2_seen, array_v2_of, array_v2_data}
+use Rattle.zarrs_metadata.specs.ArrayMetadata.{ArrayFields, array_seen, array_of, array_data, normal_array}
+use Rattle.zarrs_metadata_v2_nodes.specs.ArrayMetadataV2.{ArrayV2, array_v2_seen, array_v2_of, array_v2_data, normal_array_v2, HasChunks}
 use Rattle.zarrs_metadata_nodes.specs.declared.array.ArrayMetadata.{ArrayMetadata}
 use Rattle.zarrs_metadata_nodes.specs.declared.array.ArrayMetadata.TheVariants.{V3, V2}
 
@@ -29,3 +29,13 @@ any_array_of d = array_3_or (only_array_v2 d) (array_of d)
 abbrev pub any_array_data : AnyArray → Data
 any_array_data (array_3 f) = array_data f
 any_array_data (array_2 f) = array_v2_data f
+
+-- What a document reads back as, once it is written.
+abbrev pub normal_any_array : AnyArray → AnyArray
+normal_any_array (array_3 f) = array_3 (normal_array f)
+normal_any_array (array_2 f) = array_2 (normal_array_v2 f)
+
+-- No length of a chunk of version 2 is 0.
+abbrev pub HasAnyChunks : AnyArray → Type 0
+HasAnyChunks (array_3 f) = Unit {0}
+HasAnyChunks (array_2 f) = HasChunks f

@@ -6,6 +6,7 @@
 
 mod array;
 mod group;
+pub mod laws;
 mod node;
 
 pub use array::ArrayMetadata;
