@@ -4,7 +4,7 @@
 //! `zarrs_metadata_v2`. A value that holds a number which is neither a `u64` nor an `i64` is refused throughout.
 #![tactic(auto)]
 
-pub mod array;
+mod array;
 mod codecs;
 mod endianness;
 mod group;
