@@ -1,0 +1,2 @@
+pub mod AnyBack
+pub mod StaysKind

@@ -1,0 +1,10 @@
+pub use Rattle.zarrs_metadata.specs.ArrayMetadata
+pub use Rattle.zarrs_metadata.specs.GroupMetadata
+pub use Rattle.zarrs_metadata_v2_nodes.specs.EndiannessV2
+pub use Rattle.zarrs_metadata_v2_nodes.specs.CodecsV2
+pub use Rattle.zarrs_metadata_v2_nodes.specs.ArrayMetadataV2
+pub use Rattle.zarrs_metadata_v2_nodes.specs.GroupMetadataV2
+pub use Rattle.zarrs_metadata_v2_nodes.specs.NodeV2
+pub mod AnyArray
+pub mod AnyGroup
+pub mod AnyNode
