@@ -1,1 +1,4 @@
 pub mod DigestLaws
+pub mod CountLaws
+pub mod OrderLaws
+pub mod ExtractLaws

@@ -1,9 +1,12 @@
-//! The codecs of this project, each with its laws: `zarr_basics.sha256`.
+//! The codecs of this project, each with its laws: `bytes` and `zarr_basics.sha256`.
 //!
 //! See <https://zarr-specs.readthedocs.io/en/latest/v3/core/index.html#codecs>.
 #![tactic(auto)]
 
+mod bytes_codec;
 mod making;
+mod parts;
 mod sha256_codec;
 
+pub use bytes_codec::BytesCodec;
 pub use sha256_codec::Sha256Codec;
