@@ -1,9 +1,16 @@
 -- The codec `bytes`.
-use Rattle.std.specs.Prelude.{◌≡◌, ◌⊎◌, ◌<◌, ℕ, ◌*◌, ◌==◌, if◌then◌else◌, Bool, true, false, List, codes, Option, Some, None, option_and_then, refl}
-use Rattle.serde_json.specs.Data.{Members, no_members, member, string}
+use Rattle.std.specs.Prelude.{◌≡◌, ◌⊎◌, ◌<◌, ℕ, ◌*◌, ◌==◌, if◌then◌else◌, Bool, true, false, List, codes, bytes_eq, Result, Err, Option, Some, None, option_map, option_and_then, refl}
+use Rattle.serde_json.specs.Data.{Data, null, boolean, number, string, array, object, Members, no_members, member}
 use Rattle.zarr_model.specs.Region.{count_of}
 use Rattle.zarr_model.specs.Element.{DataType, kind_of, fixed_size, fixed}
 use Rattle.zarr_model.specs.Codec.{ByteOrder, little, big, component_size, Level}
+use Rattle.zarrs_metadata_parts.specs.Configuration.{is_none_or_empty}
+use Rattle.zarrs_metadata_parts.specs.MetadataV3.{Extension}
+use Rattle.zarrs_metadata_parts.specs.Reading.{◌>>=◌}
+use Rattle.zarrs_plugin.specs.Making.{Unmade}
+use Rattle.zarrs_plugin.specs.Making as making
+use Rattle.zarr_basics_grids.specs.Configurations.{only_member}
+use Rattle.zarr_basics_grids.specs.Making.{or_config}
 use Rattle.zarrs_metadata_parts.specs.declared.array.endianness.Endianness.{Endianness}
 use Rattle.zarrs_metadata_parts.specs.declared.array.endianness.Endianness.TheVariants.{Little, Big}
 use Rattle.zarrs_data_type_elements.specs.CodecSupport.{bytes_table}
@@ -65,3 +72,33 @@ order_members (Some order) = member (codes "endian") (string (order_text order))
 -- nothing is asked for
 pub nothing_asked : {A : Type 0} {x : A} → None ≡ Some x → ⊥
 nothing_asked e = cc
+
+-- a byte order by its text, or null
+abbrev pub order_named : List ℕ → Option (Option Endianness)
+order_named s = if bytes_eq s (codes "little") then Some (Some Little)
+    else if bytes_eq s (codes "big") then Some (Some Big) else None
+
+abbrev pub order_or_null : Data → Option (Option Endianness)
+order_or_null null = Some None
+order_or_null (boolean b) = None
+order_or_null (number n) = None
+order_or_null (string s) = order_named s
+order_or_null (array ds) = None
+order_or_null (object ms) = None
+
+unfoldable pub given_order : Option Members → Option (Option Endianness)
+given_order configuration = do
+  ms ← configuration
+  value ← only_member (codes "endian") ms
+  order_or_null value
+
+-- nothing, or exactly `endian`
+abbrev pub order_in : Option Members → Option (Option Endianness)
+order_in configuration = if is_none_or_empty configuration then Some None
+    else given_order configuration
+
+-- the codec of metadata, which has its name
+abbrev pub bytes_created : Extension → Result (Option Members) Unmade
+bytes_created e = if bytes_eq e.name (codes "bytes")
+    then or_config (option_map (λ order. Some (order_members order)) (order_in e.configuration))
+    else Err (making.unsupported e.name)

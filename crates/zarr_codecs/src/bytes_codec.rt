@@ -10,13 +10,14 @@ ghost use Rattle.zarrs_codec_array_bytes.specs.Levels.{is_fixed};
 ghost use Rattle.zarrs_codec_array_bytes.specs.Raw.{raw_of};
 ghost use Rattle.zarrs_codec_error.specs.declared.error.CodecError.TheVariants as codec;
 ghost use Rattle.zarrs_codec_traits.specs.Errors.{unserved_error};
-ghost use Rattle.zarr_codecs.specs.BytesCodec.{order_text};
 
+use crate::configuration::{order_configuration, read_order};
+use crate::making::unsupported_codec;
 use crate::parts::{extracted, num_elements, only_part, same_shape};
-use serde_json::{Map, Value};
 use std::alloc::{AllocError, Global};
 use std::borrow::CowSlice;
 use std::num::NonZeroU64;
+use zarr_basics_grids::unmade;
 use zarrs_array_subset::{ArraySubset, ChunkShape};
 use zarrs_codec_array_bytes::ArrayBytes;
 use zarrs_codec_array_bytes::array_bytes::step::element_size;
@@ -25,11 +26,11 @@ use zarrs_codec_options::{
     BytesRepresentation, CodecMetadataOptions, CodecOptions, PartialDecoderCapability,
     PartialEncoderCapability, RecommendedConcurrency,
 };
-use zarrs_codec_traits::{ArrayCodecTraits, ArrayToBytesCodecTraits, CodecTraits};
+use zarrs_codec_traits::{ArrayCodecTraits, ArrayToBytesCodecTraits, CodecTraits, CodecTraitsV3};
 use zarrs_data_type_elements::{BytesSupport, FillValue};
 use zarrs_data_type_names::DataType;
-use zarrs_metadata_parts::{Configuration, Endianness};
-use zarrs_plugin::{ExtensionName, ZarrVersion};
+use zarrs_metadata_parts::{Configuration, Endianness, MetadataV3};
+use zarrs_plugin::{ExtensionName, PluginCreateError, ZarrVersion};
 use zarrs_storage::ByteRange;
 
 /// The codec `bytes`, which stores the elements of a chunk in row-major order, one after another, with the bytes of each
@@ -39,15 +40,6 @@ use zarrs_storage::ByteRange;
 #[derive(Clone, Copy, Debug, PartialEq, Eq)]
 pub struct BytesCodec {
     endianness: Option<Endianness>,
-}
-
-fn order_text(order: Endianness) -> &'static str
-    ensures { result.now ≡ order_text order }
-{
-    match order {
-        Endianness::Little => "little",
-        Endianness::Big => "big",
-    }
 }
 
 impl BytesCodec {
@@ -137,12 +129,8 @@ impl CodecTraits for BytesCodec {
         _version: ZarrVersion,
         _options: &CodecMetadataOptions,
     ) -> Result<Option<Configuration>, AllocError> {
-        let mut members = Map::new(alloc);
-        if let Some(order) = self.endianness {
-            let value = Value::try_from_str(alloc, order_text(order))?;
-            serde_json::put(&mut members, alloc, "endian", value)?;
-        }
-        Ok(Some(Configuration::new(members)))
+        let configuration = order_configuration(alloc, self.endianness)?;
+        Ok(Some(configuration))
     }
 
     fn partial_decoder_capability(&self) -> PartialDecoderCapability {
@@ -155,6 +143,23 @@ impl CodecTraits for BytesCodec {
     fn partial_encoder_capability(&self) -> PartialEncoderCapability {
         PartialEncoderCapability {
             partial_encode: false,
+        }
+    }
+}
+
+impl CodecTraitsV3 for BytesCodec {
+    ghost use Rattle.zarr_codecs.specs.BytesCodec.{bytes_created};
+
+    ghost created = { bytes_created };
+
+    #[tactic(auto, using(zarr_basics_grids::proofs::MakingLaws::of_configurations))]
+    fn create(alloc: Global, metadata: &MetadataV3) -> Result<Self, PluginCreateError> {
+        if metadata.name() != "bytes" {
+            return Err(unsupported_codec(alloc, metadata.name()));
+        }
+        match read_order(metadata) {
+            Ok(endianness) => Ok(BytesCodec { endianness }),
+            Err(error) => Err(unmade(error)),
         }
     }
 }

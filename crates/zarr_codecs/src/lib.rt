@@ -4,6 +4,7 @@
 #![tactic(auto)]
 
 mod bytes_codec;
+mod configuration;
 mod making;
 mod parts;
 mod sha256_codec;

@@ -27,6 +27,11 @@ const DIGEST_LEN: usize = 32;
 pub struct Sha256Codec;
 
 impl Sha256Codec {
+    /// The codec.
+    pub fn new() -> Self {
+        Sha256Codec
+    }
+
     /// A copy.
     ///
     /// # Errors
