@@ -1,6 +1,7 @@
 //! The codec `bytes`: the elements one after another.
 
 ghost use Rattle.std.specs.Prelude.{◌≡◌, ◌<◌, ◌*◌, ◌^◌, Ok, None, Some, true, refl, IfOk, IfErr, option_map};
+ghost use Rattle.std.proofs.Common.{inl};
 ghost use Rattle.zarrs_data_type_elements.specs.BytesSupport.{component_of};
 ghost use Rattle.zarrs_data_type_elements.specs.ByteOrder.{in_order};
 ghost use Rattle.zarrs_data_type_elements.specs.CodecSupport.{bytes_table};
@@ -235,6 +236,10 @@ impl ArrayToBytesCodecTraits for BytesCodec {
         array_to_bytes-counted under (bytes_codec (stored_order c.endianness)) level value xs e };
 
     ghost taken = { λ _ _ _ _ _ _ _ _. refl };
+
+    ghost takes_few = { λ _ _ _ _ _. tt };
+
+    ghost refuses_form = { λ _ _ _. inl refl };
 
     ghost asks = { λ c under level box fill value ranges served inside some.
         absurd (nothing_asked some) };

@@ -2,10 +2,10 @@
 use Rattle.std.specs.Prelude.{◌≡◌, ◌⊎◌, ℕ, List, Option, Some, None, Result, Ok, Err}
 use Rattle.zarr_model.specs.Element.{DataType}
 use Rattle.zarr_model.specs.Codec.{Level}
-use Rattle.zarr_model.specs.Command.{expected_fixed_length_bytes}
+use Rattle.zarr_model.specs.Command.{expected_fixed_length_bytes, invalid_variable_sized_array_offsets}
 use Rattle.zarrs_data_type_elements.specs.declared.codec_support.CodecName.{CodecName}
 use Rattle.zarrs_data_type_elements.specs.declared.codec_support.DataTypeCodecError.TheVariants as fault
-use Rattle.zarrs_codec_array_bytes.specs.Refusals.{told_by, refused, other_fill}
+use Rattle.zarrs_codec_array_bytes.specs.Refusals.{Told, told_by, fine, refused, other_fill}
 use Rattle.zarrs_codec_error.specs.declared.error.CodecError.{CodecError}
 use Rattle.zarrs_codec_error.specs.declared.error.CodecError.TheVariants as codec
 
@@ -40,3 +40,7 @@ IsDecodeError wanted says e = (e ≡ codec.OutOfMemory) ⊎ ((wanted ≡ None) �
 abbrev pub IsFillFault : CodecError → Type 0
 IsFillFault e = (e ≡ codec.OutOfMemory)
     ⊎ ((told_by e ≡ other_fill) ⊎ (told_by e ≡ refused expected_fixed_length_bytes))
+
+-- nothing is refused, or the form of variable-length elements is
+abbrev pub IsFormRefusal : Told → Type 0
+IsFormRefusal told = (told ≡ fine) ⊎ (told ≡ refused invalid_variable_sized_array_offsets)

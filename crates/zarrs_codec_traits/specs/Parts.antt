@@ -27,6 +27,10 @@ have_lengths (range ∷ ranges) (part ∷ parts) =
     has_length range part && have_lengths ranges parts
 have_lengths ranges parts = true
 
+abbrev pub fit_request : Option (List ByteRange) → List (List ℕ) → Bool
+fit_request None parts = true
+fit_request (Some ranges) parts = have_lengths ranges parts
+
 -- a wrong length was refused, or memory ran out
 abbrev pub IsLengthFault : CodecError → Type 0
 IsLengthFault (codec.UnexpectedChunkDecodedSize e) = Unit {0}

@@ -47,6 +47,7 @@ pub trait ArrayToArrayCodecTraits: ArrayCodecTraits + Sized {
     /// The codec with options of its own, by default the same. It serves, encodes and decodes as before.
     fn with_codec_specific_options(self, _options: &CodecSpecificOptions) -> Self
         ensures meaning { meaning result ≡ meaning self }
+        ensures fill { fill_below result ≡ fill_below self }
         ensures unserved { Self.unserved result ≡ Self.unserved self }
     {
         self
@@ -289,6 +290,18 @@ pub trait ArrayToArrayCodecTraits: ArrayCodecTraits + Sized {
         (replicate (count_of ((meaning c).level_below level).shape)
         ((meaning c).level_below level).fill)
         ≡ Some (replicate (count_of level.shape) level.fill) };
+
+    // The fill value below denotes the fill element below, and its numbers are bytes where those above are.
+    ghost denotes: { (c : Self) (level : Level) (fill : List ℕ)
+        → unserved_at (Self.unserved c) level fill ≡ None
+        → fill_element (kind_of level.data_type) fill ≡ Some level.fill
+        → fill_element (kind_of ((meaning c).level_below level).data_type)
+        (fill_below c level.data_type fill) ≡ Some ((meaning c).level_below level).fill };
+
+    ghost keeps_bytes: { (c : Self) (level : Level) (fill : List ℕ)
+        → unserved_at (Self.unserved c) level fill ≡ None
+        → fill_element (kind_of level.data_type) fill ≡ Some level.fill → AreBytes level.fill
+        → AreBytes ((meaning c).level_below level).fill };
 
     // The level below has no more elements, and fits where the level does.
     ghost keeps_count: { (c : Self) (level : Level) (fill : List ℕ)

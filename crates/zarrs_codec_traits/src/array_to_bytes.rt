@@ -1,6 +1,6 @@
 //! Codecs that turn the elements of an array into bytes.
 
-ghost use Rattle.std.specs.Prelude.{◌≡◌, ℕ, true, false, List, [], ◌∷◌, length, Option, Some, None, IsSome, IfOk, IfErr, IfSome, MatchResult};
+ghost use Rattle.std.specs.Prelude.{◌≡◌, ◌<◌, ◌^◌, ℕ, true, false, List, [], ◌∷◌, length, Option, Some, None, IsSome, IfOk, IfErr, IfSome, MatchResult};
 ghost use Rattle.zarr_model.specs.Region.{Region, count_of, ends_within};
 ghost use Rattle.zarr_model.specs.Element as Model;
 ghost use Rattle.zarr_model.specs.Element.{Element, kind_of};
@@ -9,8 +9,7 @@ ghost use Rattle.zarr_model.specs.Codec.{Level, Options};
 ghost use Rattle.zarr_model.specs.Command.{has_long_element};
 ghost use Rattle.zarrs_array_subset.specs.ArraySubset.{region as box_of};
 ghost use Rattle.zarrs_storage.specs.declared.byte_range.ByteRange.{ByteRange};
-ghost use Rattle.zarrs_storage.specs.declared.byte_range.InvalidByteRangeError.{InvalidByteRangeError};
-ghost use Rattle.zarrs_storage.specs.ByteRange.{first_invalid, parts_of, TellsRange};
+ghost use Rattle.zarrs_storage.specs.ByteRange.{first_invalid, parts_of};
 ghost use Rattle.zarrs_data_type_elements.specs.FillValue.{fill_bytes};
 ghost use Rattle.zarrs_data_type_names.specs.DataType.{type_of};
 ghost use Rattle.zarrs_codec_error.specs.declared.error.CodecError.{CodecError};
@@ -18,8 +17,8 @@ ghost use Rattle.zarrs_codec_error.specs.declared.error.CodecError.TheVariants a
 ghost use Rattle.zarrs_codec_array_bytes.specs.Raw.{raw_of};
 ghost use Rattle.zarrs_codec_array_bytes.specs.Refusals.{Told, fine, validity, then_answer, Answers};
 ghost use Rattle.zarrs_codec_options.specs.declared.bytes_representation.BytesRepresentation.{BytesRepresentation};
-ghost use Rattle.zarrs_codec_traits.specs.Errors.{unserved_at, RefusesBy, IsDecodeError};
-ghost use Rattle.zarrs_codec_traits.specs.Parts.{AreParts, IsAnswer, RefusesParts};
+ghost use Rattle.zarrs_codec_traits.specs.Errors.{unserved_at, RefusesBy, IsDecodeError, IsFormRefusal};
+ghost use Rattle.zarrs_codec_traits.specs.Parts.{AreParts, IsAnswer, RefusesParts, fit_request};
 ghost use Rattle.zarrs_codec_traits.specs.Views.{lengths, level_of, options_of, ranges_of};
 ghost use Rattle.zarrs_codec_traits.specs.Words.{list_at, at_box, select, Gives, IsFit};
 
@@ -56,9 +55,13 @@ pub trait ArrayToBytesCodecTraits: ArrayCodecTraits + Sized {
     // How many bytes the elements of a level have, encoded.
     ghost representation: { Self → Level → BytesRepresentation };
 
-    /// The codec with options of its own, by default the same. It serves, encodes and decodes as before.
+    /// The codec with options of its own, by default the same. It serves, refuses and decodes as before.
     fn with_codec_specific_options(self, _options: &CodecSpecificOptions) -> Self
         ensures meaning { meaning result ≡ meaning self }
+        ensures says { (under : Options) (level : Level) (value : List ℕ) (e : CodecError)
+            → says result under level value e → says self under level value e }
+        ensures beyond { beyond result ≡ beyond self }
+        ensures takes { (level : Level) → takes self level → takes result level }
         ensures unserved { Self.unserved result ≡ Self.unserved self }
     {
         self
@@ -134,11 +137,11 @@ pub trait ArrayToBytesCodecTraits: ArrayCodecTraits + Sized {
             (IsDecodeError wanted (says self.now (options_of options.now) level bytes.items)) }
         ensures short { IfOk result (λ v. has_long_element (raw_of v) ≡ false) };
 
-    /// A value that decodes to the same elements and needs less room, and [`None`] where there is none. By default
-    /// there is none.
+    /// A value that decodes to the same elements, to be stored in place of this one, and [`None`] where this one stays.
+    /// By default it stays.
     ///
     /// # Errors
-    /// [`CodecError`] where the value does not decode, or memory runs out.
+    /// [`CodecError`] where the codec does not serve the arguments or the value does not decode, or memory runs out.
     fn compact(
         &self,
         _alloc: Global,
@@ -219,7 +222,9 @@ pub trait ArrayToBytesCodecTraits: ArrayCodecTraits + Sized {
             (value : List ℕ)
             → unserved_at (Self.unserved self.now) level (fill_bytes fill_value.now) ≡ None
             → AreParts (request self.now level.shape level.data_type (box_of region.now)) value
-            (parts_of parts) → IfErr result
+            (parts_of parts)
+            → fit_request (request self.now level.shape level.data_type (box_of region.now))
+            (parts_of parts) ≡ true → IfErr result
             (IsDecodeError (meaning self.now (options_of options.now) level value)
             (says self.now (options_of options.now) level value)) }
         ensures valid { let level = level_of shape.now data_type.now fill_value.now in
@@ -245,14 +250,18 @@ pub trait ArrayToBytesCodecTraits: ArrayCodecTraits + Sized {
         → IsSome (list_at level bytes) → has_long_element bytes ≡ false
         → beyond c level bytes ≡ fine };
 
-    // Where a range that is asked for does not lie within a value, the value does not decode, and the error of the
-    // range says so.
+    // All array bytes are taken where their number is below 2 ^ 32, and what is refused beside is their form.
+    ghost takes_few: { (c : Self) (level : Level) (fill : List ℕ)
+        → unserved_at (Self.unserved c) level fill ≡ None → count_of level.shape < 2 ^ 32
+        → takes c level };
+
+    ghost refuses_form: { (c : Self) (level : Level) (bytes : model.ArrayBytes)
+        → IsFormRefusal (beyond c level bytes) };
+
+    // Where a range that is asked for does not lie within a value, the value does not decode.
     ghost asks: { (c : Self) (under : Options) (level : Level) (box : Region)
         (fill value : List ℕ) (ranges : List ByteRange)
         → unserved_at (Self.unserved c) level fill ≡ None → ends_within box level.shape ≡ true
         → request c level.shape level.data_type box ≡ Some ranges
-        → ¬ (first_invalid (length value) ranges ≡ None)
-        → (meaning c under level value ≡ None) × ((error : InvalidByteRangeError)
-        → TellsRange (first_invalid (length value) ranges) (length value) error
-        → says c under level value (codec.InvalidByteRangeError error)) };
+        → ¬ (first_invalid (length value) ranges ≡ None) → meaning c under level value ≡ None };
 }

@@ -31,7 +31,9 @@ pub trait BytesToBytesCodecTraits: CodecTraits + Sized {
 
     /// The codec with options of its own, by default the same. It decodes as before.
     fn with_codec_specific_options(self, _options: &CodecSpecificOptions) -> Self
-        ensures { meaning result ≡ meaning self }
+        ensures meaning { meaning result ≡ meaning self }
+        ensures says { (under : Options) (value : List ℕ) (e : CodecError)
+            → says result under value e → says self under value e }
     {
         self
     }
