@@ -76,8 +76,8 @@ pub fn extracted(
     requires inside { ends_within (box_of region.now) (lengths shape.now) ≡ true }
     ensures value { (fill : FillValue) (xs : List Element)
         → list_at (level_of shape.now data_type.now fill) (raw_of bytes.now) ≡ Some xs
-        → MatchResult result
-        (λ v. list_at (at_box (box_of region.now) (level_of shape.now data_type.now fill)) (raw_of v)
+        → MatchResult result (λ v.
+        list_at (at_box (box_of region.now) (level_of shape.now data_type.now fill)) (raw_of v)
         ≡ Some (select (lengths shape.now) (box_of region.now) xs))
         (λ e. e ≡ codec.OutOfMemory) }
     ensures short { has_long_element (raw_of bytes.now) ≡ false

@@ -13,7 +13,7 @@ returns-clause-value c = λ value xs served parts e.
     ((c.in_ok-whole.ensures.value served).same ∙ (ap (λ (v : List ℕ). decode_array_to_bytes (options_of c.args.options.now) (bytes_codec (stored_order c.args.self.now.endianness)) level v) same ∙ e))
 
 pub returns-clause-cause : goal.returns-clause-cause
-returns-clause-cause c = λ value served parts.
+returns-clause-cause c = λ value served parts fits.
     taken_error c.extracted.result _ _ _ _ _ (c.in_ok-whole.ensures.value served).there (c.extracted.ensures.value c.args.fill_value.now)
 
 pub returns-clause-valid : goal.returns-clause-valid
