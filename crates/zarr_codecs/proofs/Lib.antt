@@ -1,0 +1,4 @@
+pub mod DigestLaws
+pub mod CountLaws
+pub mod OrderLaws
+pub mod ExtractLaws

@@ -1,0 +1,3 @@
+pub mod Making
+pub mod Sha256
+pub mod BytesCodec

@@ -1,0 +1,83 @@
+//! The configuration of the codec `bytes`, read and written.
+
+ghost use Rattle.std.specs.Prelude.{◌≡◌, IfOk};
+ghost use Rattle.serde_json.specs.View.{view};
+ghost use Rattle.zarrs_metadata_parts.specs.Configuration.{configuration_seen};
+ghost use Rattle.zarrs_metadata_parts.specs.MetadataV3.{extension_seen};
+ghost use Rattle.zarrs_metadata_parts.specs.Reading.{Reads};
+ghost use Rattle.zarr_codecs.specs.BytesCodec.{order_named, order_or_null, given_order, order_in, order_text, order_members};
+
+use serde_json::{Map, Value};
+use std::alloc::{AllocError, Global};
+use zarr_basics_grids::configuration::{configured, only_member};
+use zarrs_metadata_parts::{Configuration, Endianness, MetadataError, MetadataV3};
+
+fn order_text(order: Endianness) -> &'static str
+    ensures { result.now ≡ order_text order }
+{
+    match order {
+        Endianness::Little => "little",
+        Endianness::Big => "big",
+    }
+}
+
+/// The configuration that names a byte order, if there is one.
+///
+/// # Errors
+/// [`AllocError`] where memory runs out.
+pub fn order_configuration(
+    alloc: Global,
+    endianness: Option<Endianness>,
+) -> Result<Configuration, AllocError>
+    ensures { IfOk result (λ c. configuration_seen c ≡ order_members endianness) }
+{
+    let mut members = Map::new(alloc);
+    if let Some(order) = endianness {
+        let value = Value::try_from_str(alloc, order_text(order))?;
+        serde_json::put(&mut members, alloc, "endian", value)?;
+    }
+    Ok(Configuration::new(members))
+}
+
+fn order_named(text: &str) -> Result<Option<Endianness>, MetadataError>
+    ensures { Reads (λ order. order) result (order_named text.now) }
+{
+    match text {
+        "little" => Ok(Some(Endianness::Little)),
+        "big" => Ok(Some(Endianness::Big)),
+        _ => Err(MetadataError::InvalidMetadata),
+    }
+}
+
+fn order_or_null(value: &Value) -> Result<Option<Endianness>, MetadataError>
+    ensures { Reads (λ order. order) result (order_or_null (view value.now)) }
+{
+    match value {
+        Value::Null => Ok(None),
+        Value::String(text) => order_named(text.as_str()),
+        _ => Err(MetadataError::InvalidMetadata),
+    }
+}
+
+#[tactic(auto, unfolding(crate::specs::BytesCodec::given_order))]
+fn given_order(metadata: &MetadataV3) -> Result<Option<Endianness>, MetadataError>
+    ensures { Reads (λ order. order) result
+        (given_order (extension_seen metadata.now).configuration) }
+{
+    order_or_null(only_member(configured(metadata)?, "endian")?)
+}
+
+/// The byte order that the configuration names, if it names one.
+///
+/// # Errors
+/// `InvalidMetadata` exactly where there is a configuration, and it is neither empty nor exactly an `endian` that is
+/// `little`, `big` or null.
+pub fn read_order(metadata: &MetadataV3) -> Result<Option<Endianness>, MetadataError>
+    ensures { Reads (λ order. order) result (order_in (extension_seen metadata.now).configuration) }
+{
+    if metadata.configuration_is_none_or_empty() {
+        Ok(None)
+    } else {
+        given_order(metadata)
+    }
+}

@@ -1,0 +1,13 @@
+//! The codecs of this project, each with its laws: `bytes` and `zarr_basics.sha256`.
+//!
+//! See <https://zarr-specs.readthedocs.io/en/latest/v3/core/index.html#codecs>.
+#![tactic(auto)]
+
+mod bytes_codec;
+mod configuration;
+mod making;
+mod parts;
+mod sha256_codec;
+
+pub use bytes_codec::BytesCodec;
+pub use sha256_codec::Sha256Codec;

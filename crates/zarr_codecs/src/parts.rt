@@ -1,0 +1,88 @@
+//! Shapes, and parts of values.
+
+ghost use Rattle.std.specs.Prelude.{◌≡◌, ◌∷◌, [], ◌+◌, ◌*◌, ◌<◌, ◌^◌, ℕ, List, true, false, Some, length, IfOk, MatchResult};
+ghost use Rattle.zarr_model.specs.Region.{count_of, ends_within};
+ghost use Rattle.zarr_model.specs.Element.{Element};
+ghost use Rattle.zarr_model.specs.Command.{has_long_element};
+ghost use Rattle.zarrs_array_subset.specs.ArraySubset.{region as box_of};
+ghost use Rattle.zarrs_storage.specs.ByteRange.{parts_of};
+ghost use Rattle.zarrs_data_type_elements.specs.declared.fill_value.FillValue.{FillValue};
+ghost use Rattle.zarrs_data_type_names.specs.DataType.{type_of};
+ghost use Rattle.zarrs_codec_array_bytes.specs.Raw.{raw_of};
+ghost use Rattle.zarrs_codec_error.specs.declared.error.CodecError.TheVariants as codec;
+ghost use Rattle.zarrs_codec_traits.specs.Views.{lengths, level_of};
+ghost use Rattle.zarrs_codec_traits.specs.Words.{IsFit, list_at, at_box, select};
+
+use std::alloc::{AllocError, Global};
+use std::num::NonZeroU64;
+use zarrs_array_subset::{ArraySubset, ChunkShape};
+use zarrs_codec_array_bytes::ArrayBytes;
+use zarrs_codec_error::CodecError;
+use zarrs_data_type_names::DataType;
+
+/// The number of elements of a chunk.
+#[tactic(auto, using(crate::proofs::CountLaws::count_rest))]
+pub fn num_elements(shape: &[NonZeroU64]) -> u64
+    requires { count_of (lengths shape.now) < 2 ^ 64 }
+    ensures { result ≡ count_of (lengths shape.now) }
+{
+    match shape {
+        [] => 1,
+        [first, rest @ ..] => first.get() * num_elements(rest),
+    }
+}
+
+/// The lengths of a chunk, as numbers.
+///
+/// # Errors
+/// [`AllocError`] where memory runs out.
+pub fn shape_numbers(alloc: Global, shape: &[NonZeroU64]) -> Result<Vec<u64>, AllocError>
+    ensures { IfOk result (λ v. v.items ≡ lengths shape.now) }
+{
+    shape.iter().map(|n| n.get()).collect(alloc)
+}
+
+/// The same shape.
+///
+/// # Errors
+/// [`AllocError`] where memory runs out.
+pub fn same_shape(alloc: Global, shape: &[NonZeroU64]) -> Result<ChunkShape, AllocError>
+    ensures { IfOk result (λ v. v.items ≡ shape.now) }
+{
+    shape.to_vec(alloc)
+}
+
+/// The one part that there is.
+pub fn only_part(parts: Vec<Vec<u8>>) -> Vec<u8>
+    requires { length (parts_of parts) ≡ 1 }
+    ensures { parts_of parts ≡ result.items ∷ [] }
+{
+    let mut parts = parts;
+    parts.pop().unwrap()
+}
+
+/// The elements of a region, out of those of the whole chunk.
+///
+/// # Errors
+/// [`CodecError`] where memory runs out, if the bytes are valid.
+pub fn extracted(
+    alloc: Global,
+    bytes: &ArrayBytes<'_>,
+    region: &ArraySubset,
+    shape: &[NonZeroU64],
+    data_type: &DataType,
+) -> Result<ArrayBytes<'static>, CodecError>
+    requires fits { IsFit (lengths shape.now) (type_of data_type.now) }
+    requires inside { ends_within (box_of region.now) (lengths shape.now) ≡ true }
+    ensures value { (fill : FillValue) (xs : List Element)
+        → list_at (level_of shape.now data_type.now fill) (raw_of bytes.now) ≡ Some xs
+        → MatchResult result (λ v.
+        list_at (at_box (box_of region.now) (level_of shape.now data_type.now fill)) (raw_of v)
+        ≡ Some (select (lengths shape.now) (box_of region.now) xs))
+        (λ e. e ≡ codec.OutOfMemory) }
+    ensures short { has_long_element (raw_of bytes.now) ≡ false
+        → IfOk result (λ v. has_long_element (raw_of v) ≡ false) }
+{
+    let numbers = shape_numbers(alloc, shape)?;
+    bytes.extract_array_subset(alloc, region, &numbers, data_type)
+}

@@ -1,0 +1,4 @@
+//! Callers of codecs, each for every codec.
+#![tactic(auto)]
+
+pub mod parts;

@@ -1,0 +1,46 @@
+-- Why codecs give no answer.
+use Rattle.std.specs.Prelude.{◌≡◌, ◌⊎◌, ℕ, List, Option, Some, None, Result, Ok, Err}
+use Rattle.zarr_model.specs.Element.{DataType}
+use Rattle.zarr_model.specs.Codec.{Level}
+use Rattle.zarr_model.specs.Command.{expected_fixed_length_bytes, invalid_variable_sized_array_offsets}
+use Rattle.zarrs_data_type_elements.specs.declared.codec_support.CodecName.{CodecName}
+use Rattle.zarrs_data_type_elements.specs.declared.codec_support.DataTypeCodecError.TheVariants as fault
+use Rattle.zarrs_codec_array_bytes.specs.Refusals.{Told, told_by, fine, refused, other_fill}
+use Rattle.zarrs_codec_error.specs.declared.error.CodecError.{CodecError}
+use Rattle.zarrs_codec_error.specs.declared.error.CodecError.TheVariants as codec
+
+-- why a codec refuses a shape, a data type and a fill value, whatever the elements: the codec of
+-- this name does not serve them, or no order is given for components of several bytes
+pub data Unserved : Type 0 where
+  unsupported : CodecName → Unserved
+  endianness_missing : Unserved
+
+abbrev pub unserved_error : Unserved → CodecError
+unserved_error (unsupported name) =
+    codec.UnsupportedDataTypeCodec (fault.UnsupportedDataType name)
+unserved_error endianness_missing = codec.EndiannessMissing
+
+-- why a level with the bytes of its fill value is not served, if it is not
+abbrev pub unserved_at : (Option (List ℕ) → Option DataType → Option (List ℕ) → Option Unserved)
+    → Level → List ℕ → Option Unserved
+unserved_at unserved level fill = unserved (Some level.shape) (Some level.data_type) (Some fill)
+
+-- where there is a reason the call is refused by it, or memory ran out
+abbrev pub RefusesBy : {T : Type 0} → Option Unserved → Result T CodecError → Type 0
+RefusesBy None result = Unit {0}
+RefusesBy (Some why) (Ok v) = ⊥
+RefusesBy (Some why) (Err e) = (e ≡ codec.OutOfMemory) ⊎ (e ≡ unserved_error why)
+
+-- nothing decodes, and this error says so; or memory ran out
+abbrev pub IsDecodeError : {A : Type 0} → Option A → (CodecError → Type 0) → CodecError → Type 0
+IsDecodeError wanted says e = (e ≡ codec.OutOfMemory) ⊎ ((wanted ≡ None) × says e)
+
+-- a fill value has another size than the type's, or is encoded to elements of no fixed size; or
+-- memory ran out
+abbrev pub IsFillFault : CodecError → Type 0
+IsFillFault e = (e ≡ codec.OutOfMemory)
+    ⊎ ((told_by e ≡ other_fill) ⊎ (told_by e ≡ refused expected_fixed_length_bytes))
+
+-- nothing is refused, or the form of variable-length elements is
+abbrev pub IsFormRefusal : Told → Type 0
+IsFormRefusal told = (told ≡ fine) ⊎ (told ≡ refused invalid_variable_sized_array_offsets)

@@ -1,0 +1,4 @@
+pub mod Views
+pub mod Words
+pub mod Parts
+pub mod Errors

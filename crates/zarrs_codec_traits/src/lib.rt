@@ -1,0 +1,16 @@
+//! Codecs: the three traits, what each call of a codec answers, and the laws that every codec keeps.
+//!
+//! See <https://zarr-specs.readthedocs.io/en/latest/v3/core/index.html#codecs>. An array-to-array codec turns elements
+//! into elements of the level below, an array-to-bytes codec turns those into bytes, and a bytes-to-bytes codec turns
+//! bytes into bytes.
+#![tactic(auto)]
+
+mod array_to_array;
+mod array_to_bytes;
+mod bytes_to_bytes;
+mod codec_traits;
+
+pub use array_to_array::ArrayToArrayCodecTraits;
+pub use array_to_bytes::ArrayToBytesCodecTraits;
+pub use bytes_to_bytes::BytesToBytesCodecTraits;
+pub use codec_traits::{ArrayCodecTraits, CodecTraits, CodecTraitsV2, CodecTraitsV3};
