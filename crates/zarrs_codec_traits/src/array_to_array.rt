@@ -73,8 +73,8 @@ pub trait ArrayToArrayCodecTraits: ArrayCodecTraits + Sized {
     /// The fill value below.
     ///
     /// # Errors
-    /// [`CodecError`] where the codec does not serve the arguments; where the fill value denotes no element, because
-    /// its size is not the data type's, or its encoded form has no fixed size; or where memory runs out.
+    /// [`CodecError`] exactly where the codec does not serve the arguments; else only where the fill value denotes no
+    /// element, such as one of another size, or memory runs out.
     fn encoded_fill_value(
         &self,
         alloc: Global,
@@ -127,8 +127,8 @@ pub trait ArrayToArrayCodecTraits: ArrayCodecTraits + Sized {
     /// The shape, the data type and the fill value below.
     ///
     /// # Errors
-    /// [`CodecError`] where the codec does not serve the arguments; where the fill value denotes no element, because
-    /// its size is not the data type's, or its encoded form has no fixed size; or where memory runs out.
+    /// [`CodecError`] exactly where the codec does not serve the arguments; else only where the fill value denotes no
+    /// element, such as one of another size, or memory runs out.
     fn encoded_representation(
         &self,
         alloc: Global,

@@ -35,8 +35,8 @@ use zarrs_storage::ByteRange;
 
 /// A codec that turns the elements of an array into bytes.
 ///
-/// Each call refuses first what the codec does not serve of its shape, data type and fill value. A call with a region
-/// needs it inside the shape.
+/// Each call but `compact` refuses first what the codec does not serve of its shape, data type and fill value. A call
+/// with a region needs it inside the shape.
 pub trait ArrayToBytesCodecTraits: ArrayCodecTraits + Sized {
     // The list that a value decodes to at a level, if it does.
     ghost meaning: { Self → Options → Level → List ℕ → Option (List Element) };
