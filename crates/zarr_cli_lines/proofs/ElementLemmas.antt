@@ -189,12 +189,3 @@ no_region n None = refl
 no_region n (Some list) = refl
 
 pub ruleset of_writes = (write_put, no_write, no_region)
-
--- digits are put byte by byte
-pub digits_of-bytes : (value : List ℕ) → flat_map (λ b. encode_lower (b ∷ [])) value ≡ encode_lower value
-unfolding encode_with
-digits_of-bytes [] = refl
-digits_of-bytes (b ∷ value) = ap (λ rest. slice_index lower_digits (b / 16) ∷ slice_index lower_digits (b % 16) ∷ rest) (digits_of-bytes value)
-
-pub bytes_put_all : (before now value : List ℕ) → now ≡ before ++ flat_map (λ b. encode_lower (b ∷ [])) value → now ≡ before ++ encode_lower value
-bytes_put_all before now value e = e ∙ ap (λ digits. before ++ digits) (digits_of-bytes value)

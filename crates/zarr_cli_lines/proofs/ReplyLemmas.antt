@@ -1,7 +1,9 @@
 -- The text of a reply, from the bytes of its elements.
-use Rattle.std.proofs.Common.{◌≡◌, ℕ, zero, suc, ◌+◌, ◌*◌, ◌/◌, ◌<◌, List, [], ◌∷◌, ◌++◌, length, map, take, drop, flat_map, Option, Some, None, IsSome, codes, refl, sym, ap, ◌∙◌, append_assoc, rules, arith}
+use Rattle.std.proofs.Common.{◌≡◌, ℕ, zero, suc, ◌+◌, ◌*◌, ◌/◌, ◌<◌, ◌≤◌, List, [], ◌∷◌, ◌++◌, length, map, take, drop, flat_map, Option, Some, None, IsSome, codes, refl, sym, ap, ◌∙◌, append_assoc, rules, arith}
 use Rattle.std.proofs.lemmas.List.{drop-drop}
+use Rattle.std.proofs.lemmas.Slice.{take-put_mid}
 use Rattle.std.proofs.Math.Nat.{suc-mul}
+use borrow.Rule.Slice.PartMut.{put_mid}
 use Rattle.std.proofs.Math.Seq.{take-length}
 use Rattle.hex.specs.Hex.{encode_lower}
 use Rattle.zarr_model.specs.Prelude.{Element, of_bytes, fixed, fixed_bytes, meaning, pieces, Reply, elements, done, refused, Refusal, answered, answered_done, answered_refused, Matches, refusal_name}
@@ -24,27 +26,18 @@ texts_put : {A : Type 0} (f : A → List ℕ) (xs : List A) (x : A) → flat_map
 texts_put f [] x = search rules
 texts_put f (y ∷ xs) x = ap (λ l. f y ++ l) (texts_put f xs x) ∙ sym (append_assoc (f y) (flat_map f xs) (f x))
 
--- the text of the elements up to a place, and of the one there
-pub next_element : (k n : ℕ) (value before text spaced now : List ℕ) → text ≡ before ++ flat_map (λ element. 32 ∷ hex_text element) (pieces k n value) →
-    spaced ≡ text ++ 32 ∷ 104 ∷ [] → now ≡ spaced ++ encode_lower (take n (drop (k * n) value)) →
-    now ≡ before ++ flat_map (λ element. 32 ∷ hex_text element) (pieces (k + 1) n value)
-next_element k n value before text spaced now so_far space put =
-    put ∙ (ap (λ t. t ++ encode_lower (take n (drop (k * n) value))) (space ∙ ap (λ t. t ++ 32 ∷ 104 ∷ []) so_far)
-    ∙ (append_assoc (before ++ flat_map (λ element. 32 ∷ hex_text element) (pieces k n value)) (32 ∷ 104 ∷ []) (encode_lower (take n (drop (k * n) value)))
-    ∙ (append_assoc before (flat_map (λ element. 32 ∷ hex_text element) (pieces k n value)) (32 ∷ hex_text (take n (drop (k * n) value)))
-    ∙ ap (λ t. before ++ t) (sym (texts_put (λ element. 32 ∷ hex_text element) (pieces k n value) (take n (drop (k * n) value)))
-    ∙ ap (flat_map (λ element. 32 ∷ hex_text element)) (sym (more_pieces k n value) ∙ ap (λ m. pieces m n value) (let e : suc k ≡ k + 1 = omega arith in e))))))
-
--- the text of elements of one byte is that of each byte
-single_pieces : (value : List ℕ) → flat_map (λ b. 32 ∷ hex_text (b ∷ [])) value ≡ flat_map (λ element. 32 ∷ hex_text element) (pieces (length value) 1 value)
-single_pieces [] = refl
-single_pieces (b ∷ value) = ap (λ text. (32 ∷ hex_text (b ∷ [])) ++ text) (single_pieces value)
-
-pub single_bytes : (before now value : List ℕ) (k : ℕ) → k ≡ length value → now ≡ before ++ flat_map (λ b. 32 ∷ hex_text (b ∷ [])) (take k value) → now ≡ before ++ bytes_text 1 value
-single_bytes before now value k all put =
-    put ∙ ap (λ text. before ++ text) (ap (flat_map (λ b. 32 ∷ hex_text (b ∷ []))) (ap (λ n. take n value) all ∙ take-length value)
-    ∙ (single_pieces value
-    ∙ ap (λ n. flat_map (λ element. 32 ∷ hex_text element) (pieces n 1 value)) (let e : length value ≡ length value / 1 = omega arith in e)))
+-- the texts of the elements up to a place stand in their slots, and so does that of the one there
+pub next_slot : (k n width long : ℕ) (value slots slot : List ℕ) → long ≡ width → k * width + width ≤ length slots →
+    take (k * width) slots ≡ flat_map (λ element. 32 ∷ hex_text element) (pieces k n value) → slot ≡ 32 ∷ hex_text (take n (drop (k * n) value)) → length slot ≡ width →
+    take ((k + 1) * width) (put_mid (k * width) long slots slot) ≡ flat_map (λ element. 32 ∷ hex_text element) (pieces (k + 1) n value)
+next_slot k n width long value slots slot same fits so_far put wide =
+    take-put_mid (k * width) long slots slot ((k + 1) * width) (let e : (k + 1) * width ≡ k * width + width = one_more in omega (arith, e)) (omega arith)
+    ∙ (ap (λ texts. texts ++ slot) so_far ∙ (ap (λ text. flat_map (λ element. 32 ∷ hex_text element) (pieces k n value) ++ text) put
+    ∙ (sym (texts_put (λ element. 32 ∷ hex_text element) (pieces k n value) (take n (drop (k * n) value)))
+    ∙ ap (flat_map (λ element. 32 ∷ hex_text element)) (sym (more_pieces k n value) ∙ ap (λ m. pieces m n value) (let e : suc k ≡ k + 1 = omega arith in e)))))
+  where
+    one_more : (k + 1) * width ≡ k * width + width
+    one_more = let e : suc k ≡ k + 1 = omega arith in rw (← e) (omega (arith, suc-mul k width))
 
 -- the text of bytes, an element for each piece
 texts_of : (l : List (List ℕ)) → flat_map (λ element. 32 ∷ element_text element) (map of_bytes l) ≡ flat_map (λ element. 32 ∷ hex_text element) l

@@ -1,6 +1,6 @@
 //! The text of replies.
 
-ghost use Rattle.std.specs.Prelude.{◌≡◌, ◌<◌, [], ◌∷◌, ◌++◌, codes, OnOk};
+ghost use Rattle.std.specs.Prelude.{◌≡◌, ◌<◌, ◌+◌, ◌*◌, ◌/◌, [], ◌∷◌, ◌++◌, length, replicate, codes, OnOk};
 ghost use Rattle.hex.specs.Hex.{encode_lower};
 ghost use Rattle.zarr_array.specs.Command.{refusal_of};
 ghost use Rattle.zarr_model.specs.Prelude.{refusal_name};
@@ -10,6 +10,39 @@ ghost use Rattle.zarr_cli_lines.specs.Parts.{bytes_text, answer_text, AppendsRep
 use std::alloc::AllocError;
 use zarr_array::command::Reply;
 use zarr_array::refusal::Refusal;
+
+// Appends room for `count` pieces of `width` bytes.
+fn push_room(text: &mut Vec<u8>, count: usize, width: usize) -> Result<(), AllocError>
+    ensures { OnOk result (text.new.items ≡ text.old.items ++ replicate (count * width) 0) }
+{
+    let Some(room) = count.checked_mul(width) else {
+        return Err(AllocError);
+    };
+    let Some(all) = text.len().checked_add(room) else {
+        return Err(AllocError);
+    };
+    text.resize(all, 0)
+}
+
+// Appends two lower-case digits for each byte.
+fn push_bytes(text: &mut Vec<u8>, value: &[u8]) -> Result<(), AllocError>
+    ensures { OnOk result (text.new.items ≡ text.old.items ++ encode_lower value.now) }
+{
+    let before = text.len();
+    push_room(text, value.len(), 2)?;
+    let Ok(()) = hex::encode_to_slice(value, &mut text[before..]) else {
+        unreachable!();
+    };
+    Ok(())
+}
+
+/// Appends `h` and two lower-case digits for each byte.
+pub(crate) fn push_hex(text: &mut Vec<u8>, value: &[u8]) -> Result<(), AllocError>
+    ensures { OnOk result (text.new.items ≡ text.old.items ++ hex_text value.now) }
+{
+    text.push(b'h')?;
+    push_bytes(text, value)
+}
 
 // The two lower-case digits of a byte.
 fn digits_of(byte: u8) -> [u8; 2]
@@ -22,56 +55,54 @@ fn digits_of(byte: u8) -> [u8; 2]
     digits
 }
 
-// Appends two lower-case digits for each byte.
-fn push_bytes(text: &mut Vec<u8>, value: &[u8]) -> Result<(), AllocError>
-    ensures { OnOk result (text.new.items ≡ text.old.items ++ encode_lower value.now) }
+// Writes a space and the text of an element.
+fn write_element(slot: &mut [u8], element: &[u8])
+    requires { length slot.old ≡ 2 + 2 * length element.now }
+    ensures { slot.new ≡ 32 ∷ hex_text element.now }
 {
-    for byte in value {
-        text.extend_from_slice(&digits_of(*byte))?;
+    // Elements of one byte are written in one piece.
+    if let [byte] = element {
+        let [high, low] = digits_of(*byte);
+        slot.copy_from_slice(&[b' ', b'h', high, low]);
+        return;
     }
-    Ok(())
+    let (front, digits) = slot.split_at_mut(2);
+    front.copy_from_slice(b" h");
+    let Ok(()) = hex::encode_to_slice(element, digits) else {
+        unreachable!();
+    };
 }
 
-/// Appends `h` and two lower-case digits for each byte.
-pub(crate) fn push_hex(text: &mut Vec<u8>, value: &[u8]) -> Result<(), AllocError>
-    ensures { OnOk result (text.new.items ≡ text.old.items ++ hex_text value.now) }
+// Writes a space and the text of each element of `size` bytes, `width` bytes for each.
+#[tactic(auto, using(crate::proofs::ReplyLemmas::next_slot))]
+fn write_elements(slots: &mut [u8], elements: &[u8], size: usize, width: usize)
+    requires some { 0 < size }
+    requires wide { width ≡ 2 + 2 * size }
+    requires room { length slots.old ≡ length elements.now / size * width }
+    ensures { slots.new ≡ bytes_text size elements.now }
 {
-    text.push(b'h')?;
-    push_bytes(text, value)
-}
-
-// Appends a space and the text of an element of one byte, in one piece.
-fn push_byte_element(text: &mut Vec<u8>, byte: u8) -> Result<(), AllocError>
-    ensures { OnOk result (text.new.items ≡ text.old.items ++ 32 ∷ hex_text (byte ∷ [])) }
-{
-    let [high, low] = digits_of(byte);
-    text.extend_from_slice(&[b' ', b'h', high, low])
-}
-
-// Appends a space and the text of each element of one byte.
-fn push_byte_elements(text: &mut Vec<u8>, elements: &[u8]) -> Result<(), AllocError>
-    ensures { OnOk result (text.new.items ≡ text.old.items ++ bytes_text 1 elements.now) }
-{
-    for byte in elements {
-        push_byte_element(text, *byte)?;
+    for k in 0..elements.len() / size {
+        write_element(
+            &mut slots[k * width..k * width + width],
+            &elements[k * size..k * size + size],
+        );
     }
-    Ok(())
 }
 
 // Appends a space and the text of each element of `size` bytes.
-#[tactic(auto, using(crate::proofs::ReplyLemmas::next_element))]
 fn push_elements(text: &mut Vec<u8>, elements: &[u8], size: usize) -> Result<(), AllocError>
     requires { 0 < size }
     ensures { OnOk result (text.new.items ≡ text.old.items ++ bytes_text size elements.now) }
 {
-    // Elements of one byte need no loop of their own.
-    if size == 1 {
-        return push_byte_elements(text, elements);
-    }
-    for k in 0..elements.len() / size {
-        text.extend_from_slice(b" h")?;
-        push_bytes(text, &elements[k * size..k * size + size])?;
-    }
+    let Some(digits) = size.checked_mul(2) else {
+        return Err(AllocError);
+    };
+    let Some(width) = digits.checked_add(2) else {
+        return Err(AllocError);
+    };
+    let before = text.len();
+    push_room(text, elements.len() / size, width)?;
+    write_elements(&mut text[before..], elements, size, width);
     Ok(())
 }
 
