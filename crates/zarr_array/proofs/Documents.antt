@@ -4,15 +4,18 @@ use Rattle.std.specs.Bool.{⊤}
 use Rattle.serde_json.proofs.OnLiterals.{serde_json_on_literals}
 use Rattle.zarr_model.specs.Prelude.{default_keys, v2_keys, big, uint_type}
 use Rattle.zarrs_metadata_parts.specs.Reading.{object_or_empty, whole_numbers, is_number, is_text}
+use Rattle.zarrs_metadata_v2.specs.DataTypeV2.{data_type_v2_of}
 use Rattle.zarrs_metadata_parts.specs.MetadataV3.{object_extension, extension_of, extensions_of}
 use Rattle.zarrs_metadata.specs.AdditionalFields.{is_array_key}
 use Rattle.zarrs_metadata.specs.ArrayMetadata.{extensions_or_none, is_array, named_fields, required_fields, optional_fields, with_optional_fields, array_members}
 use Rattle.zarrs_metadata.specs.DimensionNames.{dimension_names}
+use Rattle.zarrs_metadata_v2_nodes.specs.CodecsV2.{compressor_of, filters_of}
+use Rattle.zarrs_metadata_v2_nodes.specs.ArrayMetadataV2.{order_of, separator_of_text, positive_number, positive_numbers, required_v2, optional_v2, with_optional_fields_v2, array_v2_members}
 use Rattle.zarr_basics_grids.specs.Configurations.{chunk_shape_in}
 use Rattle.zarr_basics_grids.specs.GridForms.{regular}
 use Rattle.zarr_basics.specs.Configurations.{given_separator, given_order}
 use Rattle.zarr_array.specs.Document.{ArrayDocument, fixed_document}
-use Rattle.zarr_array.specs.Opening.{opened, not_opened, invalid_json, float_number, invalid_metadata, unsupported_field, plugin_unsupported, plugin_create, invalid_fill, chain_order, document_of, open_builtin}
+use Rattle.zarr_array.specs.Opening.{opened, not_opened, invalid_json, float_number, invalid_metadata, unsupported_version, unsupported_field, plugin_unsupported, plugin_create, invalid_fill, chain_order, document_of, open_builtin}
 
 -- what opening a text computes by
 unfoldable pub opening : ⊤
@@ -83,3 +86,22 @@ chains : (open_builtin (chain_text (codes "{\"name\":\"default\",\"configuration
     × (open_builtin (chain_text (codes "\"default\"") (codes "[\"bytes\",\"bytes\"]")) ≡ not_opened chain_order)
 unfolding opening
 chains = (refl, refl, refl, refl, refl, refl)
+
+-- what a document of version 2 computes by
+unfoldable pub opening_2 : ⊤
+unfolding opening data_type_v2_of compressor_of filters_of order_of separator_of_text positive_number positive_numbers required_v2 optional_v2 with_optional_fields_v2 array_v2_members
+opening_2 = tt
+
+-- a document line of version 2 with these chunk lengths, fields behind them and fill
+abbrev pub version_2_text : List ℕ → List ℕ → List ℕ → List ℕ
+version_2_text chunk_shape fields filler =
+    codes "{\"zarr_format\":2,\"shape\":[4],\"chunks\":" ++ (chunk_shape ++ (fields ++ (codes ",\"compressor\":null,\"fill_value\":" ++ (filler ++ codes ",\"order\":\"C\",\"filters\":null}"))))
+
+-- an array of version 2; one that lacks its data type, one with a chunk length 0, and a group, which are none; a float, which comes first
+version_2_refused : (open_builtin (version_2_text (codes "[2]") (codes ",\"dtype\":\"|u1\"") (codes "0")) ≡ not_opened unsupported_version)
+    × (open_builtin (version_2_text (codes "[2]") [] (codes "0")) ≡ not_opened invalid_metadata)
+    × (open_builtin (version_2_text (codes "[0]") (codes ",\"dtype\":\"|u1\"") (codes "0")) ≡ not_opened invalid_metadata)
+    × (open_builtin (codes "{\"zarr_format\":2}") ≡ not_opened invalid_metadata)
+    × (open_builtin (version_2_text (codes "[2]") (codes ",\"dtype\":\"|u1\"") (codes "0.5")) ≡ not_opened float_number)
+unfolding opening_2
+version_2_refused = (refl, refl, refl, refl, refl)

@@ -12,6 +12,7 @@ pub mod DecodeLaws
 pub mod SessionSteps
 pub mod OpenedLaws
 pub mod OpeningLaws
+pub mod FieldLaws
 pub mod PartWayLaws
 pub mod WriteLaws
 pub mod HasRun

@@ -2,15 +2,10 @@
 use Rattle.std.proofs.Common.{◌≡◌, ℕ, nat_le, ◌||◌, ◌==◌, zero, suc, ◌+◌, ◌^◌, ◌<◌, ◌≤◌, Bool, true, false, if◌then◌else◌, List, [], ◌∷◌, ◌++◌, length, take, get_or, Option, Some, None, is_some, Result, Ok, Err, IfOk, Fits, w64, refl, sym, ap, ◌∙◌, arith, add-one, eq-eqb, eqb-true}
 use Rattle.std.proofs.lemmas.Bool.{and_from, le-leb, leb-true}
 use Rattle.serde_json.specs.Data.{Data}
-use Rattle.serde_json.specs.Written.{has_float}
 use Rattle.zarr_model.specs.Prelude.{ByteOrder, DataType, bool_type, int_type, uint_type, raw_type, string_type, bytes_type, optional_type, of_bytes, kind_of, fixed_size, component_size, fill_element}
 use Rattle.zarrs_plugin.specs.Registry.{Names}
 use Rattle.zarrs_metadata_parts.specs.MetadataV3.{extension_seen, extensions_seen}
-use Rattle.zarrs_metadata_parts.specs.Reading.{FailsBy as FailsToRead, from_json, or_invalid}
 use Rattle.zarrs_metadata_parts.specs.declared.v3.metadata.MetadataV3.{MetadataV3}
-use Rattle.zarrs_metadata_values.specs.declared.error.MetadataError.{MetadataError}
-use Rattle.zarrs_metadata_values.specs.declared.error.MetadataError.TheVariants.{InvalidJson, FloatNumber, InvalidMetadata, OutOfMemory}
-use Rattle.zarrs_metadata.specs.ArrayMetadata.{ArrayFields, array_of}
 use Rattle.zarrs_plugin.specs.declared.error.PluginCreateError.{PluginCreateError}
 use Rattle.zarrs_data_type_elements.specs.FillValue.{fill_bytes}
 use Rattle.zarrs_data_type_elements.specs.declared.fill_value.FillValue.{FillValue}
@@ -30,8 +25,8 @@ use Rattle.zarr_array.proofs.FormLaws.{sized_is}
 use Rattle.zarr_basics.specs.Registries.{KnownNames}
 use Rattle.zarr_basics.specs.declared.registries.CodecKind.{CodecKind}
 use Rattle.zarr_array.specs.Document.{ArrayDocument}
-use Rattle.zarr_array.specs.Opening.{OpenRefusal, open_answer, ◌>>=◌, codec_by, codecs_by, document_of, document_if, document_read}
-use Rattle.zarr_array.specs.OpenError.{open_refusal_of, IsRefusedBy, unread_as}
+use Rattle.zarr_array.specs.Opening.{OpenRefusal, open_answer, ◌>>=◌, codec_by, codecs_by}
+use Rattle.zarr_array.specs.OpenError.{open_refusal_of, IsRefusedBy}
 use Rattle.zarr_array.specs.OpenArray.{documented, StopsBy, Opens, OpensAs}
 use Rattle.zarr_array.specs.declared.open.OpenArray.{OpenArray}
 use Rattle.zarr_array.specs.declared.open_error.OpenError.{OpenError}
@@ -49,43 +44,6 @@ opens_as (Err error) expected fails = refused (open_refusal_of error) expected f
     refused : (why : Option OpenRefusal) (expected : Result ArrayDocument OpenRefusal) → StopsBy why expected → IsRefusedBy why (open_answer expected)
     refused None expected fails = tt
     refused (Some why) expected fails = ap open_answer fails
-
--- what is left to do with a document that was read
-abbrev fields_read : ArrayFields → Result ArrayFields MetadataError
-fields_read f = Ok f
-
-same_fields : (f g : ArrayFields) → fields_read f ≡ fields_read g → f ≡ g
-same_fields f g e = cc
-
-value_read : (names : KnownNames) (float : Bool) (o : Option ArrayFields) (fields : ArrayFields) → (if float then Err FloatNumber else or_invalid o) ≡ Ok fields → document_if names float o ≡ document_of names fields
-value_read names true o fields is = absurd cc
-value_read names false None fields is = absurd cc
-value_read names false (Some f) fields is = ap (document_of names) (same_fields f fields is)
-
-pub read_fields : (names : KnownNames) (o : Option Data) (fields : ArrayFields) → from_json array_of o ≡ Ok fields → (document_read names o) ≡ document_of names fields
-read_fields names None fields is = absurd cc
-read_fields names (Some d) fields is = value_read names (has_float d) (array_of d) fields is
-
--- a document that was not read is refused by the same cause
-value_not_read : (names : KnownNames) (error : MetadataError) (float : Bool) (o : Option ArrayFields) → FailsToRead error (if float then Err FloatNumber else or_invalid o) →
-    StopsBy (open_refusal_of (unread_as error)) (document_if names float o)
-value_not_read names OutOfMemory float o fails = tt
-value_not_read names InvalidJson true o fails = absurd cc
-value_not_read names InvalidJson false None fails = absurd cc
-value_not_read names InvalidJson false (Some f) fails = absurd cc
-value_not_read names FloatNumber true o fails = refl
-value_not_read names FloatNumber false None fails = absurd cc
-value_not_read names FloatNumber false (Some f) fails = absurd cc
-value_not_read names InvalidMetadata true o fails = absurd cc
-value_not_read names InvalidMetadata false None fails = refl
-value_not_read names InvalidMetadata false (Some f) fails = absurd cc
-
-pub not_read : (names : KnownNames) (error : MetadataError) (o : Option Data) → FailsToRead error (from_json array_of o) → StopsBy (open_refusal_of (unread_as error)) (document_read names o)
-not_read names error (Some d) fails = value_not_read names error (has_float d) (array_of d) fails
-not_read names OutOfMemory None fails = tt
-not_read names InvalidJson None fails = refl
-not_read names FloatNumber None fails = absurd cc
-not_read names InvalidMetadata None fails = absurd cc
 
 -- one more codec of a list, and one that is refused
 abbrev codecs_are : List (Option ByteOrder) → Result (List (Option ByteOrder)) OpenRefusal

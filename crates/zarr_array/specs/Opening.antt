@@ -8,7 +8,8 @@ use Rattle.zarr_model.specs.Prelude.{DataType, kind_of, fixed_size, component_si
 use Rattle.zarrs_plugin.specs.Registry.{Names, find}
 use Rattle.zarrs_metadata_parts.specs.AdditionalField.{AdditionalField}
 use Rattle.zarrs_metadata_parts.specs.MetadataV3.{Extension}
-use Rattle.zarrs_metadata.specs.ArrayMetadata.{ArrayFields, array_of}
+use Rattle.zarrs_metadata.specs.ArrayMetadata.{ArrayFields}
+use Rattle.zarrs_metadata_nodes.specs.AnyArray.{AnyArray, array_3, array_2, any_array_of}
 use Rattle.zarrs_data_type.specs.FillMetadata.{fill_of}
 use Rattle.zarrs_plugin.specs.Making.{Unmade, unsupported, config, other}
 use Rattle.zarrs_data_type.specs.Making.{type_by}
@@ -166,17 +167,26 @@ document_of names fields = do
   order ← only_codec codecs
   served_document keys order type fields.shape grid filler
 
--- a value without floats that is an array document
-abbrev pub document_if : KnownNames → Bool → Option ArrayFields → Result ArrayDocument OpenRefusal
-document_if names float fields =
-    if float then Err float_number else (or_refused invalid_metadata fields >>= document_of names)
+-- an array document is of version 3, or of version 2, which is not opened
+abbrev pub expect_version_3 : AnyArray → Result ArrayFields OpenRefusal
+expect_version_3 (array_3 fields) = Ok fields
+expect_version_3 (array_2 fields) = Err unsupported_version
 
-abbrev pub document_in : KnownNames → Data → Result ArrayDocument OpenRefusal
-document_in names d = document_if names (has_float d) (array_of d)
+-- the fields of a value without floats that is a version 3 array document
+abbrev pub fields_if : Bool → Option AnyArray → Result ArrayFields OpenRefusal
+fields_if float document =
+    if float then Err float_number
+    else (or_refused invalid_metadata document >>= expect_version_3)
+
+abbrev pub fields_in : Data → Result ArrayFields OpenRefusal
+fields_in d = fields_if (has_float d) (any_array_of d)
 
 -- opening a text, from what it reads as
+abbrev pub fields_read : Option Data → Result ArrayFields OpenRefusal
+fields_read value = or_refused invalid_json value >>= fields_in
+
 abbrev pub document_read : KnownNames → Option Data → Result ArrayDocument OpenRefusal
-document_read names value = or_refused invalid_json value >>= document_in names
+document_read names value = fields_read value >>= document_of names
 
 abbrev pub open_document : KnownNames → List ℕ → OpenAnswer
 open_document names text = open_answer (document_read names (read_json text))

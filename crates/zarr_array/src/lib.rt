@@ -4,6 +4,7 @@
 mod calls;
 mod chunk;
 pub mod command;
+mod document;
 pub mod error;
 mod extensions;
 pub mod open;

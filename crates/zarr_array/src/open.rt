@@ -16,6 +16,7 @@ ghost use Rattle.zarr_basics.specs.Registries.{names_of};
 ghost use Rattle.zarr_array.specs.Chunk.{sized_kind, is_part, are_countable};
 ghost use Rattle.zarr_array.specs.Opening.{served_document, document_of, document_read, open_document};
 
+use crate::document::read_document;
 use crate::extensions::{
     codecs_by, component_size_of, data_type_by, expect_known_fields, fill_value_of, grid_by,
     keys_by, only_codec,
@@ -124,12 +125,12 @@ impl OpenArray {
     }
 
     // The array that a text describes.
-    #[tactic(auto, using(crate::proofs::OpeningLaws::read_fields, crate::proofs::OpeningLaws::not_read))]
+    #[tactic(auto, using(crate::proofs::OpeningLaws::fails_after))]
     fn from_text(alloc: Global, text: &str, registries: &Registries) -> Result<OpenArray, OpenError>
         ensures { Opens documented result (document_read (names_of registries.now)
             (read_json text.now)) }
     {
-        let metadata = ArrayMetadataV3::try_from_text(alloc, text)?;
+        let metadata = read_document(alloc, text)?;
         Self::from_metadata(alloc, &metadata, registries)
     }
 

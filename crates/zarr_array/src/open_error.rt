@@ -9,8 +9,6 @@ use zarrs_plugin::PluginCreateError;
 
 /// Why a document is not opened, in the order in which it is tested: the first that applies. Names and configurations are
 /// tested extension by extension: the data type, the chunk grid, the chunk key encoding, and each codec.
-///
-/// `UnsupportedVersion` has no cause yet: documents of version 2 are `InvalidMetadata`.
 #[derive(Clone, Copy, Debug, PartialEq, Eq, Error)]
 pub enum OpenError {
     /// The text is not JSON.
@@ -19,11 +17,11 @@ pub enum OpenError {
     /// The document holds a number that is no integer of 64 bits.
     #[error("the document holds a float")]
     FloatNumber,
-    /// The value is no version 3 array document.
-    #[error("the document is not a version 3 array document")]
+    /// The value is an array document of neither version.
+    #[error("the document is not an array document")]
     InvalidMetadata,
-    /// The document is of a version of Zarr that is not supported.
-    #[error("the document is of an unsupported version")]
+    /// The value is a version 2 array document.
+    #[error("the document is of version 2")]
     UnsupportedVersion,
     /// An additional field must be understood, or there are storage transformers.
     #[error("the document has a field that is not supported")]
