@@ -4,7 +4,7 @@ use Rattle.std.specs.List.{list_all}
 use Rattle.std.proofs.lemmas.List.{length-map, get_or-map, get_or_default, same_lists}
 use Rattle.zarr_model.specs.Prelude.{Region, count, sizes, contains, tuples, place, tuple_at, Element, same_element, Array, elements_in, written, Options, Content, Layout, box_content, chunk_content, Shown, Description, layout, ChunkHas, Rose, PutsKey, MayPutKey}
 use Rattle.zarr_model.proofs.RegionLaws.{length-tuples, get_or-tuples}
-use Rattle.zarrs_storage.specs.Store.{IsFault}
+use Rattle.zarrs_storage.specs.Store.{IsFault, IsPlain}
 use Rattle.zarrs_storage.specs.declared.store.StorageError.{StorageError}
 use Rattle.zarrs_storage.specs.declared.store.StorageError.TheVariants as Storage
 use Rattle.zarrs_data_type_elements.specs.FillValue.{fill_bytes}
@@ -115,10 +115,11 @@ module _ (array : OpenArray) (options : Options) (region box : Region) (chunk ke
 
   pub chunk-stops : (mid now : Shown) (error : StorageError) → ((other : List ℕ) → mid.content other ≡ before.content other) →
       MayPutKey mid.content now.content key (stored_value options (form_of array) value) →
-      (error ≡ Storage.OutOfMemory → (other : List ℕ) → now.content other ≡ mid.content other) → (IsFault error → Rose mid.faults now.faults) → before.faults ≤ mid.faults →
+      (error ≡ Storage.OutOfMemory → (other : List ℕ) → now.content other ≡ mid.content other) → (IsFault error → Rose mid.faults now.faults) → before.faults ≤ mid.faults → IsPlain error →
       FailsToChange description options change chunk before now (storage_kind error)
-  chunk-stops mid now Storage.OutOfMemory same puts memory rose later = λ other. memory refl other ∙ same other
-  chunk-stops mid now Storage.Failed same puts memory rose later = (
+  chunk-stops mid now (Storage.InvalidByteRange range) same puts memory rose later plain = absurd plain
+  chunk-stops mid now Storage.OutOfMemory same puts memory rose later plain = λ other. memory refl other ∙ same other
+  chunk-stops mid now Storage.Failed same puts memory rose later plain = (
     omega (arith, rose tt),
     record {
       here = λ plain filler has. ⊎_elim

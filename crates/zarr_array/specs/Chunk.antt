@@ -36,9 +36,10 @@ stored_value options form bytes = if options.store_empty_chunks
     || not (is_all_fill form.size form.fill bytes)
     then Some (in_file form.order form.component bytes) else None
 
--- an error of the store as one of a session
+-- an error of the store as one of a session, which reads no ranges
 abbrev pub storage_kind : StorageError → SessionErrorKind
 storage_kind Storage.Failed = Store
+storage_kind (Storage.InvalidByteRange error) = Store
 storage_kind Storage.OutOfMemory = OutOfMemory
 
 -- why a chunk with this content has no elements: its value does not decode, the store failed, or

@@ -7,7 +7,7 @@ ghost use Rattle.zarrs_codec_bytes.specs.Elements.{fixed_elements, is_all_fill, 
 ghost use Rattle.zarrs_data_type_elements.specs.FillValue.{fill_bytes};
 ghost use Rattle.zarrs_data_type_elements.specs.Pieces.{repeated, components_reversed};
 ghost use Rattle.zarr_array.specs.Options.{options_of};
-ghost use Rattle.zarrs_storage.specs.Store.{IsFault};
+ghost use Rattle.zarrs_storage.specs.Store.{IsFault, IsPlain};
 ghost use Rattle.zarr_array.specs.Chunk.{stored_value};
 
 use crate::open::OpenArray;
@@ -163,6 +163,7 @@ impl OpenArray {
         ensures same { (other : List ℕ) → (S.shown store.new).content other
             ≡ (S.shown store.old).content other }
         ensures asks { (S.shown store.new).asks ≡ counted (S.shown store.old).asks 1 }
+        ensures plain { IfErr result IsPlain }
         ensures cause { HasCause IsFault (S.shown store.old).faults (S.shown store.new).faults
             result }
     {
@@ -223,6 +224,7 @@ impl OpenArray {
             (other : List ℕ) → (S.shown store.new).content other
             ≡ (S.shown store.old).content other }
         ensures asks { (S.shown store.new).asks ≡ (S.shown store.old).asks }
+        ensures plain { IfErr result IsPlain }
         ensures cause { HasCause IsFault (S.shown store.old).faults (S.shown store.new).faults
             result }
     {

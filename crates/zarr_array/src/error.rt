@@ -55,7 +55,7 @@ impl From<StorageError> for SessionErrorKind {
 
     fn from(error: StorageError) -> SessionErrorKind {
         match error {
-            StorageError::Failed => SessionErrorKind::Store,
+            StorageError::Failed | StorageError::InvalidByteRange(_) => SessionErrorKind::Store,
             StorageError::OutOfMemory => SessionErrorKind::OutOfMemory,
         }
     }

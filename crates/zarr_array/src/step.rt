@@ -88,7 +88,7 @@ impl OpenArray {
                 chunks_done: 0,
                 kind: SessionErrorKind::Store,
             }),
-            Err(StorageError::OutOfMemory) => unreachable!(),
+            Err(StorageError::InvalidByteRange(_) | StorageError::OutOfMemory) => unreachable!(),
         }
     }
 

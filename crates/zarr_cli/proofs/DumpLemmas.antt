@@ -5,7 +5,7 @@ use Rattle.std.specs.Cmp.Lexicographic.{slice_cmp}
 use Rattle.std.specs.List.Sorted.{IsStrictlySortedBy}
 use Rattle.std.proofs.lemmas.List.{length-map}
 use Rattle.zarr_model.specs.Prelude.{Content, Shown, Rose, counted}
-use Rattle.zarrs_storage.specs.Store.{ListsKeys, IsFault}
+use Rattle.zarrs_storage.specs.Store.{ListsKeys, IsFault, IsPlain}
 use Rattle.zarrs_storage.specs.declared.store.StorageError.{StorageError}
 use Rattle.zarrs_storage.specs.declared.store.StorageError.TheVariants.{Failed}
 use Rattle.zarrs_storage.specs.declared.store.StorageError.TheVariants as Storage
@@ -70,9 +70,10 @@ pub none_dumped : (store : Shown) (text : List ℕ) → store.asks ≤ 2 ^ 64 - 
 none_dumped store text fits = record { text = ([], refl, sym (append-nil text)); same = refl; asks = (0, refl, counted_none store.asks fits) }
 
 -- faults of a dump
-pub status_fault : (error : StorageError) (before now : Shown) → (IsFault error → Rose before.faults now.faults) → IsDumpFault before now (storage_status error)
-status_fault Failed before now cause = cause tt
-status_fault Storage.OutOfMemory before now cause = tt
+pub status_fault : (error : StorageError) (before now : Shown) → IsPlain error → (IsFault error → Rose before.faults now.faults) → IsDumpFault before now (storage_status error)
+status_fault Failed before now plain cause = cause tt
+status_fault (Storage.InvalidByteRange range) before now plain cause = absurd plain
+status_fault Storage.OutOfMemory before now plain cause = tt
 
 fault_earlier : (before mid now : Shown) (status : Status) → before.faults ≤ mid.faults → IsDumpFault mid now status → IsDumpFault before now status
 fault_earlier before mid now Store later fault = omega (arith, later, fault)

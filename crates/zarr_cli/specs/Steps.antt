@@ -100,9 +100,10 @@ pub record Dumps (dump : Bool) (before now : Shown) (old_text new_text : List �
   pub same : now.content ≡ before.content
   pub asks : CountsDump dump 0 before now
 
--- the status of a call of the store that gave no answer
+-- the status of a call of the store that gave no answer, and was given no ranges
 abbrev pub storage_status : StorageError → Status
 storage_status Failed = Store
+storage_status (Storage.InvalidByteRange error) = Store
 storage_status Storage.OutOfMemory = OutOfMemory
 
 -- listing the keys with their values ended early

@@ -16,7 +16,7 @@ fn storage_status(error: StorageError) -> Status
     ensures { result ≡ storage_status error }
 {
     match error {
-        StorageError::Failed => Status::Store,
+        StorageError::Failed | StorageError::InvalidByteRange(_) => Status::Store,
         StorageError::OutOfMemory => Status::OutOfMemory,
     }
 }

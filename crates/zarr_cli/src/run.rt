@@ -2,7 +2,7 @@
 
 ghost use Rattle.std.specs.Prelude.{◌≡◌, ◌<◌, ◌≤◌, false, map, List, ℕ, IfOk, IfErr, OnOk};
 ghost use Rattle.zarr_model.specs.Prelude.{Rose, HasCause, IsHonest, with_keys, layout, AreRefused, IsUntouched};
-ghost use Rattle.zarrs_storage.specs.Store.{IsFault as IsStoreFault};
+ghost use Rattle.zarrs_storage.specs.Store.{IsFault as IsStoreFault, IsPlain};
 ghost use Rattle.zarr_array.specs.OpenArray.{described};
 ghost use Rattle.zarr_array.specs.Command.{command_of};
 ghost use Rattle.zarr_array.specs.Options.{options_of};
@@ -37,6 +37,7 @@ fn set_entries<S: Store>(
         (S.shown store.new).content key ≡ (S.shown store.old).content key }
     ensures asks { (S.shown store.new).asks ≡ (S.shown store.old).asks }
     ensures taken { (S.shown store.new).taken ≡ (S.shown store.old).taken }
+    ensures plain { IfErr result IsPlain }
     ensures cause { HasCause IsStoreFault (S.shown store.old).faults (S.shown store.new).faults
         result }
 {
@@ -170,6 +171,7 @@ pub(crate) fn run_input<S: Store>(
     match set_entries(alloc, &parsed.entries, store) {
         Ok(()) => text_of_all(alloc, settings, &parsed.array, &parsed.commands, store),
         Err(StorageError::Failed) => Err(Status::Store),
+        Err(StorageError::InvalidByteRange(_)) => unreachable!(),
         Err(StorageError::OutOfMemory) => Err(Status::OutOfMemory),
     }
 }

@@ -1,11 +1,12 @@
 //! A store one of whose calls fails.
 
 use std::alloc::Global;
+use zarrs_storage::byte_range::{ByteRange, OffsetBytes};
 use zarrs_storage::memory_store::MemoryStore;
 use zarrs_storage::store::{StorageError, Store};
 use zarrs_storage::store_key::StoreKey;
 
-/// A store in memory. Its calls `get`, `list`, `set` and `erase` are numbered from 0, and one fails.
+/// A store in memory. Its calls that read or change are numbered from 0, and one fails.
 #[derive(Drop)]
 pub struct FailingStore {
     pub store: MemoryStore,
@@ -29,6 +30,7 @@ impl FailingStore {
 }
 
 impl Store for FailingStore {
+    ghost use Rattle.std.specs.Prelude.{true};
     ghost use Rattle.zarrs_storage.specs.MemoryStore.{content_of};
     ghost use Rattle.zarrs_storage.specs.Calls.{count_of, count_of-fits};
 
@@ -39,6 +41,10 @@ impl Store for FailingStore {
       taken = count_of s.store.taken;
     } };
 
+    ghost gets_parts = { λ _. true };
+
+    ghost sets_parts = { λ _. true };
+
     fn get(&mut self, alloc: Global, key: &StoreKey) -> Result<Option<Vec<u8>>, StorageError> {
         self.asks = self.asks.saturating_add(1);
         let call = self.calls;
@@ -48,6 +54,33 @@ impl Store for FailingStore {
             return Err(StorageError::Failed);
         }
         self.store.get(alloc, key)
+    }
+
+    fn get_partial_many(
+        &mut self,
+        alloc: Global,
+        key: &StoreKey,
+        ranges: &[ByteRange],
+    ) -> Result<Option<Vec<Vec<u8>>>, StorageError> {
+        self.asks = self.asks.saturating_add(1);
+        let call = self.calls;
+        self.calls = call.saturating_add(1);
+        if call == self.failing {
+            self.faults = self.faults.saturating_add(1);
+            return Err(StorageError::Failed);
+        }
+        self.store.get_partial_many(alloc, key, ranges)
+    }
+
+    fn size_key(&mut self, key: &StoreKey) -> Result<Option<u64>, StorageError> {
+        self.asks = self.asks.saturating_add(1);
+        let call = self.calls;
+        self.calls = call.saturating_add(1);
+        if call == self.failing {
+            self.faults = self.faults.saturating_add(1);
+            return Err(StorageError::Failed);
+        }
+        self.store.size_key(key)
     }
 
     fn list(&mut self, alloc: Global) -> Result<Vec<StoreKey>, StorageError> {
@@ -71,6 +104,21 @@ impl Store for FailingStore {
         self.store.set(alloc, key, value)
     }
 
+    fn set_partial_many(
+        &mut self,
+        alloc: Global,
+        key: &StoreKey,
+        parts: &[OffsetBytes],
+    ) -> Result<(), StorageError> {
+        let call = self.calls;
+        self.calls = call.saturating_add(1);
+        if call == self.failing {
+            self.faults = self.faults.saturating_add(1);
+            return Err(StorageError::Failed);
+        }
+        self.store.set_partial_many(alloc, key, parts)
+    }
+
     fn erase(&mut self, key: &StoreKey) -> Result<(), StorageError> {
         let call = self.calls;
         self.calls = call.saturating_add(1);
@@ -79,6 +127,14 @@ impl Store for FailingStore {
             return Err(StorageError::Failed);
         }
         self.store.erase(key)
+    }
+
+    fn supports_get_partial(&self) -> bool {
+        self.store.supports_get_partial()
+    }
+
+    fn supports_set_partial(&self) -> bool {
+        self.store.supports_set_partial()
     }
 
     fn faults(&self) -> u64 {

@@ -18,7 +18,7 @@ returns-in_err-store_chunk-clause-failed g c =
     c.put_elements.ensures.as_long c.put_elements.ensures.copied
     (g.S.Store.shown c.fetch_chunk.new.store) (g.S.Store.shown c.store_chunk.new.store) c.in_err-store_chunk.field-0.0
     c.fetch_chunk.ensures.same c.in_err-store_chunk.ensures.failed
-    (λ e. c.store_chunk.ensures.memory (search (e, rules))) c.in_err-store_chunk.ensures.cause.failed c.fetch_chunk.ensures.cause.later)
+    (λ e. c.store_chunk.ensures.memory (search (e, rules))) c.in_err-store_chunk.ensures.cause.failed c.fetch_chunk.ensures.cause.later c.in_err-store_chunk.ensures.plain)
 
 pub returns-clause-changed : goal.returns-clause-changed
 returns-clause-changed g c =
