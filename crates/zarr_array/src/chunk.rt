@@ -1,6 +1,6 @@
 //! The chunks of an opened array: which ones a region meets, where each lies, and what is stored of it.
 
-ghost use Rattle.std.specs.Prelude.{◌≡◌, ◌<◌, ◌*◌, ◌^◌, ℕ, List, true, length, IfOk, IfSome, OnOk, OnErr, IsErrOf, Some, option_map};
+ghost use Rattle.std.specs.Prelude.{◌≡◌, ◌<◌, ◌*◌, ◌^◌, ℕ, List, true, length, IfOk, IfErr, IfSome, OnOk, OnErr, IsErrOf, Some, option_map};
 ghost use Rattle.zarr_model.specs.Prelude.{count, sizes, tuples, tuple_at, ends_within, IsChunk, chunks_meeting, box_content, layout, counted, HasCause, PutsKey, MayPutKey};
 ghost use Rattle.zarrs_array_subset.specs.ArraySubset.{region};
 ghost use Rattle.zarrs_codec_bytes.specs.Elements.{fixed_elements, is_all_fill, in_file};
