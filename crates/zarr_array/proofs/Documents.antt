@@ -4,7 +4,7 @@ use Rattle.std.specs.Bool.{⊤}
 use Rattle.serde_json.proofs.OnLiterals.{serde_json_on_literals}
 use Rattle.zarr_model.specs.Prelude.{default_keys, v2_keys, big, uint_type}
 use Rattle.zarrs_metadata_parts.specs.Reading.{object_or_empty, whole_numbers, is_number, is_text}
-use Rattle.zarrs_metadata_v2.specs.DataTypeV2.{data_type_v2_of}
+use Rattle.zarrs_metadata_parts.specs.DataTypeV2.{data_type_v2_of}
 use Rattle.zarrs_metadata_parts.specs.MetadataV3.{object_extension, extension_of, extensions_of}
 use Rattle.zarrs_metadata.specs.AdditionalFields.{is_array_key}
 use Rattle.zarrs_metadata.specs.ArrayMetadata.{extensions_or_none, is_array, named_fields, required_fields, optional_fields, with_optional_fields, array_members}
