@@ -22,7 +22,6 @@ use Rattle.zarrs_metadata_parts.specs.MetadataV3.{Extension}
 use Rattle.zarrs_metadata_parts.specs.Configuration.{members_or_none}
 use Rattle.zarr_array.specs.Chunk.{sized_kind, is_part, are_countable}
 use Rattle.zarr_array.proofs.FormLaws.{sized_is}
-use Rattle.zarr_basics.specs.Registries.{KnownNames}
 use Rattle.zarr_basics.specs.declared.registries.CodecKind.{CodecKind}
 use Rattle.zarr_array.specs.Document.{ArrayDocument}
 use Rattle.zarr_array.specs.Opening.{OpenRefusal, open_answer, ◌>>=◌, codec_by, codecs_by}
