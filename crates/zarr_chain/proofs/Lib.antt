@@ -1,0 +1,3 @@
+pub mod ListSteps
+pub mod LevelLaws
+pub mod ChainLaws
