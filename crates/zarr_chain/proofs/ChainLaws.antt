@@ -1,5 +1,5 @@
 -- What a chain gives, from what its codecs give.
-use Rattle.std.proofs.Common.{◌≡◌, ℕ, List, Option, Some, None, IsSome, Result, Ok, Err, IfOk, IfErr, MatchResult, refl, sym, ap, ◌∙◌, subst, ◌⊎◌, ⊎_elim, inl, inr}
+use Rattle.std.proofs.Common.{◌≡◌, ℕ, List, Option, Some, None, IsSome, Result, Ok, Err, IfOk, IfErr, IsErrAnd, MatchResult, refl, sym, ap, ◌∙◌, subst, ◌⊎◌, ⊎_elim, inl, inr}
 use Rattle.zarr_model.specs.Element.{Element, kind_of}
 use Rattle.zarr_model.specs.Region.{count_of}
 use Rattle.zarr_model.specs.ArrayBytes.{ArrayBytes}
@@ -23,6 +23,15 @@ ok_of P R Q (Err e) weaker q = tt
 pub err_of : {T E : Type 0} (P : T → Type 0) (Q R : E → Type 0) (result : Result T E) → ((e : E) → Q e → R e) → MatchResult result P Q → IfErr result R
 err_of P Q R (Ok v) weaker p = tt
 err_of P Q R (Err e) weaker q = weaker e q
+
+-- the error that a call ends by
+pub err_is : {T E : Type 0} (result : Result T E) (e : E) → IsErrAnd result (λ y. y ≡ e) → result ≡ Err e
+err_is (Ok v) e is = absurd is
+err_is (Err y) e is = ap Err is
+
+pub err_memory : {T : Type 0} (P : T → Type 0) (result : Result T CodecError) (e : CodecError) → result ≡ Err e → e ≡ codec.OutOfMemory →
+    MatchResult result P (λ e. e ≡ codec.OutOfMemory)
+err_memory P result e is memory = subst (λ (x : Result _ CodecError). MatchResult x P (λ e. e ≡ codec.OutOfMemory)) (sym is) memory
 
 -- what is there
 pub some_of : {X : Type 0} (o : Option X) → IsSome o → (x : X) × (o ≡ Some x)

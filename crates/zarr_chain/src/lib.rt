@@ -7,8 +7,10 @@ mod chain;
 mod decode;
 mod encode;
 mod level;
+mod regions;
 
 pub use chain::CodecChain;
 pub use decode::{decode_through, decode_up};
 pub use encode::{encode_down, encode_through};
 pub use level::CodecLevel;
+pub use regions::last_or;
