@@ -1,0 +1,79 @@
+-- What a chain gives, from what its codecs give.
+use Rattle.std.proofs.Common.{◌≡◌, ℕ, List, Option, Some, None, IsSome, Result, Ok, Err, IfOk, IfErr, IsErrAnd, MatchResult, refl, sym, ap, ◌∙◌, subst, ◌⊎◌, ⊎_elim, inl, inr}
+use Rattle.zarr_model.specs.Element.{Element, kind_of}
+use Rattle.zarr_model.specs.Region.{count_of}
+use Rattle.zarr_model.specs.ArrayBytes.{ArrayBytes}
+use Rattle.zarr_model.specs.Codec.{Level, ArrayCodec, Options, decode_bytes}
+use Rattle.zarrs_codec_array_bytes.specs.Refusals.{Told, fine, told_by, then_answer, validity}
+use Rattle.zarrs_codec_error.specs.declared.error.CodecError.{CodecError}
+use Rattle.zarrs_codec_error.specs.declared.error.CodecError.TheVariants as codec
+use Rattle.zarrs_codec_traits.specs.Errors.{IsDecodeError}
+use Rattle.zarrs_codec_traits.specs.Words.{list_at, Gives}
+use Rattle.zarr_chain.specs.declared.chain.CodecChain.{CodecChain}
+use Rattle.zarr_chain.specs.Levels.{above, Serving, AreLinked, elements_above}
+use Rattle.zarr_chain.specs.Values.{byte_codecs, bytes_says, said_at}
+use Rattle.zarr_chain.specs.Chain.{Listing, Opening, decoded, chain_says}
+use Rattle.zarr_chain.proofs.LevelLaws.{valid_some, says_some, chain-value, chain-none, chain-back}
+
+-- what an answer or an error says, weakened
+pub ok_of : {T E : Type 0} (P R : T → Type 0) (Q : E → Type 0) (result : Result T E) → ((v : T) → P v → R v) → MatchResult result P Q → IfOk result R
+ok_of P R Q (Ok v) weaker p = weaker v p
+ok_of P R Q (Err e) weaker q = tt
+
+pub err_of : {T E : Type 0} (P : T → Type 0) (Q R : E → Type 0) (result : Result T E) → ((e : E) → Q e → R e) → MatchResult result P Q → IfErr result R
+err_of P Q R (Ok v) weaker p = tt
+err_of P Q R (Err e) weaker q = weaker e q
+
+-- the error that a call ends by
+pub err_is : {T E : Type 0} (result : Result T E) (e : E) → IsErrAnd result (λ y. y ≡ e) → result ≡ Err e
+err_is (Ok v) e is = absurd is
+err_is (Err y) e is = ap Err is
+
+pub err_memory : {T : Type 0} (P : T → Type 0) (result : Result T CodecError) (e : CodecError) → result ≡ Err e → e ≡ codec.OutOfMemory →
+    MatchResult result P (λ e. e ≡ codec.OutOfMemory)
+err_memory P result e is memory = subst (λ (x : Result _ CodecError). MatchResult x P (λ e. e ≡ codec.OutOfMemory)) (sym is) memory
+
+-- what is there
+pub some_of : {X : Type 0} (o : Option X) → IsSome o → (x : X) × (o ≡ Some x)
+some_of None there = cc
+some_of (Some x) there = (x, refl)
+
+-- elements that are taken are refused for want of memory alone
+pub memory_taken : (level : Level) (raw : ArrayBytes) (beyond : Told) (e : CodecError) → IsSome (list_at level raw) → beyond ≡ fine →
+    (e ≡ codec.OutOfMemory) ⊎ (told_by e ≡ then_answer (validity (kind_of level.data_type) (count_of level.shape) raw) beyond) → e ≡ codec.OutOfMemory
+memory_taken level raw beyond e there taken answer =
+    ⊎_elim (λ (memory : e ≡ codec.OutOfMemory). memory)
+    (λ (told : told_by e ≡ then_answer (validity (kind_of level.data_type) (count_of level.shape) raw) beyond).
+    absurd (says_some e (told ∙ (ap (λ (t : Told). then_answer t beyond) (valid_some level raw there) ∙ taken)))) answer
+
+module _ {A B C : Type 0} (array : A → ArrayCodec) (unserved : Serving A) (to_list : Listing B)
+    (list_says : B → Options → Level → List ℕ → CodecError → Type 0) (opens : Opening C) (says : C → Options → List ℕ → CodecError → Type 0) (chain : CodecChain A B C) (under : Options) where
+  -- a value that the array-to-bytes codec gives nothing for
+  pub below_fails : (value bytes : List ℕ) (e : CodecError) → AreLinked array unserved chain.levels.items (above chain.bottom) →
+      decode_bytes (byte_codecs opens under chain.codecs.items) value ≡ Some bytes →
+      IsDecodeError (to_list chain.bottom.codec under (above chain.bottom) bytes) (list_says chain.bottom.codec under (above chain.bottom) bytes) e →
+      IsDecodeError (decoded array to_list opens chain under value) (chain_says list_says opens says chain under value) e
+  below_fails value bytes e links first cause =
+      let bottom = above chain.bottom in
+      ⊎_elim (λ (memory : e ≡ codec.OutOfMemory). inl memory)
+      (λ (nothing : (to_list chain.bottom.codec under bottom bytes ≡ None) × list_says chain.bottom.codec under bottom bytes e).
+      inr (
+        chain-none array unserved bottom chain.levels.items (to_list chain.bottom.codec under) (byte_codecs opens under chain.codecs.items) value bytes links first nothing.0,
+        subst (λ (o : Option (List ℕ)). said_at o (bytes_says opens says under chain.codecs.items value) (list_says chain.bottom.codec under bottom) e) (sym first) nothing.1,
+      )) cause
+
+  -- and one that it gives a list for
+  pub list_above : (value bytes : List ℕ) (list : List Element) (given : Option (List Element)) → AreLinked array unserved chain.levels.items (above chain.bottom) →
+      decode_bytes (byte_codecs opens under chain.codecs.items) value ≡ Some bytes → to_list chain.bottom.codec under (above chain.bottom) bytes ≡ Some list →
+      Gives given (elements_above array chain.levels.items (Some list)) → Gives given (decoded array to_list opens chain under value)
+  list_above value bytes list given links first next gives = record {
+    same = gives.same ∙ sym (chain-value array unserved (above chain.bottom) chain.levels.items (to_list chain.bottom.codec under) (byte_codecs opens under chain.codecs.items) value bytes list links first next);
+    there = gives.there;
+  }
+
+  -- what was encoded
+  pub list_back : (value bytes : List ℕ) (below : Option (List Element)) (list : List Element) → AreLinked array unserved chain.levels.items (above chain.bottom) →
+      decode_bytes (byte_codecs opens under chain.codecs.items) value ≡ Some bytes → to_list chain.bottom.codec under (above chain.bottom) bytes ≡ below →
+      elements_above array chain.levels.items below ≡ Some list → decoded array to_list opens chain under value ≡ Some list
+  list_back value bytes below list links first next up =
+      chain-back array unserved (above chain.bottom) chain.levels.items (to_list chain.bottom.codec under) (byte_codecs opens under chain.codecs.items) value bytes below list links first next up

@@ -1,0 +1,176 @@
+-- What levels give over what lies below them.
+use Rattle.std.proofs.Common.{◌≡◌, ℕ, zero, suc, List, [], ◌∷◌, drop, take, ◌++◌, Option, Some, None, IsSome, option_and_then, refl, sym, ap, ◌∙◌, ◌*◌, ◌⊎◌, ⊎_elim, is_some, subst}
+use Rattle.zarrs_data_type_elements.specs.FillValue.{fill_bytes}
+use Rattle.zarr_model.specs.Element.{Element}
+use Rattle.zarr_model.specs.Codec.{Level, ArrayCodec, decode_bytes, decode_levels, decode_chain}
+use Rattle.zarr_model.specs.ArrayBytes.{ArrayBytes}
+use Rattle.zarrs_codec_traits.specs.Errors.{unserved_at}
+use Rattle.zarrs_codec_traits.specs.Words.{list_at, Gives, IsFit}
+use Rattle.zarr_model.specs.Element.{kind_of, fixed_size}
+use Rattle.zarr_model.specs.Region.{count_of}
+use Rattle.zarr_model.specs.Command.{bytes_refusal}
+use Rattle.zarr_model.proofs.BytesLaws.{refusal-meaning}
+use Rattle.zarrs_codec_bytes.specs.Picking.{size_in}
+use Rattle.zarrs_codec_array_bytes.specs.Levels.{inner_length}
+use Rattle.zarrs_codec_array_bytes.specs.Refusals.{fine, told_by, sized_answer, validity}
+use Rattle.zarrs_codec_error.specs.declared.error.CodecError.{CodecError}
+use Rattle.zarrs_codec_error.specs.declared.error.CodecError.TheVariants as codec
+use Rattle.zarr_chain.specs.declared.level.CodecLevel.{CodecLevel}
+use Rattle.zarr_chain.specs.Levels.{above, top, Serving, AreFit, AreLinked, array_codecs, elements_above}
+
+-- an error says something
+pub says_some : (e : CodecError) → told_by e ≡ fine → ⊥
+says_some (codec.IncompatibleDimensionalityError x) same = cc
+says_some (codec.InvalidByteRangeError x) same = cc
+says_some (codec.IncompatibleIndexer x) same = cc
+says_some (codec.UnexpectedChunkDecodedSize x) same = cc
+says_some codec.InvalidChecksum same = cc
+says_some (codec.StorageError x) same = cc
+says_some (codec.UnsupportedDataTypeCodec x) same = cc
+says_some codec.EndiannessMissing same = cc
+says_some codec.InvalidVariableSizedArrayOffsets same = cc
+says_some codec.InvalidMask same = cc
+says_some (codec.ExpectedFixedLengthBytes x) same = cc
+says_some (codec.ExpectedVariableLengthBytes x) same = cc
+says_some (codec.ExpectedOptionalBytes x) same = cc
+says_some (codec.InvalidNumberOfElements x) same = cc
+says_some (codec.SubsetOutOfBounds x) same = cc
+says_some (codec.RawBytesOffsetsCreate x) same = cc
+says_some (codec.RawBytesOffsetsOutOfBounds x) same = cc
+says_some (codec.DataTypeFillValueError x) same = cc
+says_some (codec.ArraySubsetError x) same = cc
+says_some codec.OutOfMemory same = cc
+
+-- array bytes that mean a list are valid
+pub valid_some : (level : Level) (raw : ArrayBytes) → IsSome (list_at level raw) → validity (kind_of level.data_type) (count_of level.shape) raw ≡ fine
+valid_some level raw there =
+    let kind = kind_of level.data_type in
+    let valid : bytes_refusal kind (count_of level.shape) raw ≡ None = (refusal-meaning kind (count_of level.shape) raw).1 there in
+    ap (sized_answer (inner_length raw) (count_of level.shape * size_in (fixed_size kind))) valid
+
+-- so they are refused for want of memory alone
+pub memory_some : (level : Level) (raw : ArrayBytes) (e : CodecError) → IsSome (list_at level raw) →
+    (e ≡ codec.OutOfMemory) ⊎ (told_by e ≡ validity (kind_of level.data_type) (count_of level.shape) raw) → e ≡ codec.OutOfMemory
+memory_some level raw e there answer =
+    ⊎_elim (λ (memory : e ≡ codec.OutOfMemory). memory)
+    (λ (told : told_by e ≡ validity (kind_of level.data_type) (count_of level.shape) raw). absurd (says_some e (told ∙ valid_some level raw there))) answer
+
+pub memory_alone : (level : Level) (raw : ArrayBytes) (list : List Element) (e : CodecError) → list_at level raw ≡ Some list →
+    (e ≡ codec.OutOfMemory) ⊎ (told_by e ≡ validity (kind_of level.data_type) (count_of level.shape) raw) → e ≡ codec.OutOfMemory
+memory_alone level raw list e means answer = memory_some level raw e (ap is_some means) answer
+
+-- each of the levels from one on
+pub fit-drop : {A : Type 0} (n : ℕ) (steps rest : List (CodecLevel A)) (step : CodecLevel A) → AreFit steps → drop n steps ≡ step ∷ rest → IsFit (above step).shape (above step).data_type
+fit-drop {A} zero steps rest step fit here = (subst (λ (l : List (CodecLevel A)). AreFit l) here fit).0
+fit-drop (suc n) [] rest step fit here = cc
+fit-drop (suc n) (first ∷ steps) rest step fit here = fit-drop n steps rest step fit.1 here
+
+module _ {A : Type 0} (meaning : A → ArrayCodec) (unserved : Serving A) (bottom : Level) where
+  pub linked-drop : (n : ℕ) (steps : List (CodecLevel A)) → AreLinked meaning unserved steps bottom → AreLinked meaning unserved (drop n steps) bottom
+  linked-drop zero steps links = links
+  linked-drop (suc n) [] links = links
+  linked-drop (suc n) (first ∷ steps) links = linked-drop n steps links.1
+
+  pub nothing-above : (steps : List (CodecLevel A)) → elements_above meaning steps None ≡ None
+  nothing-above [] = refl
+  nothing-above (step ∷ steps) = ap (option_and_then ((meaning step.codec).decode_list (above step))) (nothing-above steps)
+
+  -- where the levels from one on give nothing, all give nothing
+  pub nothing-from : (n : ℕ) (steps : List (CodecLevel A)) (below : Option (List Element)) → elements_above meaning (drop n steps) below ≡ None → elements_above meaning steps below ≡ None
+  nothing-from zero steps below none = none
+  nothing-from (suc n) [] below none = none
+  nothing-from (suc n) (step ∷ steps) below none = ap (option_and_then ((meaning step.codec).decode_list (above step))) (nothing-from n steps below none)
+
+  -- what stands at a level of the walk up
+  pub some-list : (o wanted : Option (List Element)) → Gives o wanted → (list : List Element) × (o ≡ Some list) × (wanted ≡ Some list)
+  some-list None wanted given = let none = given.there in cc
+  some-list (Some list) wanted given = (list, refl, sym given.same)
+
+  -- one level more
+  pub level-up : (steps rest : List (CodecLevel A)) (step : CodecLevel A) (below : Option (List Element)) (list : List Element) (o : Option (List Element)) → steps ≡ step ∷ rest →
+      elements_above meaning rest below ≡ Some list → o ≡ (meaning step.codec).decode_list (above step) list → o ≡ elements_above meaning steps below
+  level-up steps rest step below list o here done next =
+      next ∙ (sym (ap (option_and_then ((meaning step.codec).decode_list (above step))) done) ∙ ap (λ (l : List (CodecLevel A)). elements_above meaning l below) (sym here))
+
+  -- the walk over levels is the model's
+  pub levels-decode : (steps : List (CodecLevel A)) (to_elements : Level → List ℕ → Option (List Element)) (value : List ℕ) → AreLinked meaning unserved steps bottom →
+      elements_above meaning steps (to_elements bottom value) ≡ decode_levels (array_codecs meaning steps) to_elements (top steps bottom) value
+  levels-decode [] to_elements value links = refl
+  levels-decode (step ∷ steps) to_elements value links = ap (option_and_then ((meaning step.codec).decode_list (above step)))
+      (levels-decode steps to_elements value links.1 ∙ ap (λ (l : Level). decode_levels (array_codecs meaning steps) to_elements l value) (sym links.0.below))
+
+  pub nothing-decodes : (steps : List (CodecLevel A)) (to_elements : Level → List ℕ → Option (List Element)) (value : List ℕ) → AreLinked meaning unserved steps bottom → to_elements bottom value ≡ None →
+      decode_levels (array_codecs meaning steps) to_elements (top steps bottom) value ≡ None
+  nothing-decodes steps to_elements value links none = sym (levels-decode steps to_elements value links) ∙ (ap (elements_above meaning steps) none ∙ nothing-above steps)
+
+  -- the array bytes of one level more
+  pub step-up : (n left : ℕ) (steps : List (CodecLevel A)) (step : CodecLevel A) (list : List Element) (before now : ArrayBytes) → drop n steps ≡ step ∷ drop left steps → AreLinked meaning unserved steps bottom →
+      Gives (list_at (top (drop left steps) bottom) before) (elements_above meaning (drop left steps) (Some list)) →
+      (unserved_at (unserved step.codec) (above step) (fill_bytes step.fill_value) ≡ None → (mid : List Element) → list_at ((meaning step.codec).level_below (above step)) before ≡ Some mid → Gives (list_at (above step) now) ((meaning step.codec).decode_list (above step) mid)) →
+      Gives (list_at (top (drop n steps) bottom) now) (elements_above meaning (drop n steps) (Some list))
+  step-up n left steps step list before now here links given decoded =
+      let link = (subst (λ (l : List (CodecLevel A)). AreLinked meaning unserved l bottom) here (linked-drop n steps links)).0 in
+      let (mid, is, done) = some-list (list_at (top (drop left steps) bottom) before) (elements_above meaning (drop left steps) (Some list)) given in
+      let made = decoded link.served mid (ap (λ (l : Level). list_at l before) link.below ∙ is) in
+      subst (λ (l : List (CodecLevel A)). Gives (list_at (top l bottom) now) (elements_above meaning l (Some list))) (sym here)
+      (record { same = made.same ∙ sym (ap (option_and_then ((meaning step.codec).decode_list (above step))) done); there = made.there })
+
+  -- a level that wants memory
+  pub step-memory : (n left : ℕ) (steps : List (CodecLevel A)) (step : CodecLevel A) (list : List Element) (before : ArrayBytes) (memory : Type 0) → drop n steps ≡ step ∷ drop left steps → AreLinked meaning unserved steps bottom →
+      Gives (list_at (top (drop left steps) bottom) before) (elements_above meaning (drop left steps) (Some list)) →
+      (unserved_at (unserved step.codec) (above step) (fill_bytes step.fill_value) ≡ None → (mid : List Element) → list_at ((meaning step.codec).level_below (above step)) before ≡ Some mid → memory) → memory
+  step-memory n left steps step list before memory here links given failed =
+      let link = (subst (λ (l : List (CodecLevel A)). AreLinked meaning unserved l bottom) here (linked-drop n steps links)).0 in
+      let (mid, is, done) = some-list (list_at (top (drop left steps) bottom) before) (elements_above meaning (drop left steps) (Some list)) given in
+      failed link.served mid (ap (λ (l : Level). list_at l before) link.below ∙ is)
+
+  -- a value that the bytes-to-bytes codecs and the array-to-bytes codec decode
+  pub chain-value : (steps : List (CodecLevel A)) (to_elements : Level → List ℕ → Option (List Element)) (codecs : List (List ℕ → Option (List ℕ))) (value bytes : List ℕ) (list : List Element) → AreLinked meaning unserved steps bottom →
+      decode_bytes codecs value ≡ Some bytes → to_elements bottom bytes ≡ Some list →
+      decode_chain (record { array_codecs = array_codecs meaning steps; to_elements = to_elements; byte_codecs = codecs }) (top steps bottom) value ≡ elements_above meaning steps (Some list)
+  chain-value steps to_elements codecs value bytes list links first next =
+      ap (option_and_then (decode_levels (array_codecs meaning steps) to_elements (top steps bottom))) first ∙ (sym (levels-decode steps to_elements bytes links) ∙ ap (elements_above meaning steps) next)
+
+  pub chain-none : (steps : List (CodecLevel A)) (to_elements : Level → List ℕ → Option (List Element)) (codecs : List (List ℕ → Option (List ℕ))) (value bytes : List ℕ) → AreLinked meaning unserved steps bottom →
+      decode_bytes codecs value ≡ Some bytes → to_elements bottom bytes ≡ None →
+      decode_chain (record { array_codecs = array_codecs meaning steps; to_elements = to_elements; byte_codecs = codecs }) (top steps bottom) value ≡ None
+  chain-none steps to_elements codecs value bytes links first next =
+      ap (option_and_then (decode_levels (array_codecs meaning steps) to_elements (top steps bottom))) first ∙ nothing-decodes steps to_elements bytes links next
+
+  -- elements above some levels, and then above one more
+  above-more : (steps : List (CodecLevel A)) (step : CodecLevel A) (below : Option (List Element)) →
+      elements_above meaning (steps ++ (step ∷ [])) below ≡ elements_above meaning steps (option_and_then ((meaning step.codec).decode_list (above step)) below)
+  above-more [] step below = refl
+  above-more (first ∷ steps) step below = ap (option_and_then ((meaning first.codec).decode_list (above first))) (above-more steps step below)
+
+  pub some-below : (steps : List (CodecLevel A)) (below : Option (List Element)) (list : List Element) → elements_above meaning steps below ≡ Some list → IsSome below
+  some-below steps None list e = let none : Some list ≡ None = sym e ∙ nothing-above steps in cc
+  some-below steps (Some below) list e = refl
+
+  -- one level more on the way down
+  pub step-down : (n next : ℕ) (steps : List (CodecLevel A)) (step : CodecLevel A) (list : List Element) (before now : ArrayBytes) → drop n steps ≡ step ∷ drop next steps → take next steps ≡ take n steps ++ (step ∷ []) →
+      AreLinked meaning unserved steps bottom → elements_above meaning (take n steps) (list_at (top (drop n steps) bottom) before) ≡ Some list →
+      (unserved_at (unserved step.codec) (above step) (fill_bytes step.fill_value) ≡ None → IsSome (list_at (above step) before) →
+      option_and_then ((meaning step.codec).decode_list (above step)) (list_at ((meaning step.codec).level_below (above step)) now) ≡ list_at (above step) before) →
+      elements_above meaning (take next steps) (list_at (top (drop next steps) bottom) now) ≡ Some list
+  step-down n next steps step list before now here more links given encoded =
+      let link = (subst (λ (l : List (CodecLevel A)). AreLinked meaning unserved l bottom) here (linked-drop n steps links)).0 in
+      let first : top (drop n steps) bottom ≡ above step = ap (λ (l : List (CodecLevel A)). top l bottom) here in
+      let start : elements_above meaning (take n steps) (list_at (above step) before) ≡ Some list = ap (λ (l : Level). elements_above meaning (take n steps) (list_at l before)) (sym first) ∙ given in
+      let there = some-below (take n steps) (list_at (above step) before) list start in
+      ap (λ (l : List (CodecLevel A)). elements_above meaning l (list_at (top (drop next steps) bottom) now)) more
+      ∙ (above-more (take n steps) step (list_at (top (drop next steps) bottom) now)
+      ∙ (ap (λ (l : Level). elements_above meaning (take n steps) (option_and_then ((meaning step.codec).decode_list (above step)) (list_at l now))) (sym link.below)
+      ∙ (ap (elements_above meaning (take n steps)) (encoded link.served there) ∙ start)))
+
+  pub down-there : (n : ℕ) (steps : List (CodecLevel A)) (step : CodecLevel A) (rest : List (CodecLevel A)) (list : List Element) (before : ArrayBytes) → drop n steps ≡ step ∷ rest → AreLinked meaning unserved steps bottom →
+      elements_above meaning (take n steps) (list_at (top (drop n steps) bottom) before) ≡ Some list → (unserved_at (unserved step.codec) (above step) (fill_bytes step.fill_value) ≡ None) × IsSome (list_at (above step) before)
+  down-there n steps step rest list before here links given =
+      let link = (subst (λ (l : List (CodecLevel A)). AreLinked meaning unserved l bottom) here (linked-drop n steps links)).0 in
+      (link.served, some-below (take n steps) (list_at (above step) before) list (ap (λ (l : List (CodecLevel A)). elements_above meaning (take n steps) (list_at (top l bottom) before)) (sym here) ∙ given))
+
+  pub chain-back : (steps : List (CodecLevel A)) (to_elements : Level → List ℕ → Option (List Element)) (codecs : List (List ℕ → Option (List ℕ))) (value bytes : List ℕ) (o : Option (List Element)) (list : List Element) → AreLinked meaning unserved steps bottom →
+      decode_bytes codecs value ≡ Some bytes → to_elements bottom bytes ≡ o → elements_above meaning steps o ≡ Some list →
+      decode_chain (record { array_codecs = array_codecs meaning steps; to_elements = to_elements; byte_codecs = codecs }) (top steps bottom) value ≡ Some list
+  chain-back steps to_elements codecs value bytes o list links first next above_is =
+      ap (option_and_then (decode_levels (array_codecs meaning steps) to_elements (top steps bottom))) first ∙ (sym (levels-decode steps to_elements bytes links) ∙ (ap (elements_above meaning steps) next ∙ above_is))

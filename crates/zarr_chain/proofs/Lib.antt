@@ -1,0 +1,4 @@
+pub mod ListSteps
+pub mod LevelLaws
+pub mod ChainLaws
+pub mod RegionLaws

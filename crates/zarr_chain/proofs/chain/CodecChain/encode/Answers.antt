@@ -1,0 +1,46 @@
+use Rattle.std.proofs.Common.{rules}
+use Rattle.zarrs_data_type_elements.specs.FillValue.{fill_bytes}
+use Rattle.zarrs_codec_array_bytes.specs.Raw.{raw_of}
+use Rattle.zarrs_codec_traits.specs.Words.{list_at}
+use Rattle.zarr_chain.specs.Levels.{above}
+use Rattle.zarr_chain.specs.Chain.{first_level}
+use Rattle.zarr_chain.proofs.LevelLaws.{some-below}
+use Rattle.zarr_chain.proofs.ChainLaws.{some_of, memory_taken, list_back, ok_of}
+use Rattle.zarr_chain.proofs.chain.CodecChain.encode.Goals as goal
+
+pub returns-in_err-below-clause-memory : goal.returns-in_err-below-clause-memory
+returns-in_err-below-clause-memory g c = λ there short takes.
+    let self = c.args.self.now in
+    let (xs, means) = some_of (list_at (first_level self) (raw_of c.args.bytes)) there in
+    let down = rw c.deref.ensures.value at c.in_err-below.ensures.value in
+    let memory = down (above self.bottom) xs c.requires.linked means in
+    search rules
+
+pub returns-in_err-value-clause-memory : goal.returns-in_err-value-clause-memory
+returns-in_err-value-clause-memory g c = λ there short takes.
+    let self = c.args.self.now in
+    let bottom = above self.bottom in
+    let list = g.B.ArrayToBytesCodecTraits in
+    let (xs, means) = some_of (list_at (first_level self) (raw_of c.args.bytes)) there in
+    let down = rw c.deref.ensures.value at c.in_ok-below.ensures.value in
+    let got = down bottom xs c.requires.linked means in
+    let raw = raw_of c.in_ok-below.below in
+    let here = some-below g.A.ArrayToArrayCodecTraits.meaning g.A.ArrayCodecTraits.unserved bottom self.levels.items (list_at bottom raw) xs got in
+    let taken = g.met.B.ArrayToBytesCodecTraits.taken self.bottom.codec bottom (fill_bytes self.bottom.fill_value) raw c.requires.served takes here (c.in_ok-below.ensures.short short) in
+    let refused = rw c.deref-2.ensures.value at c.in_err-value.ensures.exact in
+    let memory = memory_taken bottom raw (list.beyond self.bottom.codec bottom raw) c.in_err-value.field-0.0 here taken (refused c.requires.served) in
+    search rules
+
+pub returns-clause-value : goal.returns-clause-value
+returns-clause-value g c = λ xs means.
+    let self = c.args.self.now in
+    let bottom = above self.bottom in
+    let list = g.B.ArrayToBytesCodecTraits in
+    let bytes = g.C.BytesToBytesCodecTraits in
+    let down = rw c.deref.ensures.value at c.in_ok-below.ensures.value in
+    let got = down bottom xs c.requires.linked means in
+    let each = (rw c.deref-2.ensures.value at c.in_ok-value.ensures.value) c.requires.served in
+    let through = rw c.deref-3.ensures.value at c.encode_through.ensures in
+    ok_of _ _ _ c.encode_through.result (λ v back. λ under. list_back g.A.ArrayToArrayCodecTraits.meaning g.A.ArrayCodecTraits.unserved list.meaning list.says bytes.meaning bytes.says self under
+    v.items c.in_ok-value.value.items (list_at bottom (raw_of c.in_ok-below.below)) xs c.requires.linked (back under) (each under) got)
+    through

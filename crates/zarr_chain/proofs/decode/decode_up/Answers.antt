@@ -1,0 +1,47 @@
+use Rattle.std.proofs.Common.{◌≡◌, ◌-◌, ◌∷◌, drop, sym, subst, arith, rules}
+use Rattle.zarrs_codec_array_bytes.specs.Raw.{raw_of}
+use Rattle.zarrs_codec_error.specs.declared.error.CodecError.TheVariants.{OutOfMemory}
+use Rattle.zarrs_data_type_names.specs.DataType.{type_of}
+use Rattle.zarrs_codec_traits.specs.Views.{lengths}
+use Rattle.zarrs_codec_traits.specs.Words.{IsFit}
+use Rattle.zarr_chain.specs.Levels.{above}
+use Rattle.zarr_chain.proofs.ListSteps.{at-back}
+use Rattle.zarr_chain.proofs.LevelLaws.{fit-drop, memory_alone, step-up, step-memory}
+use Rattle.zarr_chain.proofs.decode.decode_up.Goals as goal
+
+pub decode-requires : goal.decode-requires
+decode-requires g c =
+    let steps = c.args.levels.now in
+    let step = c.index-levels-left.result in
+    let here = at-back steps c.loop-left.left step c.loop-left-test.true c.loop-left.invariant.within c.index-levels-left.is in
+    let fits = fit-drop (c.loop-left.left - 1) steps (drop c.loop-left.left steps) step c.requires.fit here in
+    record { fits = subst (λ shape. IsFit (lengths shape) (type_of step.data_type)) (sym c.deref.ensures.value) fits }
+
+pub returns-in_err-decoded-clause-value : goal.returns-in_err-decoded-clause-value
+returns-in_err-decoded-clause-value g c = λ bottom list links means.
+    let code = g.A.ArrayToArrayCodecTraits in
+    let steps = c.args.levels.now in
+    let step = c.index-levels-left.result in
+    let here : drop (c.loop-left.left - 1) steps ≡ step ∷ drop c.loop-left.left steps = at-back steps c.loop-left.left step c.loop-left-test.true c.loop-left.invariant.within c.index-levels-left.is in
+    let refused = rw c.deref.ensures.value at c.in_err-decoded.ensures.exact in
+    let below = (code.meaning step.codec).level_below (above step) in
+    let cause = step-memory code.meaning g.A.ArrayCodecTraits.unserved bottom (c.loop-left.left - 1) c.loop-left.left steps step list (raw_of c.loop-left.decoded) (c.in_err-decoded.field-0.0 ≡ OutOfMemory) here links (c.loop-left.invariant.holds bottom list links means) (λ served mid is. memory_alone below (raw_of c.loop-left.decoded) mid c.in_err-decoded.field-0.0 is (refused served)) in
+    search rules
+
+pub loop-left-preserved : goal.loop-left-preserved
+loop-left-preserved g c = record {
+  within = omega (arith, c.loop-left.invariant.within);
+  holds = λ bottom list links means.
+      let code = g.A.ArrayToArrayCodecTraits in
+      let steps = c.args.levels.now in
+      let step = c.index-levels-left.result in
+      let here : drop (c.loop-left.left - 1) steps ≡ step ∷ drop c.loop-left.left steps = at-back steps c.loop-left.left step c.loop-left-test.true c.loop-left.invariant.within c.index-levels-left.is in
+      let decoded = rw c.deref.ensures.value at c.in_ok-decoded.ensures.value in
+      step-up code.meaning g.A.ArrayCodecTraits.unserved bottom (c.loop-left.left - 1) c.loop-left.left steps step list (raw_of c.loop-left.decoded) (raw_of c.in_ok-decoded.decoded) here links (c.loop-left.invariant.holds bottom list links means) (λ served mid is. decoded mid served is);
+  short = λ short. c.in_ok-decoded.ensures.short (c.loop-left.invariant.short short);
+}
+
+pub returns-clause-value : goal.returns-clause-value
+returns-clause-value g c = λ bottom list links means.
+    let end : c.loop-left.left ≡ 0 = omega (arith, c.loop-left-test.false) in
+    rw end at (c.loop-left.invariant.holds bottom list links means)

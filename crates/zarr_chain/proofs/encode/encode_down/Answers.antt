@@ -1,0 +1,48 @@
+use Rattle.std.proofs.Common.{◌+◌, drop, sym, subst, rules}
+use Rattle.std.proofs.lemmas.List.{take_all, drop_all}
+use Rattle.zarrs_codec_array_bytes.specs.Raw.{raw_of}
+use Rattle.zarrs_data_type_names.specs.DataType.{type_of}
+use Rattle.zarrs_codec_traits.specs.Views.{lengths}
+use Rattle.zarrs_codec_traits.specs.Words.{IsFit}
+use Rattle.zarr_chain.specs.Levels.{above}
+use Rattle.zarr_chain.proofs.ListSteps.{at-front, at-next}
+use Rattle.zarr_chain.proofs.LevelLaws.{fit-drop, memory_some, step-down, down-there}
+use Rattle.zarr_chain.proofs.encode.encode_down.Goals as goal
+
+pub encode-requires : goal.encode-requires
+encode-requires g c =
+    let steps = c.args.levels.now in
+    let n = c.loop-level.level-index in
+    let step = c.level-item.result in
+    let here = at-front steps n step c.loop-level-test.true c.level-item.is in
+    let fits = fit-drop n steps (drop (n + 1) steps) step c.requires.fit here in
+    record { fits = subst (λ shape. IsFit (lengths shape) (type_of step.data_type)) (sym c.deref.ensures.value) fits }
+
+pub returns-in_err-encoded-clause-value : goal.returns-in_err-encoded-clause-value
+returns-in_err-encoded-clause-value g c = λ bottom list links means.
+    let code = g.A.ArrayToArrayCodecTraits in
+    let steps = c.args.levels.now in
+    let n = c.loop-level.level-index in
+    let here = at-front steps n c.level-item.result c.loop-level-test.true c.level-item.is in
+    let ready = down-there code.meaning g.A.ArrayCodecTraits.unserved bottom n steps c.level-item.result _ list (raw_of c.loop-level.encoded) here links (c.loop-level.invariant.value bottom list links means) in
+    let refused = rw c.deref.ensures.value at c.in_err-encoded.ensures.exact in
+    let memory = memory_some (above c.level-item.result) (raw_of c.loop-level.encoded) c.in_err-encoded.field-0.0 ready.1 (refused ready.0) in
+    search rules
+
+pub loop-level-preserved : goal.loop-level-preserved
+loop-level-preserved g c = record {
+  value = λ bottom list links means.
+      let code = g.A.ArrayToArrayCodecTraits in
+      let steps = c.args.levels.now in
+      let n = c.loop-level.level-index in
+      let here = at-front steps n c.level-item.result c.loop-level-test.true c.level-item.is in
+      let more = at-next steps n c.level-item.result c.loop-level-test.true c.level-item.is in
+      let encoded = rw c.deref.ensures.value at c.in_ok-encoded.ensures.value in
+      step-down code.meaning g.A.ArrayCodecTraits.unserved bottom n (n + 1) steps c.level-item.result list (raw_of c.loop-level.encoded) (raw_of c.in_ok-encoded.encoded) here more links (c.loop-level.invariant.value bottom list links means) (λ served there. encoded served);
+  short = λ short. c.in_ok-encoded.ensures.short (c.loop-level.invariant.short short);
+}
+
+pub returns-clause-value : goal.returns-clause-value
+returns-clause-value g c = λ bottom list links means.
+    let steps = c.args.levels.now in
+    rw (take_all c.loop-level.level-index steps c.loop-level-test.false, drop_all c.loop-level.level-index steps c.loop-level-test.false) at (c.loop-level.invariant.value bottom list links means)

@@ -1,0 +1,4 @@
+pub mod Levels
+pub mod Values
+pub mod Chain
+pub mod Regions

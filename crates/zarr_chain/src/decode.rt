@@ -1,0 +1,88 @@
+//! What a stored value decodes to through a chain.
+
+ghost use Rattle.std.specs.Prelude.{◌≡◌, ℕ, List, Some, MatchResult, IfOk, IfErr, false};
+ghost use Rattle.zarr_model.specs.Command.{has_long_element};
+ghost use Rattle.zarr_model.specs.Element.{Element};
+ghost use Rattle.zarr_model.specs.Codec.{Level, decode_bytes};
+ghost use Rattle.zarrs_codec_array_bytes.specs.Raw.{raw_of};
+ghost use Rattle.zarrs_codec_error.specs.declared.error.CodecError.TheVariants as codec;
+ghost use Rattle.zarrs_codec_traits.specs.Errors.{IsDecodeError};
+ghost use Rattle.zarrs_codec_traits.specs.Views.{options_of};
+ghost use Rattle.zarrs_codec_traits.specs.Words.{list_at, Gives};
+ghost use Rattle.zarr_chain.specs.Levels.{top, AreFit, AreLinked, elements_above};
+ghost use Rattle.zarr_chain.specs.Values.{byte_codecs, bytes_says};
+
+use crate::level::CodecLevel;
+use std::alloc::Global;
+use zarrs_codec_array_bytes::ArrayBytes;
+use zarrs_codec_error::CodecError;
+use zarrs_codec_options::{BytesRepresentation, CodecOptions};
+use zarrs_codec_traits::{ArrayToArrayCodecTraits, BytesToBytesCodecTraits};
+
+/// What a value decodes to through the codecs, the last one first.
+///
+/// # Errors
+/// The error of the first codec, from the last, that gives nothing; or [`CodecError::OutOfMemory`].
+pub fn decode_through<C: BytesToBytesCodecTraits>(
+    alloc: Global,
+    codecs: &[C],
+    value: Vec<u8>,
+    options: &CodecOptions,
+) -> Result<Vec<u8>, CodecError>
+    ensures value { IfOk result (λ v.
+        decode_bytes (byte_codecs C.meaning (options_of options.now) codecs.now) value.items
+        ≡ Some v.items) }
+    ensures failed { IfErr result (IsDecodeError
+        (decode_bytes (byte_codecs C.meaning (options_of options.now) codecs.now) value.items)
+        (bytes_says C.meaning C.says (options_of options.now) codecs.now value.items)) }
+{
+    let mut decoded = value;
+    let mut left = codecs.len();
+    while left > 0 {
+        left -= 1;
+        decoded = codecs[left].decode(
+            alloc,
+            decoded,
+            &BytesRepresentation::UnboundedSize,
+            options,
+        )?;
+    }
+    Ok(decoded)
+}
+
+/// The elements of the first level from those of the bottom, the last codec first.
+///
+/// # Errors
+/// [`CodecError`] where a level is not served, where the bytes are not valid elements of the bottom, or where memory
+/// runs out.
+pub fn decode_up<A: ArrayToArrayCodecTraits>(
+    alloc: Global,
+    levels: &[CodecLevel<A>],
+    bytes: ArrayBytes<'static>,
+    options: &CodecOptions,
+) -> Result<ArrayBytes<'static>, CodecError>
+    requires fit { AreFit levels.now }
+    ensures value { (bottom : Level) (list : List Element)
+        → AreLinked A.meaning A.unserved levels.now bottom
+        → list_at bottom (raw_of bytes.entry) ≡ Some list → MatchResult result
+        (λ v. Gives (list_at (top levels.now bottom) (raw_of v))
+        (elements_above A.meaning levels.now (Some list))) (λ e. e ≡ codec.OutOfMemory) }
+    ensures short { has_long_element (raw_of bytes.entry) ≡ false
+        → IfOk result (λ v. has_long_element (raw_of v) ≡ false) }
+{
+    let mut decoded = bytes;
+    let mut left = levels.len();
+    while left > 0 {
+        left -= 1;
+        let level = &levels[left];
+        decoded = level.codec.decode(
+            alloc,
+            decoded,
+            &level.shape,
+            &level.data_type,
+            &level.fill_value,
+            options,
+        )?;
+    }
+    Ok(decoded)
+}

@@ -1,0 +1,74 @@
+//! The value that elements are encoded to through a chain.
+
+ghost use Rattle.std.specs.Prelude.{◌≡◌, ℕ, List, Some, MatchResult, IfOk, false};
+ghost use Rattle.zarr_model.specs.Command.{has_long_element};
+ghost use Rattle.zarr_model.specs.Element.{Element};
+ghost use Rattle.zarr_model.specs.Codec.{Level, Options, decode_bytes};
+ghost use Rattle.zarrs_codec_array_bytes.specs.Raw.{raw_of};
+ghost use Rattle.zarrs_codec_error.specs.declared.error.CodecError.TheVariants as codec;
+ghost use Rattle.zarrs_codec_traits.specs.Words.{list_at};
+ghost use Rattle.zarr_chain.specs.Levels.{top, AreFit, AreLinked, elements_above};
+ghost use Rattle.zarr_chain.specs.Values.{byte_codecs};
+
+use crate::level::CodecLevel;
+use std::alloc::Global;
+use zarrs_codec_array_bytes::ArrayBytes;
+use zarrs_codec_error::CodecError;
+use zarrs_codec_options::CodecOptions;
+use zarrs_codec_traits::{ArrayToArrayCodecTraits, BytesToBytesCodecTraits};
+
+/// The elements of the bottom that decode to those of the first level, the first codec first.
+///
+/// # Errors
+/// [`CodecError`] where a level is not served, where the bytes are not valid elements of the first level, or where memory
+/// runs out.
+pub fn encode_down<A: ArrayToArrayCodecTraits>(
+    alloc: Global,
+    levels: &[CodecLevel<A>],
+    bytes: ArrayBytes<'static>,
+    options: &CodecOptions,
+) -> Result<ArrayBytes<'static>, CodecError>
+    requires fit { AreFit levels.now }
+    ensures value { (bottom : Level) (list : List Element)
+        → AreLinked A.meaning A.unserved levels.now bottom
+        → list_at (top levels.now bottom) (raw_of bytes.entry) ≡ Some list → MatchResult result
+        (λ v. elements_above A.meaning levels.now (list_at bottom (raw_of v)) ≡ Some list)
+        (λ e. e ≡ codec.OutOfMemory) }
+    ensures short { has_long_element (raw_of bytes.entry) ≡ false
+        → IfOk result (λ v. has_long_element (raw_of v) ≡ false) }
+{
+    let mut encoded = bytes;
+    for level in levels {
+        encoded = level.codec.encode(
+            alloc,
+            encoded,
+            &level.shape,
+            &level.data_type,
+            &level.fill_value,
+            options,
+        )?;
+    }
+    Ok(encoded)
+}
+
+/// The value that the codecs encode to, the first one first.
+///
+/// # Errors
+/// [`CodecError::OutOfMemory`].
+pub fn encode_through<C: BytesToBytesCodecTraits>(
+    alloc: Global,
+    codecs: &[C],
+    value: Vec<u8>,
+    options: &CodecOptions,
+) -> Result<Vec<u8>, CodecError>
+    ensures { MatchResult result
+        (λ v. (under : Options)
+        → decode_bytes (byte_codecs C.meaning under codecs.now) v.items ≡ Some value.items)
+        (λ e. e ≡ codec.OutOfMemory) }
+{
+    let mut encoded = value;
+    for codec in codecs {
+        encoded = codec.encode(alloc, encoded, options)?;
+    }
+    Ok(encoded)
+}

@@ -1,0 +1,16 @@
+//! Chains of codecs: array-to-array codecs over levels, an array-to-bytes codec at the bottom, and bytes-to-bytes codecs.
+//!
+//! See <https://zarr-specs.readthedocs.io/en/latest/v3/core/index.html#codecs>.
+#![tactic(auto)]
+
+mod chain;
+mod decode;
+mod encode;
+mod level;
+mod regions;
+
+pub use chain::CodecChain;
+pub use decode::{decode_through, decode_up};
+pub use encode::{encode_down, encode_through};
+pub use level::CodecLevel;
+pub use regions::last_or;

@@ -1,0 +1,114 @@
+//! Regions of a chunk, through the levels of a chain.
+
+ghost use Rattle.std.specs.Prelude.{◌≡◌, true, false, List, [], map, Some, Option, IfOk, MatchResult, IsSome};
+ghost use Rattle.zarr_model.specs.Region.{ends_within};
+ghost use Rattle.zarr_model.specs.Element.{Element};
+ghost use Rattle.zarr_model.specs.Command.{has_long_element};
+ghost use Rattle.zarrs_array_subset.specs.ArraySubset.{region as box_of};
+ghost use Rattle.zarrs_codec_array_bytes.specs.Raw.{raw_of};
+ghost use Rattle.zarrs_codec_error.specs.declared.error.CodecError.TheVariants as codec;
+ghost use Rattle.zarrs_codec_traits.specs.Words.{list_at, at_box};
+ghost use Rattle.zarr_chain.specs.Levels.{above};
+ghost use Rattle.zarr_chain.specs.Chain.{IsServed, first_level};
+ghost use Rattle.zarr_chain.specs.Regions.{boxes_below, bottom_box, last_item, HoldsBox, IsCounted};
+
+use crate::chain::CodecChain;
+use std::alloc::{AllocError, Global};
+use zarrs_array_subset::ArraySubset;
+use zarrs_codec_array_bytes::ArrayBytes;
+use zarrs_codec_error::CodecError;
+use zarrs_codec_options::CodecOptions;
+use zarrs_codec_traits::{
+    ArrayToArrayCodecTraits, ArrayToBytesCodecTraits, BytesToBytesCodecTraits,
+};
+
+/// The last of some boxes, or the region that they began with.
+pub fn last_or<'a>(boxes: &'a [ArraySubset], region: &'a ArraySubset) -> &'a ArraySubset
+    ensures { result.now ≡ last_item boxes.now region.now }
+{
+    match boxes {
+        [] => region,
+        [.., last] => last,
+    }
+}
+
+impl<A: ArrayToArrayCodecTraits, B: ArrayToBytesCodecTraits, C: BytesToBytesCodecTraits> CodecChain<
+    A,
+    B,
+    C,
+> {
+    /// The box below each array-to-array codec that a region of the chunk needs, the first codec first. The region lies
+    /// inside the chunk.
+    ///
+    /// # Errors
+    /// [`CodecError::OutOfMemory`].
+    pub fn boxes_down(
+        &self,
+        alloc: Global,
+        region: &ArraySubset,
+    ) -> Result<Vec<ArraySubset>, CodecError>
+        requires served { IsServed A.meaning A.unserved B.unserved self.now }
+        requires inside { ends_within (box_of region.now) (first_level self.now).shape ≡ true }
+        ensures { MatchResult result (λ boxes. map box_of boxes.items
+            ≡ boxes_below A.region_below self.now.levels.items (box_of region.now))
+            (λ e. e ≡ codec.OutOfMemory) }
+    {
+        let mut boxes: Vec<ArraySubset> = Vec::new(alloc);
+        for level in &self.levels {
+            let above = last_or(&boxes, region);
+            let below = level.codec.inner_subset(alloc, above, &level.shape)?;
+            boxes.push(below).map_err(AllocError::from)?;
+        }
+        Ok(boxes)
+    }
+
+    /// The elements of a region of the chunk, from those of the last box that `boxes_down` answers for it.
+    ///
+    /// # Errors
+    /// [`CodecError::OutOfMemory`].
+    pub fn decode_boxes_up(
+        &self,
+        alloc: Global,
+        bytes: ArrayBytes<'static>,
+        boxes: &[ArraySubset],
+        region: &ArraySubset,
+        options: &CodecOptions,
+    ) -> Result<ArrayBytes<'static>, CodecError>
+        requires served { IsServed A.meaning A.unserved B.unserved self.now }
+        requires inside { ends_within (box_of region.now) (first_level self.now).shape ≡ true }
+        requires boxes { map box_of boxes.now
+            ≡ boxes_below A.region_below self.now.levels.items (box_of region.now) }
+        requires valid { IsSome (list_at (at_box
+            (bottom_box A.region_below self.now.levels.items (box_of region.now))
+            (above self.now.bottom)) (raw_of bytes)) }
+        ensures value { let bottom = above self.now.bottom in (below : Option (List Element))
+            → IsCounted bottom below → HoldsBox A.meaning [] bottom below
+            (bottom_box A.region_below self.now.levels.items (box_of region.now))
+            (raw_of bytes.entry)
+            → IfOk result (λ v. HoldsBox A.meaning self.now.levels.items bottom below
+            (box_of region.now) (raw_of v)) }
+        ensures valid { MatchResult result
+            (λ v. IsSome (list_at (at_box (box_of region.now) (first_level self.now)) (raw_of v)))
+            (λ e. e ≡ codec.OutOfMemory) }
+        ensures short { has_long_element (raw_of bytes.entry) ≡ false
+            → IfOk result (λ v. has_long_element (raw_of v) ≡ false) }
+    {
+        let mut decoded = bytes;
+        let mut left = self.levels.len();
+        while left > 0 {
+            left -= 1;
+            let level = &self.levels[left];
+            let above = last_or(&boxes[..left], region);
+            decoded = level.codec.decode_region(
+                alloc,
+                decoded,
+                above,
+                &level.shape,
+                &level.data_type,
+                &level.fill_value,
+                options,
+            )?;
+        }
+        Ok(decoded)
+    }
+}
