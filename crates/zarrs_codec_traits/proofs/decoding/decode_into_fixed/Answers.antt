@@ -4,8 +4,8 @@ use Rattle.zarr_model.specs.Element.{kind_of}
 use Rattle.zarrs_codec_array_bytes.specs.Raw.{raw_of}
 use Rattle.zarrs_codec_traits.specs.Views.{level_of, options_of}
 use Rattle.zarrs_codec_traits.specs.Words.{list_at}
-use Rattle.zarrs_codec_into.proofs.IntoLaws.{put_answers, decodes_into, held_after}
-use Rattle.zarrs_codec_into.proofs.decoding.decode_into_fixed.Goals as goal
+use Rattle.zarrs_codec_traits.proofs.IntoLaws.{put_answers, decodes_into, held_after}
+use Rattle.zarrs_codec_traits.proofs.decoding.decode_into_fixed.Goals as goal
 
 pub returns-clause-exact : goal.returns-clause-exact
 returns-clause-exact g c = λ served same.

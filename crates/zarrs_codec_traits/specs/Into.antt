@@ -1,5 +1,5 @@
 -- What a value is decoded into.
-use Rattle.std.specs.Prelude.{◌≡◌, ◌⊎◌, ℕ, zero, suc, ◌*◌, ◌==◌, Bool, true, false, List, [], ◌∷◌, length, Option, Some, None, Result, Ok, Err}
+use Rattle.std.specs.Prelude.{◌≡◌, ◌⊎◌, ℕ, zero, suc, ◌*◌, Bool, true, false, List, ◌∷◌, length, Option, Some, None, Result, Ok, Err}
 use Rattle.zarr_model.specs.Region.{count}
 use Rattle.zarr_model.specs.Element.{Kind, fixed, variable, optional}
 use Rattle.zarr_model.specs.Command.{expected_fixed_length_bytes, expected_optional_bytes}

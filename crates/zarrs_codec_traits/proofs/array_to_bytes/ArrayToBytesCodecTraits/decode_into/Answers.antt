@@ -1,4 +1,4 @@
-use Rattle.zarrs_codec_into.proofs.decoding.decode_into.Goals as goal
+use Rattle.zarrs_codec_traits.proofs.array_to_bytes.ArrayToBytesCodecTraits.decode_into.Goals as goal
 
 pub returns-in-Fixed-clause-put : goal.returns-in-Fixed-clause-put
 returns-in-Fixed-clause-put g c = rw c.in-Fixed.is c.decode_into_fixed.ensures.put

@@ -1,4 +1,4 @@
-//! A value decoded into a target.
+//! A value decoded into the views of a target.
 
 ghost use Rattle.std.specs.Prelude.{◌≡◌, ◌==◌, [], true, Some, None, IfOk, IfErr};
 ghost use Rattle.zarr_model.specs.Region.{count, count_of};
@@ -8,21 +8,20 @@ ghost use Rattle.zarrs_data_type_elements.specs.FillValue.{fill_bytes};
 ghost use Rattle.zarrs_data_type_names.specs.DataType.{type_of};
 ghost use Rattle.zarrs_codec_array_bytes.specs.Raw.{raw_of};
 ghost use Rattle.zarrs_codec_view.specs.Held.{held_by, IsTargetOf};
-ghost use Rattle.zarrs_codec_view.specs.Targets.{LeftBehind};
-ghost use Rattle.zarrs_codec_view.specs.TargetViews.{inner_view, mask_views};
 ghost use Rattle.zarrs_codec_traits.specs.Errors.{unserved_at, RefusesBy, IsDecodeError};
 ghost use Rattle.zarrs_codec_traits.specs.Views.{lengths, level_of, options_of};
 ghost use Rattle.zarrs_codec_traits.specs.Words.{list_at, Gives, IsFit};
-ghost use Rattle.zarrs_codec_into.specs.Into.{num_elements_in, into_answer, RefusesCount, DecodesInto};
+ghost use Rattle.zarrs_codec_traits.specs.Into.{into_answer, RefusesCount, DecodesInto};
 
+use crate::array_to_bytes::ArrayToBytesCodecTraits;
 use crate::put::{expect_number, put_fixed, put_optional};
+use crate::shape::num_elements;
 use std::alloc::Global;
 use std::num::NonZeroU64;
 use zarrs_codec_array_bytes::ArrayBytes;
 use zarrs_codec_error::CodecError;
 use zarrs_codec_options::CodecOptions;
-use zarrs_codec_traits::{ArrayToBytesCodecTraits, num_elements};
-use zarrs_codec_view::{ArrayBytesDecodeIntoTarget, ArrayBytesFixedDisjointView};
+use zarrs_codec_view::ArrayBytesFixedDisjointView;
 use zarrs_data_type_elements::FillValue;
 use zarrs_data_type_names::DataType;
 
@@ -60,7 +59,7 @@ fn decoded_for<C: ArrayToBytesCodecTraits>(
 }
 
 // Decodes into the view of elements of one size.
-fn decode_into_fixed<C: ArrayToBytesCodecTraits>(
+pub(crate) fn decode_into_fixed<C: ArrayToBytesCodecTraits>(
     codec: &C,
     alloc: Global,
     bytes: Vec<u8>,
@@ -98,7 +97,7 @@ fn decode_into_fixed<C: ArrayToBytesCodecTraits>(
 }
 
 // Decodes into the views of optional elements.
-fn decode_into_optional<'a, C: ArrayToBytesCodecTraits>(
+pub(crate) fn decode_into_optional<'a, C: ArrayToBytesCodecTraits>(
     codec: &C,
     alloc: Global,
     bytes: Vec<u8>,
@@ -134,58 +133,4 @@ fn decode_into_optional<'a, C: ArrayToBytesCodecTraits>(
         codec, alloc, bytes, shape, data_type, fill_value, num, options,
     )?;
     put_optional(&decoded, view, masks)
-}
-
-/// Decodes the value by the codec and puts its elements where they belong: the target then holds the list that the value
-/// decodes to.
-///
-/// # Errors
-/// [`CodecError`] where the codec does not serve the arguments; else `InvalidNumberOfElements` exactly where the target's
-/// innermost view has another number of elements than the shape; else what `decode` refuses; else what the target
-/// does, by the kind of the data type and the number of elements. Or where memory runs out. The target is as it was
-/// then.
-pub fn decode_into<C: ArrayToBytesCodecTraits>(
-    codec: &C,
-    alloc: Global,
-    bytes: Vec<u8>,
-    shape: &[NonZeroU64],
-    data_type: &DataType,
-    fill_value: &FillValue,
-    output_target: ArrayBytesDecodeIntoTarget<'_, '_>,
-    options: &CodecOptions,
-) -> Result<(), CodecError>
-    requires fits { IsFit (lengths shape.now) (type_of data_type.now) }
-    ensures unserved { RefusesBy (unserved_at (C.unserved codec.now)
-        (level_of shape.now data_type.now fill_value.now) (fill_bytes fill_value.now)) result }
-    ensures counted { let level = level_of shape.now data_type.now fill_value.now in
-        let num = num_elements_in output_target.entry in
-        unserved_at (C.unserved codec.now) level (fill_bytes fill_value.now) ≡ None
-        → RefusesCount (num == count_of level.shape) num (count_of level.shape) result }
-    ensures exact { let level = level_of shape.now data_type.now fill_value.now in
-        unserved_at (C.unserved codec.now) level (fill_bytes fill_value.now) ≡ None
-        → (num_elements_in output_target.entry == count_of level.shape) ≡ true
-        → DecodesInto (C.meaning codec.now (options_of options.now) level bytes.items)
-        (C.says codec.now (options_of options.now) level bytes.items)
-        (into_answer (kind_of level.data_type) (count_of level.shape)
-        (mask_views output_target.entry) (inner_view output_target.entry)) result }
-    ensures put { let level = level_of shape.now data_type.now fill_value.now in
-        let wanted = C.meaning codec.now (options_of options.now) level bytes.items in
-        unserved_at (C.unserved codec.now) level (fill_bytes fill_value.now) ≡ None
-        → IsTargetOf (kind_of level.data_type) (count_of level.shape)
-        (mask_views output_target.entry) (inner_view output_target.entry)
-        → IfOk result (λ _. LeftBehind (λ left. wanted ≡ Some (held_by [] left.0.now))
-        (λ left. wanted ≡ Some (held_by left.1.0.now left.0.now)) output_target.exit) }
-    ensures kept { IfErr result (λ _. LeftBehind
-        (λ left. left.0.now ≡ inner_view output_target.entry)
-        (λ left. (left.0.now ≡ inner_view output_target.entry)
-        × (left.1.0.now ≡ mask_views output_target.entry)) output_target.exit) }
-{
-    match output_target {
-        ArrayBytesDecodeIntoTarget::Fixed(view) => decode_into_fixed(
-            codec, alloc, bytes, shape, data_type, fill_value, view, options,
-        ),
-        ArrayBytesDecodeIntoTarget::Optional(view, masks) => decode_into_optional(
-            codec, alloc, bytes, shape, data_type, fill_value, view, masks, options,
-        ),
-    }
 }

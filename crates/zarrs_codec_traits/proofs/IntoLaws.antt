@@ -4,13 +4,13 @@ use Rattle.zarr_model.specs.Prelude.{Element, of_bytes, Kind, fixed, variable, o
 use Rattle.zarr_model.specs.ArrayBytes.{ArrayBytes, fixed_bytes, variable_bytes, optional_bytes}
 use Rattle.zarr_model.proofs.BytesLaws.{when_some, mask_length}
 use Rattle.zarrs_codec_bytes.proofs.MaskLaws.{IsMasked, masked_parts}
-use Rattle.zarrs_codec_array_bytes.specs.Refusals.{Told, fine, then_answer, told, told_by, Answers}
+use Rattle.zarrs_codec_array_bytes.specs.Refusals.{Told, then_answer, told, Answers}
 use Rattle.zarrs_codec_error.specs.declared.error.CodecError.{CodecError}
 use Rattle.zarrs_codec_view.specs.declared.array_bytes_fixed_disjoint_view.ArrayBytesFixedDisjointView.{ArrayBytesFixedDisjointView}
 use Rattle.zarrs_codec_view.specs.Held.{held_by, IsTargetOf}
 use Rattle.zarrs_codec_view.proofs.HeldLaws.{holds_meaning}
 use Rattle.zarrs_codec_view.specs.Targets.{ArePut, kinds_answer, view_answer, sizes_answer, target_answer}
-use Rattle.zarrs_codec_into.specs.Into.{kind_answer, views_answer, into_answer, DecodesInto}
+use Rattle.zarrs_codec_traits.specs.Into.{kind_answer, views_answer, into_answer, DecodesInto}
 use Rattle.zarrs_codec_traits.specs.Words.{Gives}
 
 kinds_as : (kind : Kind) (number : ℕ) (bytes : ArrayBytes) (views : List ArrayBytesFixedDisjointView) (xs : List Element) →

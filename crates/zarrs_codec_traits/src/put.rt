@@ -4,7 +4,7 @@ ghost use Rattle.std.specs.Prelude.{◌≡◌, ◌==◌, [], true, false, IfOk, 
 ghost use Rattle.zarrs_codec_array_bytes.specs.Raw.{raw_of};
 ghost use Rattle.zarrs_codec_array_bytes.specs.Refusals.{told};
 ghost use Rattle.zarrs_codec_view.specs.Targets.{target_answer, ArePut};
-ghost use Rattle.zarrs_codec_into.specs.Into.{RefusesCount};
+ghost use Rattle.zarrs_codec_traits.specs.Into.{RefusesCount};
 
 use zarrs_codec_array_bytes::ArrayBytes;
 use zarrs_codec_error::{CodecError, InvalidNumberOfElementsError};
