@@ -6,12 +6,14 @@ use std::borrow::CowSlice;
 use std::num::NonZeroU64;
 use zarr_codecs::{BytesCodec, Sha256Codec};
 use zarr_codecs_offset::OffsetCodec;
+use zarrs_array_subset::ArraySubset;
 use zarrs_codec_array_bytes::ArrayBytes;
 use zarrs_codec_error::CodecError;
 use zarrs_codec_options::{BytesRepresentation, CodecOptions};
 use zarrs_codec_traits::{
     ArrayToArrayCodecTraits, ArrayToBytesCodecTraits, BytesToBytesCodecTraits,
 };
+use zarrs_codec_view::{ArrayBytesDecodeIntoTarget, ArrayBytesFixedDisjointView};
 use zarrs_data_type_elements::FillValue;
 use zarrs_data_type_names::DataType;
 use zarrs_metadata_parts::Endianness;
@@ -142,12 +144,45 @@ fn stored(alloc: Global, order: Option<Endianness>) -> Result<String, AllocError
     )
 }
 
+// A value with its first components last, decoded into a view of its element.
+fn decode_into(alloc: Global, bytes: &mut [u8], value: &[u8]) -> Result<(), CodecError> {
+    let (codec, fill) = (
+        BytesCodec::new(Some(Endianness::Big)),
+        fill(alloc, &[0, 0])?,
+    );
+    let all = ArraySubset::new_with_ranges(alloc, &[1..2])?;
+    let mut view = ArrayBytesFixedDisjointView::new(alloc, bytes, 2, &[2], all)?;
+    codec.decode_into(
+        alloc,
+        value.to_vec(alloc)?,
+        &ONE,
+        &DataType::Int16,
+        &fill,
+        ArrayBytesDecodeIntoTarget::Fixed(&mut view),
+        &CodecOptions::default(),
+    )
+}
+
+fn put(alloc: Global, value: &[u8]) -> Result<String, AllocError> {
+    let mut bytes: [u8; 4] = [9; 4];
+    match decode_into(alloc, &mut bytes, value) {
+        Ok(()) => format!(in alloc; "{bytes:?}"),
+        Err(error) => format!(in alloc; "{error:?} {bytes:?}"),
+    }
+}
+
 #[test]
 fn components_have_an_order(rt: HostRuntime) {
     let alloc = rt.alloc();
     is_text(&rt, stored(alloc, Some(Endianness::Big)), "[0, 1]");
     is_text(&rt, stored(alloc, Some(Endianness::Little)), "[1, 0]");
     is_text(&rt, stored(alloc, None), "EndiannessMissing");
+    is_text(&rt, put(alloc, &[1, 2]), "[9, 9, 2, 1]");
+    is_text(
+        &rt,
+        put(alloc, &[1]),
+        "UnexpectedChunkDecodedSize(InvalidBytesLengthError { len: 1, expected_len: 2 }) [9, 9, 9, 9]",
+    );
 }
 
 // `abc` with its digest.
