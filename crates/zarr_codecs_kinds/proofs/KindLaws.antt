@@ -1,14 +1,14 @@
 -- What is made of a configuration.
-use Rattle.std.proofs.Common.{◌≡◌, Option, Some, None, option_map, Result, Ok, Err, if◌then◌else◌, Bool, true, false, refl, ap}
+use Rattle.std.proofs.Common.{◌≡◌, Option, Some, None, option_map, Ok, Err, if◌then◌else◌, Bool, true, false, refl, ap}
 use Rattle.serde_json.specs.Data.{Members, no_members}
 use Rattle.zarrs_metadata_values.specs.Configuration.{is_none_or_empty}
-use Rattle.zarrs_plugin.specs.Making.{Unmade, unsupported, config, other, IsUnmade}
+use Rattle.zarrs_plugin.specs.Making.{config, IsUnmade}
 use Rattle.zarrs_plugin.specs.declared.error.PluginKind.{PluginKind}
 use Rattle.zarrs_plugin.specs.declared.error.PluginCreateError.{PluginCreateError}
 use Rattle.zarrs_plugin.specs.declared.error.PluginCreateError.TheVariants.{Unsupported, Config, Other, OutOfMemory}
 use Rattle.zarr_basics_grids.specs.Making.{or_config}
 use Rattle.zarr_codecs.specs.Sha256.{none_form}
-use Rattle.zarr_codecs_kinds.specs.CodecForm.{CodecForm, sha256}
+use Rattle.zarr_codecs_kinds.specs.CodecForm.{sha256}
 
 pub made_form : {X Y : Type 0} (f : X → Y) (o : Option X) (x : X) → or_config o ≡ Ok x → or_config (option_map f o) ≡ Ok (f x)
 made_form f (Some y) x e = let same : y ≡ x = cc in ap (λ z. Ok (f z)) same

@@ -132,7 +132,7 @@ impl ArrayCodecTraits for BasicArrayToBytes {
 }
 
 impl ArrayToBytesCodecTraits for BasicArrayToBytes {
-    ghost use Rattle.std.specs.Prelude.{length};
+    ghost use Rattle.std.specs.Prelude.{length, false};
     ghost use Rattle.zarr_model.specs.Codec.{bytes_codec, decode_array_to_bytes};
     ghost use Rattle.zarr_model.proofs.ChainLaws.{array_to_bytes-counted};
     ghost use Rattle.zarrs_codec_array_bytes.specs.Refusals.{fine, told_by, wrong_length};
@@ -153,6 +153,8 @@ impl ArrayToBytesCodecTraits for BasicArrayToBytes {
     ghost request = { λ _ _ _ _. None };
 
     ghost representation = { λ _ level. FixedSize (bytes_size level) };
+
+    ghost compacts = { λ _. false };
 
     ghost counted = { λ c under level value xs e.
         array_to_bytes-counted under (bytes_codec (stored_order (basic_order c))) level value xs e };

@@ -1,6 +1,6 @@
 -- The fill value below an offset.
-use Rattle.std.proofs.Common.{◌≡◌, ℕ, ◌^◌, ◌==◌, ℤ, true, List, length, Option, Some, None, IsSome, if◌then◌else◌, Bool, false, Result, Ok, Err, IfOk, MatchResult, refl, ap, sym, subst, ◌∙◌}
-use Rattle.zarr_model.specs.Element.{Element, of_bytes, Kind, fixed, fill_element}
+use Rattle.std.proofs.Common.{◌≡◌, ℕ, ◌^◌, ◌==◌, ℤ, true, List, length, Some, None, IsSome, if◌then◌else◌, Bool, false, Result, Ok, Err, IfOk, MatchResult, refl, subst, ◌∙◌}
+use Rattle.zarr_model.specs.Element.{of_bytes, Kind, fixed, fill_element}
 use Rattle.zarr_codecs_numbers.specs.Numbers.{bytes_less, raised, TakesOff}
 use Rattle.zarr_codecs_numbers.proofs.OffsetLaws.{raised-less}
 

@@ -1,5 +1,5 @@
 -- Array bytes that an offset was put on or taken off.
-use Rattle.std.proofs.Common.{◌≡◌, ℕ, zero, suc, ◌*◌, ◌^◌, ◌<◌, ◌≤◌, ◌==◌, not, ℤ, Bool, true, false, List, [], ◌∷◌, length, take, drop, map, Option, Some, None, IsSome, option_map, option_and_then, Result, Ok, Err, IfOk, refl, sym, ap, ◌∙◌, subst, arith, eq-eqb, eqb-true}
+use Rattle.std.proofs.Common.{◌≡◌, ℕ, zero, suc, ◌*◌, ◌^◌, ◌<◌, ◌≤◌, ◌==◌, not, ℤ, Bool, true, false, List, [], ◌∷◌, length, take, drop, map, Option, Some, None, IsSome, option_and_then, Result, Ok, Err, IfOk, refl, sym, ap, ◌∙◌, subst, arith}
 use Rattle.std.specs.List.{AllByRecursion}
 use Rattle.std.proofs.lemmas.Bool.{cond-true}
 use Rattle.std.proofs.Math.Nat.{mul-le-mul_right}

@@ -1,1 +1,2 @@
 mod LevelLaws
+mod TargetLaws

@@ -3,3 +3,4 @@
 
 pub mod levels;
 pub mod parts;
+pub mod targets;

@@ -10,7 +10,7 @@ use Rattle.zarrs_codec_view.specs.declared.array_bytes_fixed_disjoint_view.Array
 use Rattle.zarrs_codec_view.specs.Held.{held_by, IsTargetOf}
 use Rattle.zarrs_codec_view.proofs.HeldLaws.{holds_meaning}
 use Rattle.zarrs_codec_view.specs.Targets.{ArePut, kinds_answer, view_answer, sizes_answer, target_answer}
-use Rattle.zarrs_codec_traits.specs.Into.{kind_answer, views_answer, into_answer, DecodesInto}
+use Rattle.zarrs_codec_traits.specs.Into.{kind_answer, views_answer, into_answer, DecodesInto, IsPut}
 use Rattle.zarrs_codec_traits.specs.Words.{Gives}
 
 kinds_as : (kind : Kind) (number : ℕ) (bytes : ArrayBytes) (views : List ArrayBytesFixedDisjointView) (xs : List Element) →
@@ -72,3 +72,9 @@ pub held_after : {T E : Type 0} (kind : Kind) (number : ℕ) (bytes : ArrayBytes
 held_after kind number bytes olds news from to (Some xs) (Ok v) target gives put = ap Some (sym (holds_meaning kind number bytes olds news from to xs target gives.same put))
 held_after kind number bytes olds news from to None (Ok v) target gives put = cc
 held_after kind number bytes olds news from to wanted (Err e) target gives put = tt
+
+-- and what was put means what the value decodes to
+pub put_after : {T E : Type 0} (kind : Kind) (number : ℕ) (bytes : ArrayBytes) (olds news : List ArrayBytesFixedDisjointView) (from to : ArrayBytesFixedDisjointView) (wanted : Option (List Element)) (result : Result T E) →
+    Gives (meaning kind number bytes) wanted → IfOk result (λ _. ArePut bytes olds news from to) → IfOk result (λ _. IsPut kind number wanted olds news from to)
+put_after kind number bytes olds news from to wanted (Ok v) gives put = record { bytes = bytes; means = gives; put = put }
+put_after kind number bytes olds news from to wanted (Err e) gives put = tt

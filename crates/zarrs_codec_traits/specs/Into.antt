@@ -1,13 +1,15 @@
 -- What a value is decoded into.
 use Rattle.std.specs.Prelude.{◌≡◌, ◌⊎◌, ℕ, zero, suc, ◌*◌, Bool, true, false, List, ◌∷◌, length, Option, Some, None, Result, Ok, Err}
 use Rattle.zarr_model.specs.Region.{count}
-use Rattle.zarr_model.specs.Element.{Kind, fixed, variable, optional}
+use Rattle.zarr_model.specs.Element.{Element, Kind, fixed, variable, optional}
+use Rattle.zarr_model.specs.ArrayBytes.{ArrayBytes, meaning}
 use Rattle.zarr_model.specs.Command.{expected_fixed_length_bytes, expected_optional_bytes}
 use Rattle.zarrs_array_subset.specs.ArraySubset.{region}
 use Rattle.zarrs_codec_array_bytes.specs.Refusals.{Told, fine, refused, then_answer, Answers}
 use Rattle.zarrs_codec_error.specs.declared.error.CodecError.{CodecError}
 use Rattle.zarrs_codec_error.specs.declared.error.CodecError.TheVariants as codec
-use Rattle.zarrs_codec_view.specs.Targets.{view_answer}
+use Rattle.zarrs_codec_traits.specs.Words.{Gives}
+use Rattle.zarrs_codec_view.specs.Targets.{ArePut, view_answer}
 use Rattle.zarrs_codec_view.specs.TargetViews.{inner_view}
 use Rattle.zarrs_codec_view.specs.declared.array_bytes_fixed_disjoint_view.ArrayBytesFixedDisjointView.{ArrayBytesFixedDisjointView}
 use Rattle.zarrs_codec_view.specs.declared.decode_into_target.ArrayBytesDecodeIntoTarget.{ArrayBytesDecodeIntoTarget}
@@ -51,3 +53,11 @@ abbrev pub DecodesInto : {A T : Type 0} → Option A → (CodecError → Type 0)
 DecodesInto None says told (Ok v) = ⊥
 DecodesInto None says told (Err e) = (e ≡ codec.OutOfMemory) ⊎ says e
 DecodesInto (Some list) says told result = Answers told result
+
+-- array bytes that mean a list of so many elements of a kind were put into a target's views, each
+-- into its view's box, and nothing else of the views' bytes changed
+pub record IsPut (kind : Kind) (number : ℕ) (wanted : Option (List Element))
+    (olds news : List ArrayBytesFixedDisjointView) (from to : ArrayBytesFixedDisjointView) : Type 0 where
+  pub bytes : ArrayBytes
+  pub means : Gives (meaning kind number bytes) wanted
+  pub put : ArePut bytes olds news from to

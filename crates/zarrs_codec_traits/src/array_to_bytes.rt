@@ -1,6 +1,6 @@
 //! Codecs that turn the elements of an array into bytes.
 
-ghost use Rattle.std.specs.Prelude.{◌≡◌, ◌==◌, ◌<◌, ◌^◌, ℕ, true, false, List, [], ◌∷◌, length, Option, Some, None, IsSome, IfOk, IfErr, IfSome, MatchResult};
+ghost use Rattle.std.specs.Prelude.{◌≡◌, ◌==◌, ◌<◌, ◌^◌, ℕ, Bool, true, false, List, [], ◌∷◌, length, Option, Some, None, IsSome, IfOk, IfErr, IfSome, MatchResult};
 ghost use Rattle.zarr_model.specs.Region.{Region, count_of, ends_within};
 ghost use Rattle.zarr_model.specs.Element as Model;
 ghost use Rattle.zarr_model.specs.Element.{Element, kind_of};
@@ -21,7 +21,7 @@ ghost use Rattle.zarrs_codec_traits.specs.Errors.{unserved_at, RefusesBy, Refuse
 ghost use Rattle.zarrs_codec_view.specs.Held.{held_by, IsTargetOf};
 ghost use Rattle.zarrs_codec_view.specs.Targets.{LeftBehind};
 ghost use Rattle.zarrs_codec_view.specs.TargetViews.{inner_view, mask_views};
-ghost use Rattle.zarrs_codec_traits.specs.Into.{num_elements_in, into_answer, RefusesCount, DecodesInto};
+ghost use Rattle.zarrs_codec_traits.specs.Into.{num_elements_in, into_answer, RefusesCount, DecodesInto, IsPut};
 ghost use Rattle.zarrs_codec_traits.specs.Parts.{AreParts, IsAnswer, request_answer};
 ghost use Rattle.zarrs_codec_traits.specs.Views.{lengths, level_of, options_of, ranges_of};
 ghost use Rattle.zarrs_codec_traits.specs.Words.{list_at, at_box, select, Gives, IsFit};
@@ -61,13 +61,20 @@ pub trait ArrayToBytesCodecTraits: ArrayCodecTraits + Sized {
     // How many bytes the elements of a level have, encoded.
     ghost representation: { Self → Level → BytesRepresentation };
 
-    /// The codec with options of its own, by default the same. It serves, refuses and decodes as before.
+    // Whether a value may be replaced by another that decodes to the same.
+    ghost compacts: { Self → Bool };
+
+    /// The codec with options of its own, by default the same. It serves, refuses and decodes as before, asks for the
+    /// same ranges, and tells the same number of bytes.
     fn with_codec_specific_options(self, _options: &CodecSpecificOptions) -> Self
         ensures meaning { meaning result ≡ meaning self }
         ensures says { (under : Options) (level : Level) (value : List ℕ) (e : CodecError)
             → says result under level value e → says self under level value e }
         ensures beyond { beyond result ≡ beyond self }
         ensures takes { (level : Level) → takes self level → takes result level }
+        ensures request { request result ≡ request self }
+        ensures representation { representation result ≡ representation self }
+        ensures compacts { compacts result ≡ compacts self }
         ensures unserved { Self.unserved result ≡ Self.unserved self }
     {
         self
@@ -143,8 +150,8 @@ pub trait ArrayToBytesCodecTraits: ArrayCodecTraits + Sized {
             (IsDecodeError wanted (says self.now (options_of options.now) level bytes.items)) }
         ensures short { IfOk result (λ v. has_long_element (raw_of v) ≡ false) };
 
-    /// Decodes the value and puts its elements where they belong. The target's innermost view has as many elements as
-    /// the shape.
+    /// Decodes the value and puts its elements where they belong: into the boxes of the target's views, and nothing else
+    /// of their bytes is changed. The target's innermost view has as many elements as the shape.
     ///
     /// # Errors
     /// [`CodecError`] where the codec does not serve the arguments; else `InvalidNumberOfElements` exactly where the
@@ -181,6 +188,16 @@ pub trait ArrayToBytesCodecTraits: ArrayCodecTraits + Sized {
             (mask_views output_target.entry) (inner_view output_target.entry)
             → IfOk result (λ _. LeftBehind (λ left. wanted ≡ Some (held_by [] left.0.now))
             (λ left. wanted ≡ Some (held_by left.1.0.now left.0.now)) output_target.exit) }
+        ensures written { let level = level_of shape.now data_type.now fill_value.now in
+            unserved_at (Self.unserved self.now) level (fill_bytes fill_value.now) ≡ None
+            → IfOk result (λ _. LeftBehind
+            (λ left. IsPut (kind_of level.data_type) (count_of level.shape)
+            (meaning self.now (options_of options.now) level bytes.items) [] []
+            (inner_view output_target.entry) left.0.now)
+            (λ left. IsPut (kind_of level.data_type) (count_of level.shape)
+            (meaning self.now (options_of options.now) level bytes.items)
+            (mask_views output_target.entry) left.1.0.now
+            (inner_view output_target.entry) left.0.now) output_target.exit) }
         ensures kept { IfErr result (λ _. LeftBehind
             (λ left. left.0.now ≡ inner_view output_target.entry)
             (λ left. (left.0.now ≡ inner_view output_target.entry)
@@ -197,7 +214,7 @@ pub trait ArrayToBytesCodecTraits: ArrayCodecTraits + Sized {
     }
 
     /// A value that decodes to the same elements, to be stored in place of this one, and [`None`] where this one stays.
-    /// By default it stays.
+    /// By default it stays, as it does in each codec that replaces none.
     ///
     /// # Errors
     /// [`CodecError`] where the codec does not serve the arguments or the value does not decode, or memory runs out.
@@ -211,6 +228,8 @@ pub trait ArrayToBytesCodecTraits: ArrayCodecTraits + Sized {
         options: &CodecOptions,
     ) -> Result<Option<Vec<u8>>, CodecError>
         requires fits { IsFit (lengths shape.now) (type_of data_type.now) }
+        ensures stays { compacts self.now ≡ false
+            → MatchResult result (λ r. r ≡ None) (λ e. e ≡ codec.OutOfMemory) }
         ensures same { let level = level_of shape.now data_type.now fill_value.now in
             unserved_at (Self.unserved self.now) level (fill_bytes fill_value.now) ≡ None
             → IfOk result (λ r. IfSome r (λ v. (under : Options)
@@ -310,7 +329,7 @@ pub trait ArrayToBytesCodecTraits: ArrayCodecTraits + Sized {
         → IsSome (list_at level bytes) → has_long_element bytes ≡ false
         → beyond c level bytes ≡ fine };
 
-    // All array bytes are taken where their number is below 2 ^ 32, and what is refused beside is their form.
+    // A level of fewer than 2 ^ 32 elements takes all that are short, and what is refused of others is their form.
     ghost takes_few: { (c : Self) (level : Level) (fill : List ℕ)
         → unserved_at (Self.unserved c) level fill ≡ None → count_of level.shape < 2 ^ 32
         → takes c level };

@@ -11,7 +11,7 @@ ghost use Rattle.zarrs_codec_view.specs.Held.{held_by, IsTargetOf};
 ghost use Rattle.zarrs_codec_traits.specs.Errors.{unserved_at, RefusesBy, IsDecodeError};
 ghost use Rattle.zarrs_codec_traits.specs.Views.{lengths, level_of, options_of};
 ghost use Rattle.zarrs_codec_traits.specs.Words.{list_at, Gives, IsFit};
-ghost use Rattle.zarrs_codec_traits.specs.Into.{into_answer, RefusesCount, DecodesInto};
+ghost use Rattle.zarrs_codec_traits.specs.Into.{into_answer, RefusesCount, DecodesInto, IsPut};
 
 use crate::array_to_bytes::ArrayToBytesCodecTraits;
 use crate::put::{expect_number, put_fixed, put_optional};
@@ -87,6 +87,10 @@ pub(crate) fn decode_into_fixed<C: ArrayToBytesCodecTraits>(
         → IsTargetOf (kind_of level.data_type) (count_of level.shape) [] view.old
         → IfOk result (λ _. C.meaning codec.now (options_of options.now) level bytes.items
         ≡ Some (held_by [] view.new)) }
+    ensures written { let level = level_of shape.now data_type.now fill_value.now in
+        unserved_at (C.unserved codec.now) level (fill_bytes fill_value.now) ≡ None
+        → IfOk result (λ _. IsPut (kind_of level.data_type) (count_of level.shape)
+        (C.meaning codec.now (options_of options.now) level bytes.items) [] [] view.old view.new) }
     ensures kept { IfErr result (λ _. view.new ≡ view.old) }
 {
     let num = view.num_elements();
@@ -126,6 +130,11 @@ pub(crate) fn decode_into_optional<'a, C: ArrayToBytesCodecTraits>(
         → IsTargetOf (kind_of level.data_type) (count_of level.shape) masks.old view.old
         → IfOk result (λ _. C.meaning codec.now (options_of options.now) level bytes.items
         ≡ Some (held_by masks.new view.new)) }
+    ensures written { let level = level_of shape.now data_type.now fill_value.now in
+        unserved_at (C.unserved codec.now) level (fill_bytes fill_value.now) ≡ None
+        → IfOk result (λ _. IsPut (kind_of level.data_type) (count_of level.shape)
+        (C.meaning codec.now (options_of options.now) level bytes.items)
+        masks.old masks.new view.old view.new) }
     ensures kept { IfErr result (λ _. (view.new ≡ view.old) × (masks.new ≡ masks.old)) }
 {
     let num = view.num_elements();

@@ -1,4 +1,4 @@
-use Rattle.std.proofs.Common.{◌≡◌, ◌∙◌, length, rules}
+use Rattle.std.proofs.Common.{◌≡◌, length, rules}
 use Rattle.zarrs_data_type_elements.specs.FillValue.{fill_bytes}
 use Rattle.zarr_codecs_numbers.specs.Numbers.{raised}
 use Rattle.zarr_codecs_offset.proofs.FillLaws.{raised_fill}

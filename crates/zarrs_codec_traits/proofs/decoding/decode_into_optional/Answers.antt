@@ -3,7 +3,7 @@ use Rattle.zarr_model.specs.Element.{kind_of}
 use Rattle.zarrs_codec_array_bytes.specs.Raw.{raw_of}
 use Rattle.zarrs_codec_traits.specs.Views.{level_of, options_of}
 use Rattle.zarrs_codec_traits.specs.Words.{list_at}
-use Rattle.zarrs_codec_traits.proofs.IntoLaws.{put_answers, decodes_into, held_after}
+use Rattle.zarrs_codec_traits.proofs.IntoLaws.{put_answers, decodes_into, held_after, put_after}
 use Rattle.zarrs_codec_traits.proofs.decoding.decode_into_optional.Goals as goal
 
 pub returns-clause-exact : goal.returns-clause-exact
@@ -20,3 +20,10 @@ returns-clause-put g c = λ served target.
     held_after (kind_of level.data_type) (count_of level.shape) (raw_of c.in_ok-decoded.decoded) c.args.masks.now c.put_optional.new.masks c.args.view.now c.put_optional.new.data
     (g.C.ArrayToBytesCodecTraits.meaning c.args.codec.now (options_of c.args.options.now) level c.args.bytes.items) c.put_optional.result
     target (c.in_ok-decoded.ensures.value served) c.put_optional.ensures.put
+
+pub returns-clause-written : goal.returns-clause-written
+returns-clause-written g c = λ served.
+    let level = level_of c.args.shape.now c.args.data_type.now c.args.fill_value.now in
+    put_after (kind_of level.data_type) (count_of level.shape) (raw_of c.in_ok-decoded.decoded) c.args.masks.now c.put_optional.new.masks c.args.view.now c.put_optional.new.data
+    (g.C.ArrayToBytesCodecTraits.meaning c.args.codec.now (options_of c.args.options.now) level c.args.bytes.items) c.put_optional.result
+    (c.in_ok-decoded.ensures.value served) c.put_optional.ensures.put
