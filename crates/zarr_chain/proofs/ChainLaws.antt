@@ -1,19 +1,20 @@
 -- What a chain gives, from what its codecs give.
-use Rattle.std.proofs.Common.{◌≡◌, ℕ, List, Option, Some, None, IsSome, Result, Ok, Err, IfOk, IfErr, IsErrAnd, MatchResult, refl, sym, ap, ◌∙◌, subst, ◌⊎◌, ⊎_elim, inl, inr}
+use Rattle.std.proofs.Common.{◌≡◌, ℕ, List, [], Option, Some, None, IsSome, Result, Ok, Err, IfOk, IfErr, IsErrAnd, MatchResult, refl, sym, ap, ◌∙◌, subst, subst₂, ◌⊎◌, ⊎_elim, inl, inr}
 use Rattle.zarr_model.specs.Element.{Element, kind_of}
 use Rattle.zarr_model.specs.Region.{count_of}
 use Rattle.zarr_model.specs.ArrayBytes.{ArrayBytes}
 use Rattle.zarr_model.specs.Codec.{Level, ArrayCodec, Options, decode_bytes}
-use Rattle.zarrs_codec_array_bytes.specs.Refusals.{Told, fine, told_by, then_answer, validity}
+use Rattle.zarrs_codec_array_bytes.specs.Refusals.{Told, fine, refused, wrong_length, unfit, other_fill, no_memory, odd, told_by, then_answer, validity}
 use Rattle.zarrs_codec_error.specs.declared.error.CodecError.{CodecError}
 use Rattle.zarrs_codec_error.specs.declared.error.CodecError.TheVariants as codec
 use Rattle.zarrs_codec_traits.specs.Errors.{IsDecodeError}
 use Rattle.zarrs_codec_traits.specs.Words.{list_at, Gives}
 use Rattle.zarr_chain.specs.declared.chain.CodecChain.{CodecChain}
-use Rattle.zarr_chain.specs.Levels.{above, Serving, AreLinked, elements_above}
+use Rattle.zarr_chain.specs.declared.level.CodecLevel.{CodecLevel}
+use Rattle.zarr_chain.specs.Levels.{above, Serving, AreLinked, elements_above, top, SaysInvalid}
 use Rattle.zarr_chain.specs.Values.{byte_codecs, bytes_says, said_at}
 use Rattle.zarr_chain.specs.Chain.{Listing, Opening, decoded, chain_says}
-use Rattle.zarr_chain.proofs.LevelLaws.{valid_some, says_some, chain-value, chain-none, chain-back}
+use Rattle.zarr_chain.proofs.LevelLaws.{valid_some, says_some, chain-value, chain-none, chain-back, none_invalid}
 
 -- what an answer or an error says, weakened
 pub ok_of : {T E : Type 0} (P R : T → Type 0) (Q : E → Type 0) (result : Result T E) → ((v : T) → P v → R v) → MatchResult result P Q → IfOk result R
@@ -45,6 +46,38 @@ memory_taken level raw beyond e there taken answer =
     ⊎_elim (λ (memory : e ≡ codec.OutOfMemory). memory)
     (λ (told : told_by e ≡ then_answer (validity (kind_of level.data_type) (count_of level.shape) raw) beyond).
     absurd (says_some e (told ∙ (ap (λ (t : Told). then_answer t beyond) (valid_some level raw there) ∙ taken)))) answer
+
+-- elements that are not valid are refused as such, whatever else is refused
+then_first : (first next : Told) → (first ≡ fine → ⊥) → then_answer first next ≡ first
+then_first fine next some = absurd (some refl)
+then_first (refused why) next some = refl
+then_first (wrong_length len expected) next some = refl
+then_first unfit next some = refl
+then_first other_fill next some = refl
+then_first no_memory next some = refl
+then_first odd next some = refl
+
+pub invalid_first : (level : Level) (raw : ArrayBytes) (beyond : Told) → list_at level raw ≡ None →
+    then_answer (validity (kind_of level.data_type) (count_of level.shape) raw) beyond ≡ validity (kind_of level.data_type) (count_of level.shape) raw
+invalid_first level raw beyond none = then_first _ beyond (none_invalid level raw none)
+
+-- at the bottom, where there is no level above it
+pub invalid_below : {A : Type 0} (steps : List (CodecLevel A)) (bottom : Level) (below raw : ArrayBytes) (beyond : Told) (e : CodecError) → list_at (top steps bottom) raw ≡ None →
+    (steps ≡ []) × (below ≡ raw) →
+    (e ≡ codec.OutOfMemory) ⊎ (told_by e ≡ then_answer (validity (kind_of bottom.data_type) (count_of bottom.shape) below) beyond) → SaysInvalid (top steps bottom) raw e
+invalid_below {A} steps bottom below raw beyond e none same answer =
+    let here : top steps bottom ≡ bottom = ap (λ (l : List (CodecLevel A)). top l bottom) same.0 in
+    let none_below : list_at bottom below ≡ None = subst₂ (λ level raw. list_at level raw ≡ None) here (sym same.1) none in
+    subst₂ (λ level raw. SaysInvalid level raw e) (sym here) same.1
+    (⊎_elim (λ (memory : e ≡ codec.OutOfMemory). inl memory)
+    (λ (told : told_by e ≡ then_answer (validity (kind_of bottom.data_type) (count_of bottom.shape) below) beyond). inr (told ∙ invalid_first bottom below beyond none_below)) answer)
+
+pub taken_below : {A : Type 0} (steps : List (CodecLevel A)) (bottom : Level) (below raw : ArrayBytes) (beyond : Told) → list_at (top steps bottom) raw ≡ None →
+    (steps ≡ []) × (below ≡ raw) → then_answer (validity (kind_of bottom.data_type) (count_of bottom.shape) below) beyond ≡ fine → ⊥
+taken_below {A} steps bottom below raw beyond none same taken =
+    let here : top steps bottom ≡ bottom = ap (λ (l : List (CodecLevel A)). top l bottom) same.0 in
+    let none_below : list_at bottom below ≡ None = subst₂ (λ level raw. list_at level raw ≡ None) here (sym same.1) none in
+    none_invalid bottom below none_below (sym (invalid_first bottom below beyond none_below) ∙ taken)
 
 module _ {A B C : Type 0} (array : A → ArrayCodec) (unserved : Serving A) (to_list : Listing B)
     (list_says : B → Options → Level → List ℕ → CodecError → Type 0) (opens : Opening C) (says : C → Options → List ℕ → CodecError → Type 0) (chain : CodecChain A B C) (under : Options) where

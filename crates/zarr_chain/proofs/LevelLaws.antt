@@ -1,5 +1,5 @@
 -- What levels give over what lies below them.
-use Rattle.std.proofs.Common.{◌≡◌, ℕ, zero, suc, List, [], ◌∷◌, drop, take, ◌++◌, Option, Some, None, IsSome, option_and_then, refl, sym, ap, ◌∙◌, ◌*◌, ◌⊎◌, ⊎_elim, is_some, subst}
+use Rattle.std.proofs.Common.{◌≡◌, true, false, ℕ, zero, suc, List, [], ◌∷◌, drop, take, ◌++◌, Option, Some, None, IsSome, option_and_then, refl, sym, ap, ◌∙◌, ◌*◌, ◌⊎◌, ⊎_elim, is_some, subst}
 use Rattle.zarrs_data_type_elements.specs.FillValue.{fill_bytes}
 use Rattle.zarr_model.specs.Element.{Element}
 use Rattle.zarr_model.specs.Codec.{Level, ArrayCodec, decode_bytes, decode_levels, decode_chain}
@@ -11,6 +11,7 @@ use Rattle.zarr_model.specs.Region.{count_of}
 use Rattle.zarr_model.specs.Command.{bytes_refusal}
 use Rattle.zarr_model.proofs.BytesLaws.{refusal-meaning}
 use Rattle.zarrs_codec_bytes.specs.Picking.{size_in}
+use Rattle.zarrs_codec_array_bytes.proofs.CheckLaws.{sized_fine}
 use Rattle.zarrs_codec_array_bytes.specs.Levels.{inner_length}
 use Rattle.zarrs_codec_array_bytes.specs.Refusals.{fine, told_by, sized_answer, validity}
 use Rattle.zarrs_codec_error.specs.declared.error.CodecError.{CodecError}
@@ -48,6 +49,14 @@ valid_some level raw there =
     let valid : bytes_refusal kind (count_of level.shape) raw ≡ None = (refusal-meaning kind (count_of level.shape) raw).1 there in
     ap (sized_answer (inner_length raw) (count_of level.shape * size_in (fixed_size kind))) valid
 
+-- and others are not
+pub none_invalid : (level : Level) (raw : ArrayBytes) → list_at level raw ≡ None → validity (kind_of level.data_type) (count_of level.shape) raw ≡ fine → ⊥
+none_invalid level raw none valid =
+    let kind = kind_of level.data_type in
+    let some : is_some (list_at level raw) ≡ true = (refusal-meaning kind (count_of level.shape) raw).0 (sized_fine _ _ _ valid) in
+    let no : is_some (list_at level raw) ≡ false = ap is_some none in
+    cc
+
 -- so they are refused for want of memory alone
 pub memory_some : (level : Level) (raw : ArrayBytes) (e : CodecError) → IsSome (list_at level raw) →
     (e ≡ codec.OutOfMemory) ⊎ (told_by e ≡ validity (kind_of level.data_type) (count_of level.shape) raw) → e ≡ codec.OutOfMemory
@@ -70,6 +79,14 @@ module _ {A : Type 0} (meaning : A → ArrayCodec) (unserved : Serving A) (botto
   linked-drop zero steps links = links
   linked-drop (suc n) [] links = links
   linked-drop (suc n) (first ∷ steps) links = linked-drop n steps links.1
+
+  -- a walk that is at its first level
+  pub at-start : (n : ℕ) (steps rest : List (CodecLevel A)) (step : CodecLevel A) → n ≡ 0 → drop n steps ≡ step ∷ rest → AreLinked meaning unserved steps bottom →
+      (unserved_at (unserved step.codec) (above step) (fill_bytes step.fill_value) ≡ None) × (top steps bottom ≡ above step)
+  at-start n steps rest step start here links =
+      let all : steps ≡ step ∷ rest = ap (λ (k : ℕ). drop k steps) (sym start) ∙ here in
+      let linked = subst (λ (l : List (CodecLevel A)). AreLinked meaning unserved l bottom) all links in
+      (linked.0.served, ap (λ (l : List (CodecLevel A)). top l bottom) all)
 
   pub nothing-above : (steps : List (CodecLevel A)) → elements_above meaning steps None ≡ None
   nothing-above [] = refl

@@ -1,8 +1,13 @@
 -- Array-to-array codecs with their levels, over what lies below them.
-use Rattle.std.specs.Prelude.{◌≡◌, ℕ, List, [], ◌∷◌, map, Option, Some, None, option_and_then}
+use Rattle.std.specs.Prelude.{◌≡◌, ◌⊎◌, ℕ, List, [], ◌∷◌, map, Option, Some, None, option_and_then}
 use Rattle.zarr_model.specs.Element.{Element, DataType, fill_element, kind_of}
+use Rattle.zarr_model.specs.Region.{count_of}
+use Rattle.zarr_model.specs.ArrayBytes.{ArrayBytes}
 use Rattle.zarr_model.specs.Codec.{Level, ArrayCodec}
 use Rattle.zarrs_data_type_elements.specs.FillValue.{fill_bytes}
+use Rattle.zarrs_codec_array_bytes.specs.Refusals.{told_by, validity}
+use Rattle.zarrs_codec_error.specs.declared.error.CodecError.{CodecError}
+use Rattle.zarrs_codec_error.specs.declared.error.CodecError.TheVariants as codec
 use Rattle.zarrs_codec_traits.specs.Errors.{Unserved, unserved_at}
 use Rattle.zarrs_codec_traits.specs.Views.{level_of}
 use Rattle.zarrs_codec_traits.specs.Words.{IsFit, AreBytes}
@@ -53,3 +58,8 @@ elements_above meaning [] below = below
 elements_above meaning (step ∷ steps) below =
     option_and_then ((meaning step.codec).decode_list (above step))
     (elements_above meaning steps below)
+
+-- an error says why bytes are not valid elements of a level, or that memory ran out
+abbrev pub SaysInvalid : Level → ArrayBytes → CodecError → Type 0
+SaysInvalid level raw e = (e ≡ codec.OutOfMemory)
+    ⊎ (told_by e ≡ validity (kind_of level.data_type) (count_of level.shape) raw)

@@ -1,6 +1,6 @@
 //! A chain of codecs, each with its level.
 
-ghost use Rattle.std.specs.Prelude.{◌≡◌, List, Some, IfOk, IfErr, IsSome, false};
+ghost use Rattle.std.specs.Prelude.{◌≡◌, List, Some, None, IfOk, IfErr, MatchResult, IsSome, false};
 ghost use Rattle.zarr_model.specs.Element.{Element};
 ghost use Rattle.zarr_model.specs.Codec.{Options};
 ghost use Rattle.zarr_model.specs.Command.{has_long_element};
@@ -9,7 +9,7 @@ ghost use Rattle.zarrs_codec_error.specs.declared.error.CodecError.TheVariants a
 ghost use Rattle.zarrs_codec_traits.specs.Errors.{IsDecodeError};
 ghost use Rattle.zarrs_codec_traits.specs.Views.{options_of};
 ghost use Rattle.zarrs_codec_traits.specs.Words.{list_at, Gives};
-ghost use Rattle.zarr_chain.specs.Levels.{above};
+ghost use Rattle.zarr_chain.specs.Levels.{above, SaysInvalid};
 ghost use Rattle.zarr_chain.specs.Chain.{IsServed, first_level, decoded, chain_says};
 
 use crate::decode::{decode_through, decode_up};
@@ -73,7 +73,8 @@ impl<A: ArrayToArrayCodecTraits, B: ArrayToBytesCodecTraits, C: BytesToBytesCode
     /// The value of a chunk, which decodes to these elements under all options.
     ///
     /// # Errors
-    /// [`CodecError::OutOfMemory`], if the bytes are valid elements of the chunk that the array-to-bytes codec takes.
+    /// [`CodecError`] exactly where the bytes are not valid elements of the chunk, with the first reason; or where the
+    /// array-to-bytes codec takes no such elements, or memory runs out.
     pub fn encode(
         &self,
         alloc: Global,
@@ -85,6 +86,9 @@ impl<A: ArrayToArrayCodecTraits, B: ArrayToBytesCodecTraits, C: BytesToBytesCode
             → list_at (first_level self.now) (raw_of bytes.entry) ≡ Some list
             → IfOk result (λ v. (under : Options)
             → decoded A.meaning B.meaning C.meaning self.now under v.items ≡ Some list) }
+        ensures refused { list_at (first_level self.now) (raw_of bytes.entry) ≡ None
+            → MatchResult result (λ v. ⊥)
+            (SaysInvalid (first_level self.now) (raw_of bytes.entry)) }
         ensures memory { IsSome (list_at (first_level self.now) (raw_of bytes.entry))
             → has_long_element (raw_of bytes.entry) ≡ false
             → B.takes self.now.bottom.codec (above self.now.bottom)

@@ -1,13 +1,13 @@
 //! The value that elements are encoded to through a chain.
 
-ghost use Rattle.std.specs.Prelude.{◌≡◌, ℕ, List, Some, MatchResult, IfOk, false};
+ghost use Rattle.std.specs.Prelude.{◌≡◌, List, [], Some, None, MatchResult, IfOk, false};
 ghost use Rattle.zarr_model.specs.Command.{has_long_element};
 ghost use Rattle.zarr_model.specs.Element.{Element};
 ghost use Rattle.zarr_model.specs.Codec.{Level, Options, decode_bytes};
 ghost use Rattle.zarrs_codec_array_bytes.specs.Raw.{raw_of};
 ghost use Rattle.zarrs_codec_error.specs.declared.error.CodecError.TheVariants as codec;
 ghost use Rattle.zarrs_codec_traits.specs.Words.{list_at};
-ghost use Rattle.zarr_chain.specs.Levels.{top, AreFit, AreLinked, elements_above};
+ghost use Rattle.zarr_chain.specs.Levels.{top, AreFit, AreLinked, elements_above, SaysInvalid};
 ghost use Rattle.zarr_chain.specs.Values.{byte_codecs};
 
 use crate::level::CodecLevel;
@@ -20,8 +20,8 @@ use zarrs_codec_traits::{ArrayToArrayCodecTraits, BytesToBytesCodecTraits};
 /// The elements of the bottom that decode to those of the first level, the first codec first.
 ///
 /// # Errors
-/// [`CodecError`] where a level is not served, where the bytes are not valid elements of the first level, or where memory
-/// runs out.
+/// [`CodecError`] exactly where a level is not served, or where there is a level and the bytes are not valid elements of
+/// the first one; or where memory runs out.
 pub fn encode_down<A: ArrayToArrayCodecTraits>(
     alloc: Global,
     levels: &[CodecLevel<A>],
@@ -34,6 +34,10 @@ pub fn encode_down<A: ArrayToArrayCodecTraits>(
         → list_at (top levels.now bottom) (raw_of bytes.entry) ≡ Some list → MatchResult result
         (λ v. elements_above A.meaning levels.now (list_at bottom (raw_of v)) ≡ Some list)
         (λ e. e ≡ codec.OutOfMemory) }
+    ensures refused { (bottom : Level) → AreLinked A.meaning A.unserved levels.now bottom
+        → list_at (top levels.now bottom) (raw_of bytes.entry) ≡ None → MatchResult result
+        (λ v. (levels.now ≡ []) × (raw_of v ≡ raw_of bytes.entry))
+        (SaysInvalid (top levels.now bottom) (raw_of bytes.entry)) }
     ensures short { has_long_element (raw_of bytes.entry) ≡ false
         → IfOk result (λ v. has_long_element (raw_of v) ≡ false) }
 {

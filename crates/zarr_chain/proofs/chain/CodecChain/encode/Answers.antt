@@ -5,7 +5,7 @@ use Rattle.zarrs_codec_traits.specs.Words.{list_at}
 use Rattle.zarr_chain.specs.Levels.{above}
 use Rattle.zarr_chain.specs.Chain.{first_level}
 use Rattle.zarr_chain.proofs.LevelLaws.{some-below}
-use Rattle.zarr_chain.proofs.ChainLaws.{some_of, memory_taken, list_back, ok_of}
+use Rattle.zarr_chain.proofs.ChainLaws.{some_of, memory_taken, invalid_below, taken_below, list_back, ok_of}
 use Rattle.zarr_chain.proofs.chain.CodecChain.encode.Goals as goal
 
 pub returns-in_err-below-clause-memory : goal.returns-in_err-below-clause-memory
@@ -30,6 +30,25 @@ returns-in_err-value-clause-memory g c = λ there short takes.
     let refused = rw c.deref-2.ensures.value at c.in_err-value.ensures.exact in
     let memory = memory_taken bottom raw (list.beyond self.bottom.codec bottom raw) c.in_err-value.field-0.0 here taken (refused c.requires.served) in
     search rules
+
+pub returns-in_err-value-clause-refused : goal.returns-in_err-value-clause-refused
+returns-in_err-value-clause-refused g c = λ none.
+    let self = c.args.self.now in
+    let bottom = above self.bottom in
+    let raw = raw_of c.in_ok-below.below in
+    let same = (rw c.deref.ensures.value at c.in_ok-below.ensures.refused) bottom c.requires.linked none in
+    let refused = (rw c.deref-2.ensures.value at c.in_err-value.ensures.exact) c.requires.served in
+    let told = invalid_below self.levels.items bottom raw (raw_of c.args.bytes) (g.B.ArrayToBytesCodecTraits.beyond self.bottom.codec bottom raw) c.in_err-value.field-0.0 none same refused in
+    search rules
+
+pub returns-clause-refused : goal.returns-clause-refused
+returns-clause-refused g c = λ none.
+    let self = c.args.self.now in
+    let bottom = above self.bottom in
+    let raw = raw_of c.in_ok-below.below in
+    let same = (rw c.deref.ensures.value at c.in_ok-below.ensures.refused) bottom c.requires.linked none in
+    let taken = (rw c.deref-2.ensures.value at c.in_ok-value.ensures.exact) c.requires.served in
+    absurd (taken_below self.levels.items bottom raw (raw_of c.args.bytes) (g.B.ArrayToBytesCodecTraits.beyond self.bottom.codec bottom raw) none same taken)
 
 pub returns-clause-value : goal.returns-clause-value
 returns-clause-value g c = λ xs means.
