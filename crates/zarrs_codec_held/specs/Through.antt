@@ -1,0 +1,26 @@
+-- What a bytes-to-bytes codec makes of what a handle holds.
+use Rattle.std.specs.Prelude.{ℕ, List, Option, Some, None, option_map}
+use Rattle.zarr_model.specs.Codec.{Options}
+use Rattle.zarrs_codec_error.specs.declared.error.CodecError.{CodecError}
+use Rattle.zarrs_codec_held.specs.Held.{Held, Seen, part_of}
+
+-- what the value decodes to
+abbrev pub through : (List ℕ → Option (List ℕ)) → Held → Held
+through decode None = None
+through decode (Some None) = Some None
+through decode (Some (Some value)) = option_map Some (decode value)
+
+-- which errors tell that it does not decode
+abbrev pub through_says : (List ℕ → CodecError → Type 0) → (CodecError → Type 0) → Held
+    → CodecError → Type 0
+through_says says tells None e = tells e
+through_says says tells (Some None) e = ⊥
+through_says says tells (Some (Some value)) e = says value e
+
+-- what is shown: ranges of the decoded value, for each of which the whole value is read
+abbrev pub decoded : (Options → List ℕ → Option (List ℕ)) → Seen → Seen
+decoded meaning below = record below {
+  held = λ under. through (meaning under) (below.held under);
+  part = λ under. part_of (through (meaning under) (below.held under));
+  taking = λ asked. below.taking None;
+}
