@@ -19,8 +19,9 @@ codec_of_indexer error = codec.IncompatibleIndexer error
 
 -- that of a store
 abbrev pub codec_of_storage : StorageError → CodecError
+codec_of_storage store.Failed = codec.StorageError store.Failed
+codec_of_storage (store.InvalidByteRange error) = codec.InvalidByteRangeError error
 codec_of_storage store.OutOfMemory = codec.OutOfMemory
-codec_of_storage error = codec.StorageError error
 
 -- that of an array subset
 abbrev pub codec_of_subset : ArraySubsetError → CodecError

@@ -90,8 +90,9 @@ impl From<StorageError> for CodecError {
 
     fn from(error: StorageError) -> Self {
         match error {
+            StorageError::Failed => CodecError::StorageError(StorageError::Failed),
+            StorageError::InvalidByteRange(error) => CodecError::InvalidByteRangeError(error),
             StorageError::OutOfMemory => CodecError::OutOfMemory,
-            error => CodecError::StorageError(error),
         }
     }
 }

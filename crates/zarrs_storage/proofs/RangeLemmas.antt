@@ -1,10 +1,13 @@
 -- Parts of a value, one after another.
-use Rattle.std.proofs.Common.{◌≡◌, ◌∙◌, ap, ℕ, ◌+◌, ◌<◌, List, [], ◌∷◌, ◌++◌, length, take, get_or, sym, min, ◌-◌, ◌^◌, arith}
+use Rattle.std.proofs.Common.{◌≡◌, ◌∙◌, ap, ℕ, ◌+◌, ◌<◌, List, [], ◌∷◌, ◌++◌, length, take, get_or, sym, min, ◌-◌, ◌^◌, Some, arith}
 use Rattle.std.specs.List.{concat}
 use Rattle.std.proofs.lemmas.List.{append-nil, map_more, length-append}
 use Rattle.std.proofs.lemmas.List.Folds.{concat-append}
 use Rattle.zarrs_storage.specs.declared.byte_range.ByteRange.{ByteRange}
-use Rattle.zarrs_storage.specs.ByteRange.{slice_of, slices_of, room_of}
+use Rattle.zarrs_storage.specs.declared.byte_range.ByteRangeFault.{ByteRangeFault}
+use Rattle.zarrs_storage.specs.declared.byte_range.ByteRangeFault.TheVariants.{Invalid, OutOfMemory}
+use Rattle.zarrs_storage.specs.ByteRange.{slice_of, slices_of, room_of, first_invalid, IsFirstInvalid}
+use Rattle.zarrs_storage.specs.Store.{IsRangeError, range_fault}
 
 -- one more part stands at the end
 concat_more : (parts : List (List ℕ)) (part : List ℕ) → concat (parts ++ part ∷ []) ≡ concat parts ++ part
@@ -28,3 +31,9 @@ room_more ranges value i d h =
     let part = slice_of (get_or ranges i d) value in
     least_more (length before) (length part) (2 ^ 64 - 1)
     ∙ ap (λ n. min n (2 ^ 64 - 1)) (sym (length-append before part) ∙ ap length (sym (slices_more ranges value i d h)))
+
+-- a fault of ranges as an error of a store that holds the value
+pub range_error : (ranges : List ByteRange) (value : List ℕ) (fault : ByteRangeFault) →
+    IsFirstInvalid (first_invalid (length value) ranges) (length value) fault → IsRangeError ranges (Some value) (range_fault fault)
+range_error ranges value (Invalid error) told = told
+range_error ranges value OutOfMemory told = tt

@@ -5,6 +5,7 @@
 
 pub mod byte_range;
 pub mod memory_store;
+pub mod parts;
 pub mod sink;
 pub mod source;
 pub mod store;
@@ -15,6 +16,7 @@ pub use byte_range::{
     extract_byte_ranges_concat,
 };
 pub use memory_store::MemoryStore;
+pub use parts::put_parts;
 pub use sink::{MemorySink, Sink, WriteSink};
 pub use source::{IoFailed, MemorySource, ReadSource, Source};
 pub use store::{StorageError, Store};

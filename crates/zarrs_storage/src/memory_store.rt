@@ -1,7 +1,10 @@
 //! A store in memory.
-ghost use Rattle.std.specs.Prelude.{◌≡◌, IfOk};
-ghost use Rattle.zarrs_storage.specs.Store.{ListsKeys};
+ghost use Rattle.std.specs.Prelude.{◌≡◌, ◌+◌, IfOk};
+ghost use Rattle.zarrs_storage.specs.Calls.{count_of};
+ghost use Rattle.zarrs_storage.specs.Store.{ListsKeys, total_of};
 
+use crate::byte_range::{ByteRange, OffsetBytes, extract_byte_ranges};
+use crate::parts::put_parts;
 use crate::store::{StorageError, Store};
 use crate::store_key::StoreKey;
 use std::alloc::{AllocError, Global};
@@ -52,11 +55,27 @@ impl MemoryStore {
     }
 }
 
+// A count with the lengths of parts, which stops at the last value.
+fn with_lengths(count: u64, parts: &[Vec<u8>]) -> u64
+    ensures { result ≡ count_of (count + total_of parts.now) }
+{
+    let mut sum = count;
+    for part in parts {
+        sum = sum.saturating_add(part.len() as u64);
+    }
+    sum
+}
+
 impl Store for MemoryStore {
+    ghost use Rattle.std.specs.Prelude.{true};
     ghost use Rattle.zarrs_storage.specs.MemoryStore.{shown_of};
     ghost use Rattle.zarrs_storage.specs.Calls.{count_of-fits};
 
     ghost shown = { shown_of };
+
+    ghost gets_parts = { λ _. true };
+
+    ghost sets_parts = { λ _. true };
 
     fn get(&mut self, alloc: Global, key: &StoreKey) -> Result<Option<Vec<u8>>, StorageError> {
         self.asks = self.asks.saturating_add(1);
@@ -66,6 +85,29 @@ impl Store for MemoryStore {
         let copy = Vec::from_slice(alloc, value)?;
         self.taken = self.taken.saturating_add(copy.len() as u64);
         Ok(Some(copy))
+    }
+
+    fn get_partial_many(
+        &mut self,
+        alloc: Global,
+        key: &StoreKey,
+        ranges: &[ByteRange],
+    ) -> Result<Option<Vec<Vec<u8>>>, StorageError> {
+        self.asks = self.asks.saturating_add(1);
+        let Some(value) = self.map.get(key) else {
+            return Ok(None);
+        };
+        let parts = extract_byte_ranges(alloc, value, ranges)?;
+        self.taken = with_lengths(self.taken, &parts);
+        Ok(Some(parts))
+    }
+
+    fn size_key(&mut self, key: &StoreKey) -> Result<Option<u64>, StorageError> {
+        self.asks = self.asks.saturating_add(1);
+        let Some(value) = self.map.get(key) else {
+            return Ok(None);
+        };
+        Ok(Some(value.len() as u64))
     }
 
     fn list(&mut self, alloc: Global) -> Result<Vec<StoreKey>, StorageError> {
@@ -80,9 +122,34 @@ impl Store for MemoryStore {
         Ok(())
     }
 
+    fn set_partial_many(
+        &mut self,
+        alloc: Global,
+        key: &StoreKey,
+        parts: &[OffsetBytes],
+    ) -> Result<(), StorageError> {
+        if let Some(value) = self.map.get_mut(key) {
+            put_parts(value, parts)?;
+            return Ok(());
+        }
+        let mut value = Vec::new(alloc);
+        put_parts(&mut value, parts)?;
+        let key = key.try_clone(alloc)?;
+        self.map.insert(key, value)?;
+        Ok(())
+    }
+
     fn erase(&mut self, key: &StoreKey) -> Result<(), StorageError> {
         self.map.remove(key);
         Ok(())
+    }
+
+    fn supports_get_partial(&self) -> bool {
+        true
+    }
+
+    fn supports_set_partial(&self) -> bool {
+        true
     }
 
     fn faults(&self) -> u64 {

@@ -1,10 +1,12 @@
 //! What a store is: a finite map from keys to values, with its counts.
 //!
 //! See <https://zarr-specs.readthedocs.io/en/latest/v3/core/index.html#abstract-store-interface>.
-ghost use Rattle.std.specs.Prelude.{◌≡◌, ◌≤◌, ◌-◌, ◌^◌, Some, None, IsErrOf};
+ghost use Rattle.std.specs.Prelude.{◌≡◌, ◌≤◌, ◌-◌, ◌^◌, Bool, Some, None, IsErrOf};
 ghost use Rattle.zarr_model.specs.Prelude.{Shown};
-ghost use Rattle.zarrs_storage.specs.Store.{Gets, Lists, Puts};
+ghost use Rattle.zarrs_storage.specs.Parts.{PartsFit, with_parts, held_bytes};
+ghost use Rattle.zarrs_storage.specs.Store.{Gets, GetsParts, Sizes, Lists, Puts};
 
+use crate::byte_range::{ByteRange, ByteRangeFault, InvalidByteRangeError, OffsetBytes};
 use crate::store_key::StoreKey;
 use std::alloc::{AllocError, AllocFailed, Global};
 use thiserror::Error;
@@ -15,6 +17,9 @@ pub enum StorageError {
     /// The store failed, and its count of faults rose or stands at its last value.
     #[error("the store failed")]
     Failed,
+    /// A range of bytes is not valid for the value, the first such one.
+    #[error("{0}")]
+    InvalidByteRange(InvalidByteRangeError),
     /// Memory ran out, and the content is as before.
     #[error("out of memory")]
     OutOfMemory,
@@ -40,6 +45,19 @@ impl<T: Drop> From<AllocFailed<T>> for StorageError {
     }
 }
 
+impl From<ByteRangeFault> for StorageError {
+    ghost use Rattle.zarrs_storage.specs.Store.{range_fault};
+
+    ghost from_gives = { λ fault e. e ≡ range_fault fault };
+
+    fn from(fault: ByteRangeFault) -> Self {
+        match fault {
+            ByteRangeFault::Invalid(error) => StorageError::InvalidByteRange(error),
+            ByteRangeFault::OutOfMemory => StorageError::OutOfMemory,
+        }
+    }
+}
+
 /// A finite map from keys to values that are bytes.
 ///
 /// The counts of faults, of reading calls and of bytes handed out never fall, and stay at `u64::MAX` once there.
@@ -47,9 +65,32 @@ pub trait Store {
     /// Its content and its counts.
     ghost shown: { Self → Shown };
 
+    // Whether it reads and writes parts of a value.
+    ghost gets_parts: { Self → Bool };
+
+    ghost sets_parts: { Self → Bool };
+
     /// The value under `key`, or None where the key is absent. A reading call.
     fn get(&mut self, alloc: Global, key: &StoreKey) -> Result<Option<Vec<u8>>, StorageError>
         ensures { Gets key.now (shown self.old) (shown self.new) result };
+
+    /// The bytes of each range of the value under `key`, in the order of the ranges, or None where the key is absent. A
+    /// reading call.
+    ///
+    /// # Errors
+    /// [`StorageError::InvalidByteRange`] names the first range that is not valid for the value. It comes of no other call.
+    fn get_partial_many(
+        &mut self,
+        alloc: Global,
+        key: &StoreKey,
+        ranges: &[ByteRange],
+    ) -> Result<Option<Vec<Vec<u8>>>, StorageError>
+        ensures { GetsParts key.now ranges.now (shown self.old) (shown self.new) result };
+
+    /// How many bytes the value under `key` has, or None where the key is absent. A reading call that hands out no value
+    /// and takes no memory.
+    fn size_key(&mut self, key: &StoreKey) -> Result<Option<u64>, StorageError>
+        ensures { Sizes key.now (shown self.old) (shown self.new) result };
 
     /// All keys, in the order of their bytes. A reading call that hands out no value.
     fn list(&mut self, alloc: Global) -> Result<Vec<StoreKey>, StorageError>
@@ -59,10 +100,31 @@ pub trait Store {
     fn set(&mut self, alloc: Global, key: &StoreKey, value: &[u8]) -> Result<(), StorageError>
         ensures { Puts key.now (Some value.now) (shown self.old) (shown self.new) result };
 
+    /// Puts each part into the value under `key`, in order, an absent one counting as empty: the value is filled up with
+    /// zero bytes to the part's end, and the part replaces the bytes at its place.
+    fn set_partial_many(
+        &mut self,
+        alloc: Global,
+        key: &StoreKey,
+        parts: &[OffsetBytes],
+    ) -> Result<(), StorageError>
+        requires fit { PartsFit parts.now }
+        ensures { Puts key.now
+            (Some (with_parts parts.now (held_bytes ((shown self.old).content key.now))))
+            (shown self.old) (shown self.new) result };
+
     /// Leaves `key` absent, also where it was absent. Takes no memory.
     fn erase(&mut self, key: &StoreKey) -> Result<(), StorageError>
         ensures puts { Puts key.now None (shown self.old) (shown self.new) result }
         ensures no_memory { IsErrOf result StorageError.OutOfMemory → ⊥ };
+
+    /// Whether `get_partial_many` takes less than the whole value from where the store keeps it.
+    fn supports_get_partial(&self) -> bool
+        ensures { result ≡ gets_parts self.now };
+
+    /// Whether `set_partial_many` gives less than the whole value to where the store keeps it.
+    fn supports_set_partial(&self) -> bool
+        ensures { result ≡ sets_parts self.now };
 
     /// How often the store has failed.
     fn faults(&self) -> u64

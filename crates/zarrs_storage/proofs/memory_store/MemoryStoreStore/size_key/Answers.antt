@@ -1,0 +1,28 @@
+use Rattle.std.proofs.Common.{rules, arith}
+use Rattle.std.proofs.lemmas.Grind.{common_steps}
+use Rattle.zarrs_storage.proofs.MemoryStoreLemmas.{get-held_by}
+use Rattle.zarrs_storage.proofs.memory_store.MemoryStoreStore.size_key.Goals as goal
+
+pub returns-in_default : goal.returns-in_default
+returns-in_default c = record {
+  value =
+      let found = get-held_by c.self.inside.map c.args.key.now in
+      rw (← c.self.view_is, found) (grind (arith, common_steps));
+  failed = search rules;
+  same = search rules;
+  asks = search rules;
+  taken = search rules;
+  cause = search rules;
+}
+
+pub returns : goal.returns
+returns c = record {
+  value =
+      let found = get-held_by c.self.inside.map c.args.key.now in
+      rw (← c.self.view_is, found) (grind (arith, common_steps));
+  failed = search rules;
+  same = search rules;
+  asks = search rules;
+  taken = search rules;
+  cause = search rules;
+}
