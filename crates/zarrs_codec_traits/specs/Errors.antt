@@ -1,5 +1,5 @@
 -- Why codecs give no answer.
-use Rattle.std.specs.Prelude.{◌≡◌, ◌⊎◌, ℕ, List, Option, Some, None, Result, Ok, Err}
+use Rattle.std.specs.Prelude.{◌≡◌, ◌⊎◌, ℕ, Bool, true, false, List, Option, Some, None, Result, Ok, Err}
 use Rattle.zarr_model.specs.Element.{DataType}
 use Rattle.zarr_model.specs.Codec.{Level}
 use Rattle.zarr_model.specs.Command.{expected_fixed_length_bytes, invalid_variable_sized_array_offsets}
@@ -35,11 +35,20 @@ RefusesBy (Some why) (Err e) = (e ≡ codec.OutOfMemory) ⊎ (e ≡ unserved_err
 abbrev pub IsDecodeError : {A : Type 0} → Option A → (CodecError → Type 0) → CodecError → Type 0
 IsDecodeError wanted says e = (e ≡ codec.OutOfMemory) ⊎ ((wanted ≡ None) × says e)
 
--- a fill value has another size than the type's, or is encoded to elements of no fixed size; or
--- memory ran out
-abbrev pub IsFillFault : CodecError → Type 0
-IsFillFault e = (e ≡ codec.OutOfMemory)
-    ⊎ ((told_by e ≡ other_fill) ⊎ (told_by e ≡ refused expected_fixed_length_bytes))
+-- a fill value of another size than the type's is refused as such, and only what is encoded to
+-- elements of no fixed size is refused else; or memory ran out
+abbrev pub FillAnswers : {T : Type 0} → Bool → Result T CodecError → Type 0
+FillAnswers true (Ok v) = Unit {0}
+FillAnswers true (Err e) =
+    (e ≡ codec.OutOfMemory) ⊎ (told_by e ≡ refused expected_fixed_length_bytes)
+FillAnswers false (Ok v) = ⊥
+FillAnswers false (Err e) = (e ≡ codec.OutOfMemory) ⊎ (told_by e ≡ other_fill)
+
+-- a call is refused by what is told, or memory ran out
+abbrev pub RefusesAs : {T : Type 0} → Told → Result T CodecError → Type 0
+RefusesAs fine result = Unit {0}
+RefusesAs why (Ok v) = ⊥
+RefusesAs why (Err e) = (e ≡ codec.OutOfMemory) ⊎ (told_by e ≡ why)
 
 -- nothing is refused, or the form of variable-length elements is
 abbrev pub IsFormRefusal : Told → Type 0

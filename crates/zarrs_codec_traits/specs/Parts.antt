@@ -1,10 +1,9 @@
 -- Parts of an encoded value.
-use Rattle.std.specs.Prelude.{◌≡◌, ℕ, ◌==◌, ◌&&◌, Bool, true, false, List, [], ◌∷◌, length, Option, Some, None, Result, Ok, Err}
+use Rattle.std.specs.Prelude.{◌≡◌, ℕ, ◌==◌, if◌then◌else◌, List, [], ◌∷◌, length, Option, Some, None}
 use Rattle.zarrs_storage.specs.declared.byte_range.ByteRange.{ByteRange}
 use Rattle.zarrs_storage.specs.declared.byte_range.ByteRange.TheVariants.{FromStart, Suffix}
 use Rattle.zarrs_storage.specs.ByteRange.{slices_of}
-use Rattle.zarrs_codec_error.specs.declared.error.CodecError.{CodecError}
-use Rattle.zarrs_codec_error.specs.declared.error.CodecError.TheVariants as codec
+use Rattle.zarrs_codec_array_bytes.specs.Refusals.{Told, fine, wrong_length, then_answer}
 
 -- the parts of a value that a request names, or the whole value where it names none
 abbrev pub AreParts : Option (List ByteRange) → List ℕ → List (List ℕ) → Type 0
@@ -16,33 +15,20 @@ abbrev pub IsAnswer : Option (List ByteRange) → List (List ℕ) → Type 0
 IsAnswer None parts = length parts ≡ 1
 IsAnswer (Some ranges) parts = length parts ≡ length ranges
 
--- a part has the length that its range names
-abbrev pub has_length : ByteRange → List ℕ → Bool
-has_length (FromStart offset None) part = true
-has_length (FromStart offset (Some n)) part = length part == n
-has_length (Suffix n) part = length part == n
+-- a part has the length that its range names, or another one is told
+abbrev pub length_answer : ByteRange → List ℕ → Told
+length_answer (FromStart offset None) part = fine
+length_answer (FromStart offset (Some n)) part =
+    if length part == n then fine else wrong_length (length part) n
+length_answer (Suffix n) part = if length part == n then fine else wrong_length (length part) n
 
-abbrev pub have_lengths : List ByteRange → List (List ℕ) → Bool
-have_lengths (range ∷ ranges) (part ∷ parts) =
-    has_length range part && have_lengths ranges parts
-have_lengths ranges parts = true
+-- the first part of another length than its range names
+abbrev pub lengths_answer : List ByteRange → List (List ℕ) → Told
+lengths_answer (range ∷ ranges) (part ∷ parts) =
+    then_answer (length_answer range part) (lengths_answer ranges parts)
+lengths_answer ranges parts = fine
 
-abbrev pub fit_request : Option (List ByteRange) → List (List ℕ) → Bool
-fit_request None parts = true
-fit_request (Some ranges) parts = have_lengths ranges parts
-
--- a wrong length was refused, or memory ran out
-abbrev pub IsLengthFault : CodecError → Type 0
-IsLengthFault (codec.UnexpectedChunkDecodedSize e) = Unit {0}
-IsLengthFault e = e ≡ codec.OutOfMemory
-
-abbrev pub RefusesUnless : {T : Type 0} → Bool → Result T CodecError → Type 0
-RefusesUnless true result = Unit {0}
-RefusesUnless false (Ok v) = ⊥
-RefusesUnless false (Err e) = IsLengthFault e
-
--- parts of other lengths than a request names are refused
-abbrev pub RefusesParts : {T : Type 0} → Option (List ByteRange) → List (List ℕ)
-    → Result T CodecError → Type 0
-RefusesParts None parts result = Unit {0}
-RefusesParts (Some ranges) parts result = RefusesUnless (have_lengths ranges parts) result
+-- what is told of the parts that a request names
+abbrev pub request_answer : Option (List ByteRange) → List (List ℕ) → Told
+request_answer None parts = fine
+request_answer (Some ranges) parts = lengths_answer ranges parts

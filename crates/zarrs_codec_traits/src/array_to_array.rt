@@ -1,6 +1,6 @@
 //! Codecs that turn the elements of an array into elements of the level below.
 
-ghost use Rattle.std.specs.Prelude.{◌≡◌, ◌≤◌, ◌<◌, ◌^◌, ℕ, true, false, List, length, replicate, Option, Some, None, IsSome, IfOk, IfErr, MatchResult, option_and_then, option_map};
+ghost use Rattle.std.specs.Prelude.{◌≡◌, ◌≤◌, ◌<◌, ◌^◌, ℕ, true, false, List, length, replicate, Option, Some, None, IsSome, IfOk, MatchResult, option_and_then, option_map};
 ghost use Rattle.zarr_model.specs.Region.{Region, count_of, ends_within, sizes};
 ghost use Rattle.zarr_model.specs.Element as Model;
 ghost use Rattle.zarr_model.specs.Element.{Element, kind_of, fill_element};
@@ -9,11 +9,11 @@ ghost use Rattle.zarr_model.specs.Command.{has_long_element};
 ghost use Rattle.zarrs_array_subset.specs.ArraySubset.{region as box_of};
 ghost use Rattle.zarrs_data_type_elements.specs.FillValue.{fill_bytes};
 ghost use Rattle.zarrs_data_type_names.specs.DataType.{type_of};
-ghost use Rattle.zarrs_codec_bytes.specs.Filling.{innermost_fill};
+ghost use Rattle.zarrs_codec_bytes.specs.Filling.{has_size, innermost_fill};
 ghost use Rattle.zarrs_codec_error.specs.declared.error.CodecError.TheVariants as codec;
 ghost use Rattle.zarrs_codec_array_bytes.specs.Raw.{raw_of};
 ghost use Rattle.zarrs_codec_array_bytes.specs.Refusals.{validity, Answers};
-ghost use Rattle.zarrs_codec_traits.specs.Errors.{unserved_at, RefusesBy, IsFillFault};
+ghost use Rattle.zarrs_codec_traits.specs.Errors.{unserved_at, RefusesBy, FillAnswers};
 ghost use Rattle.zarrs_codec_traits.specs.Views.{lengths, level_of};
 ghost use Rattle.zarrs_codec_traits.specs.Words.{list_at, at_box, select, Gives, IsFit, AreBytes};
 
@@ -73,8 +73,8 @@ pub trait ArrayToArrayCodecTraits: ArrayCodecTraits + Sized {
     /// The fill value below.
     ///
     /// # Errors
-    /// [`CodecError`] exactly where the codec does not serve the arguments; else only where the fill value denotes no
-    /// element, such as one of another size, or memory runs out.
+    /// [`CodecError`] exactly where the codec does not serve the arguments, else exactly where the fill value has another
+    /// size than the type's; else only where it denotes no element, or memory runs out.
     fn encoded_fill_value(
         &self,
         alloc: Global,
@@ -90,8 +90,10 @@ pub trait ArrayToArrayCodecTraits: ArrayCodecTraits + Sized {
             (fill_bytes decoded_fill_value.now)) → MatchResult result
             (λ r. fill_bytes r ≡ fill_below self.now (type_of decoded_data_type.now)
             (fill_bytes decoded_fill_value.now)) (λ e. e ≡ codec.OutOfMemory) }
-        ensures failed { Self.unserved self.now None (Some (type_of decoded_data_type.now))
-            (Some (fill_bytes decoded_fill_value.now)) ≡ None → IfErr result IsFillFault };
+        ensures exact { Self.unserved self.now None (Some (type_of decoded_data_type.now))
+            (Some (fill_bytes decoded_fill_value.now)) ≡ None
+            → FillAnswers (has_size (kind_of (type_of decoded_data_type.now))
+            (fill_bytes decoded_fill_value.now)) result };
 
     /// The shape below.
     ///
@@ -127,8 +129,8 @@ pub trait ArrayToArrayCodecTraits: ArrayCodecTraits + Sized {
     /// The shape, the data type and the fill value below.
     ///
     /// # Errors
-    /// [`CodecError`] exactly where the codec does not serve the arguments; else only where the fill value denotes no
-    /// element, such as one of another size, or memory runs out.
+    /// [`CodecError`] exactly where the codec does not serve the arguments, else exactly where the fill value has another
+    /// size than the type's; else only where it denotes no element, or memory runs out.
     fn encoded_representation(
         &self,
         alloc: Global,
@@ -146,9 +148,10 @@ pub trait ArrayToArrayCodecTraits: ArrayCodecTraits + Sized {
             ≡ (meaning self.now).level_below level)
             × (fill_bytes r.2 ≡ fill_below self.now level.data_type (fill_bytes fill_value.now)))
             (λ e. e ≡ codec.OutOfMemory) }
-        ensures failed { let level = level_of shape.now data_type.now fill_value.now in
+        ensures exact { let level = level_of shape.now data_type.now fill_value.now in
             unserved_at (Self.unserved self.now) level (fill_bytes fill_value.now) ≡ None
-            → IfErr result IsFillFault };
+            → FillAnswers (has_size (kind_of level.data_type) (fill_bytes fill_value.now))
+            result };
 
     /// The elements of the level below that decode to these.
     ///

@@ -17,8 +17,8 @@ ghost use Rattle.zarrs_codec_error.specs.declared.error.CodecError.TheVariants a
 ghost use Rattle.zarrs_codec_array_bytes.specs.Raw.{raw_of};
 ghost use Rattle.zarrs_codec_array_bytes.specs.Refusals.{Told, fine, validity, then_answer, Answers};
 ghost use Rattle.zarrs_codec_options.specs.declared.bytes_representation.BytesRepresentation.{BytesRepresentation};
-ghost use Rattle.zarrs_codec_traits.specs.Errors.{unserved_at, RefusesBy, IsDecodeError, IsFormRefusal};
-ghost use Rattle.zarrs_codec_traits.specs.Parts.{AreParts, IsAnswer, RefusesParts, fit_request};
+ghost use Rattle.zarrs_codec_traits.specs.Errors.{unserved_at, RefusesBy, RefusesAs, IsDecodeError, IsFormRefusal};
+ghost use Rattle.zarrs_codec_traits.specs.Parts.{AreParts, IsAnswer, request_answer};
 ghost use Rattle.zarrs_codec_traits.specs.Views.{lengths, level_of, options_of, ranges_of};
 ghost use Rattle.zarrs_codec_traits.specs.Words.{list_at, at_box, select, Gives, IsFit};
 
@@ -209,8 +209,9 @@ pub trait ArrayToBytesCodecTraits: ArrayCodecTraits + Sized {
             (level_of shape.now data_type.now fill_value.now) (fill_bytes fill_value.now)) result }
         ensures lengths { let level = level_of shape.now data_type.now fill_value.now in
             unserved_at (Self.unserved self.now) level (fill_bytes fill_value.now) ≡ None
-            → RefusesParts (request self.now level.shape level.data_type (box_of region.now))
-            (parts_of parts) result }
+            → RefusesAs (request_answer
+            (request self.now level.shape level.data_type (box_of region.now))
+            (parts_of parts)) result }
         ensures value { let level = level_of shape.now data_type.now fill_value.now in
             (value : List ℕ) (xs : List Element)
             → unserved_at (Self.unserved self.now) level (fill_bytes fill_value.now) ≡ None
@@ -223,8 +224,8 @@ pub trait ArrayToBytesCodecTraits: ArrayCodecTraits + Sized {
             → unserved_at (Self.unserved self.now) level (fill_bytes fill_value.now) ≡ None
             → AreParts (request self.now level.shape level.data_type (box_of region.now)) value
             (parts_of parts)
-            → fit_request (request self.now level.shape level.data_type (box_of region.now))
-            (parts_of parts) ≡ true → IfErr result
+            → request_answer (request self.now level.shape level.data_type (box_of region.now))
+            (parts_of parts) ≡ fine → IfErr result
             (IsDecodeError (meaning self.now (options_of options.now) level value)
             (says self.now (options_of options.now) level value)) }
         ensures valid { let level = level_of shape.now data_type.now fill_value.now in

@@ -9,8 +9,10 @@ mod array_to_array;
 mod array_to_bytes;
 mod bytes_to_bytes;
 mod codec_traits;
+mod shape;
 
 pub use array_to_array::ArrayToArrayCodecTraits;
 pub use array_to_bytes::ArrayToBytesCodecTraits;
 pub use bytes_to_bytes::BytesToBytesCodecTraits;
 pub use codec_traits::{ArrayCodecTraits, CodecTraits, CodecTraitsV2, CodecTraitsV3};
+pub use shape::{fixed_value, num_elements, same_shape, shape_numbers};
