@@ -59,9 +59,9 @@ module _ (offset len : ℕ) (below : Seen) (sound : IsSound below) where
           record {
             long = got.long;
             inner = λ from m h.
-              let fits : start + from + m ≤ len = omega arith in
-              let place : offset + (start + from) ≡ offset + start + from = omega arith in
-              moved under (start + from) m fits ∙ (ap (λ (o : ℕ). below.part under (FromStart o (Some m))) place ∙ got.inner from m h);
+                let fits : start + from + m ≤ len = omega arith in
+                let place : offset + (start + from) ≡ offset + start + from = omega arith in
+                moved under (start + from) m fits ∙ (ap (λ (o : ℕ). below.part under (FromStart o (Some m))) place ∙ got.inner from m h);
           }
       go false valid =
           let none : interval_part (below.part under) offset len (FromStart start (Some n)) ≡ None = ap (λ (b : Bool). if b then below.part under (FromStart (offset + start) (Some (start + n - start))) else None) valid in

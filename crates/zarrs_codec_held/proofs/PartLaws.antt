@@ -48,10 +48,10 @@ within_value (Some value) offset len bytes e = go (nat_le (offset + len) (length
         record {
           long = ap length (sym same) ∙ slice_long value offset len fits;
           inner = λ from n within.
-            let inside : offset + from + n ≤ length value = omega arith in
-            let valid : nat_le (offset + from + n) (length value) ≡ true = le-leb _ _ inside in
-            ap (λ (b : Bool). if b then Some (Some (take (offset + from + n - (offset + from)) (drop (offset + from) value))) else None) valid
-            ∙ ap (λ (bytes : List ℕ). Some (Some bytes)) (slice_inner value offset len from n within ∙ ap (λ (b : List ℕ). take n (drop from b)) same);
+              let inside : offset + from + n ≤ length value = omega arith in
+              let valid : nat_le (offset + from + n) (length value) ≡ true = le-leb _ _ inside in
+              ap (λ (b : Bool). if b then Some (Some (take (offset + from + n - (offset + from)) (drop (offset + from) value))) else None) valid
+              ∙ ap (λ (bytes : List ℕ). Some (Some bytes)) (slice_inner value offset len from n within ∙ ap (λ (b : List ℕ). take n (drop from b)) same);
         }
 
 pub value_there : (held : Option (List ℕ)) (range : ByteRange) (value : Option (List ℕ)) → value_part held range ≡ Some value → is_some value ≡ is_some held
@@ -71,8 +71,8 @@ module _ (seen : Seen) (value : Option (List ℕ)) (there : seen.there ≡ is_so
   sound_by = record {
     whole = λ under v range is. part under range ∙ ap (λ (o : Option (List ℕ)). value_part o range) (same_value value (Some v) (sym (held under) ∙ is));
     within = λ under offset len bytes is.
-      let got : HasPart (value_part value) offset len bytes = within_value value offset len bytes (sym (part under (FromStart offset (Some len))) ∙ is) in
-      record { long = got.long; inner = λ from n within. part under (FromStart (offset + from) (Some n)) ∙ got.inner from n within };
+        let got : HasPart (value_part value) offset len bytes = within_value value offset len bytes (sym (part under (FromStart offset (Some len))) ∙ is) in
+        record { long = got.long; inner = λ from n within. part under (FromStart (offset + from) (Some n)) ∙ got.inner from n within };
     all_there = λ under v is. ap is_some (same_value v value (sym is ∙ held under)) ∙ sym there;
     part_there = λ under range v is. value_there value range v (sym (part under range) ∙ is) ∙ sym there;
   }

@@ -57,11 +57,7 @@ fn copied(alloc: Global, bytes: &[u8]) -> Result<Vec<u8>, AllocError>
 
 impl<H, C> BytesToBytesCodecPartialDefault<H, C> {
     /// The handle's value through the codec.
-    pub fn new_bytes(
-        handle: H,
-        decoded_representation: BytesRepresentation,
-        codec: C,
-    ) -> Self
+    pub fn new_bytes(handle: H, decoded_representation: BytesRepresentation, codec: C) -> Self
         ensures handle { result.handle ≡ handle }
         ensures codec { result.codec ≡ codec }
     {
@@ -74,15 +70,18 @@ impl<H, C> BytesToBytesCodecPartialDefault<H, C> {
 
     /// The handle again.
     pub fn into_handle(self) -> H
-        where
-            C: Drop,
+    where
+        C: Drop,
         ensures { result ≡ self.handle }
     {
         self.handle
     }
 }
 
-impl<H: BytesPartialDecoderTraits, C: BytesToBytesCodecTraits> BytesToBytesCodecPartialDefault<H, C> {
+impl<H: BytesPartialDecoderTraits, C: BytesToBytesCodecTraits> BytesToBytesCodecPartialDefault<
+    H,
+    C,
+> {
     // The whole value, decoded.
     #[tactic(auto, using(zarrs_codec_held::proofs::ThroughLaws::read_told, zarrs_codec_held::proofs::ThroughLaws::decode_told, zarrs_codec_held::proofs::ThroughLaws::reads_ok, zarrs_codec_held::proofs::ThroughLaws::reads_err))]
     fn decode_value(
@@ -107,7 +106,10 @@ impl<H: BytesPartialDecoderTraits, C: BytesToBytesCodecTraits> BytesToBytesCodec
     {
         match self.handle.decode(alloc, options) {
             Ok(Some(value)) => {
-                match self.codec.decode(alloc, value, &self.decoded_representation, options) {
+                match self
+                    .codec
+                    .decode(alloc, value, &self.decoded_representation, options)
+                {
                     Ok(bytes) => Ok(Some(bytes)),
                     Err(error) => Err(error),
                 }
@@ -119,8 +121,7 @@ impl<H: BytesPartialDecoderTraits, C: BytesToBytesCodecTraits> BytesToBytesCodec
 }
 
 impl<H: BytesPartialDecoderTraits, C: BytesToBytesCodecTraits> BytesPartialDecoderTraits
-    for BytesToBytesCodecPartialDefault<H, C>
-{
+    for BytesToBytesCodecPartialDefault<H, C> {
     ghost use Rattle.std.specs.Prelude.{◌&&◌};
     ghost use Rattle.zarrs_codec_held.proofs.ThroughLaws.{decoded_sound};
 
@@ -152,7 +153,7 @@ impl<H: BytesPartialDecoderTraits, C: BytesToBytesCodecTraits> BytesPartialDecod
             && self.handle.supports_partial_decode()
     }
 
-    #[tactic(auto, using(zarrs_codec_held::proofs::ThroughLaws::many_told, zarrs_codec_held::proofs::ThroughLaws::many_refused, zarrs_codec_held::proofs::ThroughLaws::many_given, zarrs_codec_held::proofs::ThroughLaws::many_absent, zarrs_codec_held::proofs::ThroughLaws::through_told))]
+    #[tactic(auto, using(zarrs_codec_held::proofs::ThroughLaws::decoded_reads, zarrs_codec_held::proofs::ThroughLaws::through_told))]
     fn partial_decode_many(
         &mut self,
         alloc: Global,
@@ -176,5 +177,80 @@ impl<H: BytesPartialDecoderTraits, C: BytesToBytesCodecTraits> BytesPartialDecod
         options: &CodecOptions,
     ) -> Result<Option<Vec<u8>>, CodecError> {
         self.decode_value(alloc, options)
+    }
+}
+
+impl<H: BytesPartialEncoderTraits, C: BytesToBytesCodecTraits> BytesToBytesCodecPartialDefault<
+    H,
+    C,
+> {
+    // Makes the handle's value one that decodes to these bytes.
+    #[tactic(auto, using(zarrs_codec_held::proofs::ThroughLaws::writes_some, zarrs_codec_held::proofs::ThroughLaws::writes_not))]
+    fn replace_value(
+        &mut self,
+        alloc: Global,
+        bytes: Vec<u8>,
+        options: &CodecOptions,
+    ) -> Result<(), CodecError>
+        ensures writes { Writes (Some bytes.items)
+            (decoded (C.meaning self.old.codec) (H.seen self.old.handle))
+            (decoded (C.meaning self.old.codec) (H.seen self.new.handle)) result }
+        ensures unasked { Unasked (H.seen self.old.handle) (H.seen self.new.handle) }
+        ensures cause { IfErr result (IsHandleError (H.seen self.old.handle).shown.faults
+            (H.seen self.new.handle).shown.faults) }
+        ensures settings { self.new ≡ record self.old { handle = self.new.handle } }
+    {
+        match self.codec.encode(alloc, bytes, options) {
+            Ok(encoded) => self.handle.replace(alloc, &encoded, options),
+            Err(error) => Err(error),
+        }
+    }
+}
+
+impl<H: BytesPartialEncoderTraits, C: BytesToBytesCodecTraits> BytesPartialEncoderTraits
+    for BytesToBytesCodecPartialDefault<H, C> {
+    ghost use Rattle.std.specs.Prelude.{true, ◌&&◌};
+
+    ghost writes_parts = { λ h. (C.encodes_parts h.codec).partial_encode
+        && H.writes_parts h.handle };
+
+    ghost rereads = { λ h. true };
+
+    #[tactic(auto, using(zarrs_codec_held::proofs::ThroughLaws::writes_none))]
+    fn erase(&mut self) -> Result<(), CodecError> {
+        self.handle.erase()
+    }
+
+    fn supports_partial_encode(&self) -> bool {
+        self.codec.partial_encoder_capability().partial_encode
+            && self.handle.supports_partial_encode()
+    }
+
+    fn partial_encode_many(
+        &mut self,
+        alloc: Global,
+        offset_values: &[OffsetBytes],
+        options: &CodecOptions,
+    ) -> Result<(), CodecError> {
+        match self.decode_value(alloc, options) {
+            Ok(value) => match with_parts_put(alloc, value, offset_values) {
+                Ok(bytes) => self.replace_value(alloc, bytes, options),
+                Err(error) => Err(error),
+            },
+            Err(error) => Err(error),
+        }
+    }
+
+    #[tactic(auto, using(zarrs_codec_held::proofs::ThroughLaws::writes_not))]
+    fn replace(
+        &mut self,
+        alloc: Global,
+        bytes: &[u8],
+        options: &CodecOptions,
+    ) -> Result<(), CodecError> {
+        match copied(alloc, bytes) {
+            Ok(copy) => self.replace_value(alloc, copy, options),
+            Err(error) => Err(CodecError::from(error)),
+        }
     }
 }

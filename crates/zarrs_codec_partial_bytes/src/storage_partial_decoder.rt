@@ -74,7 +74,10 @@ impl<S: Store> BytesPartialDecoderTraits for StoragePartialDecoder<'_, S> {
         decoded_regions: &[ByteRange],
         _options: &CodecOptions,
     ) -> Result<Option<Vec<Vec<u8>>>, CodecError> {
-        match self.storage.get_partial_many(alloc, &self.key, decoded_regions) {
+        match self
+            .storage
+            .get_partial_many(alloc, &self.key, decoded_regions)
+        {
             Ok(parts) => Ok(parts),
             Err(error) => Err(CodecError::from(error)),
         }

@@ -74,7 +74,10 @@ impl<S: Store> BytesPartialDecoderTraits for StoragePartialEncoder<'_, S> {
         decoded_regions: &[ByteRange],
         _options: &CodecOptions,
     ) -> Result<Option<Vec<Vec<u8>>>, CodecError> {
-        match self.storage.get_partial_many(alloc, &self.key, decoded_regions) {
+        match self
+            .storage
+            .get_partial_many(alloc, &self.key, decoded_regions)
+        {
             Ok(parts) => Ok(parts),
             Err(error) => Err(CodecError::from(error)),
         }
@@ -116,7 +119,10 @@ impl<S: Store> BytesPartialEncoderTraits for StoragePartialEncoder<'_, S> {
         offset_values: &[OffsetBytes],
         _options: &CodecOptions,
     ) -> Result<(), CodecError> {
-        match self.storage.set_partial_many(alloc, &self.key, offset_values) {
+        match self
+            .storage
+            .set_partial_many(alloc, &self.key, offset_values)
+        {
             Ok(()) => Ok(()),
             Err(error) => Err(CodecError::from(error)),
         }

@@ -10,7 +10,6 @@ ghost use Rattle.zarrs_codec_traits.specs.Views.{options_of};
 ghost use Rattle.zarrs_codec_held.specs.Held.{Seen, IsSound};
 ghost use Rattle.zarrs_codec_held.specs.Reads.{Looks, Reads, GivesParts, IsReadError, IsPartError};
 
-
 use std::alloc::Global;
 use zarrs_codec_error::CodecError;
 use zarrs_codec_held::only_part;

@@ -4,9 +4,11 @@
 //! read whole or in parts, and an encoder also changes it.
 #![tactic(auto)]
 
+mod array_partial_decoder;
 mod bytes_partial_decoder;
 mod bytes_partial_encoder;
 mod in_memory;
 
+pub use array_partial_decoder::ArrayPartialDecoderTraits;
 pub use bytes_partial_decoder::BytesPartialDecoderTraits;
 pub use bytes_partial_encoder::BytesPartialEncoderTraits;
