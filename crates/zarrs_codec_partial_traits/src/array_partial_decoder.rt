@@ -101,7 +101,7 @@ pub trait ArrayPartialDecoderTraits {
             ((seen self.old).list (options_of options.now))
             (tells self.old (options_of options.now))
             (seen self.old).shown.faults (seen self.new).shown.faults) }
-        ensures short { HasShortFill (seen self.old)
+        ensures short { (seen self.old).unserved ≡ None → HasShortFill (seen self.old)
             → IfOk result (λ v. has_long_element (raw_of v) ≡ false) }
         ensures reads { ReadsList (I.as_region indexer.now) (seen self.old) (seen self.new)
             result }
