@@ -1,20 +1,14 @@
 -- Elements taken out of valid array bytes.
-use Rattle.std.proofs.Common.{◌≡◌, ◌⊎◌, ℕ, suc, ◌+◌, ◌*◌, Bool, true, false, not, ◌==◌, if◌then◌else◌, List, [], ◌∷◌, length, Option, Some, None, IsSome, option_map, Result, Ok, Err, IfOk, IfErr, MatchResult, refl, sym, ap, ap₂, ◌∙◌, subst, arith, inl, inr, eq-eqb, eqb-true}
+use Rattle.std.proofs.Common.{◌≡◌, ◌⊎◌, ℕ, suc, ◌+◌, ◌*◌, Bool, true, false, not, ◌==◌, if◌then◌else◌, List, [], ◌∷◌, length, Option, Some, None, option_map, refl, ap, ap₂, ◌∙◌, arith, inl, inr, eq-eqb, eqb-true}
 use Rattle.std.proofs.lemmas.Bool.{and_parts}
-use Rattle.std.proofs.lemmas.Simd.{map-map}
-use Rattle.zarr_model.specs.Region.{Region, count_of, sizes, ends_within, tuples, linear_index}
-use Rattle.zarr_model.specs.Element.{Element, null, Kind, fixed, variable, optional, fixed_size}
+use Rattle.zarr_model.specs.Element.{Element, Kind, fixed, variable, optional, fixed_size}
 use Rattle.zarr_model.specs.ArrayBytes.{ArrayBytes, fixed_bytes, variable_bytes, optional_bytes, meaning, are_offsets, is_mask, mask_over}
 use Rattle.zarr_model.specs.Command.{Refusal, refused_if, or_then, invalid_mask}
 use Rattle.zarr_model.proofs.BytesLaws.{when_some, mapped_some, mask_length}
-use Rattle.zarr_model.proofs.RegionLaws.{length-tuples}
 use Rattle.zarrs_codec_error.specs.declared.error.CodecError.{CodecError}
 use Rattle.zarrs_codec_error.specs.declared.error.CodecError.TheVariants as codec
-use Rattle.zarrs_codec_bytes.specs.Picking.{size_in, picked}
-use Rattle.zarrs_codec_array_bytes.specs.Selection.{linear}
-use Rattle.zarrs_codec_array_bytes.specs.Refusals.{fine, told_by, Answers, first_answer, sized_answer, kind_refusal, lengths_refusal, lengths_answer, extract_answer}
-use Rattle.zarrs_codec_traits.specs.Errors.{IsDecodeError}
-use Rattle.zarrs_codec_traits.specs.Words.{select}
+use Rattle.zarrs_codec_bytes.specs.Picking.{size_in}
+use Rattle.zarrs_codec_array_bytes.specs.Refusals.{fine, told_by, first_answer, sized_answer, kind_refusal, lengths_refusal, lengths_answer, extract_answer}
 
 -- an error says something
 pub says_some : (e : CodecError) → told_by e ≡ fine → ⊥

@@ -1,10 +1,10 @@
 -- Selections of a shape's list.
-use Rattle.std.proofs.Common.{◌≡◌, ℕ, ◌+◌, ◌*◌, ◌^◌, ◌<◌, ◌≤◌, ◌==◌, ◌&&◌, Bool, true, false, List, [], ◌∷◌, map, length, get_or, replicate, Some, refl, sym, ap, ap₂, ◌∙◌, subst, arith, nat_le, eqb-true}
+use Rattle.std.proofs.Common.{◌≡◌, ℕ, ◌+◌, ◌*◌, ◌^◌, ◌<◌, ◌≤◌, true, List, [], ◌∷◌, map, length, get_or, replicate, Some, sym, ap, ◌∙◌, subst, arith, nat_le}
 use Rattle.std.proofs.lemmas.List.{length-map, get_or-map, same_lists, get_or_default, length-replicate, get_or-replicate}
 use Rattle.std.proofs.lemmas.Bool.{and_parts, leb-true}
 use Rattle.std.proofs.lemmas.Simd.{map-map}
 use Rattle.std.proofs.Math.Nat.{mul-le-mul_right, mul-le-mul_left}
-use Rattle.zarr_model.specs.Region.{Region, Span, count, count_of, sizes, whole, contains, ends_within, tuples, place, tuple_at, linear_index}
+use Rattle.zarr_model.specs.Region.{Region, count, count_of, sizes, whole, contains, ends_within, tuples, place, tuple_at, linear_index}
 use Rattle.zarr_model.specs.Element.{Element, null, fixed_size, kind_of}
 use Rattle.zarr_model.specs.ArrayBytes.{ArrayBytes, meaning}
 use Rattle.zarr_model.specs.Codec.{Level}

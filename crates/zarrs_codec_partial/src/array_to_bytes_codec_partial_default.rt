@@ -58,6 +58,15 @@ impl<H, C> ArrayToBytesCodecPartialDefault<H, C> {
     }
 }
 
+impl<H, C: Drop> ArrayToBytesCodecPartialDefault<H, C> {
+    /// The handle again.
+    pub fn into_handle(self) -> H
+        ensures { result ≡ self.handle }
+    {
+        self.handle
+    }
+}
+
 impl<H: BytesPartialDecoderTraits, C: ArrayToBytesCodecTraits> ArrayPartialDecoderTraits
     for ArrayToBytesCodecPartialDefault<H, C> {
     ghost use Rattle.std.specs.Prelude.{◌&&◌};

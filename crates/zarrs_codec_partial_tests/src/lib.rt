@@ -3,6 +3,7 @@
 
 #[cfg(test)]
 mod bytes;
+pub mod callers;
 pub mod reversed;
 #[cfg(test)]
 mod stores;

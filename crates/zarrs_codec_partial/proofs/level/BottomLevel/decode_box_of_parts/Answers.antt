@@ -1,4 +1,4 @@
-use Rattle.std.proofs.Common.{◌≡◌, subst, Some, None, Option, Vec, ℕ, Global}
+use Rattle.std.proofs.Common.{subst, Option, Vec, ℕ, Global}
 use Rattle.zarrs_storage.specs.Store.{part_bytes}
 use Rattle.zarrs_storage.specs.ByteRange.{parts_of}
 use Rattle.zarrs_array_subset.specs.ArraySubset.{region as box_of}

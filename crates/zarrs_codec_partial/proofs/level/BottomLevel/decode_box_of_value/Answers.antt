@@ -1,4 +1,4 @@
-use Rattle.std.proofs.Common.{◌≡◌, ◌∙◌, ap, Some, List, [], ◌∷◌}
+use Rattle.std.proofs.Common.{◌∙◌, ap, Some}
 use Rattle.zarrs_storage.specs.Store.{value_bytes}
 use Rattle.zarrs_storage.specs.ByteRange.{parts_of}
 use Rattle.zarrs_array_subset.specs.ArraySubset.{region as box_of}
