@@ -17,7 +17,7 @@ use Rattle.zarrs_codec_traits.specs.Errors.{IsDecodeError}
 use Rattle.zarrs_codec_traits.specs.Words.{select}
 
 -- an error says something
-says_some : (e : CodecError) → told_by e ≡ fine → ⊥
+pub says_some : (e : CodecError) → told_by e ≡ fine → ⊥
 says_some (codec.IncompatibleDimensionalityError x) same = cc
 says_some (codec.InvalidByteRangeError x) same = cc
 says_some (codec.IncompatibleIndexer x) same = cc

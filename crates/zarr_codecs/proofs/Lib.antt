@@ -1,4 +1,3 @@
 pub mod DigestLaws
-pub mod CountLaws
 pub mod OrderLaws
 pub mod ExtractLaws

@@ -4,7 +4,7 @@ use Rattle.serde_json.specs.Data.{Data, null, boolean, number, string, array, ob
 use Rattle.zarr_model.specs.Region.{count_of}
 use Rattle.zarr_model.specs.Element.{DataType, kind_of, fixed_size, fixed}
 use Rattle.zarr_model.specs.Codec.{ByteOrder, little, big, component_size, Level}
-use Rattle.zarrs_metadata_parts.specs.Configuration.{is_none_or_empty}
+use Rattle.zarrs_metadata_values.specs.Configuration.{is_empty}
 use Rattle.zarrs_metadata_parts.specs.MetadataV3.{Extension}
 use Rattle.zarrs_metadata_parts.specs.Reading.{◌>>=◌}
 use Rattle.zarrs_plugin.specs.Making.{Unmade}
@@ -86,16 +86,13 @@ order_or_null (string s) = order_named s
 order_or_null (array ds) = None
 order_or_null (object ms) = None
 
-unfoldable pub given_order : Option Members → Option (Option Endianness)
-given_order configuration = do
-  ms ← configuration
-  value ← only_member (codes "endian") ms
-  order_or_null value
+unfoldable pub given_order : Members → Option (Option Endianness)
+given_order ms = only_member (codes "endian") ms >>= order_or_null
 
 -- nothing, or exactly `endian`
 abbrev pub order_in : Option Members → Option (Option Endianness)
-order_in configuration = if is_none_or_empty configuration then Some None
-    else given_order configuration
+order_in None = Some None
+order_in (Some ms) = if is_empty ms then Some None else given_order ms
 
 -- the codec of metadata, which has its name
 abbrev pub bytes_created : Extension → Result (Option Members) Unmade

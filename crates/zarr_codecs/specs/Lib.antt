@@ -1,3 +1,2 @@
-pub mod Making
 pub mod Sha256
 pub mod BytesCodec

@@ -11,7 +11,11 @@ use Rattle.zarrs_codec_error.specs.declared.error.CodecError.{CodecError}
 use Rattle.zarrs_codec_error.specs.declared.error.CodecError.TheVariants as codec
 use Rattle.zarrs_codec_array_bytes.specs.Refusals.{told_by, wrong_length}
 
--- the codec of metadata, which has its name, and no configuration or an empty one
+-- no configuration, or an empty one
+abbrev pub none_form : Option Members → Result Members Unmade
+none_form configuration = if is_none_or_empty configuration then Ok no_members else Err config
+
+-- the codec of metadata, which has its name
 abbrev pub sha256_created : Extension → Result (Option Members) Unmade
 sha256_created e = if bytes_eq e.name (codes "zarr_basics.sha256")
     then (if is_none_or_empty e.configuration then Ok (Some no_members) else Err config)

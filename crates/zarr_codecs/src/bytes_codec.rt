@@ -6,15 +6,10 @@ ghost use Rattle.zarrs_data_type_elements.specs.BytesSupport.{component_of};
 ghost use Rattle.zarrs_data_type_elements.specs.ByteOrder.{in_order};
 ghost use Rattle.zarrs_data_type_elements.specs.CodecSupport.{bytes_table};
 ghost use Rattle.zarrs_data_type_names.specs.DataType.{type_of};
-ghost use Rattle.zarr_model.specs.ArrayBytes.{fixed_bytes};
-ghost use Rattle.zarrs_codec_array_bytes.specs.Levels.{is_fixed};
-ghost use Rattle.zarrs_codec_array_bytes.specs.Raw.{raw_of};
-ghost use Rattle.zarrs_codec_error.specs.declared.error.CodecError.TheVariants as codec;
 ghost use Rattle.zarrs_codec_traits.specs.Errors.{unserved_error};
 
 use crate::configuration::{order_configuration, read_order};
-use crate::making::unsupported_codec;
-use crate::parts::{extracted, num_elements, only_part, same_shape};
+use crate::parts::{extracted, only_part};
 use std::alloc::{AllocError, Global};
 use std::borrow::CowSlice;
 use std::num::NonZeroU64;
@@ -23,11 +18,15 @@ use zarrs_array_subset::{ArraySubset, ChunkShape};
 use zarrs_codec_array_bytes::ArrayBytes;
 use zarrs_codec_array_bytes::array_bytes::step::element_size;
 use zarrs_codec_error::{CodecError, InvalidBytesLengthError};
+use zarrs_codec_metadata::unsupported_codec;
 use zarrs_codec_options::{
     BytesRepresentation, CodecMetadataOptions, CodecOptions, PartialDecoderCapability,
     PartialEncoderCapability, RecommendedConcurrency,
 };
-use zarrs_codec_traits::{ArrayCodecTraits, ArrayToBytesCodecTraits, CodecTraits, CodecTraitsV3};
+use zarrs_codec_traits::{
+    ArrayCodecTraits, ArrayToBytesCodecTraits, CodecTraits, CodecTraitsV3, fixed_value,
+    num_elements, same_shape,
+};
 use zarrs_data_type_elements::{BytesSupport, FillValue};
 use zarrs_data_type_names::DataType;
 use zarrs_metadata_parts::{Configuration, Endianness, MetadataV3};
@@ -44,13 +43,34 @@ pub struct BytesCodec {
 }
 
 impl BytesCodec {
-    ghost use Rattle.zarr_codecs.specs.BytesCodec.{component_unserved, type_unserved};
+    ghost use Rattle.zarrs_metadata_values.specs.Configuration.{configuration_seen};
+    ghost use Rattle.zarrs_plugin.specs.Making.{Makes};
+    ghost use Rattle.zarrs_plugin.specs.declared.error.PluginKind.TheVariants as kinds;
+    ghost use Rattle.zarr_basics_grids.specs.Making.{or_config};
+    ghost use Rattle.zarr_codecs.specs.BytesCodec.{component_unserved, type_unserved, order_in};
 
     /// The codec with this order of the bytes of each component, if there is one.
     pub fn new(endianness: Option<Endianness>) -> Self
         ensures { result ≡ record { endianness = endianness } }
     {
         BytesCodec { endianness }
+    }
+
+    /// The codec of a configuration: of none, an empty one, or exactly an `endian` that is `little`, `big` or null.
+    ///
+    /// # Errors
+    /// `Config` exactly where the configuration is another; or `OutOfMemory`.
+    #[tactic(auto, using(zarr_basics_grids::proofs::MakingLaws::of_configurations))]
+    pub fn from_configuration(
+        configuration: Option<&Configuration>,
+    ) -> Result<Self, PluginCreateError>
+        ensures { Makes kinds.Codec (λ c. c.endianness) result (or_config
+            (order_in (option_map (λ c. configuration_seen c.now) configuration.entry))) }
+    {
+        match read_order(configuration) {
+            Ok(endianness) => Ok(BytesCodec { endianness }),
+            Err(error) => Err(unmade(error)),
+        }
     }
 
     /// The order of the bytes of each component, if there is one.
@@ -158,7 +178,7 @@ impl CodecTraitsV3 for BytesCodec {
         if metadata.name() != "bytes" {
             return Err(unsupported_codec(alloc, metadata.name()));
         }
-        match read_order(metadata) {
+        match read_order(metadata.configuration()) {
             Ok(endianness) => Ok(BytesCodec { endianness }),
             Err(error) => Err(unmade(error)),
         }
@@ -194,20 +214,6 @@ impl ArrayCodecTraits for BytesCodec {
         let shape = same_shape(alloc, shape)?;
         Ok(shape)
     }
-}
-
-// The bytes of elements of one size.
-fn owned(alloc: Global, bytes: ArrayBytes<'static>) -> Result<Vec<u8>, CodecError>
-    requires { is_fixed (raw_of bytes) ≡ true }
-    ensures value { IfOk result (λ v. raw_of bytes.entry ≡ fixed_bytes v.items) }
-    ensures memory { IfErr result (λ e. e ≡ codec.OutOfMemory) }
-{
-    let raw = match bytes.into_fixed() {
-        Ok(raw) => raw,
-        Err(_) => unreachable!(),
-    };
-    let value = raw.into_owned(alloc)?;
-    Ok(value)
 }
 
 impl ArrayToBytesCodecTraits for BytesCodec {
@@ -266,7 +272,7 @@ impl ArrayToBytesCodecTraits for BytesCodec {
     ) -> Result<Vec<u8>, CodecError> {
         let support = self.support(data_type)?;
         bytes.validate(num_elements(shape), data_type)?;
-        let value = owned(alloc, bytes)?;
+        let value = fixed_value(alloc, bytes)?;
         Ok(self.ordered(&support, value))
     }
 

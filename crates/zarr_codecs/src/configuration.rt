@@ -1,16 +1,21 @@
-//! The configuration of the codec `bytes`, read and written.
+//! The configurations of codecs, read and written.
 
-ghost use Rattle.std.specs.Prelude.{◌≡◌, IfOk};
+ghost use Rattle.std.specs.Prelude.{◌≡◌, IfOk, option_map};
+ghost use Rattle.serde_json.specs.Data.{no_members};
 ghost use Rattle.serde_json.specs.View.{view};
-ghost use Rattle.zarrs_metadata_parts.specs.Configuration.{configuration_seen};
-ghost use Rattle.zarrs_metadata_parts.specs.MetadataV3.{extension_seen};
-ghost use Rattle.zarrs_metadata_parts.specs.Reading.{Reads};
+ghost use Rattle.zarrs_metadata_values.specs.Configuration.{configuration_seen};
+ghost use Rattle.zarrs_metadata_values.specs.Reading.{Reads};
+ghost use Rattle.zarrs_plugin.specs.Making.{Makes};
+ghost use Rattle.zarrs_plugin.specs.declared.error.PluginKind.TheVariants as kinds;
 ghost use Rattle.zarr_codecs.specs.BytesCodec.{order_named, order_or_null, given_order, order_in, order_text, order_members};
+ghost use Rattle.zarr_codecs.specs.Sha256.{none_form};
 
 use serde_json::{Map, Value};
 use std::alloc::{AllocError, Global};
-use zarr_basics_grids::configuration::{configured, only_member};
-use zarrs_metadata_parts::{Configuration, Endianness, MetadataError, MetadataV3};
+use zarr_basics_grids::configuration::only_member;
+use zarrs_metadata_parts::{Configuration, Endianness, MetadataError};
+use zarrs_metadata_values::configuration::is_empty;
+use zarrs_plugin::PluginCreateError;
 
 fn order_text(order: Endianness) -> &'static str
     ensures { result.now ≡ order_text order }
@@ -60,11 +65,10 @@ fn order_or_null(value: &Value) -> Result<Option<Endianness>, MetadataError>
 }
 
 #[tactic(auto, unfolding(crate::specs::BytesCodec::given_order))]
-fn given_order(metadata: &MetadataV3) -> Result<Option<Endianness>, MetadataError>
-    ensures { Reads (λ order. order) result
-        (given_order (extension_seen metadata.now).configuration) }
+fn given_order(configuration: &Configuration) -> Result<Option<Endianness>, MetadataError>
+    ensures { Reads (λ order. order) result (given_order (configuration_seen configuration.now)) }
 {
-    order_or_null(only_member(configured(metadata)?, "endian")?)
+    order_or_null(only_member(configuration, "endian")?)
 }
 
 /// The byte order that the configuration names, if it names one.
@@ -72,12 +76,36 @@ fn given_order(metadata: &MetadataV3) -> Result<Option<Endianness>, MetadataErro
 /// # Errors
 /// `InvalidMetadata` exactly where there is a configuration, and it is neither empty nor exactly an `endian` that is
 /// `little`, `big` or null.
-pub fn read_order(metadata: &MetadataV3) -> Result<Option<Endianness>, MetadataError>
-    ensures { Reads (λ order. order) result (order_in (extension_seen metadata.now).configuration) }
+pub fn read_order(
+    configuration: Option<&Configuration>,
+) -> Result<Option<Endianness>, MetadataError>
+    ensures { Reads (λ order. order) result
+        (order_in (option_map (λ c. configuration_seen c.now) configuration.entry)) }
 {
-    if metadata.configuration_is_none_or_empty() {
+    let Some(configuration) = configuration else {
+        return Ok(None);
+    };
+    if is_empty(configuration.as_map()) {
         Ok(None)
     } else {
-        given_order(metadata)
+        given_order(configuration)
+    }
+}
+
+/// Tests that there is no configuration, or an empty one.
+///
+/// # Errors
+/// `Config` exactly where it has a member.
+pub fn expect_none(configuration: Option<&Configuration>) -> Result<(), PluginCreateError>
+    ensures { Makes kinds.Codec (λ _. no_members) result
+        (none_form (option_map (λ c. configuration_seen c.now) configuration.entry)) }
+{
+    let Some(configuration) = configuration else {
+        return Ok(());
+    };
+    if is_empty(configuration.as_map()) {
+        Ok(())
+    } else {
+        Err(PluginCreateError::Config)
     }
 }

@@ -5,7 +5,6 @@
 
 mod bytes_codec;
 mod configuration;
-mod making;
 mod parts;
 mod sha256_codec;
 

@@ -1,7 +1,7 @@
-//! Shapes, and parts of values.
+//! Parts of values.
 
-ghost use Rattle.std.specs.Prelude.{◌≡◌, ◌∷◌, [], ◌+◌, ◌*◌, ◌<◌, ◌^◌, ℕ, List, true, false, Some, length, IfOk, MatchResult};
-ghost use Rattle.zarr_model.specs.Region.{count_of, ends_within};
+ghost use Rattle.std.specs.Prelude.{◌≡◌, ◌∷◌, [], List, true, false, Some, length, IfOk, MatchResult};
+ghost use Rattle.zarr_model.specs.Region.{ends_within};
 ghost use Rattle.zarr_model.specs.Element.{Element};
 ghost use Rattle.zarr_model.specs.Command.{has_long_element};
 ghost use Rattle.zarrs_array_subset.specs.ArraySubset.{region as box_of};
@@ -13,44 +13,13 @@ ghost use Rattle.zarrs_codec_error.specs.declared.error.CodecError.TheVariants a
 ghost use Rattle.zarrs_codec_traits.specs.Views.{lengths, level_of};
 ghost use Rattle.zarrs_codec_traits.specs.Words.{IsFit, list_at, at_box, select};
 
-use std::alloc::{AllocError, Global};
+use std::alloc::Global;
 use std::num::NonZeroU64;
-use zarrs_array_subset::{ArraySubset, ChunkShape};
+use zarrs_array_subset::ArraySubset;
 use zarrs_codec_array_bytes::ArrayBytes;
 use zarrs_codec_error::CodecError;
+use zarrs_codec_traits::shape_numbers;
 use zarrs_data_type_names::DataType;
-
-/// The number of elements of a chunk.
-#[tactic(auto, using(crate::proofs::CountLaws::count_rest))]
-pub fn num_elements(shape: &[NonZeroU64]) -> u64
-    requires { count_of (lengths shape.now) < 2 ^ 64 }
-    ensures { result ≡ count_of (lengths shape.now) }
-{
-    match shape {
-        [] => 1,
-        [first, rest @ ..] => first.get() * num_elements(rest),
-    }
-}
-
-/// The lengths of a chunk, as numbers.
-///
-/// # Errors
-/// [`AllocError`] where memory runs out.
-pub fn shape_numbers(alloc: Global, shape: &[NonZeroU64]) -> Result<Vec<u64>, AllocError>
-    ensures { IfOk result (λ v. v.items ≡ lengths shape.now) }
-{
-    shape.iter().map(|n| n.get()).collect(alloc)
-}
-
-/// The same shape.
-///
-/// # Errors
-/// [`AllocError`] where memory runs out.
-pub fn same_shape(alloc: Global, shape: &[NonZeroU64]) -> Result<ChunkShape, AllocError>
-    ensures { IfOk result (λ v. v.items ≡ shape.now) }
-{
-    shape.to_vec(alloc)
-}
 
 /// The one part that there is.
 pub fn only_part(parts: Vec<Vec<u8>>) -> Vec<u8>

@@ -1,14 +1,19 @@
 //! The codec `zarr_basics.sha256`: bytes with their digest behind them.
 
-ghost use Rattle.std.specs.Prelude.{◌≡◌, ◌≤◌, ◌++◌, ◌||◌, not, length, IfOk, Ok};
+ghost use Rattle.std.specs.Prelude.{◌≡◌, ◌≤◌, ◌++◌, ◌||◌, not, length, option_map, IfOk, Ok};
+ghost use Rattle.serde_json.specs.Data.{no_members};
 ghost use Rattle.sha2.specs.Sha256.{sha256};
-ghost use Rattle.zarr_codecs.specs.Sha256.{ends_in_digest, with_digest_size};
+ghost use Rattle.zarrs_metadata_values.specs.Configuration.{configuration_seen};
+ghost use Rattle.zarrs_plugin.specs.Making.{Makes};
+ghost use Rattle.zarrs_plugin.specs.declared.error.PluginKind.TheVariants as kinds;
+ghost use Rattle.zarr_codecs.specs.Sha256.{ends_in_digest, with_digest_size, none_form};
 
-use crate::making::unsupported_codec;
+use crate::configuration::expect_none;
 use serde_json::Map;
 use sha2::{Digest, Sha256};
 use std::alloc::{AllocError, Global};
 use zarrs_codec_error::{CodecError, InvalidBytesLengthError};
+use zarrs_codec_metadata::unsupported_codec;
 use zarrs_codec_options::{
     BytesRepresentation, CodecMetadataOptions, CodecOptions, PartialDecoderCapability,
     PartialEncoderCapability, RecommendedConcurrency,
@@ -30,6 +35,22 @@ impl Sha256Codec {
     /// The codec.
     pub fn new() -> Self {
         Sha256Codec
+    }
+
+    /// The codec of a configuration: of none, or an empty one.
+    ///
+    /// # Errors
+    /// `Config` exactly where the configuration has a member; or `OutOfMemory`.
+    pub fn from_configuration(
+        configuration: Option<&Configuration>,
+    ) -> Result<Self, PluginCreateError>
+        ensures { Makes kinds.Codec (λ _. no_members) result
+            (none_form (option_map (λ c. configuration_seen c.now) configuration.entry)) }
+    {
+        match expect_none(configuration) {
+            Ok(()) => Ok(Sha256Codec),
+            Err(error) => Err(error),
+        }
     }
 
     /// A copy.
@@ -83,7 +104,6 @@ impl ExtensionName for Sha256Codec {
 
 impl CodecTraits for Sha256Codec {
     ghost use Rattle.std.specs.Prelude.{Some, false};
-    ghost use Rattle.serde_json.specs.Data.{no_members};
 
     ghost written = { λ _ _ _. Some no_members };
 

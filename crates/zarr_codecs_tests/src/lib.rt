@@ -1,4 +1,5 @@
 //! Callers of codecs, each for every codec.
 #![tactic(auto)]
 
+pub mod levels;
 pub mod parts;

@@ -1,6 +1,6 @@
 //! Codecs that turn the elements of an array into bytes.
 
-ghost use Rattle.std.specs.Prelude.{◌≡◌, ◌<◌, ◌^◌, ℕ, true, false, List, [], ◌∷◌, length, Option, Some, None, IsSome, IfOk, IfErr, IfSome, MatchResult};
+ghost use Rattle.std.specs.Prelude.{◌≡◌, ◌==◌, ◌<◌, ◌^◌, ℕ, true, false, List, [], ◌∷◌, length, Option, Some, None, IsSome, IfOk, IfErr, IfSome, MatchResult};
 ghost use Rattle.zarr_model.specs.Region.{Region, count_of, ends_within};
 ghost use Rattle.zarr_model.specs.Element as Model;
 ghost use Rattle.zarr_model.specs.Element.{Element, kind_of};
@@ -18,17 +18,23 @@ ghost use Rattle.zarrs_codec_array_bytes.specs.Raw.{raw_of};
 ghost use Rattle.zarrs_codec_array_bytes.specs.Refusals.{Told, fine, validity, then_answer, Answers};
 ghost use Rattle.zarrs_codec_options.specs.declared.bytes_representation.BytesRepresentation.{BytesRepresentation};
 ghost use Rattle.zarrs_codec_traits.specs.Errors.{unserved_at, RefusesBy, RefusesAs, IsDecodeError, IsFormRefusal};
+ghost use Rattle.zarrs_codec_view.specs.Held.{held_by, IsTargetOf};
+ghost use Rattle.zarrs_codec_view.specs.Targets.{LeftBehind};
+ghost use Rattle.zarrs_codec_view.specs.TargetViews.{inner_view, mask_views};
+ghost use Rattle.zarrs_codec_traits.specs.Into.{num_elements_in, into_answer, RefusesCount, DecodesInto};
 ghost use Rattle.zarrs_codec_traits.specs.Parts.{AreParts, IsAnswer, request_answer};
 ghost use Rattle.zarrs_codec_traits.specs.Views.{lengths, level_of, options_of, ranges_of};
 ghost use Rattle.zarrs_codec_traits.specs.Words.{list_at, at_box, select, Gives, IsFit};
 
 use crate::codec_traits::ArrayCodecTraits;
+use crate::decoding::{decode_into_fixed, decode_into_optional};
 use std::alloc::Global;
 use std::num::NonZeroU64;
 use zarrs_array_subset::ArraySubset;
 use zarrs_codec_array_bytes::ArrayBytes;
 use zarrs_codec_error::CodecError;
 use zarrs_codec_options::{BytesRepresentation, CodecOptions, CodecSpecificOptions};
+use zarrs_codec_view::ArrayBytesDecodeIntoTarget;
 use zarrs_data_type_elements::FillValue;
 use zarrs_data_type_names::DataType;
 use zarrs_storage::ByteRange;
@@ -136,6 +142,59 @@ pub trait ArrayToBytesCodecTraits: ArrayCodecTraits + Sized {
             → MatchResult result (λ v. Gives (list_at level (raw_of v)) wanted)
             (IsDecodeError wanted (says self.now (options_of options.now) level bytes.items)) }
         ensures short { IfOk result (λ v. has_long_element (raw_of v) ≡ false) };
+
+    /// Decodes the value and puts its elements where they belong. The target's innermost view has as many elements as
+    /// the shape.
+    ///
+    /// # Errors
+    /// [`CodecError`] where the codec does not serve the arguments; else `InvalidNumberOfElements` exactly where the
+    /// target has another number of elements; else what `decode` refuses; else what the target does, by the kind of the
+    /// data type and the number of elements. Or where memory runs out. The target is as it was then.
+    final fn decode_into(
+        &self,
+        alloc: Global,
+        bytes: Vec<u8>,
+        shape: &[NonZeroU64],
+        data_type: &DataType,
+        fill_value: &FillValue,
+        output_target: ArrayBytesDecodeIntoTarget<'_, '_>,
+        options: &CodecOptions,
+    ) -> Result<(), CodecError>
+        requires fits { IsFit (lengths shape.now) (type_of data_type.now) }
+        ensures unserved { RefusesBy (unserved_at (Self.unserved self.now)
+            (level_of shape.now data_type.now fill_value.now) (fill_bytes fill_value.now)) result }
+        ensures counted { let level = level_of shape.now data_type.now fill_value.now in
+            let num = num_elements_in output_target.entry in
+            unserved_at (Self.unserved self.now) level (fill_bytes fill_value.now) ≡ None
+            → RefusesCount (num == count_of level.shape) num (count_of level.shape) result }
+        ensures exact { let level = level_of shape.now data_type.now fill_value.now in
+            unserved_at (Self.unserved self.now) level (fill_bytes fill_value.now) ≡ None
+            → (num_elements_in output_target.entry == count_of level.shape) ≡ true
+            → DecodesInto (meaning self.now (options_of options.now) level bytes.items)
+            (says self.now (options_of options.now) level bytes.items)
+            (into_answer (kind_of level.data_type) (count_of level.shape)
+            (mask_views output_target.entry) (inner_view output_target.entry)) result }
+        ensures put { let level = level_of shape.now data_type.now fill_value.now in
+            let wanted = meaning self.now (options_of options.now) level bytes.items in
+            unserved_at (Self.unserved self.now) level (fill_bytes fill_value.now) ≡ None
+            → IsTargetOf (kind_of level.data_type) (count_of level.shape)
+            (mask_views output_target.entry) (inner_view output_target.entry)
+            → IfOk result (λ _. LeftBehind (λ left. wanted ≡ Some (held_by [] left.0.now))
+            (λ left. wanted ≡ Some (held_by left.1.0.now left.0.now)) output_target.exit) }
+        ensures kept { IfErr result (λ _. LeftBehind
+            (λ left. left.0.now ≡ inner_view output_target.entry)
+            (λ left. (left.0.now ≡ inner_view output_target.entry)
+            × (left.1.0.now ≡ mask_views output_target.entry)) output_target.exit) }
+    {
+        match output_target {
+            ArrayBytesDecodeIntoTarget::Fixed(view) => decode_into_fixed(
+                self, alloc, bytes, shape, data_type, fill_value, view, options,
+            ),
+            ArrayBytesDecodeIntoTarget::Optional(view, masks) => decode_into_optional(
+                self, alloc, bytes, shape, data_type, fill_value, view, masks, options,
+            ),
+        }
+    }
 
     /// A value that decodes to the same elements, to be stored in place of this one, and [`None`] where this one stays.
     /// By default it stays.

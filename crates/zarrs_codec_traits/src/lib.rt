@@ -9,6 +9,8 @@ mod array_to_array;
 mod array_to_bytes;
 mod bytes_to_bytes;
 mod codec_traits;
+mod decoding;
+mod put;
 mod shape;
 
 pub use array_to_array::ArrayToArrayCodecTraits;

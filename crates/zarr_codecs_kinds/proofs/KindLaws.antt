@@ -1,0 +1,45 @@
+-- What is made of a configuration.
+use Rattle.std.proofs.Common.{◌≡◌, Option, Some, None, option_map, Result, Ok, Err, if◌then◌else◌, Bool, true, false, refl, ap}
+use Rattle.serde_json.specs.Data.{Members, no_members}
+use Rattle.zarrs_metadata_values.specs.Configuration.{is_none_or_empty}
+use Rattle.zarrs_plugin.specs.Making.{Unmade, unsupported, config, other, IsUnmade}
+use Rattle.zarrs_plugin.specs.declared.error.PluginKind.{PluginKind}
+use Rattle.zarrs_plugin.specs.declared.error.PluginCreateError.{PluginCreateError}
+use Rattle.zarrs_plugin.specs.declared.error.PluginCreateError.TheVariants.{Unsupported, Config, Other, OutOfMemory}
+use Rattle.zarr_basics_grids.specs.Making.{or_config}
+use Rattle.zarr_codecs.specs.Sha256.{none_form}
+use Rattle.zarr_codecs_kinds.specs.CodecForm.{CodecForm, sha256}
+
+pub made_form : {X Y : Type 0} (f : X → Y) (o : Option X) (x : X) → or_config o ≡ Ok x → or_config (option_map f o) ≡ Ok (f x)
+made_form f (Some y) x e = let same : y ≡ x = cc in ap (λ z. Ok (f z)) same
+made_form f None x e = cc
+
+pub refused_form : {X Y : Type 0} (kind : PluginKind) (error : PluginCreateError) (f : X → Y) (o : Option X) → IsUnmade kind error (or_config o) → IsUnmade kind error (or_config (option_map f o))
+refused_form kind OutOfMemory f o e = tt
+refused_form kind Config f None e = tt
+refused_form kind Config f (Some x) e = absurd e
+refused_form kind Other f None e = absurd e
+refused_form kind Other f (Some x) e = absurd e
+refused_form kind (Unsupported error) f None e = absurd e
+refused_form kind (Unsupported error) f (Some x) e = absurd e
+
+pub made_none : (configuration : Option Members) → none_form configuration ≡ Ok no_members → or_config (if is_none_or_empty configuration then Some sha256 else None) ≡ Ok sha256
+made_none configuration e = go (is_none_or_empty configuration) e
+  where
+    go : (b : Bool) → (if b then Ok no_members else Err config) ≡ Ok no_members → or_config (if b then Some sha256 else None) ≡ Ok sha256
+    go true e = refl
+    go false e = cc
+
+pub refused_none : (kind : PluginKind) (error : PluginCreateError) (configuration : Option Members) → IsUnmade kind error (none_form configuration) → IsUnmade kind error (or_config (if is_none_or_empty configuration then Some sha256 else None))
+refused_none kind error configuration e = go error (is_none_or_empty configuration) e
+  where
+    go : (error : PluginCreateError) (b : Bool) → IsUnmade {Y = Members} kind error (if b then Ok no_members else Err config) → IsUnmade kind error (or_config (if b then Some sha256 else None))
+    go OutOfMemory b e = tt
+    go Config true e = absurd e
+    go Config false e = tt
+    go Other true e = absurd e
+    go Other false e = absurd e
+    go (Unsupported error) true e = absurd e
+    go (Unsupported error) false e = absurd e
+
+pub ruleset of_kinds = (made_form, refused_form, made_none, refused_none)

@@ -1,0 +1,12 @@
+//! The codecs of this project as one type for each of the three kinds, and what makes them of metadata.
+#![tactic(auto)]
+
+mod array_to_array;
+mod array_to_bytes;
+mod bytes_to_bytes;
+mod codec_kind;
+
+pub use array_to_array::BasicArrayToArray;
+pub use array_to_bytes::BasicArrayToBytes;
+pub use bytes_to_bytes::BasicBytesToBytes;
+pub use codec_kind::{BasicCodec, CodecKind};

@@ -1,0 +1,4 @@
+pub mod PieceLaws
+pub mod AmountLaws
+pub mod OffsetLaws
+pub mod LevelLaws

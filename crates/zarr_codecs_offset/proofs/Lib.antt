@@ -1,0 +1,2 @@
+mod ShiftLaws
+mod FillLaws

@@ -1,0 +1,11 @@
+use Rattle.std.proofs.Common.{◌≡◌, ◌∙◌, length, rules}
+use Rattle.zarrs_data_type_elements.specs.FillValue.{fill_bytes}
+use Rattle.zarr_codecs_numbers.specs.Numbers.{raised}
+use Rattle.zarr_codecs_offset.proofs.FillLaws.{raised_fill}
+use Rattle.zarr_codecs_offset.proofs.fill.shifted_fill.Goals as goal
+
+pub returns-clause-value : goal.returns-clause-value
+returns-clause-value c = λ offset takes.
+    let long : length (fill_bytes c.args.fill_value.now) ≡ c.args.size = search rules in
+    let made : fill_bytes c.new.result ≡ raised c.args.amount (fill_bytes c.args.fill_value.now) = search rules in
+    raised_fill offset c.args.amount c.args.size (fill_bytes c.args.fill_value.now) (fill_bytes c.new.result) takes long made

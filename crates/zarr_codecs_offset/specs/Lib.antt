@@ -1,0 +1,3 @@
+pub mod Offset
+pub mod OffsetOf
+pub mod Shifted

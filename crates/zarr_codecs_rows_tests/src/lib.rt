@@ -1,0 +1,9 @@
+//! Worked examples of the codecs of this project, and of making them from metadata.
+#![tactic(auto)]
+
+#[cfg(test)]
+mod coding;
+#[cfg(test)]
+mod making;
+#[cfg(test)]
+mod texts;

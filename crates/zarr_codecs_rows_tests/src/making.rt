@@ -1,0 +1,107 @@
+//! Codecs made of metadata of either version, and the metadata that they have.
+
+use crate::texts::{cut, error_text, is_text};
+use std::alloc::{AllocError, Global};
+use std::process::Abort;
+use zarr_codecs_kinds::{BasicCodec, CodecKind};
+use zarrs_codec_metadata::CodecMetadata;
+use zarrs_codec_options::CodecMetadataOptions;
+use zarrs_metadata_parts::{MetadataV2, MetadataV3};
+use zarrs_plugin::{NamePattern, Registry, ZarrVersion};
+
+const VERSION_3: &str = r#"
+"bytes" -> bytes {}
+{"name":"bytes","configuration":{"endian":"big"}} -> bytes {"endian":"big"}
+{"name":"bytes","configuration":{"endian":null}} -> bytes {}
+{"name":"bytes","configuration":{"endian":"middle"}} -> Config
+{"name":"bytes","configuration":{"endian":"big","order":1}} -> Config
+"zarr_basics.sha256" -> zarr_basics.sha256 {}
+{"name":"zarr_basics.sha256","configuration":{}} -> zarr_basics.sha256 {}
+{"name":"zarr_basics.sha256","configuration":{"rounds":1}} -> Config
+{"name":"zarr_basics.offset","configuration":{"offset":250}} -> zarr_basics.offset {"offset":250}
+{"name":"zarr_basics.offset","configuration":{"offset":-9223372036854775808}} -> zarr_basics.offset {"offset":-9223372036854775808}
+{"name":"zarr_basics.offset","configuration":{"offset":18446744073709551615}} -> zarr_basics.offset {"offset":18446744073709551615}
+{"name":"zarr_basics.offset","configuration":{"offset":"1"}} -> Config
+{"name":"zarr_basics.offset","configuration":{}} -> Config
+"zarr_basics.offset" -> Config
+"zstd" -> Unsupported(PluginUnsupportedError { name: "zstd", kind: Codec })
+"#;
+
+const VERSION_2: &str = r#"
+{"id":"zarr_basics.offset","offset":-3} -> zarr_basics.offset {"offset":-3}
+{"id":"bytes","endian":"little"} -> bytes {"endian":"little"}
+{"id":"zarr_basics.sha256"} -> zarr_basics.sha256 {}
+{"id":"zarr_basics.offset","offset":1,"more":2} -> Config
+{"id":"blosc"} -> Unsupported(PluginUnsupportedError { name: "blosc", kind: Codec })
+"#;
+
+fn entry(
+    alloc: Global,
+    name: &str,
+    kind: CodecKind,
+) -> Result<(NamePattern, CodecKind), AllocError> {
+    Ok((NamePattern::Exact(String::from_str(alloc, name)?), kind))
+}
+
+fn codecs(alloc: Global) -> Result<Registry<CodecKind>, AllocError> {
+    let mut entries = Vec::new(alloc);
+    entries.push(entry(alloc, "bytes", CodecKind::Bytes)?)?;
+    entries.push(entry(alloc, "zarr_basics.offset", CodecKind::Offset)?)?;
+    entries.push(entry(alloc, "zarr_basics.sha256", CodecKind::Sha256)?)?;
+    Ok(Registry::with_builtin(alloc, entries))
+}
+
+// The name and the configuration that a codec has in a version.
+fn told(alloc: Global, codec: &BasicCodec, version: ZarrVersion) -> Result<String, AllocError> {
+    let options = CodecMetadataOptions::default();
+    let name = codec.name(alloc, version)?;
+    let configuration = codec.configuration(alloc, version, &options)?;
+    match (name, configuration) {
+        (Some(name), Some(configuration)) => {
+            MetadataV3::new_with_configuration(name, configuration).to_display(alloc)
+        }
+        _ => String::from_str(alloc, "no name"),
+    }
+}
+
+fn made(
+    alloc: Global,
+    metadata: CodecMetadata<'_>,
+    version: ZarrVersion,
+) -> Result<String, AllocError> {
+    let codecs = codecs(alloc)?;
+    match BasicCodec::from_metadata(alloc, metadata, &codecs) {
+        Ok(codec) => told(alloc, &codec, version),
+        Err(error) => error_text(alloc, error),
+    }
+}
+
+fn made_3(alloc: Global, text: &str) -> Result<String, AllocError> {
+    match MetadataV3::try_from_text(alloc, text) {
+        Ok(metadata) => made(alloc, CodecMetadata::V3(&metadata), ZarrVersion::V3),
+        Err(error) => error_text(alloc, error),
+    }
+}
+
+fn made_2(alloc: Global, text: &str) -> Result<String, AllocError> {
+    match MetadataV2::try_from_text(alloc, text) {
+        Ok(metadata) => made(alloc, CodecMetadata::V2(&metadata), ZarrVersion::V2),
+        Err(error) => error_text(alloc, error),
+    }
+}
+
+#[test]
+fn codecs_are_made_of_version_3(rt: HostRuntime) {
+    for row in VERSION_3.trim().lines() {
+        let (text, want) = cut(row);
+        is_text(&rt, made_3(rt.alloc(), text), want);
+    }
+}
+
+#[test]
+fn codecs_are_made_of_version_2(rt: HostRuntime) {
+    for row in VERSION_2.trim().lines() {
+        let (text, want) = cut(row);
+        is_text(&rt, made_2(rt.alloc(), text), want);
+    }
+}

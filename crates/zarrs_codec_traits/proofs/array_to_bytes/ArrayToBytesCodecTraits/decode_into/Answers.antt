@@ -1,0 +1,13 @@
+use Rattle.zarrs_codec_traits.proofs.array_to_bytes.ArrayToBytesCodecTraits.decode_into.Goals as goal
+
+pub returns-in-Fixed-clause-put : goal.returns-in-Fixed-clause-put
+returns-in-Fixed-clause-put g c = rw c.in-Fixed.is c.decode_into_fixed.ensures.put
+
+pub returns-in-Fixed-clause-kept : goal.returns-in-Fixed-clause-kept
+returns-in-Fixed-clause-kept g c = rw c.in-Fixed.is c.decode_into_fixed.ensures.kept
+
+pub returns-in-Optional-clause-put : goal.returns-in-Optional-clause-put
+returns-in-Optional-clause-put g c = rw c.in-Optional.is c.decode_into_optional.ensures.put
+
+pub returns-in-Optional-clause-kept : goal.returns-in-Optional-clause-kept
+returns-in-Optional-clause-kept g c = rw c.in-Optional.is c.decode_into_optional.ensures.kept

@@ -1,0 +1,136 @@
+//! A value decoded into the views of a target.
+
+ghost use Rattle.std.specs.Prelude.{◌≡◌, ◌==◌, [], true, Some, None, IfOk, IfErr};
+ghost use Rattle.zarr_model.specs.Region.{count, count_of};
+ghost use Rattle.zarr_model.specs.Element.{kind_of};
+ghost use Rattle.zarrs_array_subset.specs.ArraySubset.{region as box_of};
+ghost use Rattle.zarrs_data_type_elements.specs.FillValue.{fill_bytes};
+ghost use Rattle.zarrs_data_type_names.specs.DataType.{type_of};
+ghost use Rattle.zarrs_codec_array_bytes.specs.Raw.{raw_of};
+ghost use Rattle.zarrs_codec_view.specs.Held.{held_by, IsTargetOf};
+ghost use Rattle.zarrs_codec_traits.specs.Errors.{unserved_at, RefusesBy, IsDecodeError};
+ghost use Rattle.zarrs_codec_traits.specs.Views.{lengths, level_of, options_of};
+ghost use Rattle.zarrs_codec_traits.specs.Words.{list_at, Gives, IsFit};
+ghost use Rattle.zarrs_codec_traits.specs.Into.{into_answer, RefusesCount, DecodesInto};
+
+use crate::array_to_bytes::ArrayToBytesCodecTraits;
+use crate::put::{expect_number, put_fixed, put_optional};
+use crate::shape::num_elements;
+use std::alloc::Global;
+use std::num::NonZeroU64;
+use zarrs_codec_array_bytes::ArrayBytes;
+use zarrs_codec_error::CodecError;
+use zarrs_codec_options::CodecOptions;
+use zarrs_codec_view::ArrayBytesFixedDisjointView;
+use zarrs_data_type_elements::FillValue;
+use zarrs_data_type_names::DataType;
+
+// What a value decodes to, for a target of so many elements.
+fn decoded_for<C: ArrayToBytesCodecTraits>(
+    codec: &C,
+    alloc: Global,
+    bytes: Vec<u8>,
+    shape: &[NonZeroU64],
+    data_type: &DataType,
+    fill_value: &FillValue,
+    num: u64,
+    options: &CodecOptions,
+) -> Result<ArrayBytes<'static>, CodecError>
+    requires fits { IsFit (lengths shape.now) (type_of data_type.now) }
+    ensures unserved { RefusesBy (unserved_at (C.unserved codec.now)
+        (level_of shape.now data_type.now fill_value.now) (fill_bytes fill_value.now)) result }
+    ensures counted { let level = level_of shape.now data_type.now fill_value.now in
+        unserved_at (C.unserved codec.now) level (fill_bytes fill_value.now) ≡ None
+        → RefusesCount (num == count_of level.shape) num (count_of level.shape) result }
+    ensures value { let level = level_of shape.now data_type.now fill_value.now in
+        let wanted = C.meaning codec.now (options_of options.now) level bytes.items in
+        unserved_at (C.unserved codec.now) level (fill_bytes fill_value.now) ≡ None
+        → IfOk result (λ v. Gives (list_at level (raw_of v)) wanted) }
+    ensures failed { let level = level_of shape.now data_type.now fill_value.now in
+        let wanted = C.meaning codec.now (options_of options.now) level bytes.items in
+        unserved_at (C.unserved codec.now) level (fill_bytes fill_value.now) ≡ None
+        → (num == count_of level.shape) ≡ true → IfErr result
+        (IsDecodeError wanted (C.says codec.now (options_of options.now) level bytes.items)) }
+{
+    codec.encoded_representation(shape, data_type, fill_value)?;
+    expect_number(num, num_elements(shape))?;
+    let decoded = codec.decode(alloc, bytes, shape, data_type, fill_value, options)?;
+    Ok(decoded)
+}
+
+// Decodes into the view of elements of one size.
+pub(crate) fn decode_into_fixed<C: ArrayToBytesCodecTraits>(
+    codec: &C,
+    alloc: Global,
+    bytes: Vec<u8>,
+    shape: &[NonZeroU64],
+    data_type: &DataType,
+    fill_value: &FillValue,
+    view: &mut ArrayBytesFixedDisjointView<'_>,
+    options: &CodecOptions,
+) -> Result<(), CodecError>
+    requires fits { IsFit (lengths shape.now) (type_of data_type.now) }
+    ensures unserved { RefusesBy (unserved_at (C.unserved codec.now)
+        (level_of shape.now data_type.now fill_value.now) (fill_bytes fill_value.now)) result }
+    ensures counted { let level = level_of shape.now data_type.now fill_value.now in
+        let num = count (box_of view.old.part.subset) in
+        unserved_at (C.unserved codec.now) level (fill_bytes fill_value.now) ≡ None
+        → RefusesCount (num == count_of level.shape) num (count_of level.shape) result }
+    ensures exact { let level = level_of shape.now data_type.now fill_value.now in
+        unserved_at (C.unserved codec.now) level (fill_bytes fill_value.now) ≡ None
+        → (count (box_of view.old.part.subset) == count_of level.shape) ≡ true
+        → DecodesInto (C.meaning codec.now (options_of options.now) level bytes.items)
+        (C.says codec.now (options_of options.now) level bytes.items)
+        (into_answer (kind_of level.data_type) (count_of level.shape) [] view.old) result }
+    ensures put { let level = level_of shape.now data_type.now fill_value.now in
+        unserved_at (C.unserved codec.now) level (fill_bytes fill_value.now) ≡ None
+        → IsTargetOf (kind_of level.data_type) (count_of level.shape) [] view.old
+        → IfOk result (λ _. C.meaning codec.now (options_of options.now) level bytes.items
+        ≡ Some (held_by [] view.new)) }
+    ensures kept { IfErr result (λ _. view.new ≡ view.old) }
+{
+    let num = view.num_elements();
+    let decoded = decoded_for(
+        codec, alloc, bytes, shape, data_type, fill_value, num, options,
+    )?;
+    put_fixed(&decoded, view)
+}
+
+// Decodes into the views of optional elements.
+pub(crate) fn decode_into_optional<'a, C: ArrayToBytesCodecTraits>(
+    codec: &C,
+    alloc: Global,
+    bytes: Vec<u8>,
+    shape: &[NonZeroU64],
+    data_type: &DataType,
+    fill_value: &FillValue,
+    view: &mut ArrayBytesFixedDisjointView<'a>,
+    masks: &mut [ArrayBytesFixedDisjointView<'a>],
+    options: &CodecOptions,
+) -> Result<(), CodecError>
+    requires fits { IsFit (lengths shape.now) (type_of data_type.now) }
+    ensures unserved { RefusesBy (unserved_at (C.unserved codec.now)
+        (level_of shape.now data_type.now fill_value.now) (fill_bytes fill_value.now)) result }
+    ensures counted { let level = level_of shape.now data_type.now fill_value.now in
+        let num = count (box_of view.old.part.subset) in
+        unserved_at (C.unserved codec.now) level (fill_bytes fill_value.now) ≡ None
+        → RefusesCount (num == count_of level.shape) num (count_of level.shape) result }
+    ensures exact { let level = level_of shape.now data_type.now fill_value.now in
+        unserved_at (C.unserved codec.now) level (fill_bytes fill_value.now) ≡ None
+        → (count (box_of view.old.part.subset) == count_of level.shape) ≡ true
+        → DecodesInto (C.meaning codec.now (options_of options.now) level bytes.items)
+        (C.says codec.now (options_of options.now) level bytes.items)
+        (into_answer (kind_of level.data_type) (count_of level.shape) masks.old view.old) result }
+    ensures put { let level = level_of shape.now data_type.now fill_value.now in
+        unserved_at (C.unserved codec.now) level (fill_bytes fill_value.now) ≡ None
+        → IsTargetOf (kind_of level.data_type) (count_of level.shape) masks.old view.old
+        → IfOk result (λ _. C.meaning codec.now (options_of options.now) level bytes.items
+        ≡ Some (held_by masks.new view.new)) }
+    ensures kept { IfErr result (λ _. (view.new ≡ view.old) × (masks.new ≡ masks.old)) }
+{
+    let num = view.num_elements();
+    let decoded = decoded_for(
+        codec, alloc, bytes, shape, data_type, fill_value, num, options,
+    )?;
+    put_optional(&decoded, view, masks)
+}
