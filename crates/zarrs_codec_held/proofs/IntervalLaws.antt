@@ -140,10 +140,10 @@ pub interval_told : (part : ByteRange → Held) (offset len : ℕ) (ranges asked
     → IsPartError part asked tells before now e → IsPartError (interval_part part offset len) ranges (λ e. IsRangeError e ⊎ tells e) before now e
 interval_told part offset len ranges asked tells before now e valid same told =
     ⊎_elim (λ (h : IsHandleError before now e). inl h)
-    (λ (r : RefusesSome part asked × (IsRangeError e ⊎ tells e)). inr (refused_by part offset len ranges valid (subst (λ (a : List ByteRange). RefusesSome part a) same r.0), inr r.1)) told
+    (λ (r : RefusesSome part asked × tells e). inr (refused_by part offset len ranges valid (subst (λ (a : List ByteRange). RefusesSome part a) same r.0), inr r.1)) told
 
 pub interval_refused : (part : ByteRange → Held) (offset len : ℕ) (ranges : List ByteRange) (tells : CodecError → Type 0) (before now : ℕ) (e : CodecError) → (e ≡ codec.OutOfMemory) ⊎ (IsSome (first_invalid len ranges) × IsRangeError e)
-    → IsPartError (interval_part part offset len) ranges tells before now e
+    → IsPartError (interval_part part offset len) ranges (λ e. IsRangeError e ⊎ tells e) before now e
 interval_refused part offset len ranges tells before now e told =
     ⊎_elim (λ (m : e ≡ codec.OutOfMemory). inl (inl m)) (λ (r : IsSome (first_invalid len ranges) × IsRangeError e). inr (invalid_by part offset len ranges r.0, inl r.1)) told
 
@@ -151,7 +151,7 @@ pub one_told : (part : ByteRange → Held) (range : ByteRange) (tells : CodecErr
     → IsReadError (part range) (λ e. IsRangeError e ⊎ tells e) before now e
 one_told part range tells before now e told =
     ⊎_elim (λ (h : IsHandleError before now e). inl h)
-    (λ (r : RefusesSome part (range ∷ []) × (IsRangeError e ⊎ tells e)). inr (⊎_elim (λ (is : part range ≡ None). is) (λ (none : (other : ByteRange) → part other ≡ None). none range) r.0, r.1)) told
+    (λ (r : RefusesSome part (range ∷ []) × tells e). inr (⊎_elim (λ (is : part range ≡ None). is) (λ (none : (other : ByteRange) → part other ≡ None). none range) r.0, inr r.1)) told
 
 pub interval_reads : {T E : Type 0} (offset len : ℕ) (asked : Option (List ByteRange)) (below : List ByteRange) (old new : Seen) (result : Result T E) → below ≡ asked_of offset len asked
     → Reads (Some below) old new result → Reads asked (interval offset len old) (interval offset len new) result

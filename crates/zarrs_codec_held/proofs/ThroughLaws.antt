@@ -12,7 +12,7 @@ use Rattle.zarrs_codec_error.specs.declared.error.CodecError.TheVariants as code
 use Rattle.zarrs_codec_held.specs.Held.{Held, HasPart, value_part, part_of, Seen, IsSound}
 use Rattle.zarrs_codec_held.specs.Reads.{Keeps, Reads, MayCount, GivesParts, AreParts, AreAbsent, RefusesSome, IsRangeError, IsHandleError, IsReadError, IsPartError}
 use Rattle.zarrs_codec_held.specs.Writes.{Holds, Stays, is_fault, Unless, UnlessFault, Writes, Unasked, CountsIf, Edits}
-use Rattle.zarrs_codec_held.specs.Through.{through, through_says, decoded}
+use Rattle.zarrs_codec_held.specs.Through.{through, says_of, through_says, decoded}
 use Rattle.zarrs_codec_held.proofs.PartLaws.{within_value, value_there, none_absent}
 use Rattle.zarrs_codec_held.proofs.IntervalLaws.{keeps_same}
 
@@ -71,42 +71,52 @@ pub reads_failed : {T U E F : Type 0} (asked : Option (List ByteRange)) (old new
 reads_failed asked old new e f reads = record { keeps = reads.keeps; asks = tt; asks_err = reads.asks_err; taken = tt; taken_err = reads.taken_err }
 
 -- which errors tell that a value does not decode, after a read
-pub through_told : (says : List ℕ → CodecError → Type 0) (old new : CodecError → Type 0) (held now : Held) (e : CodecError) → now ≡ held → (new e → old e) → through_says says new now e → through_says says old held e
-through_told says old new held now e same back told = go held (subst (λ (h : Held). through_says says new h e) same told)
+pub through_told : (decode : List ℕ → Option (List ℕ)) (says : List ℕ → CodecError → Type 0) (old new : CodecError → Type 0) (held now : Held) (e : CodecError) → now ≡ held → (new e → old e) → through_says decode says new now e → through_says decode says old held e
+through_told decode says old new held now e same back told = go held (subst (λ (h : Held). through_says decode says new h e) same told)
   where
-    go : (h : Held) → through_says says new h e → through_says says old h e
+    go : (h : Held) → through_says decode says new h e → through_says decode says old h e
     go None told = back told
     go (Some None) told = told
     go (Some (Some value)) told = told
 
 -- why a read fails
 pub read_told : (decode : List ℕ → Option (List ℕ)) (says : List ℕ → CodecError → Type 0) (tells : CodecError → Type 0) (held : Held) (before now : ℕ) (e : CodecError) → IsReadError held tells before now e
-    → IsReadError (through decode held) (through_says says tells held) before now e
+    → IsReadError (through decode held) (through_says decode says tells held) before now e
 read_told decode says tells held before now e told =
     ⊎_elim (λ (h : IsHandleError before now e). inl h)
-    (λ (none : (held ≡ None) × tells e). inr (ap (through decode) none.0, subst (λ (h : Held). through_says says tells h e) (sym none.0) none.1)) told
+    (λ (none : (held ≡ None) × tells e). inr (ap (through decode) none.0, subst (λ (h : Held). through_says decode says tells h e) (sym none.0) none.1)) told
 
 pub decode_told : (decode : List ℕ → Option (List ℕ)) (says : List ℕ → CodecError → Type 0) (tells : CodecError → Type 0) (held : Held) (value : List ℕ) (before now : ℕ) (e : CodecError) → held ≡ Some (Some value)
-    → (e ≡ codec.OutOfMemory) ⊎ ((decode value ≡ None) × says value e) → IsReadError (through decode held) (through_says says tells held) before now e
+    → (e ≡ codec.OutOfMemory) ⊎ ((decode value ≡ None) × says value e) → IsReadError (through decode held) (through_says decode says tells held) before now e
 decode_told decode says tells held value before now e is told =
     ⊎_elim (λ (m : e ≡ codec.OutOfMemory). inl (inl m))
-    (λ (none : (decode value ≡ None) × says value e). inr (ap (through decode) is ∙ ap (option_map Some) none.0, subst (λ (h : Held). through_says says tells h e) (sym is) none.1)) told
+    (λ (none : (decode value ≡ None) × says value e). inr (ap (through decode) is ∙ ap (option_map Some) none.0, subst (λ (h : Held). through_says decode says tells h e) (sym is) (subst (λ (d : Option (List ℕ)). says_of d (says value) e) (sym none.0) none.1))) told
+
+-- of a value that decodes, the error of a range
+pub range_told : (decode : List ℕ → Option (List ℕ)) (says : List ℕ → CodecError → Type 0) (tells : CodecError → Type 0) (held : Held) (value : List ℕ) (e : CodecError) → through decode held ≡ Some (Some value) → IsRangeError e → through_says decode says tells held e
+range_told decode says tells None value e is range = cc
+range_told decode says tells (Some None) value e is range = cc
+range_told decode says tells (Some (Some v)) value e is range = go (decode v) is
+  where
+    go : (d : Option (List ℕ)) → option_map Some d ≡ Some (Some value) → says_of d (says v) e
+    go None is = cc
+    go (Some w) is = range
 
 -- why ranges of what was decoded fail
 pub many_told : (held : Held) (ranges : List ByteRange) (tells : CodecError → Type 0) (before now : ℕ) (e : CodecError) → IsReadError held tells before now e → IsPartError (part_of held) ranges tells before now e
 many_told held ranges tells before now e told =
     ⊎_elim (λ (h : IsHandleError before now e). inl h)
-    (λ (none : (held ≡ None) × tells e). inr (refuses ranges none.0, inr none.1)) told
+    (λ (none : (held ≡ None) × tells e). inr (refuses ranges none.0, none.1)) told
   where
     refuses : (ranges : List ByteRange) → held ≡ None → RefusesSome (part_of held) ranges
     refuses [] none = λ range. ap (λ (h : Held). part_of h range) none
     refuses (range ∷ ranges) none = inl (ap (λ (h : Held). part_of h range) none)
 
-pub many_refused : (held : Held) (value : List ℕ) (ranges : List ByteRange) (tells : CodecError → Type 0) (before now : ℕ) (e : CodecError) → held ≡ Some (Some value)
+pub many_refused : (held : Held) (value : List ℕ) (ranges : List ByteRange) (tells : CodecError → Type 0) (before now : ℕ) (e : CodecError) → held ≡ Some (Some value) → (IsRangeError e → tells e)
     → (e ≡ codec.OutOfMemory) ⊎ (RefusesSome (value_part (Some value)) ranges × IsRangeError e) → IsPartError (part_of held) ranges tells before now e
-many_refused held value ranges tells before now e is told =
+many_refused held value ranges tells before now e is range told =
     ⊎_elim (λ (m : e ≡ codec.OutOfMemory). inl (inl m))
-    (λ (r : RefusesSome (value_part (Some value)) ranges × IsRangeError e). inr (subst (λ (h : Held). RefusesSome (part_of h) ranges) (sym is) r.0, inl r.1)) told
+    (λ (r : RefusesSome (value_part (Some value)) ranges × IsRangeError e). inr (subst (λ (h : Held). RefusesSome (part_of h) ranges) (sym is) r.0, range r.1)) told
 
 pub many_given : (held : Held) (value : List ℕ) (ranges : List ByteRange) (parts : List (List ℕ)) (there : Bool) → held ≡ Some (Some value) → true ≡ there → AreParts (value_part (Some value)) ranges parts
     → GivesParts there (part_of held) ranges (Some parts)

@@ -75,15 +75,13 @@ IsFault before now e = (e ≡ codec.StorageError storage.Failed) × Rose before 
 abbrev pub IsHandleError : ℕ → ℕ → CodecError → Type 0
 IsHandleError before now e = (e ≡ codec.OutOfMemory) ⊎ IsFault before now e
 
--- why the whole value is not given: beside these, a value is there that does not decode, and the
--- error says so
+-- why the whole value is not given: beside these, it is refused, and the error tells why
 abbrev pub IsReadError : Held → (CodecError → Type 0) → ℕ → ℕ → CodecError → Type 0
 IsReadError held tells before now e =
     IsHandleError before now e ⊎ ((held ≡ None) × tells e)
 
--- why ranges are not given: beside these, one is refused since it is not valid, or since the value
--- does not decode
+-- why ranges are not given: beside these, one is refused, and the error tells why
 abbrev pub IsPartError : (ByteRange → Held) → List ByteRange → (CodecError → Type 0) → ℕ → ℕ
     → CodecError → Type 0
-IsPartError part ranges tells before now e = IsHandleError before now e
-    ⊎ (RefusesSome part ranges × (IsRangeError e ⊎ tells e))
+IsPartError part ranges tells before now e =
+    IsHandleError before now e ⊎ (RefusesSome part ranges × tells e)

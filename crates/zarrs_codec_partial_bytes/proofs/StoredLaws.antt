@@ -37,11 +37,11 @@ stored_given (Some parts) ranges (Some value) same valid = let items : parts ≡
 
 -- the error of a store as one of a handle
 pub stored_told : (value : Option (List ℕ)) (ranges : List ByteRange) (before now : ℕ) (error : StorageError) (e : CodecError) → IsRangeError ranges value error → (IsFault error → Rose before now) → e ≡ codec_of_storage error
-    → (told : CodecError → Type 0) → reads.IsPartError (value_part value) ranges told before now e
-stored_told value ranges before now storage.Failed e range rose is told = inl (inr (is, rose tt))
-stored_told None ranges before now (storage.InvalidByteRange error) e range rose is told = absurd range
-stored_told (Some value) ranges before now (storage.InvalidByteRange error) e range rose is told = inr (first_refused value ranges error.range range.0, inl (subst reads.IsRangeError (sym is) tt))
-stored_told value ranges before now storage.OutOfMemory e range rose is told = inl (inl is)
+    → reads.IsPartError (value_part value) ranges reads.IsRangeError before now e
+stored_told value ranges before now storage.Failed e range rose is = inl (inr (is, rose tt))
+stored_told None ranges before now (storage.InvalidByteRange error) e range rose is = absurd range
+stored_told (Some value) ranges before now (storage.InvalidByteRange error) e range rose is = inr (first_refused value ranges error.range range.0, subst reads.IsRangeError (sym is) tt)
+stored_told value ranges before now storage.OutOfMemory e range rose is = inl (inl is)
 
 -- a read of ranges of a store, as one of a handle
 pub stored_reads : {E : Type 0} (name : ℕ) (key : List ℕ) (ranges : List ByteRange) (old new : Shown) (parts : Option (Vec (Vec ℕ Global) Global)) → GetsParts key ranges old new (Ok parts)

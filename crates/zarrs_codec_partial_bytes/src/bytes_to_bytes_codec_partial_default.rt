@@ -95,7 +95,8 @@ impl<H: BytesPartialDecoderTraits, C: BytesToBytesCodecTraits> BytesToBytesCodec
         ensures cause { IfErr result (IsReadError
             (through (C.meaning self.old.codec (options_of options.now))
             ((H.seen self.old.handle).held (options_of options.now)))
-            (through_says (C.says self.old.codec (options_of options.now))
+            (through_says (C.meaning self.old.codec (options_of options.now))
+            (C.says self.old.codec (options_of options.now))
             (H.tells self.old.handle (options_of options.now))
             ((H.seen self.old.handle).held (options_of options.now)))
             (H.seen self.old.handle).shown.faults (H.seen self.new.handle).shown.faults) }
@@ -127,8 +128,8 @@ impl<H: BytesPartialDecoderTraits, C: BytesToBytesCodecTraits> BytesPartialDecod
 
     ghost seen = { λ h. decoded (C.meaning h.codec) (H.seen h.handle) };
 
-    ghost tells = { λ h under e. through_says (C.says h.codec under) (H.tells h.handle under)
-        ((H.seen h.handle).held under) e };
+    ghost tells = { λ h under e. through_says (C.meaning h.codec under) (C.says h.codec under)
+        (H.tells h.handle under) ((H.seen h.handle).held under) e };
 
     ghost reads_parts = { λ h. (C.decodes_parts h.codec).partial_decode && H.reads_parts h.handle };
 

@@ -38,11 +38,12 @@ impl MemoryHandle {
 impl BytesPartialDecoderTraits for MemoryHandle {
     ghost use Rattle.std.specs.Prelude.{true};
     ghost use Rattle.zarrs_codec_held.specs.Held.{in_memory};
+    ghost use Rattle.zarrs_codec_held.specs.Reads.{IsRangeError};
     ghost use Rattle.zarrs_codec_held.proofs.PartLaws.{sound_memory};
 
     ghost seen = { λ h. in_memory (value_bytes h.value) };
 
-    ghost tells = { λ h under e. ⊥ };
+    ghost tells = { λ h under e. IsRangeError e };
 
     ghost reads_parts = { λ h. true };
 

@@ -37,12 +37,13 @@ impl<'s, S: Store> StoragePartialEncoder<'s, S> {
 
 impl<S: Store> BytesPartialDecoderTraits for StoragePartialEncoder<'_, S> {
     ghost use Rattle.std.proofs.Common.{refl};
+    ghost use Rattle.zarrs_codec_held.specs.Reads.{IsRangeError};
     ghost use Rattle.zarrs_codec_held.proofs.PartLaws.{sound_by};
     ghost use Rattle.zarrs_codec_partial_bytes.specs.Stored.{stored};
 
     ghost seen = { λ h. stored h.storage.ghost_name h.key (S.shown h.storage.now) };
 
-    ghost tells = { λ h under e. ⊥ };
+    ghost tells = { λ h under e. IsRangeError e };
 
     ghost reads_parts = { λ h. S.gets_parts h.storage.now };
 

@@ -21,7 +21,7 @@ pub trait BytesPartialDecoderTraits {
     // What it holds, and what it shows of what is below.
     ghost seen: { Self → Seen };
 
-    // Which errors tell that a value is there that does not decode.
+    // Which errors tell why a read is refused.
     ghost tells: { Self → Options → CodecError → Type 0 };
 
     // Whether it reads a part of the value without the rest.
@@ -84,8 +84,8 @@ pub trait BytesPartialDecoderTraits {
     /// The bytes of each range of the value, in the order of the ranges, or [`None`] where it is absent.
     ///
     /// # Errors
-    /// [`CodecError::InvalidByteRangeError`] where a range is not valid;
-    /// [`CodecError::StorageError`] where what is below fails; what tells that the value does not decode; or
+    /// Where a range is refused, what tells why: [`CodecError::InvalidByteRangeError`] of a value that is read whole, and
+    /// what its codec says of one that does not decode. [`CodecError::StorageError`] where what is below fails; or
     /// [`CodecError::OutOfMemory`].
     fn partial_decode_many(
         &mut self,

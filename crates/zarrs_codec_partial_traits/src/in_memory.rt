@@ -14,11 +14,12 @@ use zarrs_storage::{ByteRange, StorageError};
 impl BytesPartialDecoderTraits for Vec<u8> {
     ghost use Rattle.std.specs.Prelude.{true, Some};
     ghost use Rattle.zarrs_codec_held.specs.Held.{in_memory};
+    ghost use Rattle.zarrs_codec_held.specs.Reads.{IsRangeError};
     ghost use Rattle.zarrs_codec_held.proofs.PartLaws.{sound_memory};
 
     ghost seen = { λ v. in_memory (Some v.items) };
 
-    ghost tells = { λ v under e. ⊥ };
+    ghost tells = { λ v under e. IsRangeError e };
 
     ghost reads_parts = { λ v. true };
 
@@ -74,11 +75,12 @@ fn items_of<'b>(bytes: &'b CowSlice<'_, u8>) -> &'b [u8]
 impl BytesPartialDecoderTraits for CowSlice<'_, u8> {
     ghost use Rattle.std.specs.Prelude.{true, Some};
     ghost use Rattle.zarrs_codec_held.specs.Held.{in_memory};
+    ghost use Rattle.zarrs_codec_held.specs.Reads.{IsRangeError};
     ghost use Rattle.zarrs_codec_held.proofs.PartLaws.{sound_memory};
 
     ghost seen = { λ v. in_memory (Some (cow_slice_items v)) };
 
-    ghost tells = { λ v under e. ⊥ };
+    ghost tells = { λ v under e. IsRangeError e };
 
     ghost reads_parts = { λ v. true };
 

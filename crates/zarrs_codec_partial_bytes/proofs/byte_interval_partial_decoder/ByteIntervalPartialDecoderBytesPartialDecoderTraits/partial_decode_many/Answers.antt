@@ -1,7 +1,6 @@
-use Rattle.std.proofs.Common.{◌≡◌, ◌⊎◌, refl}
+use Rattle.std.proofs.Common.{◌≡◌, refl}
 use Rattle.std.proofs.lemmas.Result.{IfErr-weaker}
 use Rattle.zarrs_codec_traits.specs.Views.{options_of}
-use Rattle.zarrs_codec_held.specs.Reads.{IsRangeError}
 use Rattle.zarrs_codec_held.proofs.IntervalLaws.{interval_told, interval_refused}
 use Rattle.zarrs_codec_partial_bytes.proofs.byte_interval_partial_decoder.ByteIntervalPartialDecoderBytesPartialDecoderTraits.partial_decode_many.Goals as goal
 
@@ -18,4 +17,4 @@ returns-in-Err-clause-cause g c =
     let under = options_of c.args.options.now in
     let part = (g.H.BytesPartialDecoderTraits.seen c.args.self.now.handle).part under in
     let tells = g.H.BytesPartialDecoderTraits.tells c.args.self.now.handle under in
-    interval_refused part c.args.self.now.byte_offset c.args.self.now.byte_length c.args.decoded_regions.now (λ e. IsRangeError e ⊎ tells e) _ _ c.in-Err.error c.in-Err.ensures.refused
+    interval_refused part c.args.self.now.byte_offset c.args.self.now.byte_length c.args.decoded_regions.now tells _ _ c.in-Err.error c.in-Err.ensures.refused

@@ -9,4 +9,4 @@ pub returns-in-Ok-clause-reads : goal.returns-in-Ok-clause-reads
 returns-in-Ok-clause-reads g c = stored_reads c.args.self.now.storage.ghost_name c.args.self.now.key c.args.decoded_regions.now _ _ c.in-Ok.parts c.in-Ok.ensures
 
 pub returns-in-Err-clause-cause : goal.returns-in-Err-clause-cause
-returns-in-Err-clause-cause g c = stored_told _ c.args.decoded_regions.now _ _ c.in-Err.error c.from.result c.in-Err.ensures.error c.in-Err.ensures.cause.failed c.from.ensures (λ e. ⊥)
+returns-in-Err-clause-cause g c = stored_told _ c.args.decoded_regions.now _ _ c.in-Err.error c.from.result c.in-Err.ensures.error c.in-Err.ensures.cause.failed c.from.ensures
