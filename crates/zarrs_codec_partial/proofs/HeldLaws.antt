@@ -1,5 +1,6 @@
 -- The list that is held, by cases.
-use Rattle.std.proofs.Common.{◌≡◌, ◌⊎◌, ℕ, ◌+◌, ◌-◌, ◌≤◌, Bool, true, false, is_some, if◌then◌else◌, List, [], ◌∷◌, length, take, drop, replicate, Option, Some, None, IsSome, option_map, Result, Ok, Err, IfOk, IfErr, OnOk, MatchResult, refl, sym, ap, ◌∙◌, subst, arith, inl, inr, ⊎_elim, eq-eqb}
+use Rattle.std.proofs.Common.{◌≡◌, ◌⊎◌, ℕ, ◌+◌, ◌-◌, ◌≤◌, Bool, true, false, is_some, if◌then◌else◌, List, [], ◌∷◌, length, take, drop, replicate, Option, Some, None, IsSome, option_map, option_and_then, not, Result, Ok, Err, IfOk, IfErr, OnOk, MatchResult, refl, sym, ap, ◌∙◌, subst, arith, inl, inr, ⊎_elim, eq-eqb}
+use Rattle.std.proofs.Math.Path.{fun_ext}
 use Rattle.std.proofs.lemmas.List.{length-take-le, length-drop}
 use Rattle.std.proofs.lemmas.Bool.{leb-true, le-leb}
 use Rattle.zarr_model.specs.Region.{Region, count, count_of, ends_within, tuples}
@@ -7,8 +8,8 @@ use Rattle.zarr_model.proofs.RegionLaws.{length-tuples}
 use Rattle.zarrs_codec_bytes.specs.Picking.{picked}
 use Rattle.zarrs_codec_array_bytes.specs.Selection.{linear}
 use Rattle.zarr_model.specs.Element.{Element, null, Kind, kind_of, fill_element}
-use Rattle.zarrs_codec_bytes.specs.Filling.{has_size}
-use Rattle.zarrs_codec_bytes.proofs.FilledLaws.{element_fits}
+use Rattle.zarrs_codec_bytes.specs.Filling.{has_size, filled_with}
+use Rattle.zarrs_codec_bytes.proofs.FilledLaws.{filled_valid}
 use Rattle.zarr_model.specs.ArrayBytes.{ArrayBytes, meaning}
 use Rattle.zarr_model.specs.Codec.{Level, Options}
 use Rattle.zarr_model.specs.Command.{has_long_element}
@@ -19,16 +20,16 @@ use Rattle.zarrs_codec_error.specs.declared.error.CodecError.{CodecError}
 use Rattle.zarrs_codec_error.specs.declared.error.CodecError.TheVariants as codec
 use Rattle.zarrs_codec_array_bytes.specs.declared.array_bytes.ArrayBytes as code
 use Rattle.zarrs_codec_array_bytes.specs.Raw.{raw_of}
-use Rattle.zarrs_codec_array_bytes.specs.Refusals.{Told, fine, told_by, then_answer, wrong_length, Answers, fill_answer, extract_answer}
+use Rattle.zarrs_codec_array_bytes.specs.Refusals.{Told, fine, told_by, other_fill, then_answer, wrong_length, Answers, fill_answer, extract_answer}
 use Rattle.zarrs_codec_traits.specs.Errors.{Unserved, RefusesBy, IsDecodeError}
 use Rattle.zarrs_codec_traits.specs.Parts as parts
 use Rattle.zarrs_codec_traits.specs.Parts.{length_answer, lengths_answer, request_answer}
 use Rattle.zarrs_codec_traits.specs.Words.{list_at, at_box, select, Gives}
-use Rattle.zarrs_codec_held.specs.Held.{Held, Seen, value_part}
-use Rattle.zarrs_codec_held.specs.Reads.{Keeps, Looks, Reads, AreParts, RefusesSome, IsRangeError, IsHandleError, IsReadError, IsPartError}
+use Rattle.zarrs_codec_held.specs.Held.{Held, Seen, IsSound, value_part}
+use Rattle.zarrs_codec_held.specs.Reads.{Keeps, Looks, Reads, GivesParts, AreParts, RefusesSome, IsHandleError, IsReadError, IsPartError}
 use Rattle.zarrs_codec_held.proofs.PartLaws.{as_many}
 use Rattle.zarrs_codec_partial_traits.specs.Lists.{fills, IsListError, KeepsList, LooksAt, ReadsList}
-use Rattle.zarrs_codec_partial.specs.Level.{list_of, own_says, list_says, ranges_for, listed, smaller_box, is_smaller}
+use Rattle.zarrs_codec_partial.specs.Level.{list_of, IsRefused, AreGiven, IsOtherFill, own_says, list_says, ranges_for, listed, smaller_box, is_smaller}
 use Rattle.zarrs_codec_partial.specs.Boxes.{Denotes, IsShort, GivesAll, GivesBox, GivesPlaces}
 use Rattle.zarrs_codec_partial.proofs.SelectLaws.{select-replicate, boxed-picked}
 use Rattle.zarrs_codec_partial.proofs.ExtractLaws.{says_some, extract_told}
@@ -67,27 +68,36 @@ denoted (Some x) some = (x, refl)
 some_of : {A : Type 0} (o : Option A) (x : A) → o ≡ Some x → IsSome o
 some_of o x e = subst (λ o. IsSome o) (sym e) refl
 
+sized : {T : Type 0} (b : Bool) (v : T) → Answers (fill_answer b) (Ok v) → b ≡ true
+sized true v answers = refl
+sized false v answers = cc
+
+-- what is made of any fill value is valid
+made_valid : (level : Level) (fill : List ℕ) (r : Result code.ArrayBytes CodecError) → Answers (fill_answer (has_size (kind_of level.data_type) fill)) r
+    → IfOk r (λ v. raw_of v ≡ filled_with (kind_of level.data_type) (count_of level.shape) fill) → IfOk r (λ v. IsSome (list_at level (raw_of v)))
+made_valid level fill (Ok v) answers is =
+    let means = filled_valid (kind_of level.data_type) (count_of level.shape) fill (sized _ v answers) in
+    some_of _ _ (ap (list_at level) is ∙ means.is)
+made_valid level fill (Err e) answers is = tt
+
 pub fill_all : (level : Level) (fill : List ℕ) (r : Result code.ArrayBytes CodecError)
+    → Answers (fill_answer (has_size (kind_of level.data_type) fill)) r → IfOk r (λ v. raw_of v ≡ filled_with (kind_of level.data_type) (count_of level.shape) fill)
     → ((x : Element) → fill_element (kind_of level.data_type) fill ≡ Some x → IfOk r (λ v. list_at level (raw_of v) ≡ Some (replicate (count_of level.shape) x)))
     → (IsShort level fill → IfOk r (λ v. has_long_element (raw_of v) ≡ false)) → GivesAll level fill (fills level fill) r
-fill_all level fill r filled short = record {
+fill_all level fill r answers made filled short = record {
   value = λ xs e. let by = filled_by _ _ xs e in weaker _ _ r (λ v is. is ∙ ap Some by.1.1) (filled by.0 by.1.0);
-  valid = λ some. let by = denoted _ some in weaker _ _ r (λ v is. some_of _ _ is) (filled by.0 by.1);
+  valid = made_valid level fill r answers made;
   short = short;
 }
 
 -- why a fill is refused
-unsized_none : (kind : Kind) (fill : List ℕ) (element : Option Element) → fill_element kind fill ≡ element → has_size kind fill ≡ false → element ≡ None
-unsized_none kind fill None is unsized = refl
-unsized_none kind fill (Some x) is unsized = let sized : has_size kind fill ≡ true = element_fits kind fill x is in cc
-
-pub fill_told : {T : Type 0} (level : Level) (fill : List ℕ) (r : Result T CodecError) → Answers (fill_answer (has_size (kind_of level.data_type) fill)) r → IfErr r (λ e. (e ≡ codec.OutOfMemory) ⊎ (fills level fill ≡ None))
+pub fill_told : {T : Type 0} (level : Level) (fill : List ℕ) (r : Result T CodecError) → Answers (fill_answer (has_size (kind_of level.data_type) fill)) r → IfErr r (λ e. (e ≡ codec.OutOfMemory) ⊎ IsOtherFill level fill e)
 fill_told level fill (Ok v) answers = tt
 fill_told level fill (Err e) answers = go (has_size (kind_of level.data_type) fill) refl answers
   where
-    go : (b : Bool) → has_size (kind_of level.data_type) fill ≡ b → (e ≡ codec.OutOfMemory) ⊎ (told_by e ≡ fill_answer b) → (e ≡ codec.OutOfMemory) ⊎ (fills level fill ≡ None)
+    go : (b : Bool) → has_size (kind_of level.data_type) fill ≡ b → (e ≡ codec.OutOfMemory) ⊎ (told_by e ≡ fill_answer b) → (e ≡ codec.OutOfMemory) ⊎ IsOtherFill level fill e
     go true is told = ⊎_elim (λ (m : e ≡ codec.OutOfMemory). inl m) (λ (t : told_by e ≡ fine). absurd (says_some e t)) told
-    go false is told = inr (ap (option_map (replicate (count_of level.shape))) (unsized_none (kind_of level.data_type) fill (fill_element (kind_of level.data_type) fill) refl is))
+    go false is told = ⊎_elim (λ (m : e ≡ codec.OutOfMemory). inl m) (λ (t : told_by e ≡ other_fill). inr (is, t)) told
 
 pub fill_part : (level : Level) (fill : List ℕ) (box : Region) (r : Result code.ArrayBytes CodecError) → ends_within box level.shape ≡ true
     → ((x : Element) → fill_element (kind_of level.data_type) fill ≡ Some x → IfOk r (λ v. meaning (kind_of level.data_type) (count box) (raw_of v) ≡ Some (replicate (count box) x)))
@@ -106,7 +116,7 @@ module _ (level : Level) (fill : List ℕ) (decode : List ℕ → Option (List E
       let ok = ok_of _ Q r gives in
       record {
         value = λ xs e. weaker _ _ r (λ v given. given.same ∙ (sym (ap (list_of decode absent) is) ∙ e)) ok;
-        valid = λ some. weaker _ _ r (λ v given. given.there) ok;
+        valid = weaker _ _ r (λ v given. given.there) ok;
         short = λ few. short;
       }
 
@@ -136,45 +146,52 @@ module _ (level : Level) (fill : List ℕ) (decode : List ℕ → Option (List E
       none : {A : Type 0} {x : A} → None ≡ Some x → ⊥
       none e = cc
 
-module _ (decode : List ℕ → Option (List Element)) (absent : Option (List Element)) (says : List ℕ → CodecError → Type 0) (tells : CodecError → Type 0) (there : Bool) (held : Held) (before now : ℕ) where
-  pub read_fails : (e : CodecError) → IsReadError held tells before now e → IsListError there (list_of decode absent held) (list_says absent says tells held) before now e
-  read_fails e told = ⊎_elim (λ (h : IsHandleError before now e). inl h) (λ (none : (held ≡ None) × tells e). inr (inl (ap (list_of decode absent) none.0), inl (inr none.1))) told
+module _ (level : Level) (fill : List ℕ) (decode : List ℕ → Option (List Element)) (says : List ℕ → CodecError → Type 0) (tells : CodecError → Type 0) (below : Seen) (under : Options) (asked : Option (List ByteRange)) (before now : ℕ) where
+  abbrev Fails : CodecError → Type 0
+  Fails e = IsListError below.there (list_of decode (fills level fill) (below.held under)) (list_says level fill says tells below under asked) before now e
 
-  pub value_fails : (value : List ℕ) (e : CodecError) → held ≡ Some (Some value) → IsDecodeError (decode value) (says value) e → IsListError there (list_of decode absent held) (list_says absent says tells held) before now e
+  abbrev Own : Held → CodecError → Type 0
+  Own h e = own_says level fill says (AreGiven below.there (below.part under) asked) h e
+
+  pub read_fails : asked ≡ None → (e : CodecError) → IsReadError (below.held under) tells before now e → Fails e
+  read_fails whole e told = ⊎_elim (λ (h : IsHandleError before now e). inl h)
+      (λ (none : (below.held under ≡ None) × tells e). inr (inl (ap (list_of decode (fills level fill)) none.0), inl (subst (λ (a : Option (List ByteRange)). IsRefused (below.held under) (below.part under) a) (sym whole) none.0, none.1))) told
+
+  pub value_fails : (value : List ℕ) (e : CodecError) → below.held under ≡ Some (Some value) → IsDecodeError (decode value) (says value) e → Fails e
   value_fails value e is told = ⊎_elim (λ (m : e ≡ codec.OutOfMemory). inl (inl m))
-      (λ (none : (decode value ≡ None) × says value e). inr (inl (ap (list_of decode absent) is ∙ none.0), inr (subst (λ (h : Held). own_says absent says h e) (sym is) none.1))) told
+      (λ (none : (decode value ≡ None) × says value e). inr (inl (ap (list_of decode (fills level fill)) is ∙ none.0), inr (subst (λ (h : Held). Own h e) (sym is) none.1))) told
 
-  pub value_fails_if : {T : Type 0} (value : List ℕ) (r : Result T CodecError) → held ≡ Some (Some value) → IfErr r (IsDecodeError (decode value) (says value)) → IfErr r (IsListError there (list_of decode absent held) (list_says absent says tells held) before now)
+  pub value_fails_if : {T : Type 0} (value : List ℕ) (r : Result T CodecError) → below.held under ≡ Some (Some value) → IfErr r (IsDecodeError (decode value) (says value)) → IfErr r Fails
   value_fails_if value r is told = weaker_err _ _ r (λ e t. value_fails value e is t) told
 
-  pub value_fails_by : {T : Type 0} (value : List ℕ) (P : T → Type 0) (r : Result T CodecError) → held ≡ Some (Some value) → MatchResult r P (IsDecodeError (decode value) (says value)) → IfErr r (IsListError there (list_of decode absent held) (list_says absent says tells held) before now)
+  pub value_fails_by : {T : Type 0} (value : List ℕ) (P : T → Type 0) (r : Result T CodecError) → below.held under ≡ Some (Some value) → MatchResult r P (IsDecodeError (decode value) (says value)) → IfErr r Fails
   value_fails_by value P r is told = value_fails_if value r is (err_of P _ r told)
 
-  pub fill_fails : {T : Type 0} (r : Result T CodecError) → held ≡ Some None → there ≡ false → IfErr r (λ e. (e ≡ codec.OutOfMemory) ⊎ (absent ≡ None))
-      → IfErr r (IsListError there (list_of decode absent held) (list_says absent says tells held) before now)
-  fill_fails r is gone told = weaker_err _ _ r (λ e t. ⊎_elim (λ (m : e ≡ codec.OutOfMemory). let x : IsListError there (list_of decode absent held) (list_says absent says tells held) before now e = inl (inl m) in x)
-      (λ (f : absent ≡ None). let x : IsListError there (list_of decode absent held) (list_says absent says tells held) before now e = inr (inr gone, inr (subst (λ (h : Held). own_says absent says h e) (sym is) f)) in x) t) told
+  pub fill_fails : {T : Type 0} (r : Result T CodecError) → below.held under ≡ Some None → below.there ≡ false → IfErr r (λ e. (e ≡ codec.OutOfMemory) ⊎ IsOtherFill level fill e) → IfErr r Fails
+  fill_fails r is gone told = weaker_err _ _ r (λ e t. ⊎_elim (λ (m : e ≡ codec.OutOfMemory). let x : Fails e = inl (inl m) in x)
+      (λ (f : IsOtherFill level fill e). let x : Fails e = inr (inr gone, inr (subst (λ (h : Held). Own h e) (sym is) f)) in x) t) told
 
-  pub broken_fails : {T : Type 0} (r : Result T CodecError) → held ≡ None → IfErr r (IsListError there (list_of decode absent held) (list_says absent says tells held) before now)
-  broken_fails (Ok v) is = tt
-  broken_fails (Err e) is = inr (inl (ap (list_of decode absent) is), inr (subst (λ (h : Held). own_says absent says h e) (sym is) tt))
+  pub broken_fails : {T : Type 0} (r : Result T CodecError) → below.held under ≡ None → AreGiven below.there (below.part under) asked → IfErr r Fails
+  broken_fails (Ok v) is given = tt
+  broken_fails (Err e) is given = inr (inl (ap (list_of decode (fills level fill)) is), inr (subst (λ (h : Held). Own h e) (sym is) given))
 
   -- ranges that are refused of a value that decodes are not all valid for it
-  pub parts_fail : (part : ByteRange → Held) (ranges : List ByteRange) (e : CodecError) → ((value : List ℕ) → held ≡ Some (Some value) → (range : ByteRange) → part range ≡ value_part (Some value) range)
-      → ((value : Option (List ℕ)) → held ≡ Some value → is_some value ≡ there) → ((value : List ℕ) → ¬ (first_invalid (length value) ranges ≡ None) → decode value ≡ None)
-      → IsPartError part ranges tells before now e → IsListError there (list_of decode absent held) (list_says absent says tells held) before now e
-  parts_fail part ranges e whole all asks told =
-      ⊎_elim (λ (h : IsHandleError before now e). inl h) (λ (r : RefusesSome part ranges × (IsRangeError e ⊎ tells e)). inr (go held refl r.0, inl r.1)) told
+  pub parts_fail : (ranges : List ByteRange) (e : CodecError) → asked ≡ Some ranges → ((value : List ℕ) → below.held under ≡ Some (Some value) → (range : ByteRange) → below.part under range ≡ value_part (Some value) range)
+      → ((value : Option (List ℕ)) → below.held under ≡ Some value → is_some value ≡ below.there) → ((value : List ℕ) → ¬ (first_invalid (length value) ranges ≡ None) → decode value ≡ None)
+      → IsPartError (below.part under) ranges tells before now e → Fails e
+  parts_fail ranges e some whole all asks told =
+      ⊎_elim (λ (h : IsHandleError before now e). inl h)
+      (λ (r : RefusesSome (below.part under) ranges × tells e). inr (go (below.held under) refl r.0, inl (subst (λ (a : Option (List ByteRange)). IsRefused (below.held under) (below.part under) a) (sym some) r.0, r.1))) told
     where
-      refused : (value : List ℕ) (ranges : List ByteRange) → ((range : ByteRange) → part range ≡ value_part (Some value) range) → RefusesSome part ranges → ¬ (first_invalid (length value) ranges ≡ None)
+      refused : (value : List ℕ) (ranges : List ByteRange) → ((range : ByteRange) → below.part under range ≡ value_part (Some value) range) → RefusesSome (below.part under) ranges → ¬ (first_invalid (length value) ranges ≡ None)
       refused value [] same refuses = λ none. given (sym (refuses (FromStart 0 None)) ∙ (same (FromStart 0 None) ∙ ap (λ (b : Bool). if b then Some (Some (slice_of (FromStart 0 None) value)) else None) (le-leb 0 (length value) (omega arith))))
         where
           given : {A : Type 0} {x : A} → None ≡ Some x → ⊥
           given e = cc
       refused value (range ∷ ranges) same refuses = λ none.
           let s = split (is_valid range (length value)) range (first_invalid (length value) ranges) none in
-          ⊎_elim (λ (is : part range ≡ None). given (sym is ∙ (same range ∙ ap (λ (b : Bool). if b then Some (Some (slice_of range value)) else None) s.0)))
-          (λ (more : RefusesSome part ranges). refused value ranges same more s.1) refuses
+          ⊎_elim (λ (is : below.part under range ≡ None). given (sym is ∙ (same range ∙ ap (λ (b : Bool). if b then Some (Some (slice_of range value)) else None) s.0)))
+          (λ (more : RefusesSome (below.part under) ranges). refused value ranges same more s.1) refuses
         where
           given : {A : Type 0} {x : A} → None ≡ Some x → ⊥
           given e = cc
@@ -183,10 +200,10 @@ module _ (decode : List ℕ → Option (List Element)) (absent : Option (List El
           split true range rest e = (refl, e)
           split false range rest e = cc
 
-      go : (h : Held) → held ≡ h → RefusesSome part ranges → (list_of decode absent held ≡ None) ⊎ (there ≡ false)
-      go None is refuses = inl (ap (list_of decode absent) is)
+      go : (h : Held) → below.held under ≡ h → RefusesSome (below.part under) ranges → (list_of decode (fills level fill) (below.held under) ≡ None) ⊎ (below.there ≡ false)
+      go None is refuses = inl (ap (list_of decode (fills level fill)) is)
       go (Some None) is refuses = inr (sym (all None is))
-      go (Some (Some value)) is refuses = inl (ap (list_of decode absent) is ∙ asks value (refused value ranges (whole value is) refuses))
+      go (Some (Some value)) is refuses = inl (ap (list_of decode (fills level fill)) is ∙ asks value (refused value ranges (whole value is) refuses))
 
 -- the length of a slice
 slice_told : (range : ByteRange) (value : List ℕ) → is_valid range (length value) ≡ true → length_answer range (slice_of range value) ≡ fine
@@ -255,15 +272,6 @@ module _ (level : Level) (fill : List ℕ) (decode : List ℕ → Option (List E
       go (Some None) is = box_of_none level fill decode absent held box r is gives
       go (Some (Some value)) is = absurd (never (all (Some value) is ∙ gone))
 
-  pub absent_fails : {T : Type 0} (says : List ℕ → CodecError → Type 0) (tells : CodecError → Type 0) (before now : ℕ) (r : Result T CodecError) → there ≡ false → IfErr r (λ e. (e ≡ codec.OutOfMemory) ⊎ (absent ≡ None))
-      → IfErr r (IsListError there (list_of decode absent held) (list_says absent says tells held) before now)
-  absent_fails says tells before now r gone told = go held refl
-    where
-      go : (h : Held) → held ≡ h → IfErr r (IsListError there (list_of decode absent held) (list_says absent says tells held) before now)
-      go None is = broken_fails decode absent says tells there held before now r is
-      go (Some None) is = fill_fails decode absent says tells there held before now r is gone told
-      go (Some (Some value)) is = absurd (never (all (Some value) is ∙ gone))
-
   module _ (part : ByteRange → Held) (ranges : List ByteRange) (given : List (List ℕ)) (whole : (value : List ℕ) → held ≡ Some (Some value) → (range : ByteRange) → part range ≡ value_part (Some value) range) (are : AreParts part ranges given) (here : there ≡ true) where
     pub box_of_parts : (box : Region) (r : Result code.ArrayBytes CodecError)
         → ((value : List ℕ) (xs : List Element) → given ≡ slices_of ranges value → decode value ≡ Some xs → MatchResult r (λ v. list_at (at_box box level) (raw_of v) ≡ Some (select level.shape box xs)) (λ e. e ≡ codec.OutOfMemory))
@@ -275,24 +283,39 @@ module _ (level : Level) (fill : List ℕ) (decode : List ℕ → Option (List E
         go (Some None) is = absurd (never (sym here ∙ sym (all None is)))
         go (Some (Some value)) is = box_of_value level fill decode absent held box value r is (λ xs e. gives value xs (parts_sliced part ranges value given (whole value is) are).slices e) valid short
 
-    pub given_fails : {T : Type 0} (says : List ℕ → CodecError → Type 0) (tells : CodecError → Type 0) (before now : ℕ) (r : Result T CodecError)
-        → ((value : List ℕ) → given ≡ slices_of ranges value → lengths_answer ranges given ≡ fine → IfErr r (IsDecodeError (decode value) (says value)))
-        → IfErr r (IsListError there (list_of decode absent held) (list_says absent says tells held) before now)
-    given_fails says tells before now r told = go held refl
-      where
-        go : (h : Held) → held ≡ h → IfErr r (IsListError there (list_of decode absent held) (list_says absent says tells held) before now)
-        go None is = broken_fails decode absent says tells there held before now r is
-        go (Some None) is = absurd (never (sym here ∙ sym (all None is)))
-        go (Some (Some value)) is = let s = parts_sliced part ranges value given (whole value is) are in value_fails_if decode absent says tells there held before now value r is (told value s.slices s.lengths)
+-- why elements of what a handle gives are refused
+module _ (level : Level) (fill : List ℕ) (decode : List ℕ → Option (List Element)) (says : List ℕ → CodecError → Type 0) (tells : CodecError → Type 0) (below : Seen) (under : Options) (sound : IsSound below) (asked : Option (List ByteRange)) (ranges : List ByteRange) (some : asked ≡ Some ranges) (before now : ℕ) where
+  abbrev FailsSo : CodecError → Type 0
+  FailsSo e = IsListError below.there (list_of decode (fills level fill) (below.held under)) (list_says level fill says tells below under asked) before now e
+
+  given_so : (parts : Option (List (List ℕ))) → GivesParts below.there (below.part under) ranges parts → AreGiven below.there (below.part under) asked
+  given_so parts given = subst (λ (a : Option (List ByteRange)). AreGiven below.there (below.part under) a) (sym some) (parts, given)
+
+  pub absent_fails : {T : Type 0} (r : Result T CodecError) → GivesParts below.there (below.part under) ranges None → IfErr r (λ e. (e ≡ codec.OutOfMemory) ⊎ IsOtherFill level fill e) → IfErr r FailsSo
+  absent_fails r given told = go (below.held under) refl
+    where
+      go : (h : Held) → below.held under ≡ h → IfErr r FailsSo
+      go None is = broken_fails level fill decode says tells below under asked before now r is (given_so None given)
+      go (Some None) is = fill_fails level fill decode says tells below under asked before now r is given.0 told
+      go (Some (Some value)) is = absurd (never (sound.all_there under (Some value) is ∙ given.0))
+
+  pub given_fails : {T : Type 0} (parts : List (List ℕ)) (r : Result T CodecError) → GivesParts below.there (below.part under) ranges (Some parts)
+      → ((value : List ℕ) → parts ≡ slices_of ranges value → lengths_answer ranges parts ≡ fine → IfErr r (IsDecodeError (decode value) (says value))) → IfErr r FailsSo
+  given_fails parts r given told = go (below.held under) refl
+    where
+      go : (h : Held) → below.held under ≡ h → IfErr r FailsSo
+      go None is = broken_fails level fill decode says tells below under asked before now r is (given_so (Some parts) given)
+      go (Some None) is = absurd (never (sym given.0 ∙ sym (sound.all_there under None is)))
+      go (Some (Some value)) is = let s = parts_sliced (below.part under) ranges value parts (λ range. sound.whole under value range is) given.1 in value_fails_if level fill decode says tells below under asked before now value r is (told value s.slices s.lengths)
 
 -- elements at some tuples, out of all of them
 pub listed_gives : (level : Level) (fill : List ℕ) (list : Option (List Element)) (places : List (List ℕ)) (raw : ArrayBytes) (r : Result code.ArrayBytes CodecError)
-    → ((xs : List Element) → list ≡ Some xs → list_at level raw ≡ Some xs) → (Denotes level fill → IsSome (list_at level raw))
+    → ((xs : List Element) → list ≡ Some xs → list_at level raw ≡ Some xs) → IsSome (list_at level raw)
     → ((xs : List Element) → list_at level raw ≡ Some xs → IfOk r (λ v. meaning (kind_of level.data_type) (length places) (raw_of v) ≡ Some (picked null (linear level.shape places) xs)))
     → (IsShort level fill → IfOk r (λ v. has_long_element (raw_of v) ≡ false)) → GivesPlaces level fill places list r
 listed_gives level fill list places raw r value valid chosen short = record {
   value = λ xs e. chosen xs (value xs e);
-  valid = λ some. let all = listed_some (list_at level raw) (valid some) in weaker _ _ r (λ v is. some_of _ _ is) (chosen all.0 all.1);
+  valid = λ some. let all = listed_some (list_at level raw) valid in weaker _ _ r (λ v is. some_of _ _ is) (chosen all.0 all.1);
   short = short;
 }
   where
@@ -300,25 +323,17 @@ listed_gives level fill list places raw r value valid chosen short = record {
     listed_some None some = cc
     listed_some (Some xs) some = (xs, refl)
 
-module _ (decode : List ℕ → Option (List Element)) (absent : Option (List Element)) (says : List ℕ → CodecError → Type 0) (tells : CodecError → Type 0) (there : Bool) (held : Held) (all : (value : Option (List ℕ)) → held ≡ Some value → is_some value ≡ there) where
-  pub listed_fails : {T : Type 0} (before now : ℕ) (r : Result T CodecError) → (there ≡ true → IsSome (list_of decode absent held))
-      → ((xs : List Element) → list_of decode absent held ≡ Some xs → IfErr r (λ e. e ≡ codec.OutOfMemory)) → IfErr r (IsListError there (list_of decode absent held) (list_says absent says tells held) before now)
-  listed_fails before now (Ok v) decodes memory = tt
-  listed_fails before now (Err e) decodes memory = go held refl
-    where
-      no : (o : Option (List Element)) → o ≡ None → IsSome o → ⊥
-      no None is some = cc
-      no (Some xs) is some = cc
+-- elements that are not taken out of all of them
+pub listed_fails : {T : Type 0} (level : Level) (fits : Bool) (raw : ArrayBytes) (r : Result T CodecError) (P : CodecError → Type 0) → fits ≡ true → IsSome (list_at level raw)
+    → Answers (extract_answer (kind_of level.data_type) fits (count_of level.shape) raw) r → P codec.OutOfMemory → IfErr r P
+listed_fails level fits raw (Ok v) P inside valid answers memory = tt
+listed_fails level fits raw (Err e) P inside valid answers memory = go (list_at level raw) refl valid
+  where
+    go : (o : Option (List Element)) → list_at level raw ≡ o → IsSome o → P e
+    go None is some = cc
+    go (Some xs) is some = subst P (sym (extract_told (kind_of level.data_type) fits (count_of level.shape) raw xs e inside is answers)) memory
 
-      by : (list : Option (List Element)) → list_of decode absent held ≡ list → (list ≡ None → IsListError there (list_of decode absent held) (list_says absent says tells held) before now e) → IsListError there (list_of decode absent held) (list_says absent says tells held) before now e
-      by None is none = none refl
-      by (Some xs) is none = inl (inl (memory xs is))
-
-      go : (h : Held) → held ≡ h → IsListError there (list_of decode absent held) (list_says absent says tells held) before now e
-      go None is = inr (inl (ap (list_of decode absent) is), inr (subst (λ (h : Held). own_says absent says h e) (sym is) tt))
-      go (Some None) is = by (list_of decode absent held) refl (λ none. inr (inl none, inr (subst (λ (h : Held). own_says absent says h e) (sym is) (sym (ap (list_of decode absent) is) ∙ none))))
-      go (Some (Some value)) is = by (list_of decode absent held) refl (λ none. absurd (no (list_of decode absent held) none (decodes (sym (all (Some value) is)))))
-
+module _ (decode : List ℕ → Option (List Element)) (absent : Option (List Element)) (there : Bool) (held : Held) (all : (value : Option (List ℕ)) → held ≡ Some value → is_some value ≡ there) where
   pub value_decodes : {T : Type 0} (given : T → Option (List Element)) (Q : CodecError → Type 0) (r : Result T CodecError) (value : List ℕ) → held ≡ Some (Some value) → MatchResult r (λ v. Gives (given v) (decode value)) Q
       → OnOk r (IsSome (list_of decode absent held))
   value_decodes given Q (Ok v) value is gives =
@@ -328,12 +343,6 @@ module _ (decode : List ℕ → Option (List Element)) (absent : Option (List El
 
   pub none_decodes : {P : Type 0} → held ≡ Some None → there ≡ true → P
   none_decodes is here = absurd (never (sym here ∙ sym (all None is)))
-
--- the extraction of valid elements fails for want of memory alone
-pub extract_memory : {T : Type 0} (level : Level) (fits : Bool) (raw : ArrayBytes) (xs : List Element) (r : Result T CodecError) → fits ≡ true → list_at level raw ≡ Some xs
-    → Answers (extract_answer (kind_of level.data_type) fits (count_of level.shape) raw) r → IfErr r (λ e. e ≡ codec.OutOfMemory)
-extract_memory level fits raw xs (Ok v) inside is answers = tt
-extract_memory level fits raw xs (Err e) inside is answers = extract_told (kind_of level.data_type) fits (count_of level.shape) raw xs e inside is answers
 
 -- the elements of the box that an indexer is
 pub boxed_gives : (level : Level) (fill : List ℕ) (box : Region) (places : List (List ℕ)) (list : Option (List Element)) (r : Result code.ArrayBytes CodecError) → places ≡ tuples box → GivesBox level fill box list r → GivesPlaces level fill places list r
@@ -360,6 +369,7 @@ module _ (level : Level) (fill : List ℕ) (unserved : Option Unserved) (meaning
     place = keeps.place;
     cost = keeps.cost;
     taking = λ asked. keeps.taking (ranges_for request level.shape asked);
+    whole = λ asked. refl;
     size = keeps.size;
     later = keeps.later;
   }
@@ -371,9 +381,19 @@ module _ (level : Level) (fill : List ℕ) (unserved : Option Unserved) (meaning
   pub listed_looks : {T E : Type 0} (old new : Seen) (result : Result T E) → Looks old new result → LooksAt (listed level fill unserved meaning request old) (listed level fill unserved meaning request new) result
   listed_looks old new result looks = record { keeps = listed_keeps old new looks.keeps; asks = looks.asks; asks_err = looks.asks_err; taken = looks.taken }
 
-pub list_told : (absent : Option (List Element)) (says : List ℕ → CodecError → Type 0) (old new : CodecError → Type 0) (held now : Held) (e : CodecError) → now ≡ held → (new e → old e) → list_says absent says new now e → list_says absent says old held e
-list_told absent says old new held now e same back told =
-    ⊎_elim (λ (t : IsRangeError e ⊎ new e). inl (⊎_elim (λ (r : IsRangeError e). inl r) (λ (n : new e). inr (back n)) t)) (λ (own : own_says absent says now e). inr (subst (λ (h : Held). own_says absent says h e) same own)) told
+module _ (level : Level) (fill : List ℕ) (says : List ℕ → CodecError → Type 0) (asked : Option (List ByteRange)) (e : CodecError) where
+  abbrev Said : Bool → (ByteRange → Held) → Held → (CodecError → Type 0) → Type 0
+  Said there part held tells = (IsRefused held part asked × tells e) ⊎ own_says level fill says (AreGiven there part asked) held e
+
+  pub list_told : (old_tells new_tells : CodecError → Type 0) (old new : Seen) (under : Options) → Keeps old new → (new_tells e → old_tells e) → list_says level fill says new_tells new under asked e → list_says level fill says old_tells old under asked e
+  list_told old_tells new_tells old new under keeps back told =
+      let part : new.part under ≡ old.part under = fun_ext (λ range. keeps.part under range) in
+      let same : Said old.there (old.part under) (old.held under) new_tells =
+      subst (λ (h : Held). Said old.there (old.part under) h new_tells) (keeps.held under)
+      (subst (λ (p : ByteRange → Held). Said old.there p (new.held under) new_tells) part
+      (subst (λ (t : Bool). Said t (new.part under) (new.held under) new_tells) keeps.there told)) in
+      ⊎_elim (λ (t : IsRefused (old.held under) (old.part under) asked × new_tells e). inl (t.0, back t.1))
+      (λ (own : own_says level fill says (AreGiven old.there (old.part under) asked) (old.held under) e). inr own) same
 
 -- the box that is read by itself is the indexer's
 pub smaller_is : (shape : List ℕ) (asked : Option Region) (box : Region) → smaller_box shape asked ≡ Some box → asked ≡ Some box
@@ -383,3 +403,14 @@ smaller_is shape (Some other) box e = go (is_smaller shape other) e
     go : (b : Bool) → (if b then Some other else None) ≡ Some box → Some other ≡ Some box
     go true e = e
     go false e = cc
+
+-- what is read for it
+pub asks_box : (request : Region → Option (List ByteRange)) (shape : List ℕ) (asked : Option Region) (box : Region) → smaller_box shape asked ≡ Some box → ranges_for request shape asked ≡ request box
+asks_box request shape asked box e = ap (option_and_then request) e
+
+pub asks_all : (request : Region → Option (List ByteRange)) (shape : List ℕ) (asked : Option Region) → smaller_box shape asked ≡ None → ranges_for request shape asked ≡ None
+asks_all request shape asked e = ap (option_and_then request) e
+
+pub not_some : {A : Type 0} (o : Option A) → not (is_some o) ≡ true → o ≡ None
+not_some None is = refl
+not_some (Some a) is = cc

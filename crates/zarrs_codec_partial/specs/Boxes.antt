@@ -25,7 +25,7 @@ pub record GivesAll (level : Level) (fill : List ℕ) (list : Option (List Eleme
     (result : Result code.ArrayBytes CodecError) : Type 0 where
   pub value : (xs : List Element) → list ≡ Some xs
       → IfOk result (λ v. list_at level (raw_of v) ≡ Some xs)
-  pub valid : Denotes level fill → IfOk result (λ v. IsSome (list_at level (raw_of v)))
+  pub valid : IfOk result (λ v. IsSome (list_at level (raw_of v)))
   pub short : IsShort level fill → IfOk result (λ v. has_long_element (raw_of v) ≡ false)
 
 -- those of a box

@@ -1,15 +1,17 @@
 -- An array-to-bytes codec with its level, over what a handle of bytes holds.
-use Rattle.std.specs.Prelude.{◌≡◌, ◌⊎◌, ℕ, ◌==◌, ◌&&◌, not, Bool, true, false, if◌then◌else◌, List, [], ◌∷◌, Option, Some, None, option_and_then}
+use Rattle.std.specs.Prelude.{◌≡◌, ◌⊎◌, ℕ, ◌==◌, ◌&&◌, not, is_some, Bool, true, false, if◌then◌else◌, List, [], ◌∷◌, Option, Some, None, option_and_then}
 use Rattle.zarr_model.specs.Region.{Region, ends_within, sizes}
-use Rattle.zarr_model.specs.Element.{Element}
+use Rattle.zarr_model.specs.Element.{Element, kind_of}
 use Rattle.zarr_model.specs.Codec.{Level, Options}
 use Rattle.zarrs_storage.specs.declared.byte_range.ByteRange.{ByteRange}
 use Rattle.zarrs_data_type_elements.specs.FillValue.{fill_bytes}
 use Rattle.zarrs_codec_error.specs.declared.error.CodecError.{CodecError}
+use Rattle.zarrs_codec_bytes.specs.Filling.{has_size}
+use Rattle.zarrs_codec_array_bytes.specs.Refusals.{told_by, other_fill}
 use Rattle.zarrs_codec_traits.specs.Errors.{Unserved}
 use Rattle.zarrs_codec_traits.specs.Views.{level_of}
 use Rattle.zarrs_codec_held.specs.Held.{Held, Seen}
-use Rattle.zarrs_codec_held.specs.Reads.{IsRangeError}
+use Rattle.zarrs_codec_held.specs.Reads.{RefusesSome, GivesParts}
 use Rattle.zarrs_codec_partial_traits.specs.Lists.{ListSeen, fills}
 use Rattle.zarrs_codec_partial.specs.declared.level.BottomLevel.{BottomLevel}
 
@@ -27,18 +29,37 @@ list_of decode absent None = None
 list_of decode absent (Some None) = absent
 list_of decode absent (Some (Some value)) = decode value
 
--- which errors say why there is none: the codec's of a value; any of parts of a value that does not
--- decode; and any of an absent one whose fill value denotes no element
-abbrev pub own_says : Option (List Element) → (List ℕ → CodecError → Type 0) → Held → CodecError
-    → Type 0
-own_says absent says None e = Unit {0}
-own_says absent says (Some None) e = absent ≡ None
-own_says absent says (Some (Some value)) e = says value e
+-- what is read is refused: the whole value, or some of the ranges that are asked for
+abbrev pub IsRefused : Held → (ByteRange → Held) → Option (List ByteRange) → Type 0
+IsRefused held part None = held ≡ None
+IsRefused held part (Some ranges) = RefusesSome part ranges
 
--- and those of the handle, and of ranges that are not valid for the value
-abbrev pub list_says : Option (List Element) → (List ℕ → CodecError → Type 0)
-    → (CodecError → Type 0) → Held → CodecError → Type 0
-list_says absent says tells held e = (IsRangeError e ⊎ tells e) ⊎ own_says absent says held e
+-- ranges are asked for, and what they name is given
+abbrev pub AreGiven : Bool → (ByteRange → Held) → Option (List ByteRange) → Type 0
+AreGiven there part None = ⊥
+AreGiven there part (Some ranges) =
+    (parts : Option (List (List ℕ))) × GivesParts there part ranges parts
+
+-- a fill value of another size than the type's is told as such
+abbrev pub IsOtherFill : Level → List ℕ → CodecError → Type 0
+IsOtherFill level fill e =
+    (has_size (kind_of level.data_type) fill ≡ false) × (told_by e ≡ other_fill)
+
+-- which errors say why there are no elements of what is given: the codec's of a value; any of ranges
+-- of a value that is not given as a whole; and of an absent one, that of its fill value
+abbrev pub own_says : Level → List ℕ → (List ℕ → CodecError → Type 0) → Type 0 → Held
+    → CodecError → Type 0
+own_says level fill says Given None e = Given
+own_says level fill says Given (Some None) e = IsOtherFill level fill e
+own_says level fill says Given (Some (Some value)) e = says value e
+
+-- and the handle's where what is read is refused
+abbrev pub list_says : Level → List ℕ → (List ℕ → CodecError → Type 0) → (CodecError → Type 0)
+    → Seen → Options → Option (List ByteRange) → CodecError → Type 0
+list_says level fill says tells below under asked e =
+    (IsRefused (below.held under) (below.part under) asked × tells e)
+    ⊎ own_says level fill says (AreGiven below.there (below.part under) asked)
+    (below.held under) e
 
 -- two shapes have the same lengths
 abbrev pub same_lengths : List ℕ → List ℕ → Bool
@@ -74,5 +95,6 @@ listed level fill unserved meaning request below = record {
   place = below.place;
   cost = below.cost;
   taking = λ asked. below.taking (ranges_for request level.shape asked);
+  whole = λ asked. not (is_some (ranges_for request level.shape asked));
   size = below.size;
 }

@@ -72,7 +72,7 @@ impl<H: BytesPartialDecoderTraits, C: ArrayToBytesCodecTraits> ArrayPartialDecod
     ghost use Rattle.std.specs.Prelude.{◌&&◌};
     ghost use Rattle.zarrs_codec_traits.specs.Errors.{unserved_at};
     ghost use Rattle.zarrs_codec_partial_traits.specs.Lists.{fills};
-    ghost use Rattle.zarrs_codec_partial.specs.Level.{bottom_level, bottom_fill, listed, list_says};
+    ghost use Rattle.zarrs_codec_partial.specs.Level.{bottom_level, bottom_fill, listed, list_says, ranges_for};
 
     ghost seen = { λ h. listed (bottom_level h.level) (bottom_fill h.level)
         (unserved_at (C.unserved h.level.codec) (bottom_level h.level) (bottom_fill h.level))
@@ -80,9 +80,10 @@ impl<H: BytesPartialDecoderTraits, C: ArrayToBytesCodecTraits> ArrayPartialDecod
         (C.request h.level.codec (bottom_level h.level).shape (bottom_level h.level).data_type)
         (H.seen h.handle) };
 
-    ghost tells = { λ h under e. list_says (fills (bottom_level h.level) (bottom_fill h.level))
+    ghost tells = { λ h under asked e. list_says (bottom_level h.level) (bottom_fill h.level)
         (C.says h.level.codec under (bottom_level h.level)) (H.tells h.handle under)
-        ((H.seen h.handle).held under) e };
+        (H.seen h.handle) under (ranges_for (C.request h.level.codec (bottom_level h.level).shape
+        (bottom_level h.level).data_type) (bottom_level h.level).shape asked) e };
 
     ghost reads_parts = { λ h. (C.decodes_parts h.level.codec).partial_decode
         && H.reads_parts h.handle };
@@ -95,7 +96,7 @@ impl<H: BytesPartialDecoderTraits, C: ArrayToBytesCodecTraits> ArrayPartialDecod
         &self.level.data_type
     }
 
-    #[tactic(auto, using(crate::proofs::HeldLaws::listed_looks, crate::proofs::HeldLaws::list_told))]
+    #[tactic(auto, using(crate::proofs::HeldLaws::listed_looks))]
     fn exists(&mut self) -> Result<bool, StorageError> {
         self.handle.exists()
     }
@@ -109,7 +110,7 @@ impl<H: BytesPartialDecoderTraits, C: ArrayToBytesCodecTraits> ArrayPartialDecod
             && self.handle.supports_partial_decode()
     }
 
-    #[tactic(auto, using(crate::proofs::HeldLaws::listed_reads, crate::proofs::HeldLaws::list_told))]
+    #[tactic(auto, using(crate::proofs::HeldLaws::listed_reads, crate::proofs::HeldLaws::not_some))]
     fn partial_decode<I: Indexer>(
         &mut self,
         alloc: Global,

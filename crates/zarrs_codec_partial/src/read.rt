@@ -8,14 +8,14 @@ ghost use Rattle.zarr_model.specs.Codec.{Options};
 ghost use Rattle.zarrs_array_subset.specs.ArraySubset.{region as box_of};
 ghost use Rattle.zarrs_codec_error.specs.declared.error.CodecError.{CodecError};
 ghost use Rattle.zarrs_codec_error.specs.declared.error.CodecError.TheVariants as codec;
-ghost use Rattle.zarrs_codec_array_bytes.specs.Refusals.{fine, first_answer, Answers};
+ghost use Rattle.zarrs_codec_array_bytes.specs.Refusals.{fine, first_answer, Answers, IfUnfit};
 ghost use Rattle.zarrs_codec_traits.specs.Errors.{unserved_at, RefusesAs};
 ghost use Rattle.zarrs_codec_traits.specs.Views.{lengths, options_of};
 ghost use Rattle.zarrs_codec_traits.specs.Words.{IsFit};
 ghost use Rattle.zarrs_codec_held.specs.Reads.{Reads};
-ghost use Rattle.zarrs_codec_partial_traits.specs.Lists.{fills, AreFew, IsListError};
+ghost use Rattle.zarrs_codec_partial_traits.specs.Lists.{fills, AreFew, IsUnread, IsListError};
 ghost use Rattle.zarrs_codec_partial.specs.Boxes.{GivesAll, GivesBox, GivesPlaces};
-ghost use Rattle.zarrs_codec_partial.specs.Level.{list_of, list_says, is_smaller, ranges_for};
+ghost use Rattle.zarrs_codec_partial.specs.Level.{list_of, list_says, IsOtherFill, is_smaller, ranges_for};
 
 use crate::boxes::smaller_box;
 use crate::level::BottomLevel;
@@ -42,6 +42,7 @@ fn fitting_numbers<I: Indexer>(
     ensures fit { IfOk result (λ v. I.fits indexer.now (lengths shape.now) ≡ true) }
     ensures answer { Answers (first_answer None (I.fits indexer.now (lengths shape.now)) fine)
         result }
+    ensures unfit { IfErr result (IfUnfit (I.refuses indexer.now (lengths shape.now))) }
 {
     match shape_numbers(alloc, shape) {
         Ok(numbers) => match expect_fit(alloc, indexer, &numbers) {
@@ -70,7 +71,7 @@ impl<C: ArrayToBytesCodecTraits> BottomLevel<C> {
         ensures gives { GivesAll (bottom_level self.now) (bottom_fill self.now)
             (fills (bottom_level self.now) (bottom_fill self.now)) result }
         ensures failed { IfErr result (λ e. (e ≡ codec.OutOfMemory)
-            ⊎ (fills (bottom_level self.now) (bottom_fill self.now) ≡ None)) }
+            ⊎ IsOtherFill (bottom_level self.now) (bottom_fill self.now) e) }
     {
         let number = num_elements(&self.shape);
         ArrayBytes::new_fill_value(alloc, &self.data_type, number, &self.fill_value)
@@ -87,7 +88,7 @@ impl<C: ArrayToBytesCodecTraits> BottomLevel<C> {
         ensures gives { GivesBox (bottom_level self.now) (bottom_fill self.now)
             (box_of region.now) (fills (bottom_level self.now) (bottom_fill self.now)) result }
         ensures failed { IfErr result (λ e. (e ≡ codec.OutOfMemory)
-            ⊎ (fills (bottom_level self.now) (bottom_fill self.now) ≡ None)) }
+            ⊎ IsOtherFill (bottom_level self.now) (bottom_fill self.now) e) }
     {
         let number = region.num_elements();
         ArrayBytes::new_fill_value(alloc, &self.data_type, number, &self.fill_value)
@@ -115,9 +116,8 @@ impl<C: ArrayToBytesCodecTraits> BottomLevel<C> {
             (IsListError (H.seen handle.old).there
             (list_of (C.meaning self.now.codec under level) (fills level fill)
             ((H.seen handle.old).held under))
-            (list_says (fills level fill)
-            (C.says self.now.codec under level) (H.tells handle.old under)
-            ((H.seen handle.old).held under))
+            (list_says level fill (C.says self.now.codec under level) (H.tells handle.old under)
+            (H.seen handle.old) under None)
             (H.seen handle.old).shown.faults (H.seen handle.new).shown.faults) }
         ensures decodes { let level = bottom_level self.now in let fill = bottom_fill self.now in
             let under = options_of options.now in
@@ -166,10 +166,16 @@ impl<C: ArrayToBytesCodecTraits> BottomLevel<C> {
             (IsListError (H.seen handle.old).there
             (list_of (C.meaning self.now.codec under level) (fills level fill)
             ((H.seen handle.old).held under))
-            (list_says (fills level fill)
-            (C.says self.now.codec under level) (H.tells handle.old under)
-            ((H.seen handle.old).held under))
+            (list_says level fill (C.says self.now.codec under level) (H.tells handle.old under)
+            (H.seen handle.old) under (C.request self.now.codec level.shape level.data_type
+            (box_of region.now)))
             (H.seen handle.old).shown.faults (H.seen handle.new).shown.faults) }
+        ensures decodes { let level = bottom_level self.now in let fill = bottom_fill self.now in
+            let under = options_of options.now in
+            unserved_at (C.unserved self.now.codec) level fill ≡ None
+            → (H.seen handle.old).there ≡ true → OnOk result
+            (IsSome (list_of (C.meaning self.now.codec under level) (fills level fill)
+            ((H.seen handle.old).held under))) }
         ensures reads { Reads None (H.seen handle.old) (H.seen handle.new) result }
         ensures tells { (under : Options) (e : CodecError) → H.tells handle.new under e
             → H.tells handle.old under e }
@@ -216,9 +222,9 @@ impl<C: ArrayToBytesCodecTraits> BottomLevel<C> {
             (IsListError (H.seen handle.old).there
             (list_of (C.meaning self.now.codec under level) (fills level fill)
             ((H.seen handle.old).held under))
-            (list_says (fills level fill)
-            (C.says self.now.codec under level) (H.tells handle.old under)
-            ((H.seen handle.old).held under))
+            (list_says level fill (C.says self.now.codec under level) (H.tells handle.old under)
+            (H.seen handle.old) under (C.request self.now.codec level.shape level.data_type
+            (box_of region.now)))
             (H.seen handle.old).shown.faults (H.seen handle.new).shown.faults) }
         ensures reads { Reads (Some ranges.now) (H.seen handle.old) (H.seen handle.new) result }
         ensures tells { (under : Options) (e : CodecError) → H.tells handle.new under e
@@ -264,10 +270,18 @@ impl<C: ArrayToBytesCodecTraits> BottomLevel<C> {
             (IsListError (H.seen handle.old).there
             (list_of (C.meaning self.now.codec under level) (fills level fill)
             ((H.seen handle.old).held under))
-            (list_says (fills level fill)
-            (C.says self.now.codec under level) (H.tells handle.old under)
-            ((H.seen handle.old).held under))
+            (list_says level fill (C.says self.now.codec under level) (H.tells handle.old under)
+            (H.seen handle.old) under (C.request self.now.codec level.shape level.data_type
+            (box_of region.now)))
             (H.seen handle.old).shown.faults (H.seen handle.new).shown.faults) }
+        ensures decodes { let level = bottom_level self.now in let fill = bottom_fill self.now in
+            let under = options_of options.now in
+            unserved_at (C.unserved self.now.codec) level fill ≡ None
+            → (C.request self.now.codec level.shape level.data_type
+            (box_of region.now)) ≡ None
+            → (H.seen handle.old).there ≡ true → OnOk result
+            (IsSome (list_of (C.meaning self.now.codec under level) (fills level fill)
+            ((H.seen handle.old).held under))) }
         ensures reads { Reads (C.request self.now.codec (bottom_level self.now).shape
             (bottom_level self.now).data_type (box_of region.now))
             (H.seen handle.old) (H.seen handle.new) result }
@@ -311,10 +325,15 @@ impl<C: ArrayToBytesCodecTraits> BottomLevel<C> {
             (IsListError (H.seen handle.old).there
             (list_of (C.meaning self.now.codec under level) (fills level fill)
             ((H.seen handle.old).held under))
-            (list_says (fills level fill)
-            (C.says self.now.codec under level) (H.tells handle.old under)
-            ((H.seen handle.old).held under))
+            (list_says level fill (C.says self.now.codec under level) (H.tells handle.old under)
+            (H.seen handle.old) under None)
             (H.seen handle.old).shown.faults (H.seen handle.new).shown.faults) }
+        ensures decodes { let level = bottom_level self.now in let fill = bottom_fill self.now in
+            let under = options_of options.now in
+            unserved_at (C.unserved self.now.codec) level fill ≡ None
+            → (H.seen handle.old).there ≡ true → OnOk result
+            (IsSome (list_of (C.meaning self.now.codec under level) (fills level fill)
+            ((H.seen handle.old).held under))) }
         ensures reads { Reads None (H.seen handle.old) (H.seen handle.new) result }
         ensures tells { (under : Options) (e : CodecError) → H.tells handle.new under e
             → H.tells handle.old under e }
@@ -349,10 +368,18 @@ impl<C: ArrayToBytesCodecTraits> BottomLevel<C> {
             (IsListError (H.seen handle.old).there
             (list_of (C.meaning self.now.codec under level) (fills level fill)
             ((H.seen handle.old).held under))
-            (list_says (fills level fill)
-            (C.says self.now.codec under level) (H.tells handle.old under)
-            ((H.seen handle.old).held under))
+            (list_says level fill (C.says self.now.codec under level) (H.tells handle.old under)
+            (H.seen handle.old) under (ranges_for (C.request self.now.codec level.shape
+            level.data_type) level.shape (I.as_region indexer.now)))
             (H.seen handle.old).shown.faults (H.seen handle.new).shown.faults) }
+        ensures decodes { let level = bottom_level self.now in let fill = bottom_fill self.now in
+            let under = options_of options.now in
+            unserved_at (C.unserved self.now.codec) level fill ≡ None
+            → (ranges_for (C.request self.now.codec level.shape
+            level.data_type) level.shape (I.as_region indexer.now)) ≡ None
+            → (H.seen handle.old).there ≡ true → OnOk result
+            (IsSome (list_of (C.meaning self.now.codec under level) (fills level fill)
+            ((H.seen handle.old).held under))) }
         ensures reads { Reads (ranges_for (C.request self.now.codec
             (bottom_level self.now).shape (bottom_level self.now).data_type)
             (bottom_level self.now).shape (I.as_region indexer.now))
@@ -384,6 +411,10 @@ impl<C: ArrayToBytesCodecTraits> BottomLevel<C> {
         requires fits { IsFit (bottom_level self.now).shape (bottom_level self.now).data_type }
         ensures unfit { RefusesAs (first_answer None
             (I.fits indexer.now (bottom_level self.now).shape) fine) result }
+        ensures refusal { I.fits indexer.now (bottom_level self.now).shape ≡ false
+            → IfErr result (IfUnfit (I.refuses indexer.now (bottom_level self.now).shape)) }
+        ensures unread { I.fits indexer.now (bottom_level self.now).shape ≡ false
+            → IsUnread (H.seen handle.old).shown (H.seen handle.new).shown }
         ensures gives { let level = bottom_level self.now in let fill = bottom_fill self.now in
             let under = options_of options.now in
             unserved_at (C.unserved self.now.codec) level fill ≡ None → GivesPlaces level fill
@@ -396,10 +427,18 @@ impl<C: ArrayToBytesCodecTraits> BottomLevel<C> {
             (IsListError (H.seen handle.old).there
             (list_of (C.meaning self.now.codec under level) (fills level fill)
             ((H.seen handle.old).held under))
-            (list_says (fills level fill)
-            (C.says self.now.codec under level) (H.tells handle.old under)
-            ((H.seen handle.old).held under))
+            (list_says level fill (C.says self.now.codec under level) (H.tells handle.old under)
+            (H.seen handle.old) under (ranges_for (C.request self.now.codec level.shape
+            level.data_type) level.shape (I.as_region indexer.now)))
             (H.seen handle.old).shown.faults (H.seen handle.new).shown.faults) }
+        ensures decodes { let level = bottom_level self.now in let fill = bottom_fill self.now in
+            let under = options_of options.now in
+            unserved_at (C.unserved self.now.codec) level fill ≡ None
+            → (ranges_for (C.request self.now.codec level.shape
+            level.data_type) level.shape (I.as_region indexer.now)) ≡ None
+            → (H.seen handle.old).there ≡ true → OnOk result
+            (IsSome (list_of (C.meaning self.now.codec under level) (fills level fill)
+            ((H.seen handle.old).held under))) }
         ensures reads { Reads (ranges_for (C.request self.now.codec
             (bottom_level self.now).shape (bottom_level self.now).data_type)
             (bottom_level self.now).shape (I.as_region indexer.now))

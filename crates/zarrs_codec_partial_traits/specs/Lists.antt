@@ -31,6 +31,8 @@ pub record ListSeen : Type 0 where
   -- all elements
   pub cost : ℕ
   pub taking : Option Region → ℕ
+  -- whether the whole value is read for these
+  pub whole : Option Region → Bool
   -- how many bytes of the value are in memory
   pub size : ℕ
 
@@ -64,8 +66,15 @@ pub record KeepsList (old new : ListSeen) : Type 0 where
   pub place : new.place ≡ old.place
   pub cost : new.cost ≡ old.cost
   pub taking : (asked : Option Region) → new.taking asked ≡ old.taking asked
+  pub whole : (asked : Option Region) → new.whole asked ≡ old.whole asked
   pub size : new.size ≡ old.size
   pub later : old.shown.faults ≤ new.shown.faults
+
+-- nothing was read
+pub record IsUnread (old new : Shown) : Type 0 where
+  pub asks : new.asks ≡ old.asks
+  pub taken : new.taken ≡ old.taken
+  pub faults : new.faults ≡ old.faults
 
 -- a look whether the value is there, which takes none of its bytes
 pub record LooksAt {T E : Type 0} (old new : ListSeen) (result : Result T E) : Type 0 where

@@ -1,7 +1,7 @@
 //! Handles on elements that are read.
 
-ghost use Rattle.std.specs.Prelude.{◌≡◌, ◌*◌, ◌==◌, ℕ, Bool, true, false, List, [], length, Some, None, IsSome, IfOk, IfErr, OnOk, OnErr};
-ghost use Rattle.zarr_model.specs.Region.{count};
+ghost use Rattle.std.specs.Prelude.{◌≡◌, ◌*◌, ◌==◌, ℕ, Bool, true, false, List, [], length, Option, Some, None, IsSome, IfOk, IfErr, OnOk, OnErr};
+ghost use Rattle.zarr_model.specs.Region.{Region, count};
 ghost use Rattle.zarr_model.specs.Prelude.{Rose};
 ghost use Rattle.zarr_model.specs.Element.{Element, null, kind_of};
 ghost use Rattle.zarr_model.specs.ArrayBytes as model;
@@ -15,10 +15,10 @@ ghost use Rattle.zarrs_codec_bytes.specs.Picking.{picked};
 ghost use Rattle.zarrs_codec_error.specs.declared.error.CodecError.{CodecError};
 ghost use Rattle.zarrs_codec_array_bytes.specs.Raw.{raw_of};
 ghost use Rattle.zarrs_codec_array_bytes.specs.Selection.{linear};
-ghost use Rattle.zarrs_codec_array_bytes.specs.Refusals.{fine, first_answer};
+ghost use Rattle.zarrs_codec_array_bytes.specs.Refusals.{fine, first_answer, IfUnfit};
 ghost use Rattle.zarrs_codec_traits.specs.Errors.{RefusesAs};
 ghost use Rattle.zarrs_codec_traits.specs.Views.{options_of};
-ghost use Rattle.zarrs_codec_partial_traits.specs.Lists.{ListSeen, HasFill, HasShortFill, AreFew, LooksAt, ReadsList, IsListError};
+ghost use Rattle.zarrs_codec_partial_traits.specs.Lists.{ListSeen, HasFill, HasShortFill, AreFew, LooksAt, ReadsList, IsUnread, IsListError};
 
 use std::alloc::Global;
 use zarrs_chunk_grid_indexer::Indexer;
@@ -36,8 +36,8 @@ pub trait ArrayPartialDecoderTraits {
     // What it holds, and what it shows of what is below.
     ghost seen: { Self → ListSeen };
 
-    // Which errors tell that there are no elements.
-    ghost tells: { Self → Options → CodecError → Type 0 };
+    // Which errors tell why there are no elements of a box, or none at all.
+    ghost tells: { Self → Options → Option Region → CodecError → Type 0 };
 
     // Whether it reads some elements without the rest.
     ghost reads_parts: { Self → Bool };
@@ -59,8 +59,8 @@ pub trait ArrayPartialDecoderTraits {
         ensures failed { IfErr result (λ e. (e ≡ storage.Failed)
             × Rose (seen self.old).shown.faults (seen self.new).shown.faults) }
         ensures looks { LooksAt (seen self.old) (seen self.new) result }
-        ensures tells { (under : Options) (e : CodecError) → tells self.new under e
-            → tells self.old under e };
+        ensures tells { (under : Options) (asked : Option Region) (e : CodecError)
+            → tells self.new under asked e → tells self.old under asked e };
 
     /// How many bytes of the value are in memory; 0 over a store.
     fn size_held(&self) -> usize
@@ -87,6 +87,10 @@ pub trait ArrayPartialDecoderTraits {
             (length (I.places indexer.now)) }
         ensures unfit { RefusesAs (first_answer None
             (I.fits indexer.now (seen self.old).level.shape) fine) result }
+        ensures refusal { I.fits indexer.now (seen self.old).level.shape ≡ false
+            → IfErr result (IfUnfit (I.refuses indexer.now (seen self.old).level.shape)) }
+        ensures unread { I.fits indexer.now (seen self.old).level.shape ≡ false
+            → IsUnread (seen self.old).shown (seen self.new).shown }
         ensures value { (list : List Element) → (seen self.old).unserved ≡ None
             → (seen self.old).list (options_of options.now) ≡ Some list → IfOk result
             (λ v. meaning (kind_of (seen self.old).level.data_type) (length (I.places indexer.now))
@@ -99,12 +103,15 @@ pub trait ArrayPartialDecoderTraits {
             → I.fits indexer.now (seen self.old).level.shape ≡ true
             → IfErr result (IsListError (seen self.old).there
             ((seen self.old).list (options_of options.now))
-            (tells self.old (options_of options.now))
+            (tells self.old (options_of options.now) (I.as_region indexer.now))
             (seen self.old).shown.faults (seen self.new).shown.faults) }
+        ensures decodes { (seen self.old).unserved ≡ None → (seen self.old).there ≡ true
+            → (seen self.old).whole (I.as_region indexer.now) ≡ true
+            → OnOk result (IsSome ((seen self.old).list (options_of options.now))) }
         ensures short { (seen self.old).unserved ≡ None → HasShortFill (seen self.old)
             → IfOk result (λ v. has_long_element (raw_of v) ≡ false) }
         ensures reads { ReadsList (I.as_region indexer.now) (seen self.old) (seen self.new)
             result }
-        ensures tells { (under : Options) (e : CodecError) → tells self.new under e
-            → tells self.old under e };
+        ensures tells { (under : Options) (asked : Option Region) (e : CodecError)
+            → tells self.new under asked e → tells self.old under asked e };
 }

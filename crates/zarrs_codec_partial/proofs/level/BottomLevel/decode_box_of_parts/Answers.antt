@@ -46,9 +46,8 @@ returns-in-Ok-Some-clause-failed g c = λ served.
     let sound = g.met.H.BytesPartialDecoderTraits.sound c.args.handle.now in
     let given = subst (λ (o : Option (Vec (Vec ℕ Global) Global)). GivesParts below.there (below.part under) c.args.ranges.now (part_bytes o)) c.in-Ok-Some.field-0-is c.in-Ok-Some.ensures.value in
     let cause = rw c.deref.ensures.value at c.decode_parts.ensures.cause in
-    given_fails level fill (code.meaning c.args.self.now.codec under level) (fills level fill) (below.held under) below.there (sound.all_there under)
-    (below.part under) c.args.ranges.now (parts_of c.in-Ok-Some.parts) (λ value is range. sound.whole under value range is) given.1 given.0
-    (code.says c.args.self.now.codec under level) (g.H.BytesPartialDecoderTraits.tells c.args.handle.now under) _ _ c.decode_parts.result
+    given_fails level fill (code.meaning c.args.self.now.codec under level) (code.says c.args.self.now.codec under level) (g.H.BytesPartialDecoderTraits.tells c.args.handle.now under)
+    below under sound request c.args.ranges.now c.requires.asked _ _ (parts_of c.in-Ok-Some.parts) c.decode_parts.result given
     (λ value same fits. cause value served (asked_parts request c.args.ranges.now value (parts_of c.in-Ok-Some.parts) c.requires.asked same) (asked_fits request c.args.ranges.now (parts_of c.in-Ok-Some.parts) c.requires.asked fits))
 
 pub returns-in-Ok-None-clause-gives : goal.returns-in-Ok-None-clause-gives
@@ -70,8 +69,8 @@ returns-in-Ok-None-clause-failed g c = λ served.
     let below = g.H.BytesPartialDecoderTraits.seen c.args.handle.now in
     let sound = g.met.H.BytesPartialDecoderTraits.sound c.args.handle.now in
     let given = subst (λ (o : Option (Vec (Vec ℕ Global) Global)). GivesParts below.there (below.part under) c.args.ranges.now (part_bytes o)) c.in-Ok-None.field-0-is c.in-Ok-None.ensures.value in
-    absent_fails level fill (code.meaning c.args.self.now.codec under level) (fills level fill) (below.held under) below.there (sound.all_there under)
-    (code.says c.args.self.now.codec under level) (g.H.BytesPartialDecoderTraits.tells c.args.handle.now under) _ _ c.fill_box.result given.0 c.fill_box.ensures.failed
+    absent_fails level fill (code.meaning c.args.self.now.codec under level) (code.says c.args.self.now.codec under level) (g.H.BytesPartialDecoderTraits.tells c.args.handle.now under)
+    below under sound (code.request c.args.self.now.codec level.shape level.data_type (box_of c.args.region.now)) c.args.ranges.now c.requires.asked _ _ c.fill_box.result given c.fill_box.ensures.failed
 
 pub returns-in-Err-clause-failed : goal.returns-in-Err-clause-failed
 returns-in-Err-clause-failed g c = λ served.
@@ -82,6 +81,6 @@ returns-in-Err-clause-failed g c = λ served.
     let code = g.C.ArrayToBytesCodecTraits in
     let below = g.H.BytesPartialDecoderTraits.seen c.args.handle.now in
     let sound = g.met.H.BytesPartialDecoderTraits.sound c.args.handle.now in
-    parts_fail (code.meaning c.args.self.now.codec under level) (fills level fill) (code.says c.args.self.now.codec under level) (g.H.BytesPartialDecoderTraits.tells c.args.handle.now under) below.there (below.held under) _ _
-    (below.part under) c.args.ranges.now c.in-Err.error (λ value is range. sound.whole under value range is) (sound.all_there under)
+    parts_fail level fill (code.meaning c.args.self.now.codec under level) (code.says c.args.self.now.codec under level) (g.H.BytesPartialDecoderTraits.tells c.args.handle.now under) below under
+    (code.request c.args.self.now.codec level.shape level.data_type box) _ _ c.args.ranges.now c.in-Err.error c.requires.asked (λ value is range. sound.whole under value range is) (sound.all_there under)
     (λ value invalid. g.met.C.ArrayToBytesCodecTraits.asks c.args.self.now.codec under level box fill value c.args.ranges.now served c.requires.inside c.requires.asked invalid) c.in-Err.ensures.cause

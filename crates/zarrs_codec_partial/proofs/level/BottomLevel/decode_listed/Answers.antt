@@ -1,8 +1,9 @@
+use Rattle.std.proofs.Common.{refl, inl}
 use Rattle.zarrs_codec_array_bytes.specs.Raw.{raw_of}
 use Rattle.zarrs_codec_traits.specs.Views.{options_of}
 use Rattle.zarrs_codec_partial_traits.specs.Lists.{fills}
 use Rattle.zarrs_codec_partial.specs.Level.{bottom_level, bottom_fill, list_of}
-use Rattle.zarrs_codec_partial.proofs.HeldLaws.{listed_gives, listed_fails, extract_memory}
+use Rattle.zarrs_codec_partial.proofs.HeldLaws.{listed_gives, listed_fails}
 use Rattle.zarrs_codec_partial.proofs.level.BottomLevel.decode_listed.Goals as goal
 
 pub returns-in-Ok-clause-gives : goal.returns-in-Ok-clause-gives
@@ -17,14 +18,7 @@ returns-in-Ok-clause-gives g c = λ served.
 
 pub returns-in-Ok-clause-failed : goal.returns-in-Ok-clause-failed
 returns-in-Ok-clause-failed g c = λ served.
-    let level = bottom_level c.args.self.now in
-    let fill = bottom_fill c.args.self.now in
-    let under = options_of c.args.options.now in
-    let code = g.C.ArrayToBytesCodecTraits in
-    let below = g.H.BytesPartialDecoderTraits.seen c.args.handle.now in
-    let sound = g.met.H.BytesPartialDecoderTraits.sound c.args.handle.now in
     let all = c.in-Ok.ensures.gives served in
     let answer = rw c.requires.shape at c.extract_array_subset.ensures.answer in
     let fit = rw c.requires.shape at c.requires.fit in
-    listed_fails (code.meaning c.args.self.now.codec under level) (fills level fill) (code.says c.args.self.now.codec under level) (g.H.BytesPartialDecoderTraits.tells c.args.handle.now under) below.there (below.held under) (sound.all_there under) _ _ c.extract_array_subset.result
-    (c.in-Ok.ensures.decodes served) (λ xs is. extract_memory level _ (raw_of c.in-Ok.whole) xs c.extract_array_subset.result fit (all.value xs is) answer)
+    listed_fails (bottom_level c.args.self.now) _ (raw_of c.in-Ok.whole) c.extract_array_subset.result _ fit all.valid answer (inl (inl refl))
