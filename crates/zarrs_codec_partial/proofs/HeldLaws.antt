@@ -1,5 +1,5 @@
 -- The list that is held, by cases.
-use Rattle.std.proofs.Common.{◌≡◌, ◌⊎◌, ℕ, ◌+◌, ◌-◌, ◌≤◌, Bool, true, false, is_some, if◌then◌else◌, List, [], ◌∷◌, length, take, drop, replicate, Option, Some, None, IsSome, option_map, option_and_then, not, Result, Ok, Err, IfOk, IfErr, OnOk, MatchResult, refl, sym, ap, ◌∙◌, subst, arith, inl, inr, ⊎_elim, eq-eqb}
+use Rattle.std.proofs.Common.{◌≡◌, ◌⊎◌, ℕ, ◌+◌, ◌-◌, ◌≤◌, Bool, true, false, is_some, if◌then◌else◌, List, [], ◌∷◌, length, take, drop, replicate, Option, Some, None, IsSome, option_map, not, Result, Ok, Err, IfOk, IfErr, OnOk, MatchResult, refl, sym, ap, ◌∙◌, subst, arith, inl, inr, ⊎_elim, eq-eqb}
 use Rattle.std.proofs.Math.Path.{fun_ext}
 use Rattle.std.proofs.lemmas.List.{length-take-le, length-drop}
 use Rattle.std.proofs.lemmas.Bool.{leb-true, le-leb}
@@ -404,13 +404,7 @@ smaller_is shape (Some other) box e = go (is_smaller shape other) e
     go true e = e
     go false e = cc
 
--- what is read for it
-pub asks_box : (request : Region → Option (List ByteRange)) (shape : List ℕ) (asked : Option Region) (box : Region) → smaller_box shape asked ≡ Some box → ranges_for request shape asked ≡ request box
-asks_box request shape asked box e = ap (option_and_then request) e
-
-pub asks_all : (request : Region → Option (List ByteRange)) (shape : List ℕ) (asked : Option Region) → smaller_box shape asked ≡ None → ranges_for request shape asked ≡ None
-asks_all request shape asked e = ap (option_and_then request) e
-
+-- nothing is asked for by ranges
 pub not_some : {A : Type 0} (o : Option A) → not (is_some o) ≡ true → o ≡ None
 not_some None is = refl
 not_some (Some a) is = cc

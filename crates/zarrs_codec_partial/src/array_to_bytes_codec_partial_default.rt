@@ -85,6 +85,8 @@ impl<H: BytesPartialDecoderTraits, C: ArrayToBytesCodecTraits> ArrayPartialDecod
         (H.seen h.handle) under (ranges_for (C.request h.level.codec (bottom_level h.level).shape
         (bottom_level h.level).data_type) (bottom_level h.level).shape asked) e };
 
+    ghost same = { λ a b. (a.level ≡ b.level) × H.same a.handle b.handle };
+
     ghost reads_parts = { λ h. (C.decodes_parts h.level.codec).partial_decode
         && H.reads_parts h.handle };
 

@@ -126,6 +126,7 @@ impl<C: ArrayToBytesCodecTraits> BottomLevel<C> {
             (IsSome (list_of (C.meaning self.now.codec under level) (fills level fill)
             ((H.seen handle.old).held under))) }
         ensures reads { Reads None (H.seen handle.old) (H.seen handle.new) result }
+        ensures same { H.same handle.old handle.new }
         ensures tells { (under : Options) (e : CodecError) → H.tells handle.new under e
             → H.tells handle.old under e }
     {
@@ -177,6 +178,7 @@ impl<C: ArrayToBytesCodecTraits> BottomLevel<C> {
             (IsSome (list_of (C.meaning self.now.codec under level) (fills level fill)
             ((H.seen handle.old).held under))) }
         ensures reads { Reads None (H.seen handle.old) (H.seen handle.new) result }
+        ensures same { H.same handle.old handle.new }
         ensures tells { (under : Options) (e : CodecError) → H.tells handle.new under e
             → H.tells handle.old under e }
     {
@@ -227,6 +229,7 @@ impl<C: ArrayToBytesCodecTraits> BottomLevel<C> {
             (box_of region.now)))
             (H.seen handle.old).shown.faults (H.seen handle.new).shown.faults) }
         ensures reads { Reads (Some ranges.now) (H.seen handle.old) (H.seen handle.new) result }
+        ensures same { H.same handle.old handle.new }
         ensures tells { (under : Options) (e : CodecError) → H.tells handle.new under e
             → H.tells handle.old under e }
     {
@@ -285,6 +288,7 @@ impl<C: ArrayToBytesCodecTraits> BottomLevel<C> {
         ensures reads { Reads (C.request self.now.codec (bottom_level self.now).shape
             (bottom_level self.now).data_type (box_of region.now))
             (H.seen handle.old) (H.seen handle.new) result }
+        ensures same { H.same handle.old handle.new }
         ensures tells { (under : Options) (e : CodecError) → H.tells handle.new under e
             → H.tells handle.old under e }
     {
@@ -335,6 +339,7 @@ impl<C: ArrayToBytesCodecTraits> BottomLevel<C> {
             (IsSome (list_of (C.meaning self.now.codec under level) (fills level fill)
             ((H.seen handle.old).held under))) }
         ensures reads { Reads None (H.seen handle.old) (H.seen handle.new) result }
+        ensures same { H.same handle.old handle.new }
         ensures tells { (under : Options) (e : CodecError) → H.tells handle.new under e
             → H.tells handle.old under e }
     {
@@ -384,6 +389,7 @@ impl<C: ArrayToBytesCodecTraits> BottomLevel<C> {
             (bottom_level self.now).shape (bottom_level self.now).data_type)
             (bottom_level self.now).shape (I.as_region indexer.now))
             (H.seen handle.old) (H.seen handle.new) result }
+        ensures same { H.same handle.old handle.new }
         ensures tells { (under : Options) (e : CodecError) → H.tells handle.new under e
             → H.tells handle.old under e }
     {
@@ -443,6 +449,7 @@ impl<C: ArrayToBytesCodecTraits> BottomLevel<C> {
             (bottom_level self.now).shape (bottom_level self.now).data_type)
             (bottom_level self.now).shape (I.as_region indexer.now))
             (H.seen handle.old) (H.seen handle.new) result }
+        ensures same { H.same handle.old handle.new }
         ensures tells { (under : Options) (e : CodecError) → H.tells handle.new under e
             → H.tells handle.old under e }
     {

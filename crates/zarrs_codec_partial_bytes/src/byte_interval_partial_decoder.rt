@@ -83,12 +83,21 @@ impl<H> ByteIntervalPartialDecoder<H> {
 }
 
 impl<H: BytesPartialDecoderTraits> BytesPartialDecoderTraits for ByteIntervalPartialDecoder<H> {
+    ghost use Rattle.std.proofs.Common.{refl, ◌∙◌};
     ghost use Rattle.zarrs_codec_held.specs.Interval.{interval};
     ghost use Rattle.zarrs_codec_held.proofs.IntervalLaws.{interval_sound};
 
     ghost seen = { λ h. interval h.byte_offset h.byte_length (H.seen h.handle) };
 
     ghost tells = { λ h under e. IsRangeError e ⊎ H.tells h.handle under e };
+
+    ghost same = { λ a b. (a.byte_offset ≡ b.byte_offset)
+        × ((a.byte_length ≡ b.byte_length) × H.same a.handle b.handle) };
+
+    ghost same_self = { λ h. (refl, (refl, H.same_self h.handle)) };
+
+    ghost same_twice = { λ a b c x y. (x.0 ∙ y.0, (x.1.0 ∙ y.1.0,
+        H.same_twice a.handle b.handle c.handle x.1.1 y.1.1)) };
 
     ghost reads_parts = { λ h. H.reads_parts h.handle };
 

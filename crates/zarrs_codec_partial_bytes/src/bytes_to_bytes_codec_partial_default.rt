@@ -103,6 +103,9 @@ impl<H: BytesPartialDecoderTraits, C: BytesToBytesCodecTraits> BytesToBytesCodec
         ensures reads { Reads None (H.seen self.old.handle) (H.seen self.new.handle) result }
         ensures tells { (under : Options) (e : CodecError) → H.tells self.new.handle under e
             → H.tells self.old.handle under e }
+        ensures same { (self.old.codec ≡ self.new.codec)
+            × ((self.old.decoded_representation ≡ self.new.decoded_representation)
+            × H.same self.old.handle self.new.handle) }
         ensures settings { self.new ≡ record self.old { handle = self.new.handle } }
     {
         match self.handle.decode(alloc, options) {
@@ -124,12 +127,21 @@ impl<H: BytesPartialDecoderTraits, C: BytesToBytesCodecTraits> BytesToBytesCodec
 impl<H: BytesPartialDecoderTraits, C: BytesToBytesCodecTraits> BytesPartialDecoderTraits
     for BytesToBytesCodecPartialDefault<H, C> {
     ghost use Rattle.std.specs.Prelude.{◌&&◌};
+    ghost use Rattle.std.proofs.Common.{refl, ◌∙◌};
     ghost use Rattle.zarrs_codec_held.proofs.ThroughLaws.{decoded_sound};
 
     ghost seen = { λ h. decoded (C.meaning h.codec) (H.seen h.handle) };
 
     ghost tells = { λ h under e. through_says (C.meaning h.codec under) (C.says h.codec under)
         (H.tells h.handle under) ((H.seen h.handle).held under) e };
+
+    ghost same = { λ a b. (a.codec ≡ b.codec)
+        × ((a.decoded_representation ≡ b.decoded_representation) × H.same a.handle b.handle) };
+
+    ghost same_self = { λ h. (refl, (refl, H.same_self h.handle)) };
+
+    ghost same_twice = { λ a b c x y. (x.0 ∙ y.0, (x.1.0 ∙ y.1.0,
+        H.same_twice a.handle b.handle c.handle x.1.1 y.1.1)) };
 
     ghost reads_parts = { λ h. (C.decodes_parts h.codec).partial_decode && H.reads_parts h.handle };
 
@@ -199,6 +211,9 @@ impl<H: BytesPartialEncoderTraits, C: BytesToBytesCodecTraits> BytesToBytesCodec
         ensures unasked { Unasked (H.seen self.old.handle) (H.seen self.new.handle) }
         ensures cause { IfErr result (IsHandleError (H.seen self.old.handle).shown.faults
             (H.seen self.new.handle).shown.faults) }
+        ensures same { (self.old.codec ≡ self.new.codec)
+            × ((self.old.decoded_representation ≡ self.new.decoded_representation)
+            × H.same self.old.handle self.new.handle) }
         ensures settings { self.new ≡ record self.old { handle = self.new.handle } }
     {
         match self.codec.encode(alloc, bytes, options) {

@@ -45,6 +45,12 @@ impl BytesPartialDecoderTraits for MemoryHandle {
 
     ghost tells = { λ h under e. IsRangeError e };
 
+    ghost same = { λ a b. Unit {0} };
+
+    ghost same_self = { λ h. tt };
+
+    ghost same_twice = { λ a b c x y. tt };
+
     ghost reads_parts = { λ h. true };
 
     ghost sound = { λ h. sound_memory (value_bytes h.value) };

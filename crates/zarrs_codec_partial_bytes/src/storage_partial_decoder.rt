@@ -45,6 +45,12 @@ impl<S: Store> BytesPartialDecoderTraits for StoragePartialDecoder<'_, S> {
 
     ghost tells = { λ h under e. IsRangeError e };
 
+    ghost same = { λ a b. Unit {0} };
+
+    ghost same_self = { λ h. tt };
+
+    ghost same_twice = { λ a b c x y. tt };
+
     ghost reads_parts = { λ h. S.gets_parts h.storage.now };
 
     ghost sound = { λ h. sound_by (stored h.storage.ghost_name h.key (S.shown h.storage.now))

@@ -39,6 +39,9 @@ pub trait ArrayPartialDecoderTraits {
     // Which errors tell why there are no elements of a box, or none at all.
     ghost tells: { Self → Options → Option Region → CodecError → Type 0 };
 
+    // Two states have the same settings, which are what a handle has beside its value.
+    ghost same: { Self → Self → Type 0 };
+
     // Whether it reads some elements without the rest.
     ghost reads_parts: { Self → Bool };
 
@@ -59,6 +62,7 @@ pub trait ArrayPartialDecoderTraits {
         ensures failed { IfErr result (λ e. (e ≡ storage.Failed)
             × Rose (seen self.old).shown.faults (seen self.new).shown.faults) }
         ensures looks { LooksAt (seen self.old) (seen self.new) result }
+        ensures same { same self.old self.new }
         ensures tells { (under : Options) (asked : Option Region) (e : CodecError)
             → tells self.new under asked e → tells self.old under asked e };
 
@@ -112,6 +116,7 @@ pub trait ArrayPartialDecoderTraits {
             → IfOk result (λ v. has_long_element (raw_of v) ≡ false) }
         ensures reads { ReadsList (I.as_region indexer.now) (seen self.old) (seen self.new)
             result }
+        ensures same { same self.old self.new }
         ensures tells { (under : Options) (asked : Option Region) (e : CodecError)
             → tells self.new under asked e → tells self.old under asked e };
 }

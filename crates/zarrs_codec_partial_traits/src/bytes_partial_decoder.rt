@@ -24,6 +24,9 @@ pub trait BytesPartialDecoderTraits {
     // Which errors tell why a read is refused.
     ghost tells: { Self → Options → CodecError → Type 0 };
 
+    // Two states have the same settings, which are what a handle has beside its value: a codec, or where an interval lies.
+    ghost same: { Self → Self → Type 0 };
+
     // Whether it reads a part of the value without the rest.
     ghost reads_parts: { Self → Bool };
 
@@ -41,6 +44,7 @@ pub trait BytesPartialDecoderTraits {
         ensures failed { IfErr result (λ e. (e ≡ storage.Failed)
             × Rose (seen self.old).shown.faults (seen self.new).shown.faults) }
         ensures looks { Looks (seen self.old) (seen self.new) result }
+        ensures same { same self.old self.new }
         ensures tells { (under : Options) (e : CodecError) → tells self.new under e
             → tells self.old under e };
 
@@ -70,6 +74,7 @@ pub trait BytesPartialDecoderTraits {
             (decoded_region ∷ []) (tells self.old (options_of options.now))
             (seen self.old).shown.faults (seen self.new).shown.faults) }
         ensures reads { Reads (Some (decoded_region ∷ [])) (seen self.old) (seen self.new) result }
+        ensures same { same self.old self.new }
         ensures tells { (under : Options) (e : CodecError) → tells self.new under e
             → tells self.old under e }
     {
@@ -100,6 +105,7 @@ pub trait BytesPartialDecoderTraits {
             decoded_regions.now (tells self.old (options_of options.now))
             (seen self.old).shown.faults (seen self.new).shown.faults) }
         ensures reads { Reads (Some decoded_regions.now) (seen self.old) (seen self.new) result }
+        ensures same { same self.old self.new }
         ensures tells { (under : Options) (e : CodecError) → tells self.new under e
             → tells self.old under e };
 
@@ -119,8 +125,14 @@ pub trait BytesPartialDecoderTraits {
             (tells self.old (options_of options.now))
             (seen self.old).shown.faults (seen self.new).shown.faults) }
         ensures reads { Reads None (seen self.old) (seen self.new) result }
+        ensures same { same self.old self.new }
         ensures tells { (under : Options) (e : CodecError) → tells self.new under e
             → tells self.old under e };
+
+    // Settings that are kept by two calls are kept.
+    ghost same_self: { (h : Self) → same h h };
+
+    ghost same_twice: { (a b c : Self) → same a b → same b c → same a c };
 
     // What is read belongs together.
     ghost sound: { (h : Self) → IsSound (seen h) };

@@ -29,6 +29,7 @@ pub trait BytesPartialEncoderTraits: BytesPartialDecoderTraits {
     /// # Errors
     /// [`CodecError::StorageError`] where what is below fails. The value is then as before, or absent.
     fn erase(&mut self) -> Result<(), CodecError>
+        ensures same { Self.same self.old self.new }
         ensures writes { Writes None (Self.seen self.old) (Self.seen self.new) result }
         ensures unasked { Unasked (Self.seen self.old) (Self.seen self.new) }
         ensures cause { IfErr result (IsFault (Self.seen self.old).shown.faults
@@ -50,6 +51,7 @@ pub trait BytesPartialEncoderTraits: BytesPartialDecoderTraits {
         options: &CodecOptions,
     ) -> Result<(), CodecError>
         requires fit { offset + length bytes.items ≤ 2 ^ 64 - 1 }
+        ensures same { Self.same self.old self.new }
         ensures edits { Edits
             (λ value. with_parts (record { offset = offset; bytes = bytes } ∷ []) value)
             (rereads self.old) (options_of options.now)
@@ -76,6 +78,7 @@ pub trait BytesPartialEncoderTraits: BytesPartialDecoderTraits {
         options: &CodecOptions,
     ) -> Result<(), CodecError>
         requires fit { PartsFit offset_values.now }
+        ensures same { Self.same self.old self.new }
         ensures edits { Edits (with_parts offset_values.now) (rereads self.old)
             (options_of options.now) (Self.seen self.old) (Self.seen self.new) result }
         ensures cause { IfErr result
@@ -94,6 +97,7 @@ pub trait BytesPartialEncoderTraits: BytesPartialDecoderTraits {
         bytes: &[u8],
         options: &CodecOptions,
     ) -> Result<(), CodecError>
+        ensures same { Self.same self.old self.new }
         ensures writes { Writes (Some bytes.now) (Self.seen self.old) (Self.seen self.new) result }
         ensures unasked { Unasked (Self.seen self.old) (Self.seen self.new) }
         ensures cause { IfErr result (IsHandleError (Self.seen self.old).shown.faults

@@ -21,6 +21,12 @@ impl BytesPartialDecoderTraits for Vec<u8> {
 
     ghost tells = { λ v under e. IsRangeError e };
 
+    ghost same = { λ a b. Unit {0} };
+
+    ghost same_self = { λ h. tt };
+
+    ghost same_twice = { λ a b c x y. tt };
+
     ghost reads_parts = { λ v. true };
 
     ghost sound = { λ v. sound_memory (Some v.items) };
@@ -81,6 +87,12 @@ impl BytesPartialDecoderTraits for CowSlice<'_, u8> {
     ghost seen = { λ v. in_memory (Some (cow_slice_items v)) };
 
     ghost tells = { λ v under e. IsRangeError e };
+
+    ghost same = { λ a b. Unit {0} };
+
+    ghost same_self = { λ h. tt };
+
+    ghost same_twice = { λ a b c x y. tt };
 
     ghost reads_parts = { λ v. true };
 

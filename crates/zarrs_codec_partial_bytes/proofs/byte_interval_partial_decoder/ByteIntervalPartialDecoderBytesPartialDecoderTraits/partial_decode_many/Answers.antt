@@ -18,3 +18,6 @@ returns-in-Err-clause-cause g c =
     let part = (g.H.BytesPartialDecoderTraits.seen c.args.self.now.handle).part under in
     let tells = g.H.BytesPartialDecoderTraits.tells c.args.self.now.handle under in
     interval_refused part c.args.self.now.byte_offset c.args.self.now.byte_length c.args.decoded_regions.now tells _ _ c.in-Err.error c.in-Err.ensures.refused
+
+pub returns-in-Err-clause-same : goal.returns-in-Err-clause-same
+returns-in-Err-clause-same g c = (refl, (refl, g.met.H.BytesPartialDecoderTraits.same_self c.args.self.now.handle))
