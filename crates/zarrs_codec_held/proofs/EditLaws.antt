@@ -1,0 +1,120 @@
+-- Changes after reads.
+use Rattle.std.proofs.Common.{◌≡◌, ◌⊎◌, ℕ, ◌+◌, ◌-◌, ◌^◌, ◌<◌, ◌≤◌, min, Bool, true, false, List, Option, Some, None, IsSome, Result, Ok, Err, OnOk, OnErr, refl, sym, ap, ◌∙◌, subst, arith, inl, inr, ⊎_elim}
+use Rattle.std.proofs.lemmas.Result.{on_ok_weaker, on_err_weaker}
+use Rattle.zarr_model.specs.Codec.{Options}
+use Rattle.zarr_model.specs.Prelude.{Rose, counted}
+use Rattle.zarrs_storage.specs.Parts.{held_bytes}
+use Rattle.zarrs_codec_error.specs.declared.error.CodecError.{CodecError}
+use Rattle.zarrs_codec_error.specs.declared.error.CodecError.TheVariants as codec
+use Rattle.zarrs_codec_held.specs.Held.{Held, Seen}
+use Rattle.zarrs_codec_held.specs.Reads.{Keeps, Reads, MayCount, IsFault, IsHandleError, IsReadError}
+use Rattle.zarrs_codec_held.specs.Writes.{Holds, Stays, is_fault, Unless, UnlessFault, Writes, Unasked, CountsIf, Edits}
+
+-- a fault after an earlier count
+rose_later : (first before now : ℕ) → first ≤ before → Rose before now → Rose first now
+rose_later first before now later rose = let r : min (before + 1) (2 ^ 64 - 1) ≤ now = rose in let goal : min (first + 1) (2 ^ 64 - 1) ≤ now = omega arith in goal
+
+pub fault_later : (first before now : ℕ) (e : CodecError) → first ≤ before → IsHandleError before now e → IsHandleError first now e
+fault_later first before now e later cause =
+    ⊎_elim (λ (m : e ≡ codec.OutOfMemory). inl m) (λ (f : IsFault before now e). inr (f.0, rose_later first before now later f.1)) cause
+
+unless_of : {T P : Type 0} (r : Result T CodecError) → P → UnlessFault r P
+unless_of (Ok v) p = tt
+unless_of {T} {P} (Err e) p = go (is_fault e)
+  where
+    go : (b : Bool) → Unless b P
+    go true = tt
+    go false = p
+
+unless_after : {T P Q : Type 0} (r : Result T CodecError) → (P → Q) → UnlessFault r P → UnlessFault r Q
+unless_after (Ok v) f p = p
+unless_after {T} {P} {Q} (Err e) f p = go (is_fault e) p
+  where
+    go : (b : Bool) → Unless b P → Unless b Q
+    go true p = p
+    go false p = f p
+
+always_ok : {T E P : Type 0} (r : Result T E) → P → OnOk r P
+always_ok (Ok v) p = p
+always_ok (Err e) p = tt
+
+always_err : {T E P : Type 0} (r : Result T E) → P → OnErr r P
+always_err (Ok v) p = tt
+always_err (Err e) p = p
+
+-- a read and then a change
+pub writes_after : {T : Type 0} (value : Option (List ℕ)) (first old new : Seen) (result : Result T CodecError) → Keeps first old → Writes value old new result → Writes value first new result
+writes_after value first old new result keeps writes = record {
+  ok = writes.ok;
+  failed = on_err_weaker result (λ case. ⊎_elim (λ (same : (under : Options) → new.held under ≡ old.held under). inl (λ (under : Options). same under ∙ keeps.held under)) (λ (more : Holds value new ⊎ Holds None new). inr more) case) writes.failed;
+  unchanged = unless_after result (λ (stays : Stays old new). let s : Stays first new = record { held = λ under. stays.held under ∙ keeps.held under; content = λ key. stays.content key ∙ keeps.content key } in s) writes.unchanged;
+  others = λ other unlike. writes.others other (λ is. unlike (is ∙ keeps.key)) ∙ keeps.content other;
+  key = writes.key ∙ keeps.key;
+  place = writes.place ∙ keeps.place;
+  cost = writes.cost ∙ keeps.cost;
+  later = let a : first.shown.faults ≤ old.shown.faults = keeps.later in let b : old.shown.faults ≤ new.shown.faults = writes.later in omega arith;
+}
+
+-- a read that is followed by no change
+pub writes_kept : {T : Type 0} (value : Option (List ℕ)) (old new : Seen) (e : CodecError) → Keeps old new → Writes {T = T} value old new (Err e)
+writes_kept {T} value old new e keeps = record {
+  ok = tt;
+  failed = inl keeps.held;
+  unchanged = unless_of {T = T} (Err e) (let s : Stays old new = record { held = keeps.held; content = keeps.content } in s);
+  others = λ other unlike. keeps.content other;
+  key = keeps.key;
+  place = keeps.place;
+  cost = keeps.cost;
+  later = keeps.later;
+}
+
+same_held : (a b : Option (List ℕ)) → Some a ≡ Some b → a ≡ b
+same_held a b e = cc
+
+module _ {T : Type 0} (edit : List ℕ → List ℕ) (under : Options) where
+  pub edits_kept : (rereads : Bool) (old new : Seen) (e : CodecError) → Keeps old new → MayCount old.shown.asks new.shown.asks old.cost → MayCount old.shown.taken new.shown.taken (old.taking None)
+      → Edits {T = T} edit rereads under old new (Err e)
+  edits_kept rereads old new e keeps asks taken = record {
+    ok = λ value is. writes_kept (Some (edit (held_bytes value))) old new e keeps;
+    decodes = tt;
+    undecoded = λ none. record { held = keeps.held; content = keeps.content };
+    asks = tt;
+    asks_err = asks;
+    taken = tt;
+    taken_err = taken;
+    others = λ other unlike. keeps.content other;
+    key = keeps.key;
+    place = keeps.place;
+    cost = keeps.cost;
+    later = keeps.later;
+  }
+
+  pub edits_unread : {U E : Type 0} (rereads : Bool) (old new : Seen) (failure : E) (e : CodecError) → Reads {T = U} None old new (Err failure) → Edits {T = T} edit rereads under old new (Err e)
+  edits_unread rereads old new failure e reads = edits_kept rereads old new e reads.keeps reads.asks_err reads.taken_err
+
+  pub edits_unmade : {U E : Type 0} (rereads : Bool) (old new : Seen) (read : U) (e : CodecError) → Reads {E = E} None old new (Ok read) → Edits {T = T} edit rereads under old new (Err e)
+  edits_unmade rereads old new read e reads = edits_kept rereads old new e reads.keeps (inr reads.asks) (inr reads.taken)
+
+  pub edits_made : {U E : Type 0} (first old new : Seen) (read : U) (value : Option (List ℕ)) (made : List ℕ) (result : Result T CodecError) → Reads {E = E} None first old (Ok read) → first.held under ≡ Some value
+      → made ≡ edit (held_bytes value) → Writes (Some made) old new result → Unasked old new → Edits edit true under first new result
+  edits_made first old new read value made result reads is same writes unasked =
+      let after : Writes (Some (edit (held_bytes value))) first new result = writes_after _ first old new result reads.keeps (subst (λ (m : List ℕ). Writes (Some m) old new result) same writes) in
+      let asks : new.shown.asks ≡ counted first.shown.asks first.cost = unasked.asks ∙ reads.asks in
+      let taken : new.shown.taken ≡ counted first.shown.taken (first.taking None) = unasked.taken ∙ reads.taken in
+      record {
+        ok = λ other held. subst (λ (v : Option (List ℕ)). Writes (Some (edit (held_bytes v))) first new result) (same_held value other (sym is ∙ held)) after;
+        decodes = always_ok result (let some : IsSome (first.held under) = subst (λ (h : Held). IsSome h) (sym is) refl in some);
+        undecoded = λ none. absurd (unlike (sym is ∙ none));
+        asks = always_ok result asks;
+        asks_err = always_err result (inr asks);
+        taken = always_ok result taken;
+        taken_err = always_err result (inr taken);
+        others = after.others;
+        key = after.key;
+        place = after.place;
+        cost = after.cost;
+        later = after.later;
+      }
+    where
+      unlike : {A : Type 0} {x : A} → Some x ≡ None → ⊥
+      unlike e = cc

@@ -1,0 +1,4 @@
+pub mod PartLaws
+pub mod IntervalLaws
+pub mod ThroughLaws
+pub mod EditLaws

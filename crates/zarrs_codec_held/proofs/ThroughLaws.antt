@@ -1,0 +1,167 @@
+-- Handles on what a bytes-to-bytes codec makes of a value.
+use Rattle.std.proofs.Common.{◌≡◌, ◌⊎◌, ℕ, ◌+◌, ◌-◌, ◌^◌, ◌<◌, ◌≤◌, Bool, true, false, is_some, List, [], ◌∷◌, length, Option, Some, None, IsSome, option_map, Result, Ok, Err, IfErr, OnOk, OnErr, refl, sym, ap, ap₂, ◌∙◌, subst, arith, inl, inr, ⊎_elim}
+use Rattle.std.proofs.lemmas.Result.{on_ok_weaker, on_err_weaker}
+use Rattle.zarr_model.specs.Codec.{Options}
+use Rattle.zarr_model.specs.Prelude.{Rose, counted}
+use Rattle.zarrs_storage.specs.declared.byte_range.ByteRange.{ByteRange}
+use Rattle.zarrs_storage.specs.declared.byte_range.ByteRange.TheVariants.{FromStart}
+use Rattle.zarrs_storage.specs.declared.byte_range.OffsetBytes.{OffsetBytes}
+use Rattle.zarrs_storage.specs.Parts.{held_bytes}
+use Rattle.zarrs_codec_error.specs.declared.error.CodecError.{CodecError}
+use Rattle.zarrs_codec_error.specs.declared.error.CodecError.TheVariants as codec
+use Rattle.zarrs_codec_held.specs.Held.{Held, HasPart, value_part, part_of, Seen, IsSound}
+use Rattle.zarrs_codec_held.specs.Reads.{Keeps, Reads, MayCount, GivesParts, AreParts, AreAbsent, RefusesSome, IsRangeError, IsHandleError, IsReadError, IsPartError}
+use Rattle.zarrs_codec_held.specs.Writes.{Holds, Stays, is_fault, Unless, UnlessFault, Writes, Unasked, CountsIf, Edits}
+use Rattle.zarrs_codec_held.specs.Through.{through, says_of, through_says, decoded}
+use Rattle.zarrs_codec_held.proofs.PartLaws.{within_value, value_there, none_absent}
+use Rattle.zarrs_codec_held.proofs.IntervalLaws.{keeps_same}
+
+within_held : (held : Held) (offset len : ℕ) (bytes : List ℕ) → part_of held (FromStart offset (Some len)) ≡ Some (Some bytes) → HasPart (part_of held) offset len bytes
+within_held None offset len bytes is = cc
+within_held (Some value) offset len bytes is = within_value value offset len bytes is
+
+part_some : (held : Held) (range : ByteRange) (value : Option (List ℕ)) (there : Bool) → part_of held range ≡ Some value → ((v : Option (List ℕ)) → held ≡ Some v → is_some v ≡ there) → is_some value ≡ there
+part_some None range value there is all = cc
+part_some (Some v) range value there is all = value_there v range value is ∙ all v refl
+
+through_there : (decode : List ℕ → Option (List ℕ)) (held : Held) (value : Option (List ℕ)) (there : Bool) → through decode held ≡ Some value → ((v : Option (List ℕ)) → held ≡ Some v → is_some v ≡ there) → is_some value ≡ there
+through_there decode None value there is all = cc
+through_there decode (Some None) value there is all = let same : value ≡ None = cc in ap is_some same ∙ all None refl
+through_there decode (Some (Some v)) value there is all = go (decode v) is ∙ all (Some v) refl
+  where
+    go : (d : Option (List ℕ)) → option_map Some d ≡ Some value → is_some value ≡ true
+    go None is = cc
+    go (Some w) is = let same : value ≡ Some w = cc in ap is_some same
+
+pub decoded_sound : (meaning : Options → List ℕ → Option (List ℕ)) (below : Seen) → IsSound below → IsSound (decoded meaning below)
+decoded_sound meaning below sound =
+    let all : (under : Options) (value : Option (List ℕ)) → through (meaning under) (below.held under) ≡ Some value → is_some value ≡ below.there = λ under value is. through_there (meaning under) (below.held under) value below.there is (sound.all_there under) in
+    record {
+      whole = λ under value range is. ap (λ (h : Held). part_of h range) is;
+      within = λ under offset len bytes is. within_held (through (meaning under) (below.held under)) offset len bytes is;
+      all_there = all;
+      part_there = λ under range value is. part_some (through (meaning under) (below.held under)) range value below.there is (all under);
+    }
+
+pub decoded_keeps : (meaning : Options → List ℕ → Option (List ℕ)) (old new : Seen) → Keeps old new → Keeps (decoded meaning old) (decoded meaning new)
+decoded_keeps meaning old new keeps = record {
+  there = keeps.there;
+  held = λ under. ap (through (meaning under)) (keeps.held under);
+  part = λ under range. ap (λ (h : Held). part_of (through (meaning under) h) range) (keeps.held under);
+  content = keeps.content;
+  key = keeps.key;
+  place = keeps.place;
+  cost = keeps.cost;
+  taking = λ asked. keeps.taking None;
+  size = keeps.size;
+  later = keeps.later;
+}
+
+pub decoded_reads : {T E : Type 0} (meaning : Options → List ℕ → Option (List ℕ)) (asked : Option (List ByteRange)) (old new : Seen) (result : Result T E) → Reads None old new result → Reads asked (decoded meaning old) (decoded meaning new) result
+decoded_reads meaning asked old new result reads = record { keeps = decoded_keeps meaning old new reads.keeps; asks = reads.asks; asks_err = reads.asks_err; taken = reads.taken; taken_err = reads.taken_err }
+
+-- a read that failed as another result
+pub reads_ok : {T U E F : Type 0} (asked : Option (List ByteRange)) (old new : Seen) (v : T) (w : U) → Reads {E = E} asked old new (Ok v) → Reads {E = F} asked old new (Ok w)
+reads_ok asked old new v w reads = record { keeps = reads.keeps; asks = reads.asks; asks_err = tt; taken = reads.taken; taken_err = tt }
+
+pub reads_err : {T U E F : Type 0} (asked : Option (List ByteRange)) (old new : Seen) (v : T) (e : F) → Reads {E = E} asked old new (Ok v) → Reads {T = U} asked old new (Err e)
+reads_err asked old new v e reads = record { keeps = reads.keeps; asks = tt; asks_err = inr reads.asks; taken = tt; taken_err = inr reads.taken }
+
+pub reads_failed : {T U E F : Type 0} (asked : Option (List ByteRange)) (old new : Seen) (e : E) (f : F) → Reads {T = T} asked old new (Err e) → Reads {T = U} asked old new (Err f)
+reads_failed asked old new e f reads = record { keeps = reads.keeps; asks = tt; asks_err = reads.asks_err; taken = tt; taken_err = reads.taken_err }
+
+-- which errors tell that a value does not decode, after a read
+pub through_told : (decode : List ℕ → Option (List ℕ)) (says : List ℕ → CodecError → Type 0) (old new : CodecError → Type 0) (held now : Held) (e : CodecError) → now ≡ held → (new e → old e) → through_says decode says new now e → through_says decode says old held e
+through_told decode says old new held now e same back told = go held (subst (λ (h : Held). through_says decode says new h e) same told)
+  where
+    go : (h : Held) → through_says decode says new h e → through_says decode says old h e
+    go None told = back told
+    go (Some None) told = told
+    go (Some (Some value)) told = told
+
+-- why a read fails
+pub read_told : (decode : List ℕ → Option (List ℕ)) (says : List ℕ → CodecError → Type 0) (tells : CodecError → Type 0) (held : Held) (before now : ℕ) (e : CodecError) → IsReadError held tells before now e
+    → IsReadError (through decode held) (through_says decode says tells held) before now e
+read_told decode says tells held before now e told =
+    ⊎_elim (λ (h : IsHandleError before now e). inl h)
+    (λ (none : (held ≡ None) × tells e). inr (ap (through decode) none.0, subst (λ (h : Held). through_says decode says tells h e) (sym none.0) none.1)) told
+
+pub decode_told : (decode : List ℕ → Option (List ℕ)) (says : List ℕ → CodecError → Type 0) (tells : CodecError → Type 0) (held : Held) (value : List ℕ) (before now : ℕ) (e : CodecError) → held ≡ Some (Some value)
+    → (e ≡ codec.OutOfMemory) ⊎ ((decode value ≡ None) × says value e) → IsReadError (through decode held) (through_says decode says tells held) before now e
+decode_told decode says tells held value before now e is told =
+    ⊎_elim (λ (m : e ≡ codec.OutOfMemory). inl (inl m))
+    (λ (none : (decode value ≡ None) × says value e). inr (ap (through decode) is ∙ ap (option_map Some) none.0, subst (λ (h : Held). through_says decode says tells h e) (sym is) (subst (λ (d : Option (List ℕ)). says_of d (says value) e) (sym none.0) none.1))) told
+
+-- of a value that decodes, the error of a range
+pub range_told : (decode : List ℕ → Option (List ℕ)) (says : List ℕ → CodecError → Type 0) (tells : CodecError → Type 0) (held : Held) (value : List ℕ) (e : CodecError) → through decode held ≡ Some (Some value) → IsRangeError e → through_says decode says tells held e
+range_told decode says tells None value e is range = cc
+range_told decode says tells (Some None) value e is range = cc
+range_told decode says tells (Some (Some v)) value e is range = go (decode v) is
+  where
+    go : (d : Option (List ℕ)) → option_map Some d ≡ Some (Some value) → says_of d (says v) e
+    go None is = cc
+    go (Some w) is = range
+
+-- why ranges of what was decoded fail
+pub many_told : (held : Held) (ranges : List ByteRange) (tells : CodecError → Type 0) (before now : ℕ) (e : CodecError) → IsReadError held tells before now e → IsPartError (part_of held) ranges tells before now e
+many_told held ranges tells before now e told =
+    ⊎_elim (λ (h : IsHandleError before now e). inl h)
+    (λ (none : (held ≡ None) × tells e). inr (refuses ranges none.0, none.1)) told
+  where
+    refuses : (ranges : List ByteRange) → held ≡ None → RefusesSome (part_of held) ranges
+    refuses [] none = λ range. ap (λ (h : Held). part_of h range) none
+    refuses (range ∷ ranges) none = inl (ap (λ (h : Held). part_of h range) none)
+
+pub many_refused : (held : Held) (value : List ℕ) (ranges : List ByteRange) (tells : CodecError → Type 0) (before now : ℕ) (e : CodecError) → held ≡ Some (Some value) → (IsRangeError e → tells e)
+    → (e ≡ codec.OutOfMemory) ⊎ (RefusesSome (value_part (Some value)) ranges × IsRangeError e) → IsPartError (part_of held) ranges tells before now e
+many_refused held value ranges tells before now e is range told =
+    ⊎_elim (λ (m : e ≡ codec.OutOfMemory). inl (inl m))
+    (λ (r : RefusesSome (value_part (Some value)) ranges × IsRangeError e). inr (subst (λ (h : Held). RefusesSome (part_of h) ranges) (sym is) r.0, range r.1)) told
+
+pub many_given : (held : Held) (value : List ℕ) (ranges : List ByteRange) (parts : List (List ℕ)) (there : Bool) → held ≡ Some (Some value) → true ≡ there → AreParts (value_part (Some value)) ranges parts
+    → GivesParts there (part_of held) ranges (Some parts)
+many_given held value ranges parts there is given are = (sym given, subst (λ (h : Held). AreParts (part_of h) ranges parts) (sym is) are)
+
+pub many_absent : (held : Held) (ranges : List ByteRange) (there : Bool) → held ≡ Some None → false ≡ there → GivesParts there (part_of held) ranges None
+many_absent held ranges there is given = (sym given, subst (λ (h : Held). AreAbsent (part_of h) ranges) (sym is) (none_absent ranges))
+
+unless : {T P Q : Type 0} (r : Result T CodecError) → (P → Q) → UnlessFault r P → UnlessFault r Q
+unless (Ok v) f p = p
+unless {T} {P} {Q} (Err e) f p = go (is_fault e) p
+  where
+    go : (b : Bool) → Unless b P → Unless b Q
+    go true p = p
+    go false p = f p
+
+-- a change of the value below as one of what it decodes to
+module _ {T : Type 0} (meaning : Options → List ℕ → Option (List ℕ)) (below above : Option (List ℕ)) (gives : (under : Options) → through (meaning under) (Some below) ≡ Some above) (old new : Seen) (result : Result T CodecError) where
+  holds_above : Holds below new → Holds above (decoded meaning new)
+  holds_above holds = λ under. ap (through (meaning under)) (holds under) ∙ gives under
+
+  holds_none : Holds None new → Holds None (decoded meaning new)
+  holds_none holds = λ under. ap (through (meaning under)) (holds under)
+
+  pub decoded_writes : Writes below old new result → Writes above (decoded meaning old) (decoded meaning new) result
+  decoded_writes writes = record {
+    ok = on_ok_weaker result holds_above writes.ok;
+    failed = on_err_weaker result (λ case. ⊎_elim (λ (same : (under : Options) → new.held under ≡ old.held under). inl (λ (under : Options). ap (through (meaning under)) (same under)))
+        (λ (more : Holds below new ⊎ Holds None new). inr (⊎_elim (λ (h : Holds below new). inl (holds_above h)) (λ (h : Holds None new). inr (holds_none h)) more)) case) writes.failed;
+    unchanged = unless result (λ (stays : Stays old new). let s : Stays (decoded meaning old) (decoded meaning new) = record { held = λ under. ap (through (meaning under)) (stays.held under); content = stays.content } in s) writes.unchanged;
+    others = writes.others;
+    key = writes.key;
+    place = writes.place;
+    cost = writes.cost;
+    later = writes.later;
+  }
+
+pub writes_none : {T : Type 0} (meaning : Options → List ℕ → Option (List ℕ)) (old new : Seen) (result : Result T CodecError) → Writes None old new result → Writes None (decoded meaning old) (decoded meaning new) result
+writes_none meaning old new result writes = decoded_writes meaning None None (λ under. refl) old new result writes
+
+pub writes_some : {T : Type 0} (meaning : Options → List ℕ → Option (List ℕ)) (value encoded : List ℕ) (old new : Seen) (result : Result T CodecError) → ((under : Options) → meaning under encoded ≡ Some value)
+    → Writes (Some encoded) old new result → Writes (Some value) (decoded meaning old) (decoded meaning new) result
+writes_some meaning value encoded old new result gives writes = decoded_writes meaning (Some encoded) (Some value) (λ under. ap (option_map Some) (gives under)) old new result writes
+
+-- nothing was changed for want of memory
+pub writes_not : {T : Type 0} (value : Option (List ℕ)) (seen : Seen) (e : CodecError) → e ≡ codec.OutOfMemory → Writes {T = T} value seen seen (Err e)
+writes_not {T} value seen e is = subst (λ (x : CodecError). Writes {T = T} value seen seen (Err x)) (sym is)
+    (record { ok = tt; failed = inl (λ under. refl); unchanged = record { held = λ under. refl; content = λ key. refl }; others = λ other other_key. refl; key = refl; place = refl; cost = refl; later = omega arith })

@@ -1,0 +1,32 @@
+-- An interval of the value that a handle holds.
+use Rattle.std.specs.Prelude.{ℕ, ◌+◌, ◌-◌, if◌then◌else◌, List, [], ◌∷◌, map, Option, Some, None}
+use Rattle.zarrs_storage.specs.declared.byte_range.ByteRange.{ByteRange}
+use Rattle.zarrs_storage.specs.declared.byte_range.ByteRange.TheVariants.{FromStart}
+use Rattle.zarrs_storage.specs.ByteRange.{is_valid, start_in, end_in}
+use Rattle.zarrs_codec_held.specs.Held.{Held, Seen}
+
+-- where a range of so many bytes from an offset on lies in the value
+abbrev pub shifted : ℕ → ℕ → ByteRange → ByteRange
+shifted offset len range =
+    FromStart (offset + start_in range len) (Some (end_in range len - start_in range len))
+
+-- where all of it, or some ranges of it, lie
+abbrev pub all_of : ℕ → ℕ → ByteRange
+all_of offset len = FromStart offset (Some len)
+
+abbrev pub asked_of : ℕ → ℕ → Option (List ByteRange) → List ByteRange
+asked_of offset len None = all_of offset len ∷ []
+asked_of offset len (Some ranges) = map (shifted offset len) ranges
+
+-- a range is refused that is not valid for so many bytes, and else it is that of the value
+abbrev pub interval_part : (ByteRange → Held) → ℕ → ℕ → ByteRange → Held
+interval_part part offset len range =
+    if is_valid range len then part (shifted offset len range) else None
+
+-- what an interval shows of a handle
+abbrev pub interval : ℕ → ℕ → Seen → Seen
+interval offset len below = record below {
+  held = λ under. below.part under (all_of offset len);
+  part = λ under. interval_part (below.part under) offset len;
+  taking = λ asked. below.taking (Some (asked_of offset len asked));
+}

@@ -1,0 +1,410 @@
+-- The list that is held, by cases.
+use Rattle.std.proofs.Common.{◌≡◌, ◌⊎◌, ℕ, ◌+◌, ◌-◌, ◌≤◌, Bool, true, false, is_some, if◌then◌else◌, List, [], ◌∷◌, length, take, drop, replicate, Option, Some, None, IsSome, option_map, not, Result, Ok, Err, IfOk, IfErr, OnOk, MatchResult, refl, sym, ap, ◌∙◌, subst, arith, inl, inr, ⊎_elim, eq-eqb}
+use Rattle.std.proofs.Math.Path.{fun_ext}
+use Rattle.std.proofs.lemmas.List.{length-take-le, length-drop}
+use Rattle.std.proofs.lemmas.Bool.{leb-true, le-leb}
+use Rattle.zarr_model.specs.Region.{Region, count, count_of, ends_within, tuples}
+use Rattle.zarr_model.proofs.RegionLaws.{length-tuples}
+use Rattle.zarrs_codec_bytes.specs.Picking.{picked}
+use Rattle.zarrs_codec_array_bytes.specs.Selection.{linear}
+use Rattle.zarr_model.specs.Element.{Element, null, Kind, kind_of, fill_element}
+use Rattle.zarrs_codec_bytes.specs.Filling.{has_size, filled_with}
+use Rattle.zarrs_codec_bytes.proofs.FilledLaws.{filled_valid}
+use Rattle.zarr_model.specs.ArrayBytes.{ArrayBytes, meaning}
+use Rattle.zarr_model.specs.Codec.{Level, Options}
+use Rattle.zarr_model.specs.Command.{has_long_element}
+use Rattle.zarrs_storage.specs.declared.byte_range.ByteRange.{ByteRange}
+use Rattle.zarrs_storage.specs.declared.byte_range.ByteRange.TheVariants.{FromStart, Suffix}
+use Rattle.zarrs_storage.specs.ByteRange.{is_valid, slice_of, slices_of, first_invalid}
+use Rattle.zarrs_codec_error.specs.declared.error.CodecError.{CodecError}
+use Rattle.zarrs_codec_error.specs.declared.error.CodecError.TheVariants as codec
+use Rattle.zarrs_codec_array_bytes.specs.declared.array_bytes.ArrayBytes as code
+use Rattle.zarrs_codec_array_bytes.specs.Raw.{raw_of}
+use Rattle.zarrs_codec_array_bytes.specs.Refusals.{Told, fine, told_by, other_fill, then_answer, wrong_length, Answers, fill_answer, extract_answer}
+use Rattle.zarrs_codec_traits.specs.Errors.{Unserved, RefusesBy, IsDecodeError}
+use Rattle.zarrs_codec_traits.specs.Parts as parts
+use Rattle.zarrs_codec_traits.specs.Parts.{length_answer, lengths_answer, request_answer}
+use Rattle.zarrs_codec_traits.specs.Words.{list_at, at_box, select, Gives}
+use Rattle.zarrs_codec_held.specs.Held.{Held, Seen, IsSound, value_part}
+use Rattle.zarrs_codec_held.specs.Reads.{Keeps, Looks, Reads, GivesParts, AreParts, RefusesSome, IsHandleError, IsReadError, IsPartError}
+use Rattle.zarrs_codec_held.proofs.PartLaws.{as_many}
+use Rattle.zarrs_codec_partial_traits.specs.Lists.{fills, IsListError, KeepsList, LooksAt, ReadsList}
+use Rattle.zarrs_codec_partial.specs.Level.{list_of, IsRefused, AreGiven, IsOtherFill, own_says, list_says, ranges_for, listed, smaller_box, is_smaller}
+use Rattle.zarrs_codec_partial.specs.Boxes.{Denotes, IsShort, GivesAll, GivesBox, GivesPlaces}
+use Rattle.zarrs_codec_partial.proofs.SelectLaws.{select-replicate, boxed-picked}
+use Rattle.zarrs_codec_partial.proofs.ExtractLaws.{says_some, extract_told}
+
+-- an answer where a codec serves what it takes
+pub asked_ok : {T : Type 0} (unserved : Option Unserved) (P : T → Type 0) (Q : CodecError → Type 0) (r : Result T CodecError) → RefusesBy unserved r → (unserved ≡ None → MatchResult r P Q) → IfOk r P
+asked_ok None P Q (Ok v) refuses given = given refl
+asked_ok (Some why) P Q (Ok v) refuses given = absurd refuses
+asked_ok unserved P Q (Err e) refuses given = tt
+
+ok_of : {T : Type 0} (P : T → Type 0) (Q : CodecError → Type 0) (r : Result T CodecError) → MatchResult r P Q → IfOk r P
+ok_of P Q (Ok v) holds = holds
+ok_of P Q (Err e) holds = tt
+
+weaker : {T : Type 0} (P Q : T → Type 0) (r : Result T CodecError) → ((v : T) → P v → Q v) → IfOk r P → IfOk r Q
+weaker P Q (Ok v) f p = f v p
+weaker P Q (Err e) f p = tt
+
+weaker_err : {T : Type 0} (P Q : CodecError → Type 0) (r : Result T CodecError) → ((e : CodecError) → P e → Q e) → IfErr r P → IfErr r Q
+weaker_err P Q (Ok v) f p = tt
+weaker_err P Q (Err e) f p = f e p
+
+err_of : {T : Type 0} (P : T → Type 0) (Q : CodecError → Type 0) (r : Result T CodecError) → MatchResult r P Q → IfErr r Q
+err_of P Q (Ok v) holds = tt
+err_of P Q (Err e) holds = holds
+
+-- the fill, where it denotes an element
+filled_by : (element : Option Element) (n : ℕ) (xs : List Element) → option_map (replicate n) element ≡ Some xs → (x : Element) × ((element ≡ Some x) × (replicate n x ≡ xs))
+filled_by None n xs e = cc
+filled_by (Some x) n xs e = let same : replicate n x ≡ xs = cc in (x, (refl, same))
+
+denoted : (element : Option Element) → IsSome element → (x : Element) × (element ≡ Some x)
+denoted None some = cc
+denoted (Some x) some = (x, refl)
+
+some_of : {A : Type 0} (o : Option A) (x : A) → o ≡ Some x → IsSome o
+some_of o x e = subst (λ o. IsSome o) (sym e) refl
+
+sized : {T : Type 0} (b : Bool) (v : T) → Answers (fill_answer b) (Ok v) → b ≡ true
+sized true v answers = refl
+sized false v answers = cc
+
+-- what is made of any fill value is valid
+made_valid : (level : Level) (fill : List ℕ) (r : Result code.ArrayBytes CodecError) → Answers (fill_answer (has_size (kind_of level.data_type) fill)) r
+    → IfOk r (λ v. raw_of v ≡ filled_with (kind_of level.data_type) (count_of level.shape) fill) → IfOk r (λ v. IsSome (list_at level (raw_of v)))
+made_valid level fill (Ok v) answers is =
+    let means = filled_valid (kind_of level.data_type) (count_of level.shape) fill (sized _ v answers) in
+    some_of _ _ (ap (list_at level) is ∙ means.is)
+made_valid level fill (Err e) answers is = tt
+
+pub fill_all : (level : Level) (fill : List ℕ) (r : Result code.ArrayBytes CodecError)
+    → Answers (fill_answer (has_size (kind_of level.data_type) fill)) r → IfOk r (λ v. raw_of v ≡ filled_with (kind_of level.data_type) (count_of level.shape) fill)
+    → ((x : Element) → fill_element (kind_of level.data_type) fill ≡ Some x → IfOk r (λ v. list_at level (raw_of v) ≡ Some (replicate (count_of level.shape) x)))
+    → (IsShort level fill → IfOk r (λ v. has_long_element (raw_of v) ≡ false)) → GivesAll level fill (fills level fill) r
+fill_all level fill r answers made filled short = record {
+  value = λ xs e. let by = filled_by _ _ xs e in weaker _ _ r (λ v is. is ∙ ap Some by.1.1) (filled by.0 by.1.0);
+  valid = made_valid level fill r answers made;
+  short = short;
+}
+
+-- why a fill is refused
+pub fill_told : {T : Type 0} (level : Level) (fill : List ℕ) (r : Result T CodecError) → Answers (fill_answer (has_size (kind_of level.data_type) fill)) r → IfErr r (λ e. (e ≡ codec.OutOfMemory) ⊎ IsOtherFill level fill e)
+fill_told level fill (Ok v) answers = tt
+fill_told level fill (Err e) answers = go (has_size (kind_of level.data_type) fill) refl answers
+  where
+    go : (b : Bool) → has_size (kind_of level.data_type) fill ≡ b → (e ≡ codec.OutOfMemory) ⊎ (told_by e ≡ fill_answer b) → (e ≡ codec.OutOfMemory) ⊎ IsOtherFill level fill e
+    go true is told = ⊎_elim (λ (m : e ≡ codec.OutOfMemory). inl m) (λ (t : told_by e ≡ fine). absurd (says_some e t)) told
+    go false is told = ⊎_elim (λ (m : e ≡ codec.OutOfMemory). inl m) (λ (t : told_by e ≡ other_fill). inr (is, t)) told
+
+pub fill_part : (level : Level) (fill : List ℕ) (box : Region) (r : Result code.ArrayBytes CodecError) → ends_within box level.shape ≡ true
+    → ((x : Element) → fill_element (kind_of level.data_type) fill ≡ Some x → IfOk r (λ v. meaning (kind_of level.data_type) (count box) (raw_of v) ≡ Some (replicate (count box) x)))
+    → (IsShort level fill → IfOk r (λ v. has_long_element (raw_of v) ≡ false)) → GivesBox level fill box (fills level fill) r
+fill_part level fill box r inside filled short = record {
+  value = λ xs e. let by = filled_by _ _ xs e in
+      weaker _ _ r (λ v is. is ∙ ap Some (sym (select-replicate level.shape box by.0 inside) ∙ ap (select level.shape box) by.1.1)) (filled by.0 by.1.0);
+  valid = λ some. let by = denoted _ some in weaker _ _ r (λ v is. some_of _ _ is) (filled by.0 by.1);
+  short = short;
+}
+
+module _ (level : Level) (fill : List ℕ) (decode : List ℕ → Option (List Element)) (absent : Option (List Element)) (held : Held) where
+  pub all_of_value : (value : List ℕ) (Q : CodecError → Type 0) (r : Result code.ArrayBytes CodecError) → held ≡ Some (Some value) → MatchResult r (λ v. Gives (list_at level (raw_of v)) (decode value)) Q
+      → IfOk r (λ v. has_long_element (raw_of v) ≡ false) → GivesAll level fill (list_of decode absent held) r
+  all_of_value value Q r is gives short =
+      let ok = ok_of _ Q r gives in
+      record {
+        value = λ xs e. weaker _ _ r (λ v given. given.same ∙ (sym (ap (list_of decode absent) is) ∙ e)) ok;
+        valid = weaker _ _ r (λ v given. given.there) ok;
+        short = λ few. short;
+      }
+
+  pub all_of_none : (r : Result code.ArrayBytes CodecError) → held ≡ Some None → GivesAll level fill absent r → GivesAll level fill (list_of decode absent held) r
+  all_of_none r is gives = subst (λ (l : Option (List Element)). GivesAll level fill l r) (sym (ap (list_of decode absent) is)) gives
+
+  pub box_of_none : (box : Region) (r : Result code.ArrayBytes CodecError) → held ≡ Some None → GivesBox level fill box absent r → GivesBox level fill box (list_of decode absent held) r
+  box_of_none box r is gives = subst (λ (l : Option (List Element)). GivesBox level fill box l r) (sym (ap (list_of decode absent) is)) gives
+
+  pub box_of_value : (box : Region) (value : List ℕ) (r : Result code.ArrayBytes CodecError) → held ≡ Some (Some value)
+      → ((xs : List Element) → decode value ≡ Some xs → MatchResult r (λ v. list_at (at_box box level) (raw_of v) ≡ Some (select level.shape box xs)) (λ e. e ≡ codec.OutOfMemory))
+      → IfOk r (λ v. IsSome (list_at (at_box box level) (raw_of v))) → IfOk r (λ v. has_long_element (raw_of v) ≡ false) → GivesBox level fill box (list_of decode absent held) r
+  box_of_value box value r is gives valid short = record {
+    value = λ xs e. ok_of _ _ r (gives xs (sym (ap (list_of decode absent) is) ∙ e));
+    valid = λ some. valid;
+    short = λ few. short;
+  }
+
+  pub box_of_broken : (box : Region) (r : Result code.ArrayBytes CodecError) → held ≡ None
+      → IfOk r (λ v. IsSome (list_at (at_box box level) (raw_of v))) → IfOk r (λ v. has_long_element (raw_of v) ≡ false) → GivesBox level fill box (list_of decode absent held) r
+  box_of_broken box r is valid short = record {
+    value = λ xs e. absurd (none (sym (ap (list_of decode absent) is) ∙ e));
+    valid = λ some. valid;
+    short = λ few. short;
+  }
+    where
+      none : {A : Type 0} {x : A} → None ≡ Some x → ⊥
+      none e = cc
+
+module _ (level : Level) (fill : List ℕ) (decode : List ℕ → Option (List Element)) (says : List ℕ → CodecError → Type 0) (tells : CodecError → Type 0) (below : Seen) (under : Options) (asked : Option (List ByteRange)) (before now : ℕ) where
+  abbrev Fails : CodecError → Type 0
+  Fails e = IsListError below.there (list_of decode (fills level fill) (below.held under)) (list_says level fill says tells below under asked) before now e
+
+  abbrev Own : Held → CodecError → Type 0
+  Own h e = own_says level fill says (AreGiven below.there (below.part under) asked) h e
+
+  pub read_fails : asked ≡ None → (e : CodecError) → IsReadError (below.held under) tells before now e → Fails e
+  read_fails whole e told = ⊎_elim (λ (h : IsHandleError before now e). inl h)
+      (λ (none : (below.held under ≡ None) × tells e). inr (inl (ap (list_of decode (fills level fill)) none.0), inl (subst (λ (a : Option (List ByteRange)). IsRefused (below.held under) (below.part under) a) (sym whole) none.0, none.1))) told
+
+  pub value_fails : (value : List ℕ) (e : CodecError) → below.held under ≡ Some (Some value) → IsDecodeError (decode value) (says value) e → Fails e
+  value_fails value e is told = ⊎_elim (λ (m : e ≡ codec.OutOfMemory). inl (inl m))
+      (λ (none : (decode value ≡ None) × says value e). inr (inl (ap (list_of decode (fills level fill)) is ∙ none.0), inr (subst (λ (h : Held). Own h e) (sym is) none.1))) told
+
+  pub value_fails_if : {T : Type 0} (value : List ℕ) (r : Result T CodecError) → below.held under ≡ Some (Some value) → IfErr r (IsDecodeError (decode value) (says value)) → IfErr r Fails
+  value_fails_if value r is told = weaker_err _ _ r (λ e t. value_fails value e is t) told
+
+  pub value_fails_by : {T : Type 0} (value : List ℕ) (P : T → Type 0) (r : Result T CodecError) → below.held under ≡ Some (Some value) → MatchResult r P (IsDecodeError (decode value) (says value)) → IfErr r Fails
+  value_fails_by value P r is told = value_fails_if value r is (err_of P _ r told)
+
+  pub fill_fails : {T : Type 0} (r : Result T CodecError) → below.held under ≡ Some None → below.there ≡ false → IfErr r (λ e. (e ≡ codec.OutOfMemory) ⊎ IsOtherFill level fill e) → IfErr r Fails
+  fill_fails r is gone told = weaker_err _ _ r (λ e t. ⊎_elim (λ (m : e ≡ codec.OutOfMemory). let x : Fails e = inl (inl m) in x)
+      (λ (f : IsOtherFill level fill e). let x : Fails e = inr (inr gone, inr (subst (λ (h : Held). Own h e) (sym is) f)) in x) t) told
+
+  pub broken_fails : {T : Type 0} (r : Result T CodecError) → below.held under ≡ None → AreGiven below.there (below.part under) asked → IfErr r Fails
+  broken_fails (Ok v) is given = tt
+  broken_fails (Err e) is given = inr (inl (ap (list_of decode (fills level fill)) is), inr (subst (λ (h : Held). Own h e) (sym is) given))
+
+  -- ranges that are refused of a value that decodes are not all valid for it
+  pub parts_fail : (ranges : List ByteRange) (e : CodecError) → asked ≡ Some ranges → ((value : List ℕ) → below.held under ≡ Some (Some value) → (range : ByteRange) → below.part under range ≡ value_part (Some value) range)
+      → ((value : Option (List ℕ)) → below.held under ≡ Some value → is_some value ≡ below.there) → ((value : List ℕ) → ¬ (first_invalid (length value) ranges ≡ None) → decode value ≡ None)
+      → IsPartError (below.part under) ranges tells before now e → Fails e
+  parts_fail ranges e some whole all asks told =
+      ⊎_elim (λ (h : IsHandleError before now e). inl h)
+      (λ (r : RefusesSome (below.part under) ranges × tells e). inr (go (below.held under) refl r.0, inl (subst (λ (a : Option (List ByteRange)). IsRefused (below.held under) (below.part under) a) (sym some) r.0, r.1))) told
+    where
+      refused : (value : List ℕ) (ranges : List ByteRange) → ((range : ByteRange) → below.part under range ≡ value_part (Some value) range) → RefusesSome (below.part under) ranges → ¬ (first_invalid (length value) ranges ≡ None)
+      refused value [] same refuses = λ none. given (sym (refuses (FromStart 0 None)) ∙ (same (FromStart 0 None) ∙ ap (λ (b : Bool). if b then Some (Some (slice_of (FromStart 0 None) value)) else None) (le-leb 0 (length value) (omega arith))))
+        where
+          given : {A : Type 0} {x : A} → None ≡ Some x → ⊥
+          given e = cc
+      refused value (range ∷ ranges) same refuses = λ none.
+          let s = split (is_valid range (length value)) range (first_invalid (length value) ranges) none in
+          ⊎_elim (λ (is : below.part under range ≡ None). given (sym is ∙ (same range ∙ ap (λ (b : Bool). if b then Some (Some (slice_of range value)) else None) s.0)))
+          (λ (more : RefusesSome (below.part under) ranges). refused value ranges same more s.1) refuses
+        where
+          given : {A : Type 0} {x : A} → None ≡ Some x → ⊥
+          given e = cc
+
+          split : (b : Bool) (range : ByteRange) (rest : Option ByteRange) → (if b then rest else Some range) ≡ None → (b ≡ true) × (rest ≡ None)
+          split true range rest e = (refl, e)
+          split false range rest e = cc
+
+      go : (h : Held) → below.held under ≡ h → RefusesSome (below.part under) ranges → (list_of decode (fills level fill) (below.held under) ≡ None) ⊎ (below.there ≡ false)
+      go None is refuses = inl (ap (list_of decode (fills level fill)) is)
+      go (Some None) is refuses = inr (sym (all None is))
+      go (Some (Some value)) is refuses = inl (ap (list_of decode (fills level fill)) is ∙ asks value (refused value ranges (whole value is) refuses))
+
+-- the length of a slice
+slice_told : (range : ByteRange) (value : List ℕ) → is_valid range (length value) ≡ true → length_answer range (slice_of range value) ≡ fine
+slice_told (FromStart offset None) value is = refl
+slice_told (FromStart offset (Some n)) value is =
+    let fits : offset + n ≤ length value = leb-true _ _ is in
+    let rest : length (drop offset value) ≡ length value - offset = length-drop offset value in
+    let size : offset + n - offset ≡ n = omega arith in
+    let long : length (take (offset + n - offset) (drop offset value)) ≡ n = ap (λ (m : ℕ). length (take m (drop offset value))) size ∙ length-take-le n (drop offset value) (omega (arith, rest)) in
+    ap (λ (b : Bool). if b then fine else wrong_length (length (take (offset + n - offset) (drop offset value))) n) (eq-eqb _ _ long)
+slice_told (Suffix n) value is =
+    let fits : n ≤ length value = leb-true _ _ is in
+    let start : ℕ = length value - n in
+    let rest : length (drop start value) ≡ length value - start = length-drop start value in
+    let size : length value - start ≡ n = omega arith in
+    let long : length (take (length value - start) (drop start value)) ≡ n = ap (λ (m : ℕ). length (take m (drop start value))) size ∙ length-take-le n (drop start value) (omega (arith, rest)) in
+    ap (λ (b : Bool). if b then fine else wrong_length (length (take (length value - start) (drop start value))) n) (eq-eqb _ _ long)
+
+pub record AreSlices (ranges : List ByteRange) (value : List ℕ) (given : List (List ℕ)) : Type 0 where
+  pub slices : given ≡ slices_of ranges value
+  pub lengths : lengths_answer ranges given ≡ fine
+
+pub parts_sliced : (part : ByteRange → Held) (ranges : List ByteRange) (value : List ℕ) (given : List (List ℕ)) → ((range : ByteRange) → part range ≡ value_part (Some value) range) → AreParts part ranges given → AreSlices ranges value given
+parts_sliced part [] value given same are = record { slices = are; lengths = ap (lengths_answer []) are }
+parts_sliced part (range ∷ ranges) value [] same are = absurd are
+parts_sliced part (range ∷ ranges) value (bytes ∷ given) same are = go (is_valid range (length value)) refl (sym (same range) ∙ are.0) (parts_sliced part ranges value given same are.1)
+  where
+    go : (b : Bool) → is_valid range (length value) ≡ b → (if b then Some (Some (slice_of range value)) else None) ≡ Some (Some bytes) → AreSlices ranges value given → AreSlices (range ∷ ranges) value (bytes ∷ given)
+    go false is e rest = cc
+    go true is e rest =
+        let here : bytes ≡ slice_of range value = cc in
+        record {
+          slices = ap (λ (b : List ℕ). b ∷ given) here ∙ ap (λ (g : List (List ℕ)). slice_of range value ∷ g) rest.slices;
+          lengths = ap (λ (t : Told). then_answer t (lengths_answer ranges given)) (ap (length_answer range) here ∙ slice_told range value is) ∙ rest.lengths;
+        }
+
+-- the whole value as the part that is asked for
+pub whole_parts : (request : Option (List ByteRange)) (value : List ℕ) (given : List (List ℕ)) → request ≡ None → given ≡ value ∷ [] → parts.AreParts request value given
+whole_parts request value given none same = subst (λ (r : Option (List ByteRange)). parts.AreParts r value given) (sym none) same
+
+pub whole_fits : (request : Option (List ByteRange)) (given : List (List ℕ)) → request ≡ None → request_answer request given ≡ fine
+whole_fits request given none = ap (λ (r : Option (List ByteRange)). request_answer r given) none
+
+-- the parts of a value as those that are asked for
+pub asked_parts : (request : Option (List ByteRange)) (ranges : List ByteRange) (value : List ℕ) (given : List (List ℕ)) → request ≡ Some ranges → given ≡ slices_of ranges value → parts.AreParts request value given
+asked_parts request ranges value given some same = subst (λ (r : Option (List ByteRange)). parts.AreParts r value given) (sym some) same
+
+pub asked_fits : (request : Option (List ByteRange)) (ranges : List ByteRange) (given : List (List ℕ)) → request ≡ Some ranges → lengths_answer ranges given ≡ fine → request_answer request given ≡ fine
+asked_fits request ranges given some fits = ap (λ (r : Option (List ByteRange)). request_answer r given) some ∙ fits
+
+pub asked_answer : (part : ByteRange → Held) (request : Option (List ByteRange)) (ranges : List ByteRange) (given : List (List ℕ)) → request ≡ Some ranges → AreParts part ranges given → parts.IsAnswer request given
+asked_answer part request ranges given some are = subst (λ (r : Option (List ByteRange)). parts.IsAnswer r given) (sym some) (as_many part ranges given are)
+
+never : true ≡ false → ⊥
+never e = cc
+
+module _ (level : Level) (fill : List ℕ) (decode : List ℕ → Option (List Element)) (absent : Option (List Element)) (held : Held) (there : Bool) (all : (value : Option (List ℕ)) → held ≡ Some value → is_some value ≡ there) where
+  pub box_of_absent : (box : Region) (r : Result code.ArrayBytes CodecError) → there ≡ false → GivesBox level fill box absent r → GivesBox level fill box (list_of decode absent held) r
+  box_of_absent box r gone gives = go held refl
+    where
+      none : {A : Type 0} {x : A} → None ≡ Some x → ⊥
+      none e = cc
+
+      go : (h : Held) → held ≡ h → GivesBox level fill box (list_of decode absent held) r
+      go None is = record { value = λ xs e. absurd (none (sym (ap (list_of decode absent) is) ∙ e)); valid = gives.valid; short = gives.short }
+      go (Some None) is = box_of_none level fill decode absent held box r is gives
+      go (Some (Some value)) is = absurd (never (all (Some value) is ∙ gone))
+
+  module _ (part : ByteRange → Held) (ranges : List ByteRange) (given : List (List ℕ)) (whole : (value : List ℕ) → held ≡ Some (Some value) → (range : ByteRange) → part range ≡ value_part (Some value) range) (are : AreParts part ranges given) (here : there ≡ true) where
+    pub box_of_parts : (box : Region) (r : Result code.ArrayBytes CodecError)
+        → ((value : List ℕ) (xs : List Element) → given ≡ slices_of ranges value → decode value ≡ Some xs → MatchResult r (λ v. list_at (at_box box level) (raw_of v) ≡ Some (select level.shape box xs)) (λ e. e ≡ codec.OutOfMemory))
+        → IfOk r (λ v. IsSome (list_at (at_box box level) (raw_of v))) → IfOk r (λ v. has_long_element (raw_of v) ≡ false) → GivesBox level fill box (list_of decode absent held) r
+    box_of_parts box r gives valid short = go held refl
+      where
+        go : (h : Held) → held ≡ h → GivesBox level fill box (list_of decode absent held) r
+        go None is = box_of_broken level fill decode absent held box r is valid short
+        go (Some None) is = absurd (never (sym here ∙ sym (all None is)))
+        go (Some (Some value)) is = box_of_value level fill decode absent held box value r is (λ xs e. gives value xs (parts_sliced part ranges value given (whole value is) are).slices e) valid short
+
+-- why elements of what a handle gives are refused
+module _ (level : Level) (fill : List ℕ) (decode : List ℕ → Option (List Element)) (says : List ℕ → CodecError → Type 0) (tells : CodecError → Type 0) (below : Seen) (under : Options) (sound : IsSound below) (asked : Option (List ByteRange)) (ranges : List ByteRange) (some : asked ≡ Some ranges) (before now : ℕ) where
+  abbrev FailsSo : CodecError → Type 0
+  FailsSo e = IsListError below.there (list_of decode (fills level fill) (below.held under)) (list_says level fill says tells below under asked) before now e
+
+  given_so : (parts : Option (List (List ℕ))) → GivesParts below.there (below.part under) ranges parts → AreGiven below.there (below.part under) asked
+  given_so parts given = subst (λ (a : Option (List ByteRange)). AreGiven below.there (below.part under) a) (sym some) (parts, given)
+
+  pub absent_fails : {T : Type 0} (r : Result T CodecError) → GivesParts below.there (below.part under) ranges None → IfErr r (λ e. (e ≡ codec.OutOfMemory) ⊎ IsOtherFill level fill e) → IfErr r FailsSo
+  absent_fails r given told = go (below.held under) refl
+    where
+      go : (h : Held) → below.held under ≡ h → IfErr r FailsSo
+      go None is = broken_fails level fill decode says tells below under asked before now r is (given_so None given)
+      go (Some None) is = fill_fails level fill decode says tells below under asked before now r is given.0 told
+      go (Some (Some value)) is = absurd (never (sound.all_there under (Some value) is ∙ given.0))
+
+  pub given_fails : {T : Type 0} (parts : List (List ℕ)) (r : Result T CodecError) → GivesParts below.there (below.part under) ranges (Some parts)
+      → ((value : List ℕ) → parts ≡ slices_of ranges value → lengths_answer ranges parts ≡ fine → IfErr r (IsDecodeError (decode value) (says value))) → IfErr r FailsSo
+  given_fails parts r given told = go (below.held under) refl
+    where
+      go : (h : Held) → below.held under ≡ h → IfErr r FailsSo
+      go None is = broken_fails level fill decode says tells below under asked before now r is (given_so (Some parts) given)
+      go (Some None) is = absurd (never (sym given.0 ∙ sym (sound.all_there under None is)))
+      go (Some (Some value)) is = let s = parts_sliced (below.part under) ranges value parts (λ range. sound.whole under value range is) given.1 in value_fails_if level fill decode says tells below under asked before now value r is (told value s.slices s.lengths)
+
+-- elements at some tuples, out of all of them
+pub listed_gives : (level : Level) (fill : List ℕ) (list : Option (List Element)) (places : List (List ℕ)) (raw : ArrayBytes) (r : Result code.ArrayBytes CodecError)
+    → ((xs : List Element) → list ≡ Some xs → list_at level raw ≡ Some xs) → IsSome (list_at level raw)
+    → ((xs : List Element) → list_at level raw ≡ Some xs → IfOk r (λ v. meaning (kind_of level.data_type) (length places) (raw_of v) ≡ Some (picked null (linear level.shape places) xs)))
+    → (IsShort level fill → IfOk r (λ v. has_long_element (raw_of v) ≡ false)) → GivesPlaces level fill places list r
+listed_gives level fill list places raw r value valid chosen short = record {
+  value = λ xs e. chosen xs (value xs e);
+  valid = λ some. let all = listed_some (list_at level raw) valid in weaker _ _ r (λ v is. some_of _ _ is) (chosen all.0 all.1);
+  short = short;
+}
+  where
+    listed_some : (o : Option (List Element)) → IsSome o → (xs : List Element) × (o ≡ Some xs)
+    listed_some None some = cc
+    listed_some (Some xs) some = (xs, refl)
+
+-- elements that are not taken out of all of them
+pub listed_fails : {T : Type 0} (level : Level) (fits : Bool) (raw : ArrayBytes) (r : Result T CodecError) (P : CodecError → Type 0) → fits ≡ true → IsSome (list_at level raw)
+    → Answers (extract_answer (kind_of level.data_type) fits (count_of level.shape) raw) r → P codec.OutOfMemory → IfErr r P
+listed_fails level fits raw (Ok v) P inside valid answers memory = tt
+listed_fails level fits raw (Err e) P inside valid answers memory = go (list_at level raw) refl valid
+  where
+    go : (o : Option (List Element)) → list_at level raw ≡ o → IsSome o → P e
+    go None is some = cc
+    go (Some xs) is some = subst P (sym (extract_told (kind_of level.data_type) fits (count_of level.shape) raw xs e inside is answers)) memory
+
+module _ (decode : List ℕ → Option (List Element)) (absent : Option (List Element)) (there : Bool) (held : Held) (all : (value : Option (List ℕ)) → held ≡ Some value → is_some value ≡ there) where
+  pub value_decodes : {T : Type 0} (given : T → Option (List Element)) (Q : CodecError → Type 0) (r : Result T CodecError) (value : List ℕ) → held ≡ Some (Some value) → MatchResult r (λ v. Gives (given v) (decode value)) Q
+      → OnOk r (IsSome (list_of decode absent held))
+  value_decodes given Q (Ok v) value is gives =
+      let same : list_of decode absent held ≡ decode value = ap (list_of decode absent) is in
+      subst (λ (o : Option (List Element)). IsSome o) (gives.same ∙ sym same) gives.there
+  value_decodes given Q (Err e) value is gives = tt
+
+  pub none_decodes : {P : Type 0} → held ≡ Some None → there ≡ true → P
+  none_decodes is here = absurd (never (sym here ∙ sym (all None is)))
+
+-- the elements of the box that an indexer is
+pub boxed_gives : (level : Level) (fill : List ℕ) (box : Region) (places : List (List ℕ)) (list : Option (List Element)) (r : Result code.ArrayBytes CodecError) → places ≡ tuples box → GivesBox level fill box list r → GivesPlaces level fill places list r
+boxed_gives level fill box places list r same gives = record {
+  value = λ xs e. weaker _ _ r (λ v is. boxed-picked level box places (raw_of v) xs same is) (gives.value xs e);
+  valid = λ some. weaker _ _ r (λ v is. boxed_some v is) (gives.valid some);
+  short = gives.short;
+}
+  where
+    boxed_some : (v : code.ArrayBytes) → IsSome (list_at (at_box box level) (raw_of v)) → IsSome (meaning (kind_of level.data_type) (length places) (raw_of v))
+    boxed_some v is = subst (λ (n : ℕ). IsSome (meaning (kind_of level.data_type) n (raw_of v))) (sym (ap length same ∙ length-tuples box)) is
+
+-- what is shown of the handle below
+module _ (level : Level) (fill : List ℕ) (unserved : Option Unserved) (meaning : Options → List ℕ → Option (List Element)) (request : Region → Option (List ByteRange)) where
+  pub listed_keeps : (old new : Seen) → Keeps old new → KeepsList (listed level fill unserved meaning request old) (listed level fill unserved meaning request new)
+  listed_keeps old new keeps = record {
+    level = refl;
+    fill = refl;
+    unserved = refl;
+    there = keeps.there;
+    list = λ under. ap (list_of (meaning under) (fills level fill)) (keeps.held under);
+    content = keeps.content;
+    key = keeps.key;
+    place = keeps.place;
+    cost = keeps.cost;
+    taking = λ asked. keeps.taking (ranges_for request level.shape asked);
+    whole = λ asked. refl;
+    size = keeps.size;
+    later = keeps.later;
+  }
+
+  pub listed_reads : {T E : Type 0} (asked : Option Region) (old new : Seen) (result : Result T E) → Reads (ranges_for request level.shape asked) old new result
+      → ReadsList asked (listed level fill unserved meaning request old) (listed level fill unserved meaning request new) result
+  listed_reads asked old new result reads = record { keeps = listed_keeps old new reads.keeps; asks = reads.asks; asks_err = reads.asks_err; taken = reads.taken; taken_err = reads.taken_err }
+
+  pub listed_looks : {T E : Type 0} (old new : Seen) (result : Result T E) → Looks old new result → LooksAt (listed level fill unserved meaning request old) (listed level fill unserved meaning request new) result
+  listed_looks old new result looks = record { keeps = listed_keeps old new looks.keeps; asks = looks.asks; asks_err = looks.asks_err; taken = looks.taken }
+
+module _ (level : Level) (fill : List ℕ) (says : List ℕ → CodecError → Type 0) (asked : Option (List ByteRange)) (e : CodecError) where
+  abbrev Said : Bool → (ByteRange → Held) → Held → (CodecError → Type 0) → Type 0
+  Said there part held tells = (IsRefused held part asked × tells e) ⊎ own_says level fill says (AreGiven there part asked) held e
+
+  pub list_told : (old_tells new_tells : CodecError → Type 0) (old new : Seen) (under : Options) → Keeps old new → (new_tells e → old_tells e) → list_says level fill says new_tells new under asked e → list_says level fill says old_tells old under asked e
+  list_told old_tells new_tells old new under keeps back told =
+      let part : new.part under ≡ old.part under = fun_ext (λ range. keeps.part under range) in
+      let same : Said old.there (old.part under) (old.held under) new_tells =
+      subst (λ (h : Held). Said old.there (old.part under) h new_tells) (keeps.held under)
+      (subst (λ (p : ByteRange → Held). Said old.there p (new.held under) new_tells) part
+      (subst (λ (t : Bool). Said t (new.part under) (new.held under) new_tells) keeps.there told)) in
+      ⊎_elim (λ (t : IsRefused (old.held under) (old.part under) asked × new_tells e). inl (t.0, back t.1))
+      (λ (own : own_says level fill says (AreGiven old.there (old.part under) asked) (old.held under) e). inr own) same
+
+-- the box that is read by itself is the indexer's
+pub smaller_is : (shape : List ℕ) (asked : Option Region) (box : Region) → smaller_box shape asked ≡ Some box → asked ≡ Some box
+smaller_is shape None box e = cc
+smaller_is shape (Some other) box e = go (is_smaller shape other) e
+  where
+    go : (b : Bool) → (if b then Some other else None) ≡ Some box → Some other ≡ Some box
+    go true e = e
+    go false e = cc
+
+-- nothing is asked for by ranges
+pub not_some : {A : Type 0} (o : Option A) → not (is_some o) ≡ true → o ≡ None
+not_some None is = refl
+not_some (Some a) is = cc

@@ -1,0 +1,3 @@
+pub mod SelectLaws
+pub mod ExtractLaws
+pub mod HeldLaws

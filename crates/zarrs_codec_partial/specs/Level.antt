@@ -1,0 +1,100 @@
+-- An array-to-bytes codec with its level, over what a handle of bytes holds.
+use Rattle.std.specs.Prelude.{◌≡◌, ◌⊎◌, ℕ, ◌==◌, ◌&&◌, not, is_some, Bool, true, false, if◌then◌else◌, List, [], ◌∷◌, Option, Some, None, option_and_then}
+use Rattle.zarr_model.specs.Region.{Region, ends_within, sizes}
+use Rattle.zarr_model.specs.Element.{Element, kind_of}
+use Rattle.zarr_model.specs.Codec.{Level, Options}
+use Rattle.zarrs_storage.specs.declared.byte_range.ByteRange.{ByteRange}
+use Rattle.zarrs_data_type_elements.specs.FillValue.{fill_bytes}
+use Rattle.zarrs_codec_error.specs.declared.error.CodecError.{CodecError}
+use Rattle.zarrs_codec_bytes.specs.Filling.{has_size}
+use Rattle.zarrs_codec_array_bytes.specs.Refusals.{told_by, other_fill}
+use Rattle.zarrs_codec_traits.specs.Errors.{Unserved}
+use Rattle.zarrs_codec_traits.specs.Views.{level_of}
+use Rattle.zarrs_codec_held.specs.Held.{Held, Seen}
+use Rattle.zarrs_codec_held.specs.Reads.{RefusesSome, GivesParts}
+use Rattle.zarrs_codec_partial_traits.specs.Lists.{ListSeen, fills}
+use Rattle.zarrs_codec_partial.specs.declared.level.BottomLevel.{BottomLevel}
+
+-- its level, and the bytes of its fill value
+abbrev pub bottom_level : {B : Type 0} → BottomLevel B → Level
+bottom_level bottom = level_of bottom.shape.items bottom.data_type bottom.fill_value
+
+abbrev pub bottom_fill : {B : Type 0} → BottomLevel B → List ℕ
+bottom_fill bottom = fill_bytes bottom.fill_value
+
+-- the list that is held, by what a value decodes to and by the list of an absent one
+abbrev pub list_of : (List ℕ → Option (List Element)) → Option (List Element) → Held
+    → Option (List Element)
+list_of decode absent None = None
+list_of decode absent (Some None) = absent
+list_of decode absent (Some (Some value)) = decode value
+
+-- what is read is refused: the whole value, or some of the ranges that are asked for
+abbrev pub IsRefused : Held → (ByteRange → Held) → Option (List ByteRange) → Type 0
+IsRefused held part None = held ≡ None
+IsRefused held part (Some ranges) = RefusesSome part ranges
+
+-- ranges are asked for, and what they name is given
+abbrev pub AreGiven : Bool → (ByteRange → Held) → Option (List ByteRange) → Type 0
+AreGiven there part None = ⊥
+AreGiven there part (Some ranges) =
+    (parts : Option (List (List ℕ))) × GivesParts there part ranges parts
+
+-- a fill value of another size than the type's is told as such
+abbrev pub IsOtherFill : Level → List ℕ → CodecError → Type 0
+IsOtherFill level fill e =
+    (has_size (kind_of level.data_type) fill ≡ false) × (told_by e ≡ other_fill)
+
+-- which errors say why there are no elements of what is given: the codec's of a value; any of ranges
+-- of a value that is not given as a whole; and of an absent one, that of its fill value
+abbrev pub own_says : Level → List ℕ → (List ℕ → CodecError → Type 0) → Type 0 → Held
+    → CodecError → Type 0
+own_says level fill says Given None e = Given
+own_says level fill says Given (Some None) e = IsOtherFill level fill e
+own_says level fill says Given (Some (Some value)) e = says value e
+
+-- and the handle's where what is read is refused
+abbrev pub list_says : Level → List ℕ → (List ℕ → CodecError → Type 0) → (CodecError → Type 0)
+    → Seen → Options → Option (List ByteRange) → CodecError → Type 0
+list_says level fill says tells below under asked e =
+    (IsRefused (below.held under) (below.part under) asked × tells e)
+    ⊎ own_says level fill says (AreGiven below.there (below.part under) asked)
+    (below.held under) e
+
+-- two shapes have the same lengths
+abbrev pub same_lengths : List ℕ → List ℕ → Bool
+same_lengths [] [] = true
+same_lengths (n ∷ ns) (m ∷ ms) = (n == m) && same_lengths ns ms
+same_lengths ns ms = false
+
+-- a box lies inside a shape, and is not all of it
+abbrev pub is_smaller : List ℕ → Region → Bool
+is_smaller shape box = ends_within box shape && not (same_lengths (sizes box) shape)
+
+-- the box that is read by itself, if one is
+abbrev pub smaller_box : List ℕ → Option Region → Option Region
+smaller_box shape None = None
+smaller_box shape (Some box) = if is_smaller shape box then Some box else None
+
+-- the ranges that are read for what is asked for, or none where the whole value is read
+abbrev pub ranges_for : (Region → Option (List ByteRange)) → List ℕ → Option Region
+    → Option (List ByteRange)
+ranges_for request shape asked = option_and_then request (smaller_box shape asked)
+
+-- what is shown of the handle below
+abbrev pub listed : Level → List ℕ → Option Unserved → (Options → List ℕ → Option (List Element))
+    → (Region → Option (List ByteRange)) → Seen → ListSeen
+listed level fill unserved meaning request below = record {
+  level = level;
+  fill = fill;
+  unserved = unserved;
+  there = below.there;
+  list = λ under. list_of (meaning under) (fills level fill) (below.held under);
+  shown = below.shown;
+  key = below.key;
+  place = below.place;
+  cost = below.cost;
+  taking = λ asked. below.taking (ranges_for request level.shape asked);
+  whole = λ asked. not (is_some (ranges_for request level.shape asked));
+  size = below.size;
+}

@@ -1,0 +1,125 @@
+//! The elements of what a handle of bytes holds, by an array-to-bytes codec.
+
+ghost use Rattle.std.specs.Prelude.{◌≡◌};
+ghost use Rattle.zarrs_data_type_names.specs.DataType.{type_of};
+ghost use Rattle.zarrs_codec_traits.specs.Views.{lengths};
+ghost use Rattle.zarrs_codec_traits.specs.Words.{IsFit};
+
+use crate::level::BottomLevel;
+use std::alloc::Global;
+use zarrs_array_subset::ChunkShape;
+use zarrs_chunk_grid_indexer::Indexer;
+use zarrs_codec_array_bytes::ArrayBytes;
+use zarrs_codec_error::CodecError;
+use zarrs_codec_options::CodecOptions;
+use zarrs_codec_partial_traits::{ArrayPartialDecoderTraits, BytesPartialDecoderTraits};
+use zarrs_codec_traits::ArrayToBytesCodecTraits;
+use zarrs_data_type_elements::FillValue;
+use zarrs_data_type_names::DataType;
+use zarrs_storage::StorageError;
+
+/// The elements that the value of a handle on bytes decodes to, by an array-to-bytes codec.
+///
+/// A box that is smaller than the shape is read by the parts that the codec asks for; else the whole value is decoded.
+#[derive(Drop)]
+pub struct ArrayToBytesCodecPartialDefault<H, C> {
+    handle: H,
+    level: BottomLevel<C>,
+    ghost fits: { IsFit (lengths level.shape.items) (type_of level.data_type) },
+}
+
+impl<H, C> ArrayToBytesCodecPartialDefault<H, C> {
+    /// The handle's value through the codec.
+    pub fn new(
+        handle: H,
+        shape: ChunkShape,
+        data_type: DataType,
+        fill_value: FillValue,
+        codec: C,
+    ) -> Self
+        requires { IsFit (lengths shape.items) (type_of data_type) }
+        ensures handle { result.handle ≡ handle }
+        ensures level { result.level ≡ record {
+          codec = codec;
+          shape = shape;
+          data_type = data_type;
+          fill_value = fill_value;
+        } }
+    {
+        ArrayToBytesCodecPartialDefault {
+            handle,
+            level: BottomLevel {
+                codec,
+                shape,
+                data_type,
+                fill_value,
+            },
+        }
+    }
+}
+
+impl<H, C: Drop> ArrayToBytesCodecPartialDefault<H, C> {
+    /// The handle again.
+    pub fn into_handle(self) -> H
+        ensures { result ≡ self.handle }
+    {
+        self.handle
+    }
+}
+
+impl<H: BytesPartialDecoderTraits, C: ArrayToBytesCodecTraits> ArrayPartialDecoderTraits
+    for ArrayToBytesCodecPartialDefault<H, C> {
+    ghost use Rattle.std.specs.Prelude.{◌&&◌};
+    ghost use Rattle.zarrs_codec_traits.specs.Errors.{unserved_at};
+    ghost use Rattle.zarrs_codec_partial_traits.specs.Lists.{fills};
+    ghost use Rattle.zarrs_codec_partial.specs.Level.{bottom_level, bottom_fill, listed, list_says, ranges_for};
+
+    ghost seen = { λ h. listed (bottom_level h.level) (bottom_fill h.level)
+        (unserved_at (C.unserved h.level.codec) (bottom_level h.level) (bottom_fill h.level))
+        (λ under. C.meaning h.level.codec under (bottom_level h.level))
+        (C.request h.level.codec (bottom_level h.level).shape (bottom_level h.level).data_type)
+        (H.seen h.handle) };
+
+    ghost tells = { λ h under asked e. list_says (bottom_level h.level) (bottom_fill h.level)
+        (C.says h.level.codec under (bottom_level h.level)) (H.tells h.handle under)
+        (H.seen h.handle) under (ranges_for (C.request h.level.codec (bottom_level h.level).shape
+        (bottom_level h.level).data_type) (bottom_level h.level).shape asked) e };
+
+    ghost same = { λ a b. (a.level ≡ b.level) × H.same a.handle b.handle };
+
+    ghost reads_parts = { λ h. (C.decodes_parts h.level.codec).partial_decode
+        && H.reads_parts h.handle };
+
+    fn faults(&self) -> u64 {
+        self.handle.faults()
+    }
+
+    fn data_type(&self) -> &DataType {
+        &self.level.data_type
+    }
+
+    #[tactic(auto, using(crate::proofs::HeldLaws::listed_looks))]
+    fn exists(&mut self) -> Result<bool, StorageError> {
+        self.handle.exists()
+    }
+
+    fn size_held(&self) -> usize {
+        self.handle.size_held()
+    }
+
+    fn supports_partial_decode(&self) -> bool {
+        self.level.codec.partial_decoder_capability().partial_decode
+            && self.handle.supports_partial_decode()
+    }
+
+    #[tactic(auto, using(crate::proofs::HeldLaws::listed_reads, crate::proofs::HeldLaws::not_some))]
+    fn partial_decode<I: Indexer>(
+        &mut self,
+        alloc: Global,
+        indexer: &I,
+        options: &CodecOptions,
+    ) -> Result<ArrayBytes<'static>, CodecError> {
+        self.level
+            .decode_elements(alloc, &mut self.handle, indexer, options)
+    }
+}

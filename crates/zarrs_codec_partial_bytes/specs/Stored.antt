@@ -1,0 +1,31 @@
+-- A value under a key of a store.
+use Rattle.std.specs.Prelude.{ℕ, List, ◌∷◌, length, is_some, Option, Some, None}
+use Rattle.std.specs.List.{sum_by}
+use Rattle.zarr_model.specs.Shown.{Shown}
+use Rattle.zarrs_storage.specs.declared.byte_range.ByteRange.{ByteRange}
+use Rattle.zarrs_storage.specs.ByteRange.{slices_of}
+use Rattle.zarrs_codec_held.specs.Held.{Seen, value_part}
+
+-- how many bytes lists have together
+abbrev pub bytes_in : List (List ℕ) → ℕ
+bytes_in parts = sum_by length parts
+
+-- how many bytes of a value a read of ranges, or of all of it, hands out
+abbrev pub taken_of : Option (List ByteRange) → Option (List ℕ) → ℕ
+taken_of asked None = 0
+taken_of None (Some value) = length value
+taken_of (Some ranges) (Some value) = bytes_in (slices_of ranges value)
+
+-- what a handle shows that holds a reference of this name to a store
+abbrev pub stored : ℕ → List ℕ → Shown → Seen
+stored name key shown = record {
+  there = is_some (shown.content key);
+  held = λ under. Some (shown.content key);
+  part = λ under. value_part (shown.content key);
+  shown = shown;
+  key = key;
+  place = name ∷ key;
+  cost = 1;
+  taking = λ asked. taken_of asked (shown.content key);
+  size = 0;
+}

@@ -1,0 +1,122 @@
+//! Handles on elements that are read.
+
+ghost use Rattle.std.specs.Prelude.{◌≡◌, ◌*◌, ◌==◌, ℕ, Bool, true, false, List, [], length, Option, Some, None, IsSome, IfOk, IfErr, OnOk, OnErr};
+ghost use Rattle.zarr_model.specs.Region.{Region, count};
+ghost use Rattle.zarr_model.specs.Prelude.{Rose};
+ghost use Rattle.zarr_model.specs.Element.{Element, null, kind_of};
+ghost use Rattle.zarr_model.specs.ArrayBytes as model;
+ghost use Rattle.zarr_model.specs.ArrayBytes.{meaning};
+ghost use Rattle.zarr_model.specs.Codec.{Options};
+ghost use Rattle.zarr_model.specs.Command.{has_long_element};
+ghost use Rattle.zarrs_array_subset.specs.ArraySubset.{region};
+ghost use Rattle.zarrs_storage.specs.declared.store.StorageError.TheVariants as storage;
+ghost use Rattle.zarrs_data_type_names.specs.DataType.{type_of};
+ghost use Rattle.zarrs_codec_bytes.specs.Picking.{picked};
+ghost use Rattle.zarrs_codec_error.specs.declared.error.CodecError.{CodecError};
+ghost use Rattle.zarrs_codec_array_bytes.specs.Raw.{raw_of};
+ghost use Rattle.zarrs_codec_array_bytes.specs.Selection.{linear};
+ghost use Rattle.zarrs_codec_array_bytes.specs.Refusals.{fine, first_answer, IfUnfit};
+ghost use Rattle.zarrs_codec_traits.specs.Errors.{RefusesAs};
+ghost use Rattle.zarrs_codec_traits.specs.Views.{options_of};
+ghost use Rattle.zarrs_codec_partial_traits.specs.Lists.{ListSeen, HasFill, HasShortFill, AreFew, LooksAt, ReadsList, IsUnread, IsListError};
+
+use std::alloc::Global;
+use zarrs_chunk_grid_indexer::Indexer;
+use zarrs_codec_array_bytes::ArrayBytes;
+use zarrs_codec_error::CodecError;
+use zarrs_codec_options::CodecOptions;
+use zarrs_data_type_names::DataType;
+use zarrs_storage::StorageError;
+
+/// A handle on the elements that one value decodes to, which are read all or some of them.
+///
+/// A call with an indexer needs that its number of indices plus one, and that number times the size of the type's
+/// innermost elements where these have one, fit `usize`.
+pub trait ArrayPartialDecoderTraits {
+    // What it holds, and what it shows of what is below.
+    ghost seen: { Self → ListSeen };
+
+    // Which errors tell why there are no elements of a box, or none at all.
+    ghost tells: { Self → Options → Option Region → CodecError → Type 0 };
+
+    // Two states have the same settings, which are what a handle has beside its value.
+    ghost same: { Self → Self → Type 0 };
+
+    // Whether it reads some elements without the rest.
+    ghost reads_parts: { Self → Bool };
+
+    /// How often what is below has failed; 0 for values in memory.
+    fn faults(&self) -> u64
+        ensures { result ≡ (seen self.now).shown.faults };
+
+    /// The data type of the elements.
+    fn data_type(&self) -> &DataType
+        ensures { type_of result.now ≡ (seen self.now).level.data_type };
+
+    /// Whether the value is there, decoded or not.
+    ///
+    /// # Errors
+    /// [`StorageError::Failed`] where what is below fails.
+    fn exists(&mut self) -> Result<bool, StorageError>
+        ensures value { IfOk result (λ there. there ≡ (seen self.old).there) }
+        ensures failed { IfErr result (λ e. (e ≡ storage.Failed)
+            × Rose (seen self.old).shown.faults (seen self.new).shown.faults) }
+        ensures looks { LooksAt (seen self.old) (seen self.new) result }
+        ensures same { same self.old self.new }
+        ensures tells { (under : Options) (asked : Option Region) (e : CodecError)
+            → tells self.new under asked e → tells self.old under asked e };
+
+    /// How many bytes of the value are in memory; 0 over a store.
+    fn size_held(&self) -> usize
+        ensures { result ≡ (seen self.now).size };
+
+    /// Whether some elements are read without the rest.
+    fn supports_partial_decode(&self) -> bool
+        ensures { result ≡ reads_parts self.now };
+
+    /// The elements at the indexer's indices, in their order: those of what the value decodes to, or the fill value where
+    /// it is absent.
+    ///
+    /// # Errors
+    /// [`CodecError::IncompatibleIndexer`] exactly where the indexer does not fit the shape, before anything is read;
+    /// [`CodecError::StorageError`] where what is below fails; what the codecs refuse, or what tells that the value does
+    /// not decode; or [`CodecError::OutOfMemory`].
+    fn partial_decode<I: Indexer>(
+        &mut self,
+        alloc: Global,
+        indexer: &I,
+        options: &CodecOptions,
+    ) -> Result<ArrayBytes<'static>, CodecError>
+        requires few { AreFew (kind_of (seen self.old).level.data_type)
+            (length (I.places indexer.now)) }
+        ensures unfit { RefusesAs (first_answer None
+            (I.fits indexer.now (seen self.old).level.shape) fine) result }
+        ensures refusal { I.fits indexer.now (seen self.old).level.shape ≡ false
+            → IfErr result (IfUnfit (I.refuses indexer.now (seen self.old).level.shape)) }
+        ensures unread { I.fits indexer.now (seen self.old).level.shape ≡ false
+            → IsUnread (seen self.old).shown (seen self.new).shown }
+        ensures value { (list : List Element) → (seen self.old).unserved ≡ None
+            → (seen self.old).list (options_of options.now) ≡ Some list → IfOk result
+            (λ v. meaning (kind_of (seen self.old).level.data_type) (length (I.places indexer.now))
+            (raw_of v) ≡ Some (picked null (linear (seen self.old).level.shape
+            (I.places indexer.now)) list)) }
+        ensures valid { (seen self.old).unserved ≡ None → HasFill (seen self.old) → IfOk result
+            (λ v. IsSome (meaning (kind_of (seen self.old).level.data_type)
+            (length (I.places indexer.now)) (raw_of v))) }
+        ensures failed { (seen self.old).unserved ≡ None
+            → I.fits indexer.now (seen self.old).level.shape ≡ true
+            → IfErr result (IsListError (seen self.old).there
+            ((seen self.old).list (options_of options.now))
+            (tells self.old (options_of options.now) (I.as_region indexer.now))
+            (seen self.old).shown.faults (seen self.new).shown.faults) }
+        ensures decodes { (seen self.old).unserved ≡ None → (seen self.old).there ≡ true
+            → (seen self.old).whole (I.as_region indexer.now) ≡ true
+            → OnOk result (IsSome ((seen self.old).list (options_of options.now))) }
+        ensures short { (seen self.old).unserved ≡ None → HasShortFill (seen self.old)
+            → IfOk result (λ v. has_long_element (raw_of v) ≡ false) }
+        ensures reads { ReadsList (I.as_region indexer.now) (seen self.old) (seen self.new)
+            result }
+        ensures same { same self.old self.new }
+        ensures tells { (under : Options) (asked : Option Region) (e : CodecError)
+            → tells self.new under asked e → tells self.old under asked e };
+}

@@ -1,0 +1,139 @@
+//! Handles on bytes that are read.
+
+ghost use Rattle.std.specs.Prelude.{◌≡◌, ◌∷◌, [], ℕ, Bool, Some, None, IfOk, IfErr};
+ghost use Rattle.zarr_model.specs.Codec.{Options};
+ghost use Rattle.zarr_model.specs.Prelude.{Rose};
+ghost use Rattle.zarrs_storage.specs.Store.{value_bytes, part_bytes};
+ghost use Rattle.zarrs_storage.specs.declared.store.StorageError.TheVariants as storage;
+ghost use Rattle.zarrs_codec_error.specs.declared.error.CodecError.{CodecError};
+ghost use Rattle.zarrs_codec_traits.specs.Views.{options_of};
+ghost use Rattle.zarrs_codec_held.specs.Held.{Seen, IsSound};
+ghost use Rattle.zarrs_codec_held.specs.Reads.{Looks, Reads, GivesParts, IsReadError, IsPartError};
+
+use std::alloc::Global;
+use zarrs_codec_error::CodecError;
+use zarrs_codec_held::only_part;
+use zarrs_codec_options::CodecOptions;
+use zarrs_storage::{ByteRange, StorageError};
+
+/// A handle on one value that is bytes, which is read whole or by ranges.
+pub trait BytesPartialDecoderTraits {
+    // What it holds, and what it shows of what is below.
+    ghost seen: { Self → Seen };
+
+    // Which errors tell why a read is refused.
+    ghost tells: { Self → Options → CodecError → Type 0 };
+
+    // Two states have the same settings, which are what a handle has beside its value: a codec, or where an interval lies.
+    ghost same: { Self → Self → Type 0 };
+
+    // Whether it reads a part of the value without the rest.
+    ghost reads_parts: { Self → Bool };
+
+    /// How often what is below has failed; 0 for values in memory.
+    fn faults(&self) -> u64
+        ensures { result ≡ (seen self.now).shown.faults };
+
+    /// Whether the value is there, decoded or not.
+    ///
+    /// # Errors
+    /// [`StorageError::Failed`] where what is below fails.
+    fn exists(&mut self) -> Result<bool, StorageError>
+        ensures value { IfOk result
+            (λ there. there ≡ (seen self.old).there) }
+        ensures failed { IfErr result (λ e. (e ≡ storage.Failed)
+            × Rose (seen self.old).shown.faults (seen self.new).shown.faults) }
+        ensures looks { Looks (seen self.old) (seen self.new) result }
+        ensures same { same self.old self.new }
+        ensures tells { (under : Options) (e : CodecError) → tells self.new under e
+            → tells self.old under e };
+
+    /// How many bytes of the value are in memory; 0 over a store.
+    fn size_held(&self) -> usize
+        ensures { result ≡ (seen self.now).size };
+
+    /// Whether a part of the value is read without the rest.
+    fn supports_partial_decode(&self) -> bool
+        ensures { result ≡ reads_parts self.now };
+
+    /// The bytes of one range of the value, or [`None`] where it is absent.
+    ///
+    /// # Errors
+    /// [`CodecError`] as of `partial_decode_many`.
+    #[tactic(auto, using(zarrs_codec_held::proofs::PartLaws::as_many))]
+    final fn partial_decode(
+        &mut self,
+        alloc: Global,
+        decoded_region: ByteRange,
+        options: &CodecOptions,
+    ) -> Result<Option<Vec<u8>>, CodecError>
+        ensures value { IfOk result
+            (λ bytes. (seen self.old).part (options_of options.now) decoded_region
+            ≡ Some (value_bytes bytes)) }
+        ensures cause { IfErr result (IsPartError ((seen self.old).part (options_of options.now))
+            (decoded_region ∷ []) (tells self.old (options_of options.now))
+            (seen self.old).shown.faults (seen self.new).shown.faults) }
+        ensures reads { Reads (Some (decoded_region ∷ [])) (seen self.old) (seen self.new) result }
+        ensures same { same self.old self.new }
+        ensures tells { (under : Options) (e : CodecError) → tells self.new under e
+            → tells self.old under e }
+    {
+        let regions = [decoded_region];
+        match self.partial_decode_many(alloc, &regions, options) {
+            Ok(Some(parts)) => Ok(Some(only_part(parts))),
+            Ok(None) => Ok(None),
+            Err(error) => Err(error),
+        }
+    }
+
+    /// The bytes of each range of the value, in the order of the ranges, or [`None`] where it is absent.
+    ///
+    /// # Errors
+    /// Where a range is refused, what tells why: [`CodecError::InvalidByteRangeError`] of a value that is read whole, and
+    /// what its codec says of one that does not decode. [`CodecError::StorageError`] where what is below fails; or
+    /// [`CodecError::OutOfMemory`].
+    fn partial_decode_many(
+        &mut self,
+        alloc: Global,
+        decoded_regions: &[ByteRange],
+        options: &CodecOptions,
+    ) -> Result<Option<Vec<Vec<u8>>>, CodecError>
+        ensures value { IfOk result (λ parts. GivesParts (seen self.old).there
+            ((seen self.old).part (options_of options.now)) decoded_regions.now
+            (part_bytes parts)) }
+        ensures cause { IfErr result (IsPartError ((seen self.old).part (options_of options.now))
+            decoded_regions.now (tells self.old (options_of options.now))
+            (seen self.old).shown.faults (seen self.new).shown.faults) }
+        ensures reads { Reads (Some decoded_regions.now) (seen self.old) (seen self.new) result }
+        ensures same { same self.old self.new }
+        ensures tells { (under : Options) (e : CodecError) → tells self.new under e
+            → tells self.old under e };
+
+    /// The whole value, or [`None`] where it is absent.
+    ///
+    /// # Errors
+    /// [`CodecError::StorageError`] where what is below fails; what tells that the value does not decode; or
+    /// [`CodecError::OutOfMemory`].
+    fn decode(
+        &mut self,
+        alloc: Global,
+        options: &CodecOptions,
+    ) -> Result<Option<Vec<u8>>, CodecError>
+        ensures value { IfOk result
+            (λ v. (seen self.old).held (options_of options.now) ≡ Some (value_bytes v)) }
+        ensures cause { IfErr result (IsReadError ((seen self.old).held (options_of options.now))
+            (tells self.old (options_of options.now))
+            (seen self.old).shown.faults (seen self.new).shown.faults) }
+        ensures reads { Reads None (seen self.old) (seen self.new) result }
+        ensures same { same self.old self.new }
+        ensures tells { (under : Options) (e : CodecError) → tells self.new under e
+            → tells self.old under e };
+
+    // Settings that are kept by two calls are kept.
+    ghost same_self: { (h : Self) → same h h };
+
+    ghost same_twice: { (a b c : Self) → same a b → same b c → same a c };
+
+    // What is read belongs together.
+    ghost sound: { (h : Self) → IsSound (seen h) };
+}
