@@ -1,6 +1,6 @@
 //! Handles on bytes that are read.
 
-ghost use Rattle.std.specs.Prelude.{◌≡◌, ◌∷◌, [], ℕ, Bool, List, Option, Some, None, IfOk, IfErr};
+ghost use Rattle.std.specs.Prelude.{◌≡◌, ◌∷◌, [], Bool, List, Option, Some, None, IfOk, IfErr};
 ghost use Rattle.zarr_model.specs.Codec.{Options};
 ghost use Rattle.zarr_model.specs.Prelude.{Rose};
 ghost use Rattle.zarrs_storage.specs.declared.byte_range.ByteRange.{ByteRange};
