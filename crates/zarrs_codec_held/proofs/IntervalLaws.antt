@@ -4,11 +4,12 @@ use Rattle.std.proofs.lemmas.Bool.{leb-true, le-leb}
 use Rattle.zarrs_storage.specs.declared.byte_range.ByteRange.{ByteRange}
 use Rattle.zarrs_storage.specs.declared.byte_range.ByteRange.TheVariants.{FromStart, Suffix}
 use Rattle.zarrs_storage.specs.ByteRange.{is_valid, start_in, end_in, slice_of, first_invalid}
+use Rattle.zarr_model.specs.Shown.{Shown}
 use Rattle.zarrs_codec_held.specs.Held.{Held, HasPart, value_part, Seen, IsSound}
 use Rattle.zarrs_codec_error.specs.declared.error.CodecError.{CodecError}
 use Rattle.zarrs_codec_error.specs.declared.error.CodecError.TheVariants as codec
-use Rattle.zarrs_codec_held.specs.Reads.{Keeps, Reads, GivesParts, AreParts, AreAbsent, RefusesSome, IsRangeError, IsHandleError, IsReadError, IsPartError}
-use Rattle.zarrs_codec_held.specs.Interval.{shifted, all_of, asked_of, interval_part, interval}
+use Rattle.zarrs_codec_held.specs.Reads.{Keeps, Reads, GivesParts, AreParts, AreAbsent, RefusesSome, IsRangeError, IsHandleError, IsReadError, IsPartError, RefusesFirst}
+use Rattle.zarrs_codec_held.specs.Interval.{shifted, all_of, asked_of, interval_part, interval, interval_early}
 
 -- where a valid range lies
 record Lies (range : ByteRange) (size : ℕ) : Type 0 where
@@ -165,3 +166,23 @@ keeps_same seen = record { there = refl; held = λ under. refl; part = λ under 
 
 pub unread : {T E : Type 0} (asked : Option (List ByteRange)) (seen : Seen) (e : E) → Reads {T = T} asked seen seen (Err e)
 unread asked seen e = record { keeps = keeps_same seen; asks = tt; asks_err = inl refl; taken = tt; taken_err = inl refl }
+
+-- refusals before anything is read
+pub first_ok : (T U : Type 0) (early : Bool) (old new : Shown) (v : T) (result : Result U CodecError) → RefusesFirst {T = T} early old new (Ok v) → RefusesFirst {T = U} early old new result
+first_ok T U false old new v result first = tt
+first_ok T U true old new v result first = absurd first.0
+
+pub first_err : (T U : Type 0) (early : Bool) (old new : Shown) (e : CodecError) → RefusesFirst {T = T} early old new (Err e) → RefusesFirst {T = U} early old new (Err e)
+first_err T U false old new e first = tt
+first_err T U true old new e first = first
+
+pub first_refused : (T : Type 0) (early : Bool) (len : ℕ) (ranges : List ByteRange) (shown : Shown) (e : CodecError) → (e ≡ codec.OutOfMemory) ⊎ (IsSome (first_invalid len ranges) × IsRangeError e) → RefusesFirst {T = T} early shown shown (Err e)
+first_refused T false len ranges shown e told = tt
+first_refused T true len ranges shown e told =
+    (⊎_elim (λ (m : e ≡ codec.OutOfMemory). inl m) (λ (r : IsSome (first_invalid len ranges) × IsRangeError e). inr r.1) told, (refl, (refl, refl)))
+
+pub first_passed : {T : Type 0} (offset len : ℕ) (below : Option (List ByteRange) → Bool) (ranges asked : List ByteRange) (old new : Shown) (result : Result T CodecError) → first_invalid len ranges ≡ None → asked ≡ map (shifted offset len) ranges
+    → RefusesFirst (below (Some asked)) old new result → RefusesFirst (interval_early offset len below (Some ranges)) old new result
+first_passed offset len below ranges asked old new result valid same first =
+    subst (λ (b : Bool). RefusesFirst b old new result)
+    (ap (λ (a : List ByteRange). below (Some a)) same ∙ sym (ap (λ (o : Option ByteRange). if is_some o then true else below (Some (map (shifted offset len) ranges))) valid)) first

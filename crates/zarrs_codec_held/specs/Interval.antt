@@ -1,8 +1,8 @@
 -- An interval of the value that a handle holds.
-use Rattle.std.specs.Prelude.{ℕ, ◌+◌, ◌-◌, if◌then◌else◌, List, [], ◌∷◌, map, Option, Some, None}
+use Rattle.std.specs.Prelude.{ℕ, ◌+◌, ◌-◌, Bool, true, is_some, if◌then◌else◌, List, [], ◌∷◌, map, Option, Some, None}
 use Rattle.zarrs_storage.specs.declared.byte_range.ByteRange.{ByteRange}
 use Rattle.zarrs_storage.specs.declared.byte_range.ByteRange.TheVariants.{FromStart}
-use Rattle.zarrs_storage.specs.ByteRange.{is_valid, start_in, end_in}
+use Rattle.zarrs_storage.specs.ByteRange.{is_valid, start_in, end_in, first_invalid}
 use Rattle.zarrs_codec_held.specs.Held.{Held, Seen}
 
 -- where a range of so many bytes from an offset on lies in the value
@@ -30,3 +30,12 @@ interval offset len below = record below {
   part = λ under. interval_part (below.part under) offset len;
   taking = λ asked. below.taking (Some (asked_of offset len asked));
 }
+
+-- whether it refuses a range before anything is read, by whether the handle does: one that is not
+-- valid for its length, or one that the handle refuses so
+abbrev pub interval_early : ℕ → ℕ → (Option (List ByteRange) → Bool) → Option (List ByteRange)
+    → Bool
+interval_early offset len below None = below (Some (all_of offset len ∷ []))
+interval_early offset len below (Some ranges) =
+    if is_some (first_invalid len ranges) then true
+    else below (Some (map (shifted offset len) ranges))

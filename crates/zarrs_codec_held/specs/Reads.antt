@@ -1,7 +1,8 @@
 -- What reading calls of a handle of bytes answer.
-use Rattle.std.specs.Prelude.{◌≡◌, ◌≤◌, ◌⊎◌, ℕ, Bool, true, false, List, [], ◌∷◌, Option, Some, None, Result, OnOk, OnErr}
+use Rattle.std.specs.Prelude.{◌≡◌, ◌≤◌, ◌⊎◌, ℕ, Bool, true, false, List, [], ◌∷◌, Option, Some, None, Result, Ok, Err, OnOk, OnErr}
 use Rattle.zarr_model.specs.Codec.{Options}
 use Rattle.zarr_model.specs.Prelude.{Rose, counted}
+use Rattle.zarr_model.specs.Shown.{Shown}
 use Rattle.zarrs_storage.specs.declared.byte_range.ByteRange.{ByteRange}
 use Rattle.zarrs_storage.specs.declared.store.StorageError.TheVariants as storage
 use Rattle.zarrs_codec_error.specs.declared.error.CodecError.{CodecError}
@@ -85,3 +86,13 @@ abbrev pub IsPartError : (ByteRange → Held) → List ByteRange → (CodecError
     → CodecError → Type 0
 IsPartError part ranges tells before now e =
     IsHandleError before now e ⊎ (RefusesSome part ranges × tells e)
+
+-- a range is refused before anything is read: as such, or for want of memory
+abbrev pub IsRangeRefusal : {T : Type 0} → Result T CodecError → Type 0
+IsRangeRefusal (Ok v) = ⊥
+IsRangeRefusal (Err e) = (e ≡ codec.OutOfMemory) ⊎ IsRangeError e
+
+abbrev pub RefusesFirst : {T : Type 0} → Bool → Shown → Shown → Result T CodecError → Type 0
+RefusesFirst false old new result = Unit {0}
+RefusesFirst true old new result = IsRangeRefusal result
+    × ((new.asks ≡ old.asks) × ((new.taken ≡ old.taken) × (new.faults ≡ old.faults)))

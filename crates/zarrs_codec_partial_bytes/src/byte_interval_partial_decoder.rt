@@ -84,7 +84,7 @@ impl<H> ByteIntervalPartialDecoder<H> {
 
 impl<H: BytesPartialDecoderTraits> BytesPartialDecoderTraits for ByteIntervalPartialDecoder<H> {
     ghost use Rattle.std.proofs.Common.{refl, ◌∙◌};
-    ghost use Rattle.zarrs_codec_held.specs.Interval.{interval};
+    ghost use Rattle.zarrs_codec_held.specs.Interval.{interval, interval_early};
     ghost use Rattle.zarrs_codec_held.proofs.IntervalLaws.{interval_sound};
 
     ghost seen = { λ h. interval h.byte_offset h.byte_length (H.seen h.handle) };
@@ -98,6 +98,8 @@ impl<H: BytesPartialDecoderTraits> BytesPartialDecoderTraits for ByteIntervalPar
 
     ghost same_twice = { λ a b c x y. (x.0 ∙ y.0, (x.1.0 ∙ y.1.0,
         H.same_twice a.handle b.handle c.handle x.1.1 y.1.1)) };
+
+    ghost early = { λ h. interval_early h.byte_offset h.byte_length (H.early h.handle) };
 
     ghost reads_parts = { λ h. H.reads_parts h.handle };
 
@@ -121,7 +123,7 @@ impl<H: BytesPartialDecoderTraits> BytesPartialDecoderTraits for ByteIntervalPar
         self.handle.supports_partial_decode()
     }
 
-    #[tactic(auto, using(zarrs_codec_held::proofs::IntervalLaws::interval_given, zarrs_codec_held::proofs::IntervalLaws::interval_told, zarrs_codec_held::proofs::IntervalLaws::interval_refused, zarrs_codec_held::proofs::IntervalLaws::interval_reads, zarrs_codec_held::proofs::IntervalLaws::unread))]
+    #[tactic(auto, using(zarrs_codec_held::proofs::IntervalLaws::interval_given, zarrs_codec_held::proofs::IntervalLaws::interval_told, zarrs_codec_held::proofs::IntervalLaws::interval_refused, zarrs_codec_held::proofs::IntervalLaws::first_refused, zarrs_codec_held::proofs::IntervalLaws::first_passed, zarrs_codec_held::proofs::IntervalLaws::interval_reads, zarrs_codec_held::proofs::IntervalLaws::unread))]
     fn partial_decode_many(
         &mut self,
         alloc: Global,

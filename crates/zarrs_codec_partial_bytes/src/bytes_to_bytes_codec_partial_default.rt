@@ -8,7 +8,7 @@ ghost use Rattle.zarrs_codec_error.specs.declared.error.CodecError.{CodecError};
 ghost use Rattle.zarrs_codec_error.specs.declared.error.CodecError.TheVariants as codec;
 ghost use Rattle.zarrs_codec_traits.specs.Views.{options_of};
 ghost use Rattle.zarrs_codec_held.specs.Held.{part_of};
-ghost use Rattle.zarrs_codec_held.specs.Reads.{Reads, GivesParts, IsHandleError, IsReadError, IsPartError};
+ghost use Rattle.zarrs_codec_held.specs.Reads.{Reads, GivesParts, IsHandleError, IsReadError, IsPartError, RefusesFirst};
 ghost use Rattle.zarrs_codec_held.specs.Writes.{Writes, Unasked};
 ghost use Rattle.zarrs_codec_held.specs.Through.{through, through_says, decoded};
 
@@ -83,7 +83,7 @@ impl<H: BytesPartialDecoderTraits, C: BytesToBytesCodecTraits> BytesToBytesCodec
     C,
 > {
     // The whole value, decoded.
-    #[tactic(auto, using(zarrs_codec_held::proofs::ThroughLaws::read_told, zarrs_codec_held::proofs::ThroughLaws::decode_told, zarrs_codec_held::proofs::ThroughLaws::reads_ok, zarrs_codec_held::proofs::ThroughLaws::reads_err))]
+    #[tactic(auto, using(zarrs_codec_held::proofs::ThroughLaws::read_told, zarrs_codec_held::proofs::ThroughLaws::decode_told, zarrs_codec_held::proofs::ThroughLaws::reads_ok, zarrs_codec_held::proofs::ThroughLaws::reads_err, zarrs_codec_held::proofs::IntervalLaws::first_ok, zarrs_codec_held::proofs::IntervalLaws::first_err))]
     fn decode_value(
         &mut self,
         alloc: Global,
@@ -100,6 +100,8 @@ impl<H: BytesPartialDecoderTraits, C: BytesToBytesCodecTraits> BytesToBytesCodec
             (H.tells self.old.handle (options_of options.now))
             ((H.seen self.old.handle).held (options_of options.now)))
             (H.seen self.old.handle).shown.faults (H.seen self.new.handle).shown.faults) }
+        ensures first { RefusesFirst (H.early self.old.handle None)
+            (H.seen self.old.handle).shown (H.seen self.new.handle).shown result }
         ensures reads { Reads None (H.seen self.old.handle) (H.seen self.new.handle) result }
         ensures tells { (under : Options) (e : CodecError) → H.tells self.new.handle under e
             → H.tells self.old.handle under e }
@@ -142,6 +144,8 @@ impl<H: BytesPartialDecoderTraits, C: BytesToBytesCodecTraits> BytesPartialDecod
 
     ghost same_twice = { λ a b c x y. (x.0 ∙ y.0, (x.1.0 ∙ y.1.0,
         H.same_twice a.handle b.handle c.handle x.1.1 y.1.1)) };
+
+    ghost early = { λ h asked. H.early h.handle None };
 
     ghost reads_parts = { λ h. (C.decodes_parts h.codec).partial_decode && H.reads_parts h.handle };
 

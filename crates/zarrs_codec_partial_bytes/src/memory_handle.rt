@@ -36,7 +36,7 @@ impl MemoryHandle {
 }
 
 impl BytesPartialDecoderTraits for MemoryHandle {
-    ghost use Rattle.std.specs.Prelude.{true};
+    ghost use Rattle.std.specs.Prelude.{true, false};
     ghost use Rattle.zarrs_codec_held.specs.Held.{in_memory};
     ghost use Rattle.zarrs_codec_held.specs.Reads.{IsRangeError};
     ghost use Rattle.zarrs_codec_held.proofs.PartLaws.{sound_memory};
@@ -50,6 +50,8 @@ impl BytesPartialDecoderTraits for MemoryHandle {
     ghost same_self = { λ h. tt };
 
     ghost same_twice = { λ a b c x y. tt };
+
+    ghost early = { λ h asked. false };
 
     ghost reads_parts = { λ h. true };
 

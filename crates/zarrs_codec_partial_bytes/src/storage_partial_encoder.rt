@@ -36,6 +36,7 @@ impl<'s, S: Store> StoragePartialEncoder<'s, S> {
 }
 
 impl<S: Store> BytesPartialDecoderTraits for StoragePartialEncoder<'_, S> {
+    ghost use Rattle.std.specs.Prelude.{false};
     ghost use Rattle.std.proofs.Common.{refl};
     ghost use Rattle.zarrs_codec_held.specs.Reads.{IsRangeError};
     ghost use Rattle.zarrs_codec_held.proofs.PartLaws.{sound_by};
@@ -50,6 +51,8 @@ impl<S: Store> BytesPartialDecoderTraits for StoragePartialEncoder<'_, S> {
     ghost same_self = { λ h. tt };
 
     ghost same_twice = { λ a b c x y. tt };
+
+    ghost early = { λ h asked. false };
 
     ghost reads_parts = { λ h. S.gets_parts h.storage.now };
 

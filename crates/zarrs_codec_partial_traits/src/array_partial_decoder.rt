@@ -1,14 +1,13 @@
 //! Handles on elements that are read.
 
-ghost use Rattle.std.specs.Prelude.{◌≡◌, ◌*◌, ◌==◌, ℕ, Bool, true, false, List, [], length, Option, Some, None, IsSome, IfOk, IfErr, OnOk, OnErr};
-ghost use Rattle.zarr_model.specs.Region.{Region, count};
+ghost use Rattle.std.specs.Prelude.{◌≡◌, Bool, true, false, List, length, Option, Some, None, IsSome, IfOk, IfErr, OnOk};
+ghost use Rattle.zarr_model.specs.Region.{Region};
 ghost use Rattle.zarr_model.specs.Prelude.{Rose};
 ghost use Rattle.zarr_model.specs.Element.{Element, null, kind_of};
 ghost use Rattle.zarr_model.specs.ArrayBytes as model;
 ghost use Rattle.zarr_model.specs.ArrayBytes.{meaning};
 ghost use Rattle.zarr_model.specs.Codec.{Options};
 ghost use Rattle.zarr_model.specs.Command.{has_long_element};
-ghost use Rattle.zarrs_array_subset.specs.ArraySubset.{region};
 ghost use Rattle.zarrs_storage.specs.declared.store.StorageError.TheVariants as storage;
 ghost use Rattle.zarrs_data_type_names.specs.DataType.{type_of};
 ghost use Rattle.zarrs_codec_bytes.specs.Picking.{picked};

@@ -1,14 +1,15 @@
 //! Handles on bytes that are read.
 
-ghost use Rattle.std.specs.Prelude.{◌≡◌, ◌∷◌, [], ℕ, Bool, Some, None, IfOk, IfErr};
+ghost use Rattle.std.specs.Prelude.{◌≡◌, ◌∷◌, [], Bool, List, Option, Some, None, IfOk, IfErr};
 ghost use Rattle.zarr_model.specs.Codec.{Options};
 ghost use Rattle.zarr_model.specs.Prelude.{Rose};
+ghost use Rattle.zarrs_storage.specs.declared.byte_range.ByteRange.{ByteRange};
 ghost use Rattle.zarrs_storage.specs.Store.{value_bytes, part_bytes};
 ghost use Rattle.zarrs_storage.specs.declared.store.StorageError.TheVariants as storage;
 ghost use Rattle.zarrs_codec_error.specs.declared.error.CodecError.{CodecError};
 ghost use Rattle.zarrs_codec_traits.specs.Views.{options_of};
 ghost use Rattle.zarrs_codec_held.specs.Held.{Seen, IsSound};
-ghost use Rattle.zarrs_codec_held.specs.Reads.{Looks, Reads, GivesParts, IsReadError, IsPartError};
+ghost use Rattle.zarrs_codec_held.specs.Reads.{Looks, Reads, GivesParts, IsReadError, IsPartError, RefusesFirst};
 
 use std::alloc::Global;
 use zarrs_codec_error::CodecError;
@@ -26,6 +27,9 @@ pub trait BytesPartialDecoderTraits {
 
     // Two states have the same settings, which are what a handle has beside its value: a codec, or where an interval lies.
     ghost same: { Self → Self → Type 0 };
+
+    // Whether a range is refused before anything is read, of those that are asked for, or for the whole value.
+    ghost early: { Self → Option (List ByteRange) → Bool };
 
     // Whether it reads a part of the value without the rest.
     ghost reads_parts: { Self → Bool };
@@ -60,7 +64,7 @@ pub trait BytesPartialDecoderTraits {
     ///
     /// # Errors
     /// [`CodecError`] as of `partial_decode_many`.
-    #[tactic(auto, using(zarrs_codec_held::proofs::PartLaws::as_many))]
+    #[tactic(auto, using(zarrs_codec_held::proofs::PartLaws::as_many, zarrs_codec_held::proofs::IntervalLaws::first_ok, zarrs_codec_held::proofs::IntervalLaws::first_err))]
     final fn partial_decode(
         &mut self,
         alloc: Global,
@@ -73,6 +77,8 @@ pub trait BytesPartialDecoderTraits {
         ensures cause { IfErr result (IsPartError ((seen self.old).part (options_of options.now))
             (decoded_region ∷ []) (tells self.old (options_of options.now))
             (seen self.old).shown.faults (seen self.new).shown.faults) }
+        ensures first { RefusesFirst (early self.old (Some (decoded_region ∷ [])))
+            (seen self.old).shown (seen self.new).shown result }
         ensures reads { Reads (Some (decoded_region ∷ [])) (seen self.old) (seen self.new) result }
         ensures same { same self.old self.new }
         ensures tells { (under : Options) (e : CodecError) → tells self.new under e
@@ -104,6 +110,8 @@ pub trait BytesPartialDecoderTraits {
         ensures cause { IfErr result (IsPartError ((seen self.old).part (options_of options.now))
             decoded_regions.now (tells self.old (options_of options.now))
             (seen self.old).shown.faults (seen self.new).shown.faults) }
+        ensures first { RefusesFirst (early self.old (Some decoded_regions.now))
+            (seen self.old).shown (seen self.new).shown result }
         ensures reads { Reads (Some decoded_regions.now) (seen self.old) (seen self.new) result }
         ensures same { same self.old self.new }
         ensures tells { (under : Options) (e : CodecError) → tells self.new under e
@@ -124,6 +132,8 @@ pub trait BytesPartialDecoderTraits {
         ensures cause { IfErr result (IsReadError ((seen self.old).held (options_of options.now))
             (tells self.old (options_of options.now))
             (seen self.old).shown.faults (seen self.new).shown.faults) }
+        ensures first { RefusesFirst (early self.old None)
+            (seen self.old).shown (seen self.new).shown result }
         ensures reads { Reads None (seen self.old) (seen self.new) result }
         ensures same { same self.old self.new }
         ensures tells { (under : Options) (e : CodecError) → tells self.new under e

@@ -1,13 +1,10 @@
 //! Handles on bytes that are read and written.
 
-ghost use Rattle.std.specs.Prelude.{◌≡◌, ◌∷◌, [], ◌≤◌, ◌+◌, ◌-◌, ◌^◌, ℕ, Bool, List, length, Option, Some, None, IsSome, IfErr, OnOk, OnErr};
-ghost use Rattle.zarr_model.specs.Codec.{Options};
-ghost use Rattle.zarr_model.specs.Prelude.{counted};
-ghost use Rattle.zarrs_storage.specs.Parts.{PartsFit, held_bytes, with_parts};
+ghost use Rattle.std.specs.Prelude.{◌≡◌, ◌∷◌, [], ◌≤◌, ◌+◌, ◌-◌, ◌^◌, Bool, length, Some, None, IfErr};
+ghost use Rattle.zarrs_storage.specs.Parts.{PartsFit, with_parts};
 ghost use Rattle.zarrs_codec_error.specs.declared.error.CodecError.{CodecError};
 ghost use Rattle.zarrs_codec_traits.specs.Views.{options_of};
-ghost use Rattle.zarrs_codec_held.specs.Held.{Seen};
-ghost use Rattle.zarrs_codec_held.specs.Reads.{IsReadError, IsHandleError, IsFault, MayCount};
+ghost use Rattle.zarrs_codec_held.specs.Reads.{IsReadError, IsHandleError, IsFault};
 ghost use Rattle.zarrs_codec_held.specs.Writes.{Writes, Edits, Unasked};
 
 use crate::bytes_partial_decoder::BytesPartialDecoderTraits;

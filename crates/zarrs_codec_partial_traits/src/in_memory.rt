@@ -12,7 +12,7 @@ use zarrs_codec_options::CodecOptions;
 use zarrs_storage::{ByteRange, StorageError};
 
 impl BytesPartialDecoderTraits for Vec<u8> {
-    ghost use Rattle.std.specs.Prelude.{true, Some};
+    ghost use Rattle.std.specs.Prelude.{true, false, Some};
     ghost use Rattle.zarrs_codec_held.specs.Held.{in_memory};
     ghost use Rattle.zarrs_codec_held.specs.Reads.{IsRangeError};
     ghost use Rattle.zarrs_codec_held.proofs.PartLaws.{sound_memory};
@@ -26,6 +26,8 @@ impl BytesPartialDecoderTraits for Vec<u8> {
     ghost same_self = { λ h. tt };
 
     ghost same_twice = { λ a b c x y. tt };
+
+    ghost early = { λ h asked. false };
 
     ghost reads_parts = { λ v. true };
 
@@ -79,7 +81,7 @@ fn items_of<'b>(bytes: &'b CowSlice<'_, u8>) -> &'b [u8]
 }
 
 impl BytesPartialDecoderTraits for CowSlice<'_, u8> {
-    ghost use Rattle.std.specs.Prelude.{true, Some};
+    ghost use Rattle.std.specs.Prelude.{true, false, Some};
     ghost use Rattle.zarrs_codec_held.specs.Held.{in_memory};
     ghost use Rattle.zarrs_codec_held.specs.Reads.{IsRangeError};
     ghost use Rattle.zarrs_codec_held.proofs.PartLaws.{sound_memory};
@@ -93,6 +95,8 @@ impl BytesPartialDecoderTraits for CowSlice<'_, u8> {
     ghost same_self = { λ h. tt };
 
     ghost same_twice = { λ a b c x y. tt };
+
+    ghost early = { λ h asked. false };
 
     ghost reads_parts = { λ v. true };
 

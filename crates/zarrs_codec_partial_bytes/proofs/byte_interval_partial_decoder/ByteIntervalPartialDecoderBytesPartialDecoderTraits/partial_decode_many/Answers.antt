@@ -1,7 +1,7 @@
-use Rattle.std.proofs.Common.{◌≡◌, refl}
+use Rattle.std.proofs.Common.{◌≡◌, ◌∙◌, refl}
 use Rattle.std.proofs.lemmas.Result.{IfErr-weaker}
 use Rattle.zarrs_codec_traits.specs.Views.{options_of}
-use Rattle.zarrs_codec_held.proofs.IntervalLaws.{interval_told, interval_refused}
+use Rattle.zarrs_codec_held.proofs.IntervalLaws.{interval_told, interval_refused, first_refused, first_passed}
 use Rattle.zarrs_codec_partial_bytes.proofs.byte_interval_partial_decoder.ByteIntervalPartialDecoderBytesPartialDecoderTraits.partial_decode_many.Goals as goal
 
 pub returns-in-Ok-clause-cause : goal.returns-in-Ok-clause-cause
@@ -21,3 +21,12 @@ returns-in-Err-clause-cause g c =
 
 pub returns-in-Err-clause-same : goal.returns-in-Err-clause-same
 returns-in-Err-clause-same g c = (refl, (refl, g.met.H.BytesPartialDecoderTraits.same_self c.args.self.now.handle))
+
+pub returns-in-Ok-clause-first : goal.returns-in-Ok-clause-first
+returns-in-Ok-clause-first g c =
+    let handle = g.H.BytesPartialDecoderTraits in
+    first_passed c.args.self.now.byte_offset c.args.self.now.byte_length (handle.early c.args.self.now.handle) c.args.decoded_regions.now _ (handle.seen c.args.self.now.handle).shown (handle.seen c.partial_decode_many.new.self).shown c.partial_decode_many.result
+    c.in-Ok.ensures.valid (c.deref.ensures.value ∙ c.in-Ok.ensures.value) c.partial_decode_many.ensures.first
+
+pub returns-in-Err-clause-first : goal.returns-in-Err-clause-first
+returns-in-Err-clause-first g c = first_refused _ _ c.args.self.now.byte_length c.args.decoded_regions.now _ c.in-Err.error c.in-Err.ensures.refused

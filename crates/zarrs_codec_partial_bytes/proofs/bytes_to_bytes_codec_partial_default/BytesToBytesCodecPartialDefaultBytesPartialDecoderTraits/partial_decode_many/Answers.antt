@@ -3,6 +3,7 @@ use Rattle.zarrs_storage.specs.Store.{value_bytes, part_bytes}
 use Rattle.zarrs_storage.specs.ByteRange.{parts_of}
 use Rattle.zarrs_codec_traits.specs.Views.{options_of}
 use Rattle.zarrs_codec_held.specs.Through.{through, through_says}
+use Rattle.zarrs_codec_held.proofs.IntervalLaws.{first_ok, first_err}
 use Rattle.zarrs_codec_held.proofs.ThroughLaws.{decoded_sound, range_told, many_told, many_refused, many_given, many_absent}
 use Rattle.zarrs_codec_partial_bytes.proofs.bytes_to_bytes_codec_partial_default.BytesToBytesCodecPartialDefaultBytesPartialDecoderTraits.partial_decode_many.Goals as goal
 
@@ -42,3 +43,15 @@ returns-clause-cause g c =
     let below = g.H.BytesPartialDecoderTraits.seen c.args.self.now.handle in
     let tells = g.H.BytesPartialDecoderTraits.tells c.args.self.now.handle under in
     many_told (through (meaning under) (below.held under)) c.args.decoded_regions.now (λ e. through_says (meaning under) says tells (below.held under) e) _ _ c.in-Err.error c.in-Err.ensures.cause
+
+pub returns-in-Ok-clause-first : goal.returns-in-Ok-clause-first
+returns-in-Ok-clause-first g c = first_ok _ _ _ _ _ _ _ c.in-Ok-Some.ensures.first
+
+pub returns-in-Ok-Some-clause-first : goal.returns-in-Ok-Some-clause-first
+returns-in-Ok-Some-clause-first g c = first_ok _ _ _ _ _ _ _ c.in-Ok-Some.ensures.first
+
+pub returns-in-Ok-None-clause-first : goal.returns-in-Ok-None-clause-first
+returns-in-Ok-None-clause-first g c = first_ok _ _ _ _ _ _ _ c.in-Ok-None.ensures.first
+
+pub returns-clause-first : goal.returns-clause-first
+returns-clause-first g c = first_err _ _ _ _ _ _ c.in-Err.ensures.first
