@@ -96,8 +96,13 @@ impl<H: BytesPartialDecoderTraits> BytesPartialDecoderTraits for ByteIntervalPar
 
     ghost same_self = { λ h. (refl, (refl, H.same_self h.handle)) };
 
-    ghost same_twice = { λ a b c x y. (x.0 ∙ y.0, (x.1.0 ∙ y.1.0,
-        H.same_twice a.handle b.handle c.handle x.1.1 y.1.1)) };
+    ghost same_twice = { λ a b c x y. (
+      x.0 ∙ y.0,
+      (
+        x.1.0 ∙ y.1.0,
+        H.same_twice a.handle b.handle c.handle x.1.1 y.1.1,
+      ),
+    ) };
 
     ghost early = { λ h. interval_early h.byte_offset h.byte_length (H.early h.handle) };
 

@@ -142,8 +142,13 @@ impl<H: BytesPartialDecoderTraits, C: BytesToBytesCodecTraits> BytesPartialDecod
 
     ghost same_self = { λ h. (refl, (refl, H.same_self h.handle)) };
 
-    ghost same_twice = { λ a b c x y. (x.0 ∙ y.0, (x.1.0 ∙ y.1.0,
-        H.same_twice a.handle b.handle c.handle x.1.1 y.1.1)) };
+    ghost same_twice = { λ a b c x y. (
+      x.0 ∙ y.0,
+      (
+        x.1.0 ∙ y.1.0,
+        H.same_twice a.handle b.handle c.handle x.1.1 y.1.1,
+      ),
+    ) };
 
     ghost early = { λ h asked. H.early h.handle None };
 
