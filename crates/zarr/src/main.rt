@@ -1,4 +1,5 @@
-//! The program `zarr`: reads a document, key lines and commands from standard input, and writes the replies to standard output.
+//! The program `zarr`: reads a document, key lines and commands from standard input, or makes commands from a number
+//! among its words, and writes the replies or their summary to standard output.
 #![tactic(auto)]
 
 use std::alloc::{AllocError, Global};

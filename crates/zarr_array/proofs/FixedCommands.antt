@@ -1,7 +1,6 @@
 -- Commands on arrays of elements of one size: reads and writes as those of the model.
 use Rattle.std.proofs.Common.{◌≡◌, ℕ, ◌*◌, ◌≤◌, List, [], ◌∷◌, length, slice_get, Some, None, IsSome, unwrap_or, sym, ap, ◌∙◌, subst}
 use Rattle.zarr_model.specs.Prelude.{Region, count, Element, fixed_bytes, Array, elements_in, written, chunks_meeting, Options, WhollyMeans, chunk_content, Shown, read, write, kind, layout, refusal, answered, answered_done, counted, LeavesKeys}
-use Rattle.zarr_array.proofs.FormLaws.{served}
 use Rattle.zarr_array.specs.declared.open.OpenArray.{OpenArray}
 use Rattle.zarr_array.specs.declared.error.SessionErrorKind.{SessionErrorKind}
 use Rattle.zarr_array.specs.OpenArray.{described}
@@ -25,7 +24,7 @@ pub bytes-read : (array : OpenArray) (options : Options) (region : Region) (old 
 bytes-read array options region old new value long accepted same decode right asked later =
     read-ran (described array) options region old new (fixed_bytes value) accepted same decode (λ a meant.
     let is : fixed_elements array.size value ≡ elements_in region a = right a meant in
-    let many : length (elements_in region a) ≡ count region = ap length (sym is) ∙ length-elements array.size (served array).some (count region) value long in
+    let many : length (elements_in region a) ≡ count region = ap length (sym is) ∙ length-elements array.size array.some (count region) value long in
     meaning-bytes array (length (elements_in region a)) value (long ∙ ap (λ n. n * array.size) (sym many)) ∙ ap Some is) asked later
 
 -- bytes as many as the region's elements change an array as the write of the model does

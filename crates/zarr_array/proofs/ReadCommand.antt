@@ -34,6 +34,6 @@ read-fails array options region k old new kind accepted same fails = record {
     by_kind : (kind : SessionErrorKind) → HasReadCause (described array) options region k old new kind →
         HasSessionCause (described array) options (read region ∷ []) old new (Some (0, k)) kind
     by_kind (NotOpened error) cause = cause
-    by_kind (ChunkDecode key) (chunk, here, its_key, damaged) = (read region, refl, refl, chunk, ap (λ l. slice_get l k) listed ∙ here, its_key, same key, refl, damaged)
+    by_kind (ChunkDecode key error) (chunk, here, its_key, damaged) = (read region, refl, refl, chunk, ap (λ l. slice_get l k) listed ∙ here, its_key, same key, refl, damaged)
     by_kind Store cause = (cause, refl, λ honest. read-left (described array) options region k true old.content new.content (described_covers array) same few)
     by_kind OutOfMemory cause = λ honest. read-left (described array) options region k false old.content new.content (described_covers array) same few

@@ -73,13 +73,12 @@ read-end {E} shape grid region chunks array list covers inside are read =
         listed_below (y ∷ ys) (suc n) x e = let rest : n < length ys = listed_below ys n x e in omega arith
 
 -- what a chunk's value gives to a region is the array's part, for each array that the chunk has
-pub chunk_copied : (place : Layout Element) (store : Content) (region box : Region) (chunk key value part old new : List ℕ) (n : ℕ) (array : Array Element) →
-    box ≡ place.grid.chunk_box chunk → key ≡ place.key chunk → box_content place box (store key) ≡ Some (fixed_elements n value) → part ≡ value →
+pub chunk_copied : (place : Layout Element) (store : Content) (region box : Region) (chunk value part old new : List ℕ) (n : ℕ) (array : Array Element) →
+    box ≡ place.grid.chunk_box chunk → chunk_content place store chunk ≡ Some (fixed_elements n value) → part ≡ value →
     Copied region box (fixed_elements n part) (fixed_elements n old) (fixed_elements n new) →
     chunk_content place store chunk ≡ Some (elements_in (place.grid.chunk_box chunk) array) →
     Copied region (place.grid.chunk_box chunk) (elements_in (place.grid.chunk_box chunk) array) (fixed_elements n old) (fixed_elements n new)
-chunk_copied place store region box chunk key value part old new n array box_is key_is decoded part_is copied has =
-    let both : Some (fixed_elements n value) ≡ Some (elements_in (place.grid.chunk_box chunk) array) =
-    sym decoded ∙ (ap₂ (λ b k. box_content place b (store k)) box_is key_is ∙ has) in
+chunk_copied place store region box chunk value part old new n array box_is decoded part_is copied has =
+    let both : Some (fixed_elements n value) ≡ Some (elements_in (place.grid.chunk_box chunk) array) = sym decoded ∙ has in
     let same : fixed_elements n part ≡ elements_in (place.grid.chunk_box chunk) array = ap (fixed_elements n) part_is ∙ cc in
     subst₂ (λ b xs. Copied region b xs (fixed_elements n old) (fixed_elements n new)) box_is same copied

@@ -60,6 +60,6 @@ stops_reading description options region k old mid new chunk kind here few same 
     by_kind : (kind : SessionErrorKind) → FailsToFetch (chunk_content (layout description options) mid.content chunk) (description.key chunk) mid new kind →
         HasReadCause description options region k old new kind
     by_kind (NotOpened error) fails = fails
-    by_kind (ChunkDecode key) fails = (chunk, here, sym fails.0, ap (box_content (layout description options) (description.grid.chunk_box chunk)) (sym (same (description.key chunk))) ∙ fails.1)
+    by_kind (ChunkDecode key error) fails = (chunk, here, sym fails.0, ap (box_content (layout description options) (description.grid.chunk_box chunk)) (sym (same (description.key chunk))) ∙ fails.1)
     by_kind Store fails = rose_later old.faults mid.faults new.faults later fails
     by_kind OutOfMemory fails = tt

@@ -185,7 +185,7 @@ module _ (array : Description) (options : Options) (covers : CoversShape array.s
       by_kind : (kind : SessionErrorKind) → HasSessionCause array options (command ∷ []) mid now (Some (0, k)) kind →
           HasSessionCause array options commands before now (Some (i, k)) kind
       by_kind (NotOpened error) cause = cause
-      by_kind (ChunkDecode key) cause = undecoded-lifts array options commands i command here covers before.content mid.content now.content key k so_far.damage cause
+      by_kind (ChunkDecode key error) cause = undecoded-lifts array options commands i command here covers before.content mid.content now.content key k so_far.damage cause
       by_kind Store cause = stopped-lifts array options commands i command here before mid now k so_far.later meant_after cause
       by_kind OutOfMemory cause = starved-lifts array options commands i command here before.content mid.content now.content k meant_after cause
 

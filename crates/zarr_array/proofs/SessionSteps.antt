@@ -12,8 +12,8 @@ use Rattle.zarr_array.specs.Session.{HasSessionCause}
 pub only_memory : (description : Description) (options : Options) → CoversShape description.shape description.grid → (commands : List Command) (before now : Shown) (at : Option (ℕ × ℕ)) (kind : SessionErrorKind) →
     HasSessionCause description options commands before now at kind → IsHonest (layout description options) before.content → (Rose before.faults now.faults → ⊥) → kind ≡ OutOfMemory
 only_memory description options covers commands before now at (NotOpened error) cause honest calm = absurd cause
-only_memory description options covers commands before now None (ChunkDecode key) cause honest calm = absurd cause
-only_memory description options covers commands before now (Some place) (ChunkDecode key) (command, which, asks, chunk, listed, its_key, kept, none, damaged) honest calm =
+only_memory description options covers commands before now None (ChunkDecode key error) cause honest calm = absurd cause
+only_memory description options covers commands before now (Some place) (ChunkDecode key error) (command, which, asks, chunk, listed, its_key, kept, none, damaged) honest calm =
     absurd (true≢false (sym (subst IsSome damaged (honest chunk (listed_is_chunk description covers (refusal description command) command refl place.1 chunk listed)))))
 only_memory description options covers commands before now at Store cause honest calm = absurd (calm cause.0)
 only_memory description options covers commands before now at OutOfMemory cause honest calm = refl

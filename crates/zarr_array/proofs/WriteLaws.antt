@@ -210,8 +210,8 @@ module _ (description : Description) (covers : CoversShape description.shape des
         HasSessionCause description options (write region value ∷ []) old new (Some (0, k)) kind
     write-cause (NotOpened error) (inl (memory, same)) = let none : NotOpened error ≡ OutOfMemory = memory in cc
     write-cause (NotOpened error) (inr (chunk, here, never)) = never
-    write-cause (ChunkDecode key) (inl (memory, same)) = let none : ChunkDecode key ≡ OutOfMemory = memory in cc
-    write-cause (ChunkDecode key) (inr (chunk, here, (its_key, damaged, same))) = (
+    write-cause (ChunkDecode key error) (inl (memory, same)) = let none : ChunkDecode key error ≡ OutOfMemory = memory in cc
+    write-cause (ChunkDecode key error) (inr (chunk, here, (its_key, damaged, same))) = (
       write region value,
       refl,
       refl,
@@ -232,7 +232,7 @@ module _ (description : Description) (covers : CoversShape description.shape des
         (key : List ℕ) → ((chunk : List ℕ) → slice_get (chunks_meeting description.grid region) k ≡ Some chunk → ¬ (key ≡ description.key chunk)) → new.content key ≡ fails.mid.content key
     only_next kind (inl (memory, same)) key apart = same key
     only_next (NotOpened error) (inr (chunk, here, never)) key apart = absurd never
-    only_next (ChunkDecode own) (inr (chunk, here, (its_key, damaged, same))) key apart = same key
+    only_next (ChunkDecode own error) (inr (chunk, here, (its_key, damaged, same))) key apart = same key
     only_next Store (inr (chunk, here, (rose, stops))) key apart = stops.others key (apart chunk here)
     only_next OutOfMemory (inr (chunk, here, same)) key apart = same key
 

@@ -1,10 +1,9 @@
-pub mod Document
-pub mod Opening
 pub mod OpenError
 pub mod OpenArray
 pub mod Command
-pub mod Options
+pub mod Codecs
 pub mod Chunk
+pub mod Told
 pub mod Session
 pub mod Read
 pub mod Write

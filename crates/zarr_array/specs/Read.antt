@@ -8,7 +8,7 @@ use Rattle.zarr_array.specs.declared.error.SessionErrorKind.TheVariants.{NotOpen
 -- or memory ran out
 abbrev pub HasReadCause : Description → Options → Region → ℕ → Shown → Shown → SessionErrorKind →
     Type 0
-HasReadCause description options region k before now (ChunkDecode key) =
+HasReadCause description options region k before now (ChunkDecode key error) =
     (chunk : List ℕ) × (slice_get (chunks_meeting description.grid region) k ≡ Some chunk)
     × (description.key chunk ≡ key) × (chunk_content (layout description options) before.content
     chunk ≡ None)

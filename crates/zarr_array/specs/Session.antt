@@ -1,8 +1,8 @@
 -- When a session ends with an error, and what it then leaves.
 use Rattle.std.specs.Prelude.{◌≡◌, ℕ, List, Option, Some, None, IsErrAnd}
 use Rattle.zarr_model.specs.Prelude.{Options, Shown, Command, Description, IsPlace, begun, AsksUpTo, LeavesKeys, IsUndecoded, IsStopped, IsStarved}
-use Rattle.zarr_array.specs.Opening.{OpenRefusal}
-use Rattle.zarr_array.specs.OpenError.{open_refusal_of}
+use Rattle.zarr_array_parts.specs.Opening.{OpenRefusal}
+use Rattle.zarr_array_parts.specs.OpenError.{open_refusal_of}
 use Rattle.zarr_array.specs.Ended.{Ended}
 use Rattle.zarr_array.specs.declared.error.SessionErrorKind.{SessionErrorKind}
 use Rattle.zarr_array.specs.declared.error.SessionErrorKind.TheVariants.{NotOpened, ChunkDecode, Store, OutOfMemory}
@@ -11,7 +11,7 @@ use Rattle.zarr_array.specs.declared.error.SessionErrorKind.TheVariants.{NotOpen
 abbrev pub HasSessionCause : Description → Options → List Command → Shown → Shown → Option (ℕ × ℕ) →
     SessionErrorKind → Type 0
 HasSessionCause description options commands before now at (NotOpened error) = ⊥
-HasSessionCause description options commands before now at (ChunkDecode key) =
+HasSessionCause description options commands before now at (ChunkDecode key error) =
     IsUndecoded description options commands before.content now.content key at
 HasSessionCause description options commands before now at Store =
     IsStopped description options commands before now at
@@ -33,7 +33,7 @@ pub record FailsAt (description : Description) (options : Options) (commands : L
 abbrev pub IsNotOpenedBy : SessionErrorKind → OpenRefusal → Type 0
 IsNotOpenedBy (NotOpened error) why = open_refusal_of error ≡ Some why
 IsNotOpenedBy OutOfMemory why = Unit {0}
-IsNotOpenedBy (ChunkDecode key) why = ⊥
+IsNotOpenedBy (ChunkDecode key error) why = ⊥
 IsNotOpenedBy Store why = ⊥
 
 -- a session whose text is not opened: it says so before any command, or wants memory, and the store

@@ -36,7 +36,7 @@ pub record StopsChunk (description : Description) (options : Options) (change : 
 abbrev pub FailsToChange : Description → Options → (Array Element → Array Element) → List ℕ →
     Shown → Shown →
     SessionErrorKind → Type 0
-FailsToChange description options change chunk before now (ChunkDecode key) =
+FailsToChange description options change chunk before now (ChunkDecode key error) =
     (description.key chunk ≡ key)
     × (chunk_content (layout description options) before.content chunk ≡ None)
     × ((other : List ℕ) → now.content other ≡ before.content other)

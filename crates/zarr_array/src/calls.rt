@@ -1,22 +1,25 @@
 //! Single commands on an opened array.
 
 ghost use Rattle.std.specs.Prelude.{◌≡◌, ℕ, List, [], ◌∷◌, Some, IfErr, IsOk};
-ghost use Rattle.zarr_model.specs.Prelude.{fixed_bytes, read, write, erase, AreRefused};
+ghost use Rattle.zarrs_codec_array_bytes.specs.Raw.{raw_of};
+ghost use Rattle.zarr_model.specs.Prelude.{read, write, erase, AreRefused};
 ghost use Rattle.zarrs_array_subset.specs.ArraySubset.{region as region_of_subset};
-ghost use Rattle.zarr_array.specs.Options.{options_of};
+ghost use Rattle.zarrs_codec_traits.specs.Views.{options_of};
+ghost use Rattle.zarr_array.specs.Told.{TellsWhy};
 ghost use Rattle.zarr_array.specs.Ended.{ended_one};
 ghost use Rattle.zarr_array.specs.Runs.{Runs};
 
 use crate::command::Reply;
 use crate::error::{SessionError, SessionErrorKind};
 use crate::open::OpenArray;
-use crate::options::CodecOptions;
 use std::alloc::Global;
 use zarrs_array_subset::ArraySubset;
+use zarrs_codec_array_bytes::ArrayBytes;
+use zarrs_codec_options::CodecOptions;
 use zarrs_storage::store::Store;
 
 impl OpenArray {
-    ghost use Rattle.zarr_array.specs.OpenArray.{described};
+    ghost use Rattle.zarr_array.specs.OpenArray.{documented, described};
 
     /// Reads a region of the array: its elements in row-major order, or why it is refused.
     ///
@@ -41,6 +44,8 @@ impl OpenArray {
         ensures begun { IfErr result (λ error. (k : ℕ) × (error.at ≡ Some (0, k))) }
         ensures same { (key : List ℕ) →
             (S.shown store.new).content key ≡ (S.shown store.old).content key }
+        ensures told { IfErr result (λ error. TellsWhy (documented self.now)
+            (options_of options.now) (S.shown store.new) error.kind) }
     {
         match self.run_read(alloc, region, store, options) {
             Ok(reply) => Ok(reply),
@@ -65,19 +70,21 @@ impl OpenArray {
         &self,
         alloc: Global,
         region: &ArraySubset,
-        elements: &[u8],
+        bytes: &ArrayBytes<'_>,
         store: &mut S,
         options: &CodecOptions,
     ) -> Result<Reply, SessionError>
         ensures runs { Runs (described self.now) (options_of options.now)
-            (write (region_of_subset region.now) (fixed_bytes elements.now) ∷ [])
+            (write (region_of_subset region.now) (raw_of bytes.now) ∷ [])
             (S.shown store.old) (S.shown store.new) (ended_one result) }
         // A refusal is an answer, and an error is at this command.
         ensures answered { AreRefused (described self.now)
-            (write (region_of_subset region.now) (fixed_bytes elements.now) ∷ []) → IsOk result }
+            (write (region_of_subset region.now) (raw_of bytes.now) ∷ []) → IsOk result }
         ensures begun { IfErr result (λ error. (k : ℕ) × (error.at ≡ Some (0, k))) }
+        ensures told { IfErr result (λ error. TellsWhy (documented self.now)
+            (options_of options.now) (S.shown store.new) error.kind) }
     {
-        match self.run_write(alloc, region, elements, store, options) {
+        match self.run_write(alloc, region, bytes, store, options) {
             Ok(reply) => Ok(reply),
             Err(error) => Err(SessionError {
                 at: Some((0, error.chunks_done)),
@@ -106,6 +113,8 @@ impl OpenArray {
         ensures answered { AreRefused (described self.now)
             (erase chunk.now ∷ []) → IsOk result }
         ensures begun { IfErr result (λ error. (k : ℕ) × (error.at ≡ Some (0, k))) }
+        ensures told { IfErr result (λ error. TellsWhy (documented self.now)
+            (options_of options.now) (S.shown store.new) error.kind) }
     {
         match self.run_erase(alloc, chunk, store, options) {
             Ok(reply) => Ok(reply),

@@ -2,24 +2,25 @@
 
 use crate::refusal::Refusal;
 use zarrs_array_subset::{ArrayIndices, ArraySubset};
+use zarrs_codec_array_bytes::ArrayBytes;
 
 /// A command on an array.
 #[derive(Drop)]
 pub enum Command {
     /// Reads the elements of a region.
     Read(ArraySubset),
-    /// Writes elements to a region: the bytes of each, lowest first, in the region's row-major order. Where the store
-    /// fails or memory is wanting, the chunks that are finished stay written in a store that was honest.
-    Write(ArraySubset, Vec<u8>),
+    /// Writes elements to a region, in its row-major order. Where the store fails or memory is wanting, the chunks that
+    /// are finished stay written in a store that was honest.
+    Write(ArraySubset, ArrayBytes<'static>),
     /// Erases the chunk of these indices: all its elements are the fill value then.
     Erase(ArrayIndices),
 }
 
 /// The reply to a command.
-#[derive(Debug, Drop)]
+#[derive(Drop)]
 pub enum Reply {
-    /// The elements that were read: the bytes of each, lowest first, in the region's row-major order.
-    Elements(Vec<u8>),
+    /// The elements that were read, in the region's row-major order.
+    Elements(ArrayBytes<'static>),
     /// The write or the erase is done.
     Done,
     /// The command is refused.

@@ -1,10 +1,12 @@
 //! Why a session ends with an error, and where.
 
 ghost use Rattle.std.specs.Prelude.{◌≡◌, None};
+ghost use Rattle.zarr_array.specs.Chunk.{chunk_kind};
 
-use crate::open::OpenError;
 use std::alloc::{AllocError, AllocFailed};
 use thiserror::Error;
+use zarr_array_parts::OpenError;
+use zarrs_codec_error::CodecError;
 use zarrs_storage::store::StorageError;
 use zarrs_storage::store_key::StoreKey;
 
@@ -15,10 +17,12 @@ pub enum SessionErrorKind {
     #[error("the document is not opened: {0}")]
     NotOpened(OpenError),
     /// A chunk's value does not decode.
-    #[error("the value of a chunk does not decode")]
+    #[error("the value of a chunk does not decode: {error}")]
     ChunkDecode {
         /// The key of the chunk.
         key: StoreKey,
+        /// The error of the first codec, in the order of decoding, that gives nothing.
+        error: CodecError,
     },
     /// The store failed.
     #[error("the store failed")]
@@ -58,6 +62,17 @@ impl From<StorageError> for SessionErrorKind {
             StorageError::Failed | StorageError::InvalidByteRange(_) => SessionErrorKind::Store,
             StorageError::OutOfMemory => SessionErrorKind::OutOfMemory,
         }
+    }
+}
+
+/// An error of a session where the chunk of a key is not fetched.
+pub(crate) fn chunk_error(key: StoreKey, error: CodecError) -> SessionErrorKind
+    ensures { result ≡ chunk_kind key error }
+{
+    match error {
+        CodecError::StorageError(error) => SessionErrorKind::from(error),
+        CodecError::OutOfMemory => SessionErrorKind::OutOfMemory,
+        error => SessionErrorKind::ChunkDecode { key, error },
     }
 }
 

@@ -4,12 +4,8 @@
 mod calls;
 mod chunk;
 pub mod command;
-mod document;
 pub mod error;
-mod extensions;
 pub mod open;
-mod open_error;
-pub mod options;
 mod read;
 pub mod refusal;
 pub mod session;
@@ -18,11 +14,13 @@ mod write;
 
 pub use command::{Command, Reply};
 pub use error::{SessionError, SessionErrorKind};
-pub use open::{OpenArray, OpenError};
-pub use options::CodecOptions;
+pub use open::OpenArray;
 pub use refusal::Refusal;
 pub use session::run_session;
+pub use zarr_array_parts::{BasicChain, OpenError};
 pub use zarr_basics::{
     ChunkKeyKind, CodecKind, DataTypeKind, GridKind, Registries, builtin_registries,
 };
+pub use zarr_chain_stored::ChainHandle;
+pub use zarrs_codec_options::CodecOptions;
 pub use zarrs_plugin::NamePattern;

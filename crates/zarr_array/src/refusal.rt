@@ -1,8 +1,9 @@
 //! Why a command is refused.
 
-ghost use Rattle.std.specs.Prelude.{◌≡◌, Some, option_map};
-ghost use Rattle.zarr_model.specs.Prelude.{fixed_bytes, write, erase, region_refusal, refusal, refusal_name, is_too_large, count};
+ghost use Rattle.std.specs.Prelude.{◌≡◌, false, Some, option_map};
+ghost use Rattle.zarr_model.specs.Prelude.{ArrayBytes, fixed_bytes, write, erase, region_refusal, refusal, refusal_name, is_too_large, count};
 ghost use Rattle.zarrs_array_subset.specs.ArraySubset.{region};
+ghost use Rattle.zarrs_codec_array_bytes.specs.Levels.{is_fixed};
 
 use crate::open::OpenArray;
 use zarrs_array_subset::ArraySubset;
@@ -18,6 +19,8 @@ pub enum Refusal {
     SubsetOutOfBounds,
     /// The region has as many elements as the greatest number, or more, or their bytes are more than it.
     RegionTooLarge,
+    /// The bytes that are written are not those of elements of one size.
+    ExpectedFixedLengthBytes,
     /// The bytes that are written are not those of as many elements as the region has.
     UnexpectedChunkDecodedSize,
 }
@@ -33,6 +36,7 @@ impl Refusal {
             Refusal::IncompatibleDimensionality => "IncompatibleDimensionality",
             Refusal::SubsetOutOfBounds => "SubsetOutOfBounds",
             Refusal::RegionTooLarge => "RegionTooLarge",
+            Refusal::ExpectedFixedLengthBytes => "ExpectedFixedLengthBytes",
             Refusal::UnexpectedChunkDecodedSize => "UnexpectedChunkDecodedSize",
         }
     }
@@ -70,6 +74,17 @@ impl OpenArray {
         None
     }
 
+    /// Why a write of bytes that are not those of elements of one size is refused: its region is tested first.
+    pub(crate) fn kind_refusal(&self, subset: &ArraySubset) -> Refusal
+        ensures { (bytes : ArrayBytes) → is_fixed bytes ≡ false → refusal (described self.now)
+            (write (region subset.now) bytes) ≡ Some (refusal_of result) }
+    {
+        match self.region_refusal(subset) {
+            Some(refusal) => refusal,
+            None => Refusal::ExpectedFixedLengthBytes,
+        }
+    }
+
     /// Why a write is refused, if it is: its region is tested first, and then how many elements there are.
     pub(crate) fn write_refusal(&self, subset: &ArraySubset, elements: &[u8]) -> Option<Refusal>
         ensures { option_map refusal_of result
@@ -90,10 +105,10 @@ impl OpenArray {
         ensures { option_map refusal_of result
             ≡ refusal (described self.now) (erase chunk_indices.now) }
     {
-        if chunk_indices.len() != self.grid.grid_shape().len() {
+        if chunk_indices.len() != self.parts.grid().grid_shape().len() {
             return Some(Refusal::IncompatibleDimensionality);
         }
-        if !self.grid.has_chunk(chunk_indices) {
+        if !self.parts.grid().has_chunk(chunk_indices) {
             return Some(Refusal::SubsetOutOfBounds);
         }
         None

@@ -1,26 +1,28 @@
 //! Sessions: a list of commands over a store.
 
-ghost use Rattle.std.specs.Prelude.{◌≡◌, map};
-ghost use Rattle.zarr_array.specs.Document.{ArrayDocument, describe};
-ghost use Rattle.zarr_array.specs.Opening.{OpenRefusal, opened, not_opened, open_document};
+ghost use Rattle.std.specs.Prelude.{IfErr, ◌≡◌, map};
+ghost use Rattle.zarr_array_parts.specs.Document.{ArrayDocument, describe};
+ghost use Rattle.zarr_array_parts.specs.Opening.{OpenRefusal, opened, not_opened, open_document};
 ghost use Rattle.zarr_basics.specs.Registries.{names_of};
 ghost use Rattle.zarr_array.specs.OpenError.{ended_by};
 ghost use Rattle.zarr_array.specs.Command.{command_of};
-ghost use Rattle.zarr_array.specs.Options.{options_of};
+ghost use Rattle.zarrs_codec_traits.specs.Views.{options_of};
 ghost use Rattle.zarr_array.specs.Session.{EndsUnopened};
+ghost use Rattle.zarr_array.specs.Told.{TellsWhy};
 ghost use Rattle.zarr_array.specs.Ended.{ended};
 ghost use Rattle.zarr_array.specs.Runs.{Runs};
 
 use crate::command::{Command, Reply};
 use crate::error::{SessionError, SessionErrorKind};
-use crate::open::{OpenArray, OpenError};
-use crate::options::CodecOptions;
+use crate::open::OpenArray;
 use std::alloc::Global;
+use zarr_array_parts::OpenError;
 use zarr_basics::Registries;
+use zarrs_codec_options::CodecOptions;
 use zarrs_storage::store::Store;
 
 impl OpenArray {
-    ghost use Rattle.zarr_array.specs.OpenArray.{described};
+    ghost use Rattle.zarr_array.specs.OpenArray.{documented, described};
 
     /// Runs commands over a store. The replies are those of one plain array that the store means.
     ///
@@ -38,8 +40,10 @@ impl OpenArray {
         store: &mut S,
         options: &CodecOptions,
     ) -> Result<Vec<Reply>, SessionError>
-        ensures { Runs (described self.now) (options_of options.now) (map command_of commands.now)
+        ensures runs { Runs (described self.now) (options_of options.now) (map command_of commands.now)
             (S.shown store.old) (S.shown store.new) (ended result) }
+        ensures told { IfErr result (λ error. TellsWhy (documented self.now)
+            (options_of options.now) (S.shown store.new) error.kind) }
     {
         let mut replies = match Vec::with_capacity(alloc, commands.len()) {
             Ok(replies) => replies,
@@ -83,6 +87,11 @@ pub fn run_session<S: Store>(
         open_document (names_of registries.now) metadata.now ≡ opened document →
         Runs (describe document) (options_of options.now) (map command_of commands.now)
         (S.shown store.old) (S.shown store.new) (ended result) }
+    // An error of a chunk tells why its value does not decode.
+    ensures told { (document : ArrayDocument) →
+        open_document (names_of registries.now) metadata.now ≡ opened document →
+        IfErr result (λ error. TellsWhy document (options_of options.now) (S.shown store.new)
+        error.kind) }
 {
     match OpenArray::open(alloc, metadata, registries) {
         Ok(array) => array.run_commands(alloc, commands, store, options),

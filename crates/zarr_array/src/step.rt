@@ -1,23 +1,39 @@
 //! One command of a session.
 
-ghost use Rattle.std.specs.Prelude.{◌≡◌, ℕ, List, [], ◌∷◌, IsOk};
+ghost use Rattle.std.specs.Prelude.{IfErr, ◌≡◌, ℕ, List, [], ◌∷◌, false, IfSome, IfNone, IsOk};
+ghost use Rattle.zarrs_codec_array_bytes.specs.Raw.{raw_of};
+ghost use Rattle.zarrs_codec_array_bytes.specs.Levels.{is_fixed};
 ghost use Rattle.zarr_model.specs.Prelude.{fixed_bytes, read, write, erase, AreRefused};
 ghost use Rattle.zarrs_array_subset.specs.ArraySubset.{region};
 ghost use Rattle.zarr_array.specs.Command.{command_of};
-ghost use Rattle.zarr_array.specs.Options.{options_of};
+ghost use Rattle.zarrs_codec_traits.specs.Views.{options_of};
+ghost use Rattle.zarr_array.specs.Told.{TellsWhy};
 ghost use Rattle.zarr_array.specs.Ended.{ended_step};
 ghost use Rattle.zarr_array.specs.Runs.{Runs};
 
 use crate::command::{Command, Reply};
 use crate::error::{CommandError, SessionErrorKind};
 use crate::open::OpenArray;
-use crate::options::CodecOptions;
 use std::alloc::Global;
 use zarrs_array_subset::ArraySubset;
+use zarrs_codec_array_bytes::ArrayBytes;
+use zarrs_codec_array_bytes::array_bytes::bytes_in;
+use zarrs_codec_options::CodecOptions;
 use zarrs_storage::store::{StorageError, Store};
 
+// The bytes of elements of one size.
+fn fixed_slice<'b>(bytes: &'b ArrayBytes<'_>) -> Option<&'b [u8]>
+    ensures some { IfSome result (λ elements. raw_of bytes.now ≡ fixed_bytes elements.now) }
+    ensures none { IfNone result (is_fixed (raw_of bytes.now) ≡ false) }
+{
+    match bytes {
+        ArrayBytes::Fixed(raw) => Some(bytes_in(raw)),
+        ArrayBytes::Variable(_) | ArrayBytes::Optional(_) => None,
+    }
+}
+
 impl OpenArray {
-    ghost use Rattle.zarr_array.specs.OpenArray.{described};
+    ghost use Rattle.zarr_array.specs.OpenArray.{documented, described};
 
     /// Runs a read.
     pub(crate) fn run_read<S: Store>(
@@ -34,16 +50,18 @@ impl OpenArray {
             (read (region subset.now) ∷ []) → IsOk result }
         ensures same { (key : List ℕ) →
             (S.shown store.new).content key ≡ (S.shown store.old).content key }
+        ensures told { IfErr result (λ error. TellsWhy (documented self.now)
+            (options_of options.now) (S.shown store.new) error.kind) }
     {
         if let Some(refusal) = self.region_refusal(subset) {
             return Ok(Reply::Refused(refusal));
         }
         let elements = self.read_elements(alloc, subset, store, options)?;
-        Ok(Reply::Elements(elements))
+        Ok(Reply::Elements(ArrayBytes::from(elements)))
     }
 
-    /// Runs a write.
-    pub(crate) fn run_write<S: Store>(
+    // Runs a write of elements of one size.
+    fn write_fixed<S: Store>(
         &self,
         alloc: Global,
         subset: &ArraySubset,
@@ -56,12 +74,37 @@ impl OpenArray {
             (S.shown store.old) (S.shown store.new) (ended_step result) }
         ensures answered { AreRefused (described self.now)
             (write (region subset.now) (fixed_bytes elements.now) ∷ []) → IsOk result }
+        ensures told { IfErr result (λ error. TellsWhy (documented self.now)
+            (options_of options.now) (S.shown store.new) error.kind) }
     {
         if let Some(refusal) = self.write_refusal(subset, elements) {
             return Ok(Reply::Refused(refusal));
         }
         self.write_elements(alloc, subset, elements, store, options)?;
         Ok(Reply::Done)
+    }
+
+    /// Runs a write.
+    pub(crate) fn run_write<S: Store>(
+        &self,
+        alloc: Global,
+        subset: &ArraySubset,
+        bytes: &ArrayBytes<'_>,
+        store: &mut S,
+        options: &CodecOptions,
+    ) -> Result<Reply, CommandError>
+        ensures runs { Runs (described self.now) (options_of options.now)
+            (write (region subset.now) (raw_of bytes.now) ∷ [])
+            (S.shown store.old) (S.shown store.new) (ended_step result) }
+        ensures answered { AreRefused (described self.now)
+            (write (region subset.now) (raw_of bytes.now) ∷ []) → IsOk result }
+        ensures told { IfErr result (λ error. TellsWhy (documented self.now)
+            (options_of options.now) (S.shown store.new) error.kind) }
+    {
+        match fixed_slice(bytes) {
+            Some(elements) => self.write_fixed(alloc, subset, elements, store, options),
+            None => Ok(Reply::Refused(self.kind_refusal(subset))),
+        }
     }
 
     /// Runs an erase: one call on the store, which reads nothing.
@@ -77,6 +120,8 @@ impl OpenArray {
             (S.shown store.old) (S.shown store.new) (ended_step result) }
         ensures answered { AreRefused (described self.now)
             (erase chunk_indices.now ∷ []) → IsOk result }
+        ensures told { IfErr result (λ error. TellsWhy (documented self.now)
+            (options_of options.now) (S.shown store.new) error.kind) }
     {
         if let Some(refusal) = self.erase_refusal(chunk_indices) {
             return Ok(Reply::Refused(refusal));
@@ -105,12 +150,12 @@ impl OpenArray {
             (S.shown store.old) (S.shown store.new) (ended_step result) }
         ensures answered { AreRefused (described self.now)
             (command_of command.now ∷ []) → IsOk result }
+        ensures told { IfErr result (λ error. TellsWhy (documented self.now)
+            (options_of options.now) (S.shown store.new) error.kind) }
     {
         match command {
             Command::Read(subset) => self.run_read(alloc, subset, store, options),
-            Command::Write(subset, elements) => {
-                self.run_write(alloc, subset, elements, store, options)
-            }
+            Command::Write(subset, bytes) => self.run_write(alloc, subset, bytes, store, options),
             Command::Erase(chunk_indices) => self.run_erase(alloc, chunk_indices, store, options),
         }
     }

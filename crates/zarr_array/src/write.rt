@@ -3,19 +3,22 @@
 ghost use Rattle.std.specs.Prelude.{◌≡◌, ◌≤◌, ◌<◌, ◌*◌, ◌^◌, ◌⊎◌, true, length, OnOk, OnErr, IfErr};
 ghost use Rattle.zarr_model.specs.Prelude.{count, tuples, tuple_at, ends_within, written, IsChunk, chunks_meeting, counted};
 ghost use Rattle.zarrs_array_subset.specs.ArraySubset.{region};
-ghost use Rattle.zarr_array.specs.Options.{options_of};
+ghost use Rattle.zarrs_codec_traits.specs.Views.{options_of};
 ghost use Rattle.zarrs_codec_bytes.specs.Overlap.{Copied};
 ghost use Rattle.zarrs_codec_bytes.specs.Elements.{fixed_elements};
 ghost use Rattle.zarr_array.specs.Write.{ChangesChunk, FailsToChange};
+ghost use Rattle.zarr_array.specs.Codecs.{IsChainOf};
+ghost use Rattle.zarr_array.specs.Told.{TellsWhy};
 ghost use Rattle.zarr_array.specs.PartWay.{ChangedSome, FailsPartWay};
 
 use crate::chunk::indices_at;
-use crate::error::{CommandError, SessionErrorKind};
+use crate::error::{CommandError, SessionErrorKind, chunk_error};
 use crate::open::OpenArray;
-use crate::options::CodecOptions;
 use std::alloc::Global;
+use zarr_array_parts::BasicChain;
 use zarrs_array_subset::ArraySubset;
 use zarrs_codec_bytes::overlap::copy_elements;
+use zarrs_codec_options::CodecOptions;
 use zarrs_storage::store::Store;
 
 // Puts the elements that a region shares with a chunk in the chunk's place for them.
@@ -39,19 +42,21 @@ fn put_elements(
 }
 
 impl OpenArray {
-    ghost use Rattle.zarr_array.specs.OpenArray.{described};
+    ghost use Rattle.zarr_array.specs.OpenArray.{documented, described};
 
     // Puts the elements that a region shares with a chunk into the chunk, and stores it anew: the old value is
     // fetched and decoded first, also where the region covers all of it.
     fn write_chunk<S: Store>(
         &self,
         alloc: Global,
+        codecs: &BasicChain,
         chunk_indices: &[u64],
         subset: &ArraySubset,
         elements: &[u8],
         store: &mut S,
         options: &CodecOptions,
     ) -> Result<(), SessionErrorKind>
+        requires codecs { IsChainOf (documented self.now) codecs.now }
         requires chunk { IsChunk (described self.now).grid chunk_indices.now }
         requires rank { length (region subset.now)
             ≡ length ((described self.now).grid.chunk_box chunk_indices.now) }
@@ -68,14 +73,17 @@ impl OpenArray {
             (written (region subset.now) (fixed_elements self.now.size elements.now))
             chunk_indices.now
             (S.shown store.old) (S.shown store.new)) }
+        ensures told { IfErr result (TellsWhy (documented self.now) (options_of options.now)
+            (S.shown store.new)) }
     {
         let chunk_subset = self.chunk_subset(alloc, chunk_indices)?;
         let key = self.chunk_key(alloc, chunk_indices)?;
-        let Some(mut value) = self.fetch_chunk(alloc, &key, &chunk_subset, store, options)? else {
-            return Err(SessionErrorKind::ChunkDecode { key });
+        let mut value = match self.fetch_chunk(alloc, codecs, chunk_indices, &key, store, options) {
+            Ok(value) => value,
+            Err(error) => return Err(chunk_error(key, error)),
         };
         put_elements(&mut value, &chunk_subset, elements, subset, self.size);
-        self.store_chunk(alloc, &key, &chunk_subset, value, store, options)?;
+        self.store_chunk(alloc, codecs, chunk_indices, &key, value, store, options)?;
         Ok(())
     }
 
@@ -83,6 +91,7 @@ impl OpenArray {
     fn write_numbered<S: Store>(
         &self,
         alloc: Global,
+        codecs: &BasicChain,
         chunks: &ArraySubset,
         number: u64,
         subset: &ArraySubset,
@@ -90,6 +99,7 @@ impl OpenArray {
         store: &mut S,
         options: &CodecOptions,
     ) -> Result<(), SessionErrorKind>
+        requires codecs { IsChainOf (documented self.now) codecs.now }
         requires few { count (region chunks.now) < 2 ^ 64 }
         requires below { number < count (region chunks.now) }
         requires chunk { IsChunk (described self.now).grid (tuple_at (region chunks.now) number) }
@@ -108,16 +118,64 @@ impl OpenArray {
             (written (region subset.now) (fixed_elements self.now.size elements.now))
             (tuple_at (region chunks.now) number)
             (S.shown store.old) (S.shown store.new)) }
+        ensures told { IfErr result (TellsWhy (documented self.now) (options_of options.now)
+            (S.shown store.new)) }
     {
         let chunk_indices = indices_at(alloc, chunks, number, chunks.num_elements())?;
         self.write_chunk(
             alloc,
+            codecs,
             chunk_indices.as_slice(),
             subset,
             elements,
             store,
             options,
         )
+    }
+
+    // Writes to each chunk of a list, in its order.
+    fn write_listed<S: Store>(
+        &self,
+        alloc: Global,
+        codecs: &BasicChain,
+        chunks: &ArraySubset,
+        subset: &ArraySubset,
+        elements: &[u8],
+        store: &mut S,
+        options: &CodecOptions,
+    ) -> Result<(), CommandError>
+        requires codecs { IsChainOf (documented self.now) codecs.now }
+        requires listed { tuples (region chunks.now)
+            ≡ chunks_meeting (described self.now).grid (region subset.now) }
+        requires few { count (region chunks.now) < 2 ^ 64 }
+        requires inside { ends_within (region subset.now) (described self.now).shape ≡ true }
+        requires as_long { length elements.now ≡ count (region subset.now) * self.now.size }
+        ensures changed { let chunks = chunks_meeting (described self.now).grid (region subset.now)
+            in
+            OnOk result (ChangedSome (described self.now) (options_of options.now)
+            (written (region subset.now) (fixed_elements self.now.size elements.now))
+            chunks (length chunks)
+            (S.shown store.old) (S.shown store.new)) }
+        ensures failed { IfErr result (λ error.
+            FailsPartWay (described self.now) (options_of options.now)
+            (written (region subset.now) (fixed_elements self.now.size elements.now))
+            (chunks_meeting (described self.now).grid (region subset.now)) error.chunks_done
+            (S.shown store.old) (S.shown store.new) error.kind) }
+        ensures told { IfErr result (λ error. TellsWhy (documented self.now)
+            (options_of options.now) (S.shown store.new) error.kind) }
+    {
+        let num_chunks = chunks.num_elements();
+        for number in 0..num_chunks {
+            if let Err(kind) = self.write_numbered(
+                alloc, codecs, chunks, number, subset, elements, store, options,
+            ) {
+                return Err(CommandError {
+                    chunks_done: number,
+                    kind,
+                });
+            }
+        }
+        Ok(())
     }
 
     // Writes to each chunk that a region meets, in row-major order.
@@ -146,19 +204,14 @@ impl OpenArray {
             (written (region subset.now) (fixed_elements self.now.size elements.now))
             (chunks_meeting (described self.now).grid (region subset.now)) error.chunks_done
             (S.shown store.old) (S.shown store.new) error.kind) }
+        ensures told { IfErr result (λ error. TellsWhy (documented self.now)
+            (options_of options.now) (S.shown store.new) error.kind) }
     {
-        let num_chunks = chunks.num_elements();
-        for number in 0..num_chunks {
-            if let Err(kind) = self.write_numbered(
-                alloc, chunks, number, subset, elements, store, options,
-            ) {
-                return Err(CommandError {
-                    chunks_done: number,
-                    kind,
-                });
-            }
+        if chunks.num_elements() == 0 {
+            return Ok(());
         }
-        Ok(())
+        let codecs = self.chain(alloc)?;
+        self.write_listed(alloc, &codecs, chunks, subset, elements, store, options)
     }
 
     /// Writes elements to an accepted region. Each chunk that the region meets is asked for once, and then stored or
@@ -185,6 +238,8 @@ impl OpenArray {
             (written (region subset.now) (fixed_elements self.now.size elements.now))
             (chunks_meeting (described self.now).grid (region subset.now)) error.chunks_done
             (S.shown store.old) (S.shown store.new) error.kind) }
+        ensures told { IfErr result (λ error. TellsWhy (documented self.now)
+            (options_of options.now) (S.shown store.new) error.kind) }
     {
         let chunks = self.chunks_meeting(alloc, subset)?;
         self.write_chunks(alloc, &chunks, subset, elements, store, options)

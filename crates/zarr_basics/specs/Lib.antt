@@ -5,7 +5,6 @@ pub use Rattle.zarr_basics_grids.specs.BasicGrid
 pub use Rattle.zarr_basics_grids.specs.Limits
 pub use Rattle.zarr_basics_grids.specs.Unmade
 pub mod Keys
-pub mod BytesCodec
 pub mod Configurations
 pub mod Making
 pub mod BuiltinTypes

@@ -8,8 +8,8 @@ use Rattle.zarr_basics_grids.specs.declared.grid_kind.GridKind.{GridKind}
 use Rattle.zarr_basics_grids.specs.declared.grid_kind.GridKind.TheVariants.{Regular}
 use Rattle.zarr_basics.specs.declared.registries.ChunkKeyKind.{ChunkKeyKind}
 use Rattle.zarr_basics.specs.declared.registries.ChunkKeyKind.TheVariants.{Default, V2}
-use Rattle.zarr_basics.specs.declared.registries.CodecKind.{CodecKind}
-use Rattle.zarr_basics.specs.declared.registries.CodecKind.TheVariants.{Bytes}
+use Rattle.zarr_codecs_kinds.specs.declared.codec_kind.CodecKind.{CodecKind}
+use Rattle.zarr_codecs_kinds.specs.declared.codec_kind.CodecKind.TheVariants.{Bytes, Offset, Sha256}
 use Rattle.zarr_basics.specs.declared.registries.Registries.{Registries}
 
 -- for each kind of extension, what its names denote
@@ -36,5 +36,9 @@ builtin_names = record {
     registered = [];
     builtin = (exact (codes "default"), Default) ∷ (exact (codes "v2"), V2) ∷ [];
   };
-  codecs = record { registered = []; builtin = (exact (codes "bytes"), Bytes) ∷ [] };
+  codecs = record {
+    registered = [];
+    builtin = (exact (codes "bytes"), Bytes) ∷ (exact (codes "zarr_basics.offset"), Offset)
+        ∷ (exact (codes "zarr_basics.sha256"), Sha256) ∷ [];
+  };
 }

@@ -1,19 +1,18 @@
 //! What the names in an array document denote here: the chunk grid `regular`, the chunk key encodings `default` and `v2`,
-//! the codec `bytes`, and the registries that find them.
+//! the codecs `bytes`, `zarr_basics.offset` and `zarr_basics.sha256`, and the registries that find them.
 //!
 //! See <https://zarr-specs.readthedocs.io/en/latest/v3/core/index.html#extension-points>.
 #![tactic(auto)]
 
-mod bytes_codec;
 mod chunk_key_encoding;
 mod configuration;
 mod laws;
 mod making;
 mod registries;
 
-pub use bytes_codec::BytesCodec;
 pub use chunk_key_encoding::ChunkKeyEncoding;
 pub use laws::keys_differ;
-pub use registries::{ChunkKeyKind, CodecKind, Registries, builtin_registries};
+pub use registries::{ChunkKeyKind, Registries, builtin_registries};
 pub use zarr_basics_grids::{BasicGrid, GridKind, RegularGrid};
+pub use zarr_codecs_kinds::CodecKind;
 pub use zarrs_data_type_names::DataTypeKind;

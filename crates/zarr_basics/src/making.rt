@@ -1,14 +1,12 @@
-//! Key encodings and codecs by their metadata.
+//! Key encodings by their metadata.
 
 ghost use Rattle.zarrs_metadata_parts.specs.MetadataV3.{extension_seen};
-ghost use Rattle.zarr_basics.specs.BytesCodec.{named_order};
 ghost use Rattle.zarr_basics.specs.Keys.{keys_of};
-ghost use Rattle.zarr_basics.specs.Making.{MakesCodec, MakesKeys, codec_form, keys_form};
+ghost use Rattle.zarr_basics.specs.Making.{MakesKeys, keys_form};
 
-use crate::bytes_codec::BytesCodec;
 use crate::chunk_key_encoding::ChunkKeyEncoding;
-use crate::configuration::{read_bytes_codec, read_separator};
-use crate::registries::{ChunkKeyKind, CodecKind};
+use crate::configuration::read_separator;
+use crate::registries::ChunkKeyKind;
 use std::alloc::Global;
 use zarr_basics_grids::unmade;
 use zarrs_metadata_parts::{ChunkKeySeparator, MetadataV3};
@@ -35,29 +33,6 @@ impl ChunkKeyKind {
             },
             ChunkKeyKind::V2 => match read_separator(metadata, ChunkKeySeparator::Dot) {
                 Ok(separator) => Ok(ChunkKeyEncoding::V2(separator)),
-                Err(error) => Err(unmade(error)),
-            },
-        }
-    }
-}
-
-impl CodecKind {
-    /// The codec of this kind that metadata denotes, whatever its name is.
-    ///
-    /// # Errors
-    /// `Config` exactly where the configuration is not of the kind's form.
-    #[tactic(auto, using(zarr_basics_grids::proofs::MakingLaws::of_configurations))]
-    pub fn make(
-        &self,
-        _alloc: Global,
-        metadata: &MetadataV3,
-    ) -> Result<BytesCodec, PluginCreateError>
-        ensures { MakesCodec named_order result
-            (codec_form self.now (extension_seen metadata.now).configuration) }
-    {
-        match self {
-            CodecKind::Bytes => match read_bytes_codec(metadata) {
-                Ok(codec) => Ok(codec),
                 Err(error) => Err(unmade(error)),
             },
         }

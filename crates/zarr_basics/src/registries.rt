@@ -8,6 +8,7 @@ ghost use Rattle.zarr_basics.specs.Registries.{names_of, builtin_names};
 
 use std::alloc::{AllocError, Global};
 use zarr_basics_grids::GridKind;
+use zarr_codecs_kinds::CodecKind;
 use zarrs_data_type_names::DataTypeKind;
 use zarrs_plugin::{NamePattern, Registry};
 
@@ -18,13 +19,6 @@ pub enum ChunkKeyKind {
     Default,
     /// The indices with a separator between them.
     V2,
-}
-
-/// The kinds of codecs.
-#[derive(Clone, Copy, Debug, PartialEq, Eq)]
-pub enum CodecKind {
-    /// The elements one after another.
-    Bytes,
 }
 
 /// A registry for each kind of extension that an array document names.
@@ -80,7 +74,7 @@ fn data_types(alloc: Global) -> Result<Vec<(NamePattern, DataTypeKind)>, AllocEr
 
 /// The registries with the built-in names alone: the data types `bool`, `int8` to `int64`, `uint8` to `uint64`,
 /// `string`, `bytes`, also `variable_length_bytes`, `zarrs.optional` and `r` before digits, the grid `regular`, the key
-/// encodings `default` and `v2`, and the codec `bytes`.
+/// encodings `default` and `v2`, and the codecs `bytes`, `zarr_basics.offset` and `zarr_basics.sha256`.
 pub fn builtin_registries(alloc: Global) -> Result<Registries, AllocError>
     ensures { IfOk result (λ r. names_of r ≡ builtin_names) }
 {
@@ -90,7 +84,14 @@ pub fn builtin_registries(alloc: Global) -> Result<Registries, AllocError>
         alloc,
         &[("default", ChunkKeyKind::Default), ("v2", ChunkKeyKind::V2)],
     )?;
-    let codecs = named(alloc, &[("bytes", CodecKind::Bytes)])?;
+    let codecs = named(
+        alloc,
+        &[
+            ("bytes", CodecKind::Bytes),
+            ("zarr_basics.offset", CodecKind::Offset),
+            ("zarr_basics.sha256", CodecKind::Sha256),
+        ],
+    )?;
     Ok(Registries {
         data_types: Registry::with_builtin(alloc, data_types),
         grids: Registry::with_builtin(alloc, grids),

@@ -1,33 +1,11 @@
 //! What the kinds of extensions make, and the metadata of grids.
 
-use crate::texts::{gives, metadata};
+use crate::texts::metadata;
 use std::alloc::Global;
 use std::process::Abort;
 use std::test::Fail;
-use zarr_basics::{BasicGrid, CodecKind, RegularGrid, builtin_registries};
+use zarr_basics::{BasicGrid, RegularGrid, builtin_registries};
 use zarrs_chunk_grid::{ChunkGrid, ChunkGridTraits};
-
-// The codec of metadata.
-fn makes_codec(rt: &impl Abort, alloc: Global, text: &str, want: &str) -> Result<(), Fail> {
-    let metadata = metadata(alloc, text)?;
-    gives(rt, alloc, CodecKind::Bytes.make(alloc, &metadata), want);
-    Ok(())
-}
-
-#[test]
-fn codecs(rt: HostRuntime) -> Result<(), Fail> {
-    let big = r#"{"name":"bytes","configuration":{"endian":"big"}}"#;
-    makes_codec(&rt, rt.alloc(), big, "BytesCodec { endianness: Some(Big) }")?;
-    makes_codec(
-        &rt,
-        rt.alloc(),
-        r#""bytes""#,
-        "BytesCodec { endianness: None }",
-    )?;
-    let other = r#"{"name":"bytes","configuration":{"endian":"middle"}}"#;
-    makes_codec(&rt, rt.alloc(), other, "Config")?;
-    Ok(())
-}
 
 // The metadata of the grid that metadata makes over an array of shape [5, 4].
 fn told(alloc: Global, text: &str) -> Result<String, Fail> {

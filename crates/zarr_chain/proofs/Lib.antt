@@ -2,3 +2,4 @@ pub mod ListSteps
 pub mod LevelLaws
 pub mod ChainLaws
 pub mod RegionLaws
+pub mod BuildLaws

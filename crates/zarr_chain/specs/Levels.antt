@@ -22,6 +22,11 @@ abbrev pub top : {A : Type 0} → List (CodecLevel A) → Level → Level
 top [] bottom = bottom
 top (step ∷ steps) bottom = above step
 
+-- the bytes of its fill value
+abbrev pub top_fill : {A : Type 0} → List (CodecLevel A) → List ℕ → List ℕ
+top_fill [] bottom = bottom
+top_fill (step ∷ steps) bottom = fill_bytes step.fill_value
+
 -- each level's elements can be counted and their bytes be addressed
 abbrev pub AreFit : {A : Type 0} → List (CodecLevel A) → Type 0
 AreFit [] = Unit {0}

@@ -2,3 +2,4 @@ pub mod Levels
 pub mod Values
 pub mod Chain
 pub mod Regions
+pub mod Building

@@ -73,8 +73,8 @@ impl<A: ArrayToArrayCodecTraits, B: ArrayToBytesCodecTraits, C: BytesToBytesCode
     /// The value of a chunk, which decodes to these elements under all options.
     ///
     /// # Errors
-    /// [`CodecError`] exactly where the bytes are not valid elements of the chunk, with the first reason; or where the
-    /// array-to-bytes codec takes no such elements, or memory runs out.
+    /// [`CodecError`] where the bytes are not valid elements of the chunk, with the first reason; where the array-to-bytes
+    /// codec takes no such elements; or where memory runs out.
     pub fn encode(
         &self,
         alloc: Global,

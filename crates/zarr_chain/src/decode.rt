@@ -53,8 +53,7 @@ pub fn decode_through<C: BytesToBytesCodecTraits>(
 /// The elements of the first level from those of the bottom, the last codec first.
 ///
 /// # Errors
-/// [`CodecError`] where a level is not served, where the bytes are not valid elements of the bottom, or where memory
-/// runs out.
+/// Of valid elements at levels that are served only [`CodecError::OutOfMemory`]; else those of the codecs.
 pub fn decode_up<A: ArrayToArrayCodecTraits>(
     alloc: Global,
     levels: &[CodecLevel<A>],

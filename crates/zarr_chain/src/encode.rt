@@ -20,8 +20,8 @@ use zarrs_codec_traits::{ArrayToArrayCodecTraits, BytesToBytesCodecTraits};
 /// The elements of the bottom that decode to those of the first level, the first codec first.
 ///
 /// # Errors
-/// [`CodecError`] exactly where a level is not served, or where there is a level and the bytes are not valid elements of
-/// the first one; or where memory runs out.
+/// At levels that are served [`CodecError`] exactly where there is one and the bytes are not valid elements of the first;
+/// or where memory runs out.
 pub fn encode_down<A: ArrayToArrayCodecTraits>(
     alloc: Global,
     levels: &[CodecLevel<A>],

@@ -2,10 +2,10 @@
 use Rattle.std.proofs.Common.{◌≡◌, ℕ, ◌<◌, ◌≤◌, false, List, length, map, Option, Some, None, Result, Ok, Err, IfOk, IfErr, OnOk, MatchResult, ◌⊎◌, inl, inr, refl, sym, ap, ◌∙◌, subst, arith, Vec}
 use Rattle.std.specs.declared.alloc.Global.{Global}
 use Rattle.zarr_model.specs.Prelude.{Shown, Told, AreRefused, IsUntouched, all_asks, Rose}
-use Rattle.zarr_array.specs.Document.{describe}
-use Rattle.zarr_array.specs.Opening.{OpenRefusal, not_opened}
+use Rattle.zarr_array_parts.specs.Document.{describe}
+use Rattle.zarr_array_parts.specs.Opening.{OpenRefusal, not_opened}
 use Rattle.zarr_array.specs.OpenArray.{described}
-use Rattle.zarr_array.specs.OpenError.{open_refusal_of}
+use Rattle.zarr_array_parts.specs.OpenError.{open_refusal_of}
 use Rattle.zarr_array.specs.Command.{command_of}
 use Rattle.zarr_cli_lines.specs.Parts.{entry_view}
 use Rattle.zarr_cli.specs.Words.{Settings, ReadsBy, settings_of, IsReading}

@@ -1,7 +1,7 @@
 -- The status of an ending.
 use Rattle.std.proofs.Common.{◌≡◌, ℕ, Option, Some, None, refl, sym, ap, subst}
-use Rattle.zarr_array.specs.Opening.{OpenRefusal}
-use Rattle.zarr_array.specs.OpenError.{open_refusal_of}
+use Rattle.zarr_array_parts.specs.Opening.{OpenRefusal}
+use Rattle.zarr_array_parts.specs.OpenError.{open_refusal_of}
 use Rattle.zarr_cli.specs.Ending.{Ending}
 use Rattle.zarr_cli.specs.Ending as end
 use Rattle.zarr_cli.specs.Status.{ending_of, refused_by}

@@ -6,13 +6,13 @@ use Rattle.hex.specs.Hex.{encode_with, decode_pairs}
 use Rattle.zarr_model.specs.Prelude.{whole, tuple_at, linear_index, linear_indices, undamaged, blank_array, of_bytes, null, some, fixed, variable, optional, fixed_size, fill_element, int_type, uint_type, raw_type, string_type, optional_type, fixed_bytes, variable_bytes, optional_bytes, default_keys, v2_keys, chunk_key, Options, offset_codec, bytes_codec, little, big, decode_array_to_bytes, decode_bytes, decode_levels, Description, layout, write, refusal, bytes_refusal, is_too_large, has_long_step, invalid_variable_sized_array_offsets, invalid_mask, expected_optional_bytes, replies, all_asks, all_bytes, present_in}
 use Rattle.zarr_cli.specs.Words.{Settings, with_words, first_settings, settings_of}
 use Rattle.zarr_cli.specs.Run.{IsDump}
-use Rattle.zarr_array.specs.Opening.{chain_order}
+use Rattle.zarr_array_parts.specs.Opening.{chain_order}
 use Rattle.zarr_cli.specs.Ending.{bad_input, refused_document, damaged_chunk, write_fault, ending_line}
 use Rattle.zarr_cli_lines.specs.Text.{input_lines, first_entries, line_command, replies_text, good_lines}
 use Rattle.zarr_basics_grids.specs.GridForms.{boundaries}
-use Rattle.zarr_array.specs.Document.{offset, transpose, checksum, describe}
-use Rattle.zarr_array.specs.Document as Doc
-use Rattle.zarr_array.proofs.Documents.{plain_document}
+use Rattle.zarr_array_parts.specs.Document.{offset, transpose, checksum, describe}
+use Rattle.zarr_array_parts.specs.Document as Doc
+use Rattle.zarr_array_parts.proofs.Documents.{plain_document}
 use Rattle.zarr_cli.proofs.Worked.{reply_lines, left_in_chunks, kept_in_chunks, left_chunks, kept_chunks, its_commands, first_array, empty_store, store_of, holding}
 
 abbrev plain_options : Options
@@ -292,8 +292,13 @@ numbers_read = (refl, refl, refl, refl, refl)
 -- the words and the command lines that a program knows
 known_words : (settings_of [] ≡ Some first_settings) × (settings_of (codes "-dump" ∷ []) ≡ None)
     × (settings_of (codes "--dump" ∷ []) ≡ Some (record first_settings { dump = true }))
-    × (settings_of (codes "--no-checksums" ∷ []) ≡ None) × (settings_of (codes "--make" ∷ codes "5" ∷ []) ≡ None)
-known_words = (refl, refl, refl, refl, refl)
+    × (settings_of (codes "--no-checksums" ∷ []) ≡ Some (record first_settings { options = record plain_options { validate_checksums = false } }))
+    × (settings_of (codes "--make" ∷ codes "5" ∷ []) ≡ Some (record first_settings { make = Some 5 }))
+    × (settings_of (codes "--make" ∷ codes "5" ∷ codes "--dump" ∷ codes "--make" ∷ codes "6" ∷ []) ≡ Some (record first_settings { dump = true; make = Some 6 }))
+    × (settings_of (codes "--make" ∷ []) ≡ None) × (settings_of (codes "--make" ∷ codes "x" ∷ []) ≡ None)
+    × (settings_of (codes "--make" ∷ codes "01" ∷ []) ≡ None) × (settings_of (codes "--make" ∷ codes "5" ∷ codes "--make" ∷ []) ≡ None)
+unfolding digits
+known_words = (refl, refl, refl, refl, refl, refl, refl, refl, refl, refl)
 
 known_commands : (good_lines (line_command (fixed 1)) (codes "key c/0 h01" ∷ codes "read 0..1" ∷ codes "write 0..1 00" ∷ []) ≡ 2)
     × (good_lines (line_command (fixed 1)) (codes "key c/0 h01" ∷ codes "read 0..1" ∷ codes "write 0..1 h00" ∷ []) ≡ 3)

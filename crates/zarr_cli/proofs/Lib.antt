@@ -13,3 +13,4 @@ mod RefusingLemmas
 mod EndingLemmas
 mod AnswerLemmas
 mod KeysLaws
+mod MadeLemmas

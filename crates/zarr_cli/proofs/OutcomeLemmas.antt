@@ -3,10 +3,10 @@ use Rattle.std.proofs.Common.{◌≡◌, ℕ, ◌+◌, ◌<◌, ◌≤◌, false
 use Rattle.std.specs.Str.{IsValidUpTo}
 use Rattle.std.proofs.lemmas.Str.{utf8_valid_len-IsUtf8, utf8_valid_len-IsValidUpTo}
 use Rattle.zarr_model.specs.Prelude.{Content, IsHonest, with_keys, Shown, layout, AreRefused, IsUntouched}
-use Rattle.zarr_array.specs.Document.{ArrayDocument, describe}
-use Rattle.zarr_array.specs.Opening.{OpenRefusal, opened, not_opened, open_builtin}
+use Rattle.zarr_array_parts.specs.Document.{ArrayDocument, describe}
+use Rattle.zarr_array_parts.specs.Opening.{OpenRefusal, opened, not_opened, open_builtin}
 use Rattle.zarr_array.specs.OpenArray.{documented, described}
-use Rattle.zarr_array.specs.OpenError.{open_refusal_of}
+use Rattle.zarr_array_parts.specs.OpenError.{open_refusal_of}
 use Rattle.zarr_array.specs.Command.{command_of}
 use Rattle.zarr_cli_lines.specs.Text.{good_lines, line_at}
 use Rattle.zarr_cli_lines.specs.Parts.{entry_view}

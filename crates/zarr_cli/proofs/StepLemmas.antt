@@ -5,8 +5,8 @@ use Rattle.std.proofs.Math.Seq.{drop-cons}
 use Rattle.std.proofs.lemmas.List.{get_or-map, length-map}
 use Rattle.zarr_model.specs.Prelude.{fixed, Command, Content, kind, with_key, with_keys, ReadsNext, PutsKey}
 use Rattle.zarr_model.proofs.FailureLaws.{same_bytes, bytes_eq-refl}
-use Rattle.zarr_array.specs.Opening.{opened, open_builtin}
-use Rattle.zarr_array.specs.Chunk.{sized_kind}
+use Rattle.zarr_array_parts.specs.Opening.{opened, open_builtin}
+use Rattle.zarr_array_parts.specs.Sizes.{sized_kind}
 use Rattle.zarr_array.specs.OpenArray.{documented, described}
 use Rattle.zarr_array.specs.Command.{command_of}
 use Rattle.zarr_array.proofs.FormLaws.{sized_is}

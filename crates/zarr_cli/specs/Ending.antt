@@ -2,7 +2,7 @@
 use Rattle.std.specs.Prelude.{◌≡◌, ℕ, ◌⊎◌, List, [], ◌++◌, take, codes, decimal, Option, Some, None, option_map}
 use Rattle.zarr_model.specs.Prelude.{Given, Rose}
 use Rattle.zarr_cli_lines.specs.Text.{line_of}
-use Rattle.zarr_array.specs.Opening.{OpenRefusal, open_refusal_name}
+use Rattle.zarr_array_parts.specs.Opening.{OpenRefusal, open_refusal_name}
 
 -- the endings
 pub data Ending : Type 0 where

@@ -3,8 +3,8 @@ use Rattle.std.specs.Prelude.{◌≡◌, ℕ, ◌+◌, ◌<◌, ◌≤◌, ◌�
 use Rattle.std.specs.Str.{IsValidUpTo}
 use Rattle.zarr_model.specs.Prelude.{Content, with_keys, Shown, Command, kind}
 use Rattle.zarr_cli_lines.specs.Text.{line_command, input_lines, first_entries, good_lines, line_at}
-use Rattle.zarr_array.specs.Document.{ArrayDocument, describe}
-use Rattle.zarr_array.specs.Opening.{OpenRefusal, opened, not_opened, open_builtin}
+use Rattle.zarr_array_parts.specs.Document.{ArrayDocument, describe}
+use Rattle.zarr_array_parts.specs.Opening.{OpenRefusal, opened, not_opened, open_builtin}
 use Rattle.zarr_cli.specs.Words.{IsReading}
 
 -- the greatest number of bytes that an input may have

@@ -5,4 +5,6 @@ pub mod Ending
 pub mod Status
 pub mod Seen
 pub mod Answers
+pub mod Made
 pub mod Steps
+pub mod MadeSteps

@@ -6,8 +6,8 @@ use Rattle.std.specs.FinMap.{is_sorted, find}
 use Rattle.std.specs.List.{list_any}
 use Rattle.zarr_model.specs.Prelude.{Element, Array, IsChunk, Content, Means, IsHonest, Command, Description, layout, replies, changes_chunk, LeavesArray, MeetsNoDamage, IsDamageMet}
 use Rattle.zarr_cli_lines.specs.Text.{commands_of, replies_text, entries_text}
-use Rattle.zarr_array.specs.Document.{ArrayDocument, describe}
-use Rattle.zarr_array.specs.Opening.{opened, open_builtin}
+use Rattle.zarr_array_parts.specs.Document.{ArrayDocument, describe}
+use Rattle.zarr_array_parts.specs.Opening.{opened, open_builtin}
 use Rattle.zarr_cli.specs.Words.{Settings, ReadsBy}
 use Rattle.zarr_cli.specs.Input.{input_limit, document_line, lines_after_document, command_grammar, store_after_keys, IsLineKey}
 

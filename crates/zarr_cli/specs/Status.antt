@@ -2,10 +2,10 @@
 use Rattle.std.specs.Prelude.{ℕ, List, map, Option, Some, None, String, string_bytes}
 use Rattle.zarr_cli.specs.declared.status.Status.{Status}
 use Rattle.zarr_cli.specs.declared.status.Status.TheVariants.{Done, BadWords, BadInput, Document, Chunk, Store, Read, Write, TooLong, OutOfMemory}
-use Rattle.zarr_array.specs.Opening.{OpenRefusal}
-use Rattle.zarr_array.specs.OpenError.{open_refusal_of}
+use Rattle.zarr_array_parts.specs.Opening.{OpenRefusal}
+use Rattle.zarr_array_parts.specs.OpenError.{open_refusal_of}
 use Rattle.zarr_cli.specs.Ending.{Ending, done, bad_words, bad_input, refused_document, damaged_chunk, store_fault, read_fault, write_fault, too_long, out_of_memory}
-use Rattle.zarr_array.specs.Options.{options_of}
+use Rattle.zarrs_codec_traits.specs.Views.{options_of}
 use Rattle.zarr_cli.specs.declared.words.Settings as Held
 use Rattle.zarr_cli.specs.Words.{Settings}
 
@@ -31,10 +31,10 @@ ending_of Write = write_fault
 ending_of TooLong = too_long
 ending_of OutOfMemory = out_of_memory
 
--- the settings that the program's own ones stand for: it makes no input
+-- the settings that the program's own ones stand for
 abbrev pub settings_view : Held.Settings → Settings
 settings_view settings = record {
   dump = settings.dump;
   options = options_of settings.options;
-  make = None;
+  make = settings.make;
 }

@@ -1,10 +1,10 @@
 -- What each step of the program promises to the next one.
 use Rattle.std.specs.Prelude.{◌≡◌, ℕ, ◌+◌, ◌<◌, Bool, false, List, [], ◌++◌, length, map, flat_map, IsUtf8, Contains, Option, Some, None, unwrap_or, Result, Ok, Err}
 use Rattle.zarr_model.specs.Prelude.{Element, Array, Options, Content, Means, Shown, Told, Command, Description, layout, replies, LeavesArray, AreRefused, IsUntouched, all_asks, counted, Rose, IsDamageMet, MeetsNoDamage}
-use Rattle.zarr_array.specs.Document.{describe}
-use Rattle.zarr_array.specs.Opening.{OpenRefusal, OpenAnswer, opened, not_opened, open_builtin}
+use Rattle.zarr_array_parts.specs.Document.{describe}
+use Rattle.zarr_array_parts.specs.Opening.{OpenRefusal, OpenAnswer, opened, not_opened, open_builtin}
 use Rattle.zarr_array.specs.OpenArray.{documented}
-use Rattle.zarr_array.specs.OpenError.{open_refusal_of}
+use Rattle.zarr_array_parts.specs.OpenError.{open_refusal_of}
 use Rattle.zarr_array.specs.Command.{command_of}
 use Rattle.zarr_array.specs.declared.open.OpenArray.{OpenArray}
 use Rattle.zarr_array.specs.declared.command.Reply.{Reply}
@@ -135,7 +135,7 @@ IsRunFault _ _ _ _ _ _ = ⊥
 -- the status of a session that ended early
 abbrev pub session_status : SessionErrorKind → Status
 session_status (NotOpened error) = Document error
-session_status (ChunkDecode key) = Chunk key
+session_status (ChunkDecode key error) = Chunk key
 session_status Kind.Store = Store
 session_status Kind.OutOfMemory = OutOfMemory
 

@@ -1,5 +1,5 @@
 -- The words of the command line.
-use Rattle.std.specs.Prelude.{◌≡◌, ℕ, Bool, true, false, if◌then◌else◌, List, [], ◌∷◌, codes, bytes_eq, Option, Some, None, option_and_then}
+use Rattle.std.specs.Prelude.{◌≡◌, ◌⊎◌, ℕ, Bool, true, false, if◌then◌else◌, List, [], ◌∷◌, codes, bytes_eq, Option, Some, None, option_and_then}
 use Rattle.zarr_model.specs.Prelude.{Options}
 use Rattle.zarrs_data_type_names.specs.Number.{number_of}
 
@@ -43,13 +43,15 @@ with_words knows true (word ∷ words) settings =
 -- whether the program knows a word
 abbrev pub is_known : List ℕ → Bool
 is_known word = if bytes_eq word (codes "--dump") then true
-    else bytes_eq word (codes "--store-empty-chunks")
+    else if bytes_eq word (codes "--make") then true
+    else if bytes_eq word (codes "--store-empty-chunks") then true
+    else bytes_eq word (codes "--no-checksums")
 
--- the settings of the words, if each is known
+-- the settings of the words, if each is known and each `--make` has its number
 abbrev pub settings_of : List (List ℕ) → Option Settings
 settings_of words = with_words is_known false words first_settings
 
--- a word is not known
+-- a word is not known, or a `--make` has no number behind it
 abbrev pub HasBadWords : List (List ℕ) → Type 0
 HasBadWords words = settings_of words ≡ None
 
@@ -59,3 +61,12 @@ ReadsBy words settings = (settings_of words ≡ Some settings) × (settings.make
 
 abbrev pub IsReading : List (List ℕ) → Type 0
 IsReading words = (settings : Settings) × ReadsBy words settings
+
+-- the words are known, and say that the run is made from a number, under these options
+abbrev pub MakesFrom : List (List ℕ) → ℕ → Options → Type 0
+MakesFrom words number options = (settings : Settings) × (settings_of words ≡ Some settings)
+    × (settings.make ≡ Some number) × (settings.options ≡ options)
+
+-- the words do not say so: they are bad, or call for the input to be read
+abbrev pub MakesNothing : List (List ℕ) → Type 0
+MakesNothing words = HasBadWords words ⊎ IsReading words

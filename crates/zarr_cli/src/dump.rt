@@ -12,7 +12,7 @@ use zarrs_storage::store::{StorageError, Store};
 use zarrs_storage::store_key::StoreKey;
 
 // The status of a call of the store that gave no answer.
-fn storage_status(error: StorageError) -> Status
+pub(crate) fn storage_status(error: StorageError) -> Status
     ensures { result ≡ storage_status error }
 {
     match error {

@@ -1,15 +1,14 @@
 //! What an input says.
 
 ghost use Rattle.std.specs.Prelude.{◌≡◌, ◌==◌, ◌+◌, ◌≤◌, length, count_by, IfOk, IfErr};
-ghost use Rattle.zarr_array.specs.Opening.{open_builtin};
+ghost use Rattle.zarr_array_parts.specs.Opening.{open_builtin};
 ghost use Rattle.zarr_cli.specs.Input.{input_limit};
 ghost use Rattle.zarr_cli.specs.Steps.{SaysInput, OpensLine, IsInputFault};
 
 use crate::status::Status;
 use std::alloc::Global;
-use zarr_array::builtin_registries;
 use zarr_array::command::Command;
-use zarr_array::open::{OpenArray, OpenError};
+use zarr_array::{OpenArray, OpenError, builtin_registries};
 use zarr_cli_lines::entry::Entry;
 use zarr_cli_lines::lines::Lines;
 use zarr_cli_lines::parse::{LineError, ParsedLines, parse_lines};
@@ -31,7 +30,7 @@ fn line_after(bytes: &[u8]) -> u64
 }
 
 // The array of a first line, by the built-in names.
-fn open_line(alloc: Global, line: &str) -> Result<OpenArray, Status>
+pub(crate) fn open_line(alloc: Global, line: &str) -> Result<OpenArray, Status>
     ensures { OpensLine result (open_builtin line.now) }
 {
     let Ok(registries) = builtin_registries(alloc) else {

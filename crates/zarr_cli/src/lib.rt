@@ -3,6 +3,7 @@
 
 mod dump;
 mod input;
+mod made;
 pub mod program;
 mod read;
 mod run;

@@ -5,11 +5,12 @@ ghost use Rattle.zarr_model.specs.Prelude.{Rose, HasCause, IsHonest, with_keys, 
 ghost use Rattle.zarrs_storage.specs.Store.{IsFault as IsStoreFault, IsPlain};
 ghost use Rattle.zarr_array.specs.OpenArray.{described};
 ghost use Rattle.zarr_array.specs.Command.{command_of};
-ghost use Rattle.zarr_array.specs.Options.{options_of};
+ghost use Rattle.zarrs_codec_traits.specs.Views.{options_of};
 ghost use Rattle.zarr_cli_lines.specs.Parts.{entry_view};
 ghost use Rattle.zarr_cli.specs.Input.{with_entries};
 ghost use Rattle.zarr_cli.specs.Run.{IsChangedKey};
 ghost use Rattle.zarr_cli.specs.Status.{settings_view};
+ghost use Rattle.zarr_cli.specs.MadeSteps.{RepliedBy};
 ghost use Rattle.zarr_cli.specs.Steps.{answers_text, RepliesTo, PrintsAll, IsRunFault, IsKeyOf, IsUnasked, session_status};
 
 use crate::dump::push_dump;
@@ -17,10 +18,10 @@ use crate::input::ParsedInput;
 use crate::status::Status;
 use crate::words::Settings;
 use std::alloc::{AllocError, Global};
+use zarr_array::CodecOptions;
 use zarr_array::command::{Command, Reply};
 use zarr_array::error::SessionErrorKind;
 use zarr_array::open::OpenArray;
-use zarr_array::options::CodecOptions;
 use zarr_cli_lines::entry::Entry;
 use zarr_cli_lines::reply_text::push_reply;
 use zarrs_storage::store::{StorageError, Store};
@@ -48,7 +49,11 @@ fn set_entries<S: Store>(
 }
 
 // The lines of replies, whose elements have `size` bytes.
-fn text_of_replies(alloc: Global, replies: &[Reply], size: usize) -> Result<Vec<u8>, AllocError>
+pub(crate) fn text_of_replies(
+    alloc: Global,
+    replies: &[Reply],
+    size: usize,
+) -> Result<Vec<u8>, AllocError>
     requires { 0 < size }
     ensures { IfOk result (λ text. text.items ≡ answers_text size replies.now) }
 {
@@ -65,9 +70,39 @@ fn session_status(kind: SessionErrorKind) -> Status
 {
     match kind {
         SessionErrorKind::NotOpened(error) => Status::Document(error),
-        SessionErrorKind::ChunkDecode { key } => Status::Chunk { key },
+        SessionErrorKind::ChunkDecode { key, error: _ } => Status::Chunk { key },
         SessionErrorKind::Store => Status::Store,
         SessionErrorKind::OutOfMemory => Status::OutOfMemory,
+    }
+}
+
+/// Runs commands over a store, and gives their replies.
+pub(crate) fn replies_of<S: Store>(
+    alloc: Global,
+    array: &OpenArray,
+    commands: &[Command],
+    store: &mut S,
+    options: &CodecOptions,
+) -> Result<Vec<Reply>, Status>
+    ensures ran { IfOk result (λ held. RepliedBy (described array.now) (options_of options.now)
+        (map command_of commands.now) (S.shown store.old) (S.shown store.new) held.items) }
+    ensures refused { AreRefused (described array.now) (map command_of commands.now) →
+        IsUntouched (S.shown store.old) (S.shown store.new) }
+    ensures unchanged { (key : List ℕ) →
+        ¬ IsChangedKey (described array.now) (map command_of commands.now) key →
+        (S.shown store.new).content key ≡ (S.shown store.old).content key }
+    ensures later { (S.shown store.old).faults ≤ (S.shown store.new).faults }
+    ensures fault { IfErr result (λ status.
+        IsRunFault (described array.now) (options_of options.now)
+        (map command_of commands.now) (S.shown store.old) (S.shown store.new) status) }
+    ensures complete { IsHonest (layout (described array.now) (options_of options.now))
+        (S.shown store.old).content →
+        ¬ Rose (S.shown store.old).faults (S.shown store.new).faults →
+        IfErr result (λ status. status ≡ Status.OutOfMemory) }
+{
+    match array.run_commands(alloc, commands, store, options) {
+        Ok(replies) => Ok(replies),
+        Err(error) => Err(session_status(error.kind)),
     }
 }
 
@@ -95,9 +130,9 @@ fn text_of_commands<S: Store>(
         ¬ Rose (S.shown store.old).faults (S.shown store.new).faults →
         IfErr result (λ status. status ≡ Status.OutOfMemory) }
 {
-    match array.run_commands(alloc, commands, store, options) {
+    match replies_of(alloc, array, commands, store, options) {
         Ok(replies) => Ok(text_of_replies(alloc, &replies, array.element_size())?),
-        Err(error) => Err(session_status(error.kind)),
+        Err(status) => Err(status),
     }
 }
 

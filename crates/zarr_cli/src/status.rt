@@ -5,7 +5,7 @@ ghost use Rattle.zarr_cli.specs.Ending.{ending_code};
 ghost use Rattle.zarr_cli.specs.Status.{ending_of};
 
 use std::alloc::AllocError;
-use zarr_array::open::OpenError;
+use zarr_array::OpenError;
 use zarrs_storage::store_key::StoreKey;
 
 /// How the program ends.

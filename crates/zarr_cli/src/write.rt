@@ -7,7 +7,7 @@ ghost use Rattle.zarr_cli.specs.Status.{ending_of};
 
 use crate::status::Status;
 use std::alloc::{AllocError, Global};
-use zarr_array::open::OpenError;
+use zarr_array::OpenError;
 use zarrs_storage::sink::Sink;
 
 /// Writes a text piece by piece. False says that the sink failed.

@@ -6,11 +6,12 @@ use Rattle.std.proofs.Math.Nat.{suc-mul}
 use borrow.Rule.Slice.PartMut.{put_mid}
 use Rattle.std.proofs.Math.Seq.{take-length}
 use Rattle.hex.specs.Hex.{encode_lower}
-use Rattle.zarr_model.specs.Prelude.{Element, of_bytes, fixed, fixed_bytes, meaning, pieces, Reply, elements, done, refused, Refusal, answered, answered_done, answered_refused, Matches, refusal_name}
+use Rattle.zarr_model.specs.Prelude.{Element, of_bytes, fixed, ArrayBytes, fixed_bytes, variable_bytes, optional_bytes, meaning, pieces, Reply, elements, done, refused, Refusal, answered, answered_done, answered_refused, Matches, refusal_name}
 use Rattle.zarrs_codec_bytes.specs.Elements.{elements_of, fixed_elements}
 use Rattle.zarrs_codec_bytes.proofs.FixedLaws.{meaning_is, meaning_long}
 use Rattle.zarr_cli_lines.specs.Text.{element_text, hex_text, reply_text, line_of}
-use Rattle.zarr_cli_lines.specs.Parts.{bytes_text, answer_text, AppendsReply}
+use Rattle.zarr_cli_lines.specs.Parts.{bytes_text, fixed_part, answer_text, AppendsReply}
+use Rattle.zarrs_codec_array_bytes.specs.Raw.{raw_of}
 use Rattle.zarr_array.specs.declared.command.Reply.{Reply as Held}
 use Rattle.zarr_array.specs.declared.command.Reply.TheVariants.{Elements, Done, Refused}
 use Rattle.zarr_array.specs.Command.{answer_of, refusal_of}
@@ -63,6 +64,22 @@ matched_text n value (elements list) some h =
 matched_text n value done some h = absurd h
 matched_text n value (refused why) some h = absurd h
 
+-- elements of another kind match no reply of elements of one size
+elements_matched : (n : ℕ) (bytes : ArrayBytes) (answer : Reply) → 0 < n → Matches (fixed n) (answered bytes) answer → reply_text answer ≡ codes "ok" ++ bytes_text n (fixed_part bytes)
+elements_matched n (fixed_bytes value) answer some h = matched_text n value answer some h
+elements_matched n (variable_bytes value offsets) (elements list) some h = absurd (none_matched h)
+  where
+    none_matched : None ≡ Some list → ⊥
+    none_matched e = cc
+elements_matched n (variable_bytes value offsets) done some h = absurd h
+elements_matched n (variable_bytes value offsets) (refused why) some h = absurd h
+elements_matched n (optional_bytes under mask) (elements list) some h = absurd (none_matched h)
+  where
+    none_matched : None ≡ Some list → ⊥
+    none_matched e = cc
+elements_matched n (optional_bytes under mask) done some h = absurd h
+elements_matched n (optional_bytes under mask) (refused why) some h = absurd h
+
 -- the text of a reply that refuses
 pub refused_text : (n : ℕ) (why : Refusal) (answer : Reply) → Matches (fixed n) (answered_refused why) answer → reply_text answer ≡ codes "refused " ++ refusal_name why
 refused_text n why (elements list) h = absurd h
@@ -77,7 +94,7 @@ done_text n (refused why) h = absurd h
 
 -- so it is with each reply, and its line
 pub answered_text : (n : ℕ) (reply : Held) (answer : Reply) → 0 < n → Matches (fixed n) (answer_of reply) answer → reply_text answer ≡ answer_text n reply
-answered_text n (Elements value) answer some h = matched_text n value.items answer some h
+answered_text n (Elements bytes) answer some h = elements_matched n (raw_of bytes) answer some h
 answered_text n Done answer some h = done_text n answer h
 answered_text n (Refused why) answer some h = refused_text n (refusal_of why) answer h
 

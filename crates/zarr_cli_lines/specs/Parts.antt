@@ -3,9 +3,10 @@ use Rattle.std.specs.Prelude.{◌≡◌, ℕ, ◌-◌, ◌<◌, List, [], ◌∷
 use Rattle.std.specs.Option.{option_map_or}
 use Rattle.std.specs.Borrow.{Bor}
 use Rattle.std.specs.declared.ops.Range.{Range}
-use Rattle.zarr_model.specs.Prelude.{Span, fixed, Command, Matches, refusal_name}
+use Rattle.zarr_model.specs.Prelude.{Span, fixed, ArrayBytes, fixed_bytes, Command, Matches, refusal_name}
 use Rattle.zarr_model.specs.Command as Model
 use Rattle.zarrs_codec_bytes.specs.Elements.{elements_of}
+use Rattle.zarrs_codec_array_bytes.specs.Raw.{raw_of}
 use Rattle.zarr_array.specs.declared.command.Reply.{Reply}
 use Rattle.zarr_array.specs.declared.command.Reply.TheVariants.{Elements, Done, Refused}
 use Rattle.zarr_array.specs.Command.{answer_of, refusal_of}
@@ -51,9 +52,14 @@ IsLineFault OutOfMemory grammar lines = Unit {0}
 abbrev pub bytes_text : ℕ → List ℕ → List ℕ
 bytes_text n value = flat_map (λ element. 32 ∷ hex_text element) (elements_of n value)
 
+-- the bytes of elements of one size; of others none
+abbrev pub fixed_part : ArrayBytes → List ℕ
+fixed_part (fixed_bytes value) = value
+fixed_part _ = []
+
 -- the text of a reply as the program holds it
 abbrev pub answer_text : ℕ → Reply → List ℕ
-answer_text n (Elements value) = codes "ok" ++ bytes_text n value.items
+answer_text n (Elements bytes) = codes "ok" ++ bytes_text n (fixed_part (raw_of bytes))
 answer_text n Done = codes "done"
 answer_text n (Refused why) = codes "refused " ++ refusal_name (refusal_of why)
 

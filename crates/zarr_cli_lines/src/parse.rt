@@ -16,6 +16,7 @@ use crate::parts::cut;
 use std::alloc::{AllocError, AllocFailed, Global};
 use thiserror::Error;
 use zarr_array::command::Command;
+use zarrs_codec_array_bytes::ArrayBytes;
 
 /// The key lines and the commands of an input.
 #[derive(Drop)]
@@ -78,7 +79,7 @@ fn parse_write(
     let Some(value) = parse_elements(alloc, elements, size)? else {
         return Ok(None);
     };
-    Ok(Some(Command::Write(region, value)))
+    Ok(Some(Command::Write(region, ArrayBytes::from(value))))
 }
 
 /// The command of a line, if the line is one; elements have `size` bytes. An error comes only for want of memory.

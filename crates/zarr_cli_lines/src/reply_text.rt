@@ -5,11 +5,14 @@ ghost use Rattle.hex.specs.Hex.{encode_lower};
 ghost use Rattle.zarr_array.specs.Command.{refusal_of};
 ghost use Rattle.zarr_model.specs.Prelude.{refusal_name};
 ghost use Rattle.zarr_cli_lines.specs.Text.{hex_text, line_of};
-ghost use Rattle.zarr_cli_lines.specs.Parts.{bytes_text, answer_text, AppendsReply};
+ghost use Rattle.zarr_cli_lines.specs.Parts.{bytes_text, fixed_part, answer_text, AppendsReply};
+ghost use Rattle.zarrs_codec_array_bytes.specs.Raw.{raw_of};
 
 use std::alloc::AllocError;
 use zarr_array::command::Reply;
 use zarr_array::refusal::Refusal;
+use zarrs_codec_array_bytes::ArrayBytes;
+use zarrs_codec_array_bytes::array_bytes::bytes_in;
 
 // Appends room for `count` pieces of `width` bytes.
 fn push_room(text: &mut Vec<u8>, count: usize, width: usize) -> Result<(), AllocError>
@@ -132,12 +135,22 @@ fn push_refused(text: &mut Vec<u8>, refusal: Refusal) -> Result<(), AllocError>
     text.extend_from_slice(refusal.name().as_bytes())
 }
 
+// The bytes of elements of one size; of others none.
+fn fixed_bytes_in<'b>(bytes: &'b ArrayBytes<'static>) -> &'b [u8]
+    ensures { result.now ≡ fixed_part (raw_of bytes.now) }
+{
+    match bytes {
+        ArrayBytes::Fixed(raw) => bytes_in(raw),
+        ArrayBytes::Variable(_) | ArrayBytes::Optional(_) => &[],
+    }
+}
+
 fn push_answer(text: &mut Vec<u8>, reply: &Reply, size: usize) -> Result<(), AllocError>
     requires { 0 < size }
     ensures { OnOk result (text.new.items ≡ text.old.items ++ answer_text size reply.now) }
 {
     match reply {
-        Reply::Elements(elements) => push_ok(text, elements, size),
+        Reply::Elements(bytes) => push_ok(text, fixed_bytes_in(bytes), size),
         Reply::Done => text.extend_from_slice(b"done"),
         Reply::Refused(refusal) => push_refused(text, *refusal),
     }

@@ -7,3 +7,5 @@ mod coding;
 mod making;
 #[cfg(test)]
 mod texts;
+#[cfg(test)]
+mod variable;

@@ -1,15 +1,17 @@
 //! A read and a write on an open array.
 
 ghost use Rattle.std.specs.Prelude.{[], ◌∷◌, IfOk, OnOk};
-ghost use Rattle.zarr_model.specs.Prelude.{fixed_bytes, layout, read, write, IsHonest, MeetsNoDamage, ServesArray, RefusesRight};
+ghost use Rattle.zarrs_codec_array_bytes.specs.Raw.{raw_of};
+ghost use Rattle.zarr_model.specs.Prelude.{layout, read, write, IsHonest, MeetsNoDamage, ServesArray, RefusesRight};
 ghost use Rattle.zarrs_array_subset.specs.ArraySubset.{region as region_of_subset};
-ghost use Rattle.zarr_array.specs.Options.{options_of};
+ghost use Rattle.zarrs_codec_traits.specs.Views.{options_of};
 ghost use Rattle.zarr_array.specs.OpenArray.{described};
 ghost use Rattle.zarr_array.specs.Ended.{ended_one};
 
 use std::alloc::Global;
 use zarr_array::{CodecOptions, OpenArray, Reply, SessionError};
 use zarrs_array_subset::ArraySubset;
+use zarrs_codec_array_bytes::ArrayBytes;
 use zarrs_storage::store::Store;
 
 /// A write, as `OpenArray::write`.
@@ -17,7 +19,7 @@ pub fn write_to<S: Store>(
     array: &OpenArray,
     alloc: Global,
     region: &ArraySubset,
-    elements: &[u8],
+    elements: &ArrayBytes<'_>,
     store: &mut S,
     options: &CodecOptions,
 ) -> Result<Reply, SessionError>
@@ -25,7 +27,7 @@ pub fn write_to<S: Store>(
         IsHonest (layout (described array.now) (options_of options.now))
         (S.shown store.old).content →
         ServesArray (described array.now) (options_of options.now)
-        (write (region_of_subset region.now) (fixed_bytes elements.now) ∷ [])
+        (write (region_of_subset region.now) (raw_of elements.now) ∷ [])
         (S.shown store.old).content (S.shown store.new).content answers) }
 {
     array.write(alloc, region, elements, store, options)

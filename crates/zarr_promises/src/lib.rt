@@ -2,6 +2,7 @@
 #![tactic(auto)]
 
 pub mod array;
+pub mod chunk;
 pub mod examples;
 pub mod refused;
 pub mod run;

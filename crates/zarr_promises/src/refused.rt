@@ -1,13 +1,15 @@
 //! A write on an open array that is refused.
 
 ghost use Rattle.std.specs.Prelude.{[], ◌∷◌};
-ghost use Rattle.zarr_model.specs.Prelude.{fixed_bytes, write, AreRefused, IsUntouched};
+ghost use Rattle.zarrs_codec_array_bytes.specs.Raw.{raw_of};
+ghost use Rattle.zarr_model.specs.Prelude.{write, AreRefused, IsUntouched};
 ghost use Rattle.zarrs_array_subset.specs.ArraySubset.{region as region_of_subset};
 ghost use Rattle.zarr_array.specs.OpenArray.{described};
 
 use std::alloc::Global;
 use zarr_array::{CodecOptions, OpenArray, Reply, SessionError};
 use zarrs_array_subset::ArraySubset;
+use zarrs_codec_array_bytes::ArrayBytes;
 use zarrs_storage::store::Store;
 
 /// A write, as `OpenArray::write`: what one that is refused leaves.
@@ -15,12 +17,12 @@ pub fn write_to<S: Store>(
     array: &OpenArray,
     alloc: Global,
     region: &ArraySubset,
-    elements: &[u8],
+    elements: &ArrayBytes<'_>,
     store: &mut S,
     options: &CodecOptions,
 ) -> Result<Reply, SessionError>
     ensures refused { AreRefused (described array.now)
-        (write (region_of_subset region.now) (fixed_bytes elements.now) ∷ []) →
+        (write (region_of_subset region.now) (raw_of elements.now) ∷ []) →
         IsUntouched (S.shown store.old) (S.shown store.new) }
 {
     array.write(alloc, region, elements, store, options)

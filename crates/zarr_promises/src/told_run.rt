@@ -1,7 +1,7 @@
 //! A run over a source that tells its bytes.
 
 ghost use Rattle.std.specs.Prelude.{◌≡◌, ℕ, List, Some};
-ghost use Rattle.zarr_array.specs.Opening.{OpenRefusal};
+ghost use Rattle.zarr_array_parts.specs.Opening.{OpenRefusal};
 ghost use Rattle.zarr_cli.specs.Input.{HasBadLine, HasLongInput, HasRefusedDocument};
 ghost use Rattle.zarr_cli.specs.Ending.{bad_input, refused_document, too_long};
 ghost use Rattle.zarr_cli.specs.Status.{words_of, ending_of};

@@ -4,9 +4,11 @@ use crate::made::{LINE, opened, region};
 use std::alloc::Global;
 use std::ops::Range;
 use std::test::Fail;
+use zarr_array::CodecOptions;
 use zarr_array::command::Reply;
 use zarr_array::open::OpenArray;
-use zarr_array::options::CodecOptions;
+use zarrs_codec_array_bytes::ArrayBytes;
+use zarrs_codec_array_bytes::array_bytes::bytes_in;
 use zarrs_storage::memory_store::MemoryStore;
 
 fn write(
@@ -19,7 +21,7 @@ fn write(
     let subset = region(alloc, &[range])?;
     let options = CodecOptions::default().with_store_empty_chunks(true);
     let reply = array
-        .write(alloc, &subset, elements, store, &options)
+        .write(alloc, &subset, &ArrayBytes::from(elements), store, &options)
         .ok()
         .ok_or("a write")?;
     Ok(reply)
@@ -64,7 +66,7 @@ fn is_done(reply: &Reply) -> bool {
 // The elements in a reply, if it has any.
 fn elements_in(reply: &Reply) -> Option<&[u8]> {
     match reply {
-        Reply::Elements(elements) => Some(elements.as_slice()),
+        Reply::Elements(ArrayBytes::Fixed(elements)) => Some(bytes_in(elements)),
         _ => None,
     }
 }

@@ -4,6 +4,8 @@
 #[cfg(test)]
 mod calls;
 #[cfg(test)]
+mod chains;
+#[cfg(test)]
 mod failing_store;
 #[cfg(test)]
 mod made;

@@ -87,6 +87,43 @@ impl Source for Spaces {
     }
 }
 
+// A run from a number over an empty store: no byte of the source is taken.
+fn run_from(alloc: Global, number: &str, sink: &mut MemorySink) -> Result<(u8, u64, usize), Fail> {
+    let mut words = Vec::with_capacity(alloc, 2)?;
+    words.push(String::from_str(alloc, "--make")?)?;
+    words.push(String::from_str(alloc, number)?)?;
+    let mut source = Spaces { left: 1 };
+    let mut store = MemoryStore::new(alloc);
+    let status = run_program(alloc, &words, &mut source, sink, &mut store);
+    Ok((status.code(), store.asks(), source.left))
+}
+
+#[test]
+fn a_run_is_made_from_a_number(rt: HostRuntime) -> Result<(), Fail> {
+    let alloc = rt.alloc();
+    // The number, the reading calls and the summary, from a program in another language.
+    let table = [
+        (
+            "1",
+            2167,
+            "commands 300\nok 117\ndone 174\nrefused 9\nelements 871693\nkeys 40\nsha256 7b5fd22fe4db2bee0d064174d866e5205b644367641e3970f4d5b2513e5cd473\n",
+        ),
+        (
+            "2",
+            2127,
+            "commands 300\nok 112\ndone 177\nrefused 11\nelements 779246\nkeys 40\nsha256 7e0629cf4767b87d2beb30440845a0164c57b9b368024fd8b13afb2b59a7b269\n",
+        ),
+    ];
+    for (number, asks, summary) in table {
+        let mut sink = MemorySink::new(alloc, Vec::new(alloc));
+        sink.reserve(200)?;
+        let end = run_from(alloc, number, &mut sink)?;
+        assert_eq!(rt; sink.written(), summary.as_bytes(), "of {number}");
+        assert_eq!(rt; end, (0, asks, 1), "of {number}");
+    }
+    Ok(())
+}
+
 #[test]
 fn an_input_may_have_so_many_bytes(rt: HostRuntime) -> Result<(), Fail> {
     let alloc = rt.alloc();

@@ -4,11 +4,12 @@ use crate::failing_store::FailingStore;
 use crate::made::{LINE, SQUARE, key_of, opened, put, region};
 use std::alloc::{AllocError, Global};
 use std::test::Fail;
-use zarr_array::builtin_registries;
 use zarr_array::command::Command;
 use zarr_array::error::{SessionError, SessionErrorKind};
-use zarr_array::options::CodecOptions;
 use zarr_array::session::run_session;
+use zarr_array::{CodecOptions, builtin_registries};
+use zarrs_codec_array_bytes::ArrayBytes;
+use zarrs_codec_error::CodecError;
 use zarrs_storage::memory_store::MemoryStore;
 use zarrs_storage::store::Store;
 
@@ -16,10 +17,10 @@ use zarrs_storage::store::Store;
 fn two_writes(alloc: Global) -> Result<Vec<Command>, AllocError> {
     let mut commands = Vec::with_capacity(alloc, 2)?;
     let corner = region(alloc, &[0..1, 0..1])?;
-    commands.push(Command::Write(corner, Vec::from_slice(alloc, &[1])?))?;
+    commands.push(Command::Write(corner, ArrayBytes::from(Vec::from_slice(alloc, &[1])?)))?;
     let middle = region(alloc, &[1..3, 1..3])?;
     let elements = Vec::from_slice(alloc, &[11, 12, 14, 15])?;
-    commands.push(Command::Write(middle, elements))?;
+    commands.push(Command::Write(middle, ArrayBytes::from(elements)))?;
     Ok(commands)
 }
 
@@ -73,9 +74,12 @@ fn a_damaged_chunk_is_placed(rt: HostRuntime) -> Result<(), Fail> {
         .err()
         .ok_or("an error")?;
     assert_eq!(rt; error.at, Some((1, 1)));
-    let SessionErrorKind::ChunkDecode { key } = error.kind else {
+    let SessionErrorKind::ChunkDecode { key, error } = error.kind else {
         return Err(Fail::from("a chunk"));
     };
     assert_eq!(rt; key.as_str(), "c/1");
+    let CodecError::UnexpectedChunkDecodedSize(_) = error else {
+        return Err(Fail::from("a length"));
+    };
     Ok(())
 }

@@ -1,14 +1,14 @@
 -- Changes after reads.
-use Rattle.std.proofs.Common.{◌≡◌, ◌⊎◌, ℕ, ◌+◌, ◌-◌, ◌^◌, ◌<◌, ◌≤◌, min, Bool, true, false, List, Option, Some, None, IsSome, Result, Ok, Err, OnOk, OnErr, refl, sym, ap, ◌∙◌, subst, arith, inl, inr, ⊎_elim}
-use Rattle.std.proofs.lemmas.Result.{on_ok_weaker, on_err_weaker}
+use Rattle.std.proofs.Common.{◌≡◌, ◌⊎◌, ℕ, ◌+◌, ◌-◌, ◌^◌, ◌≤◌, min, Bool, true, false, List, Option, Some, None, IsSome, Result, Ok, Err, OnOk, OnErr, refl, sym, ◌∙◌, subst, arith, inl, inr, ⊎_elim}
+use Rattle.std.proofs.lemmas.Result.{on_err_weaker}
 use Rattle.zarr_model.specs.Codec.{Options}
 use Rattle.zarr_model.specs.Prelude.{Rose, counted}
 use Rattle.zarrs_storage.specs.Parts.{held_bytes}
 use Rattle.zarrs_codec_error.specs.declared.error.CodecError.{CodecError}
 use Rattle.zarrs_codec_error.specs.declared.error.CodecError.TheVariants as codec
 use Rattle.zarrs_codec_held.specs.Held.{Held, Seen}
-use Rattle.zarrs_codec_held.specs.Reads.{Keeps, Reads, MayCount, IsFault, IsHandleError, IsReadError}
-use Rattle.zarrs_codec_held.specs.Writes.{Holds, Stays, is_fault, Unless, UnlessFault, Writes, Unasked, CountsIf, Edits}
+use Rattle.zarrs_codec_held.specs.Reads.{Keeps, Reads, MayCount, IsFault, IsHandleError}
+use Rattle.zarrs_codec_held.specs.Writes.{Holds, Stays, is_fault, Unless, UnlessFault, Writes, Unasked, Edits}
 
 -- a fault after an earlier count
 rose_later : (first before now : ℕ) → first ≤ before → Rose before now → Rose first now
@@ -47,7 +47,7 @@ pub writes_after : {T : Type 0} (value : Option (List ℕ)) (first old new : See
 writes_after value first old new result keeps writes = record {
   ok = writes.ok;
   failed = on_err_weaker result (λ case. ⊎_elim (λ (same : (under : Options) → new.held under ≡ old.held under). inl (λ (under : Options). same under ∙ keeps.held under)) (λ (more : Holds value new ⊎ Holds None new). inr more) case) writes.failed;
-  unchanged = unless_after result (λ (stays : Stays old new). let s : Stays first new = record { held = λ under. stays.held under ∙ keeps.held under; content = λ key. stays.content key ∙ keeps.content key } in s) writes.unchanged;
+  unchanged = unless_after result (λ (stays : Stays old new). let s : Stays first new = record { there = stays.there ∙ keeps.there; held = λ under. stays.held under ∙ keeps.held under; content = λ key. stays.content key ∙ keeps.content key } in s) writes.unchanged;
   others = λ other unlike. writes.others other (λ is. unlike (is ∙ keeps.key)) ∙ keeps.content other;
   key = writes.key ∙ keeps.key;
   place = writes.place ∙ keeps.place;
@@ -60,7 +60,7 @@ pub writes_kept : {T : Type 0} (value : Option (List ℕ)) (old new : Seen) (e :
 writes_kept {T} value old new e keeps = record {
   ok = tt;
   failed = inl keeps.held;
-  unchanged = unless_of {T = T} (Err e) (let s : Stays old new = record { held = keeps.held; content = keeps.content } in s);
+  unchanged = unless_of {T = T} (Err e) (let s : Stays old new = record { there = keeps.there; held = keeps.held; content = keeps.content } in s);
   others = λ other unlike. keeps.content other;
   key = keeps.key;
   place = keeps.place;
@@ -77,7 +77,7 @@ module _ {T : Type 0} (edit : List ℕ → List ℕ) (under : Options) where
   edits_kept rereads old new e keeps asks taken = record {
     ok = λ value is. writes_kept (Some (edit (held_bytes value))) old new e keeps;
     decodes = tt;
-    undecoded = λ none. record { held = keeps.held; content = keeps.content };
+    undecoded = λ none. record { there = keeps.there; held = keeps.held; content = keeps.content };
     asks = tt;
     asks_err = asks;
     taken = tt;

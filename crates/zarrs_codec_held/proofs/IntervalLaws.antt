@@ -1,9 +1,9 @@
 -- Intervals of what a handle holds.
-use Rattle.std.proofs.Common.{◌≡◌, ◌⊎◌, ℕ, ◌+◌, ◌-◌, ◌^◌, ◌<◌, ◌≤◌, Bool, true, false, nat_le, is_some, if◌then◌else◌, List, [], ◌∷◌, length, take, drop, map, Option, Some, None, IsSome, Result, Ok, Err, refl, sym, ap, ap₂, ◌∙◌, subst, arith, inl, inr, ⊎_elim}
+use Rattle.std.proofs.Common.{◌≡◌, ◌⊎◌, ℕ, ◌+◌, ◌-◌, ◌^◌, ◌<◌, ◌≤◌, Bool, true, false, nat_le, is_some, if◌then◌else◌, List, [], ◌∷◌, take, drop, map, Option, Some, None, IsSome, Result, Ok, Err, refl, sym, ap, ◌∙◌, subst, arith, inl, inr, ⊎_elim}
 use Rattle.std.proofs.lemmas.Bool.{leb-true, le-leb}
 use Rattle.zarrs_storage.specs.declared.byte_range.ByteRange.{ByteRange}
 use Rattle.zarrs_storage.specs.declared.byte_range.ByteRange.TheVariants.{FromStart, Suffix}
-use Rattle.zarrs_storage.specs.ByteRange.{is_valid, start_in, end_in, slice_of, first_invalid}
+use Rattle.zarrs_storage.specs.ByteRange.{is_valid, start_in, end_in, first_invalid}
 use Rattle.zarr_model.specs.Shown.{Shown}
 use Rattle.zarrs_codec_held.specs.Held.{Held, HasPart, value_part, Seen, IsSound}
 use Rattle.zarrs_codec_error.specs.declared.error.CodecError.{CodecError}

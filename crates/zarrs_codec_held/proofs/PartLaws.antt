@@ -1,5 +1,5 @@
 -- Parts of a value.
-use Rattle.std.proofs.Common.{◌≡◌, ◌⊎◌, ℕ, suc, ◌+◌, ◌-◌, ◌<◌, ◌≤◌, Bool, true, false, nat_le, is_some, if◌then◌else◌, List, [], ◌∷◌, length, take, drop, map, Option, Some, None, refl, sym, ap, ap₂, ◌∙◌, subst, arith, inl, inr}
+use Rattle.std.proofs.Common.{◌≡◌, ◌⊎◌, ℕ, suc, ◌+◌, ◌-◌, ◌≤◌, Bool, true, false, nat_le, is_some, if◌then◌else◌, List, [], ◌∷◌, length, take, drop, Option, Some, None, refl, sym, ap, ◌∙◌, subst, arith, inl, inr}
 use Rattle.std.proofs.lemmas.List.{length-take-le, length-drop, take-take, drop-drop, drop-take}
 use Rattle.std.proofs.lemmas.Bool.{leb-true, le-leb}
 use Rattle.zarrs_storage.specs.declared.byte_range.ByteRange.{ByteRange}
@@ -11,7 +11,7 @@ use Rattle.zarrs_storage.specs.declared.byte_range.ByteRangeFault.TheVariants as
 use Rattle.zarrs_codec_error.specs.declared.error.CodecError.{CodecError}
 use Rattle.zarrs_codec_error.specs.declared.error.CodecError.TheVariants as codec
 use Rattle.zarrs_codec_error.specs.CodecError.{codec_of_range}
-use Rattle.zarrs_codec_held.specs.Held.{Held, HasPart, value_part, part_of, Seen, IsSound, in_memory}
+use Rattle.zarrs_codec_held.specs.Held.{Held, HasPart, value_part, Seen, IsSound, in_memory}
 use Rattle.zarrs_codec_held.specs.Reads.{AreParts, AreAbsent, RefusesSome, IsRangeError}
 
 -- the bytes of a slice of a slice

@@ -1,20 +1,16 @@
 -- Handles on what a bytes-to-bytes codec makes of a value.
-use Rattle.std.proofs.Common.{◌≡◌, ◌⊎◌, ℕ, ◌+◌, ◌-◌, ◌^◌, ◌<◌, ◌≤◌, Bool, true, false, is_some, List, [], ◌∷◌, length, Option, Some, None, IsSome, option_map, Result, Ok, Err, IfErr, OnOk, OnErr, refl, sym, ap, ap₂, ◌∙◌, subst, arith, inl, inr, ⊎_elim}
+use Rattle.std.proofs.Common.{◌≡◌, ◌⊎◌, ℕ, Bool, true, false, is_some, List, [], ◌∷◌, Option, Some, None, option_map, Result, Ok, Err, refl, sym, ap, ◌∙◌, subst, arith, inl, inr, ⊎_elim}
 use Rattle.std.proofs.lemmas.Result.{on_ok_weaker, on_err_weaker}
 use Rattle.zarr_model.specs.Codec.{Options}
-use Rattle.zarr_model.specs.Prelude.{Rose, counted}
 use Rattle.zarrs_storage.specs.declared.byte_range.ByteRange.{ByteRange}
 use Rattle.zarrs_storage.specs.declared.byte_range.ByteRange.TheVariants.{FromStart}
-use Rattle.zarrs_storage.specs.declared.byte_range.OffsetBytes.{OffsetBytes}
-use Rattle.zarrs_storage.specs.Parts.{held_bytes}
 use Rattle.zarrs_codec_error.specs.declared.error.CodecError.{CodecError}
 use Rattle.zarrs_codec_error.specs.declared.error.CodecError.TheVariants as codec
 use Rattle.zarrs_codec_held.specs.Held.{Held, HasPart, value_part, part_of, Seen, IsSound}
-use Rattle.zarrs_codec_held.specs.Reads.{Keeps, Reads, MayCount, GivesParts, AreParts, AreAbsent, RefusesSome, IsRangeError, IsHandleError, IsReadError, IsPartError}
-use Rattle.zarrs_codec_held.specs.Writes.{Holds, Stays, is_fault, Unless, UnlessFault, Writes, Unasked, CountsIf, Edits}
+use Rattle.zarrs_codec_held.specs.Reads.{Keeps, Reads, GivesParts, AreParts, AreAbsent, RefusesSome, IsRangeError, IsHandleError, IsReadError, IsPartError}
+use Rattle.zarrs_codec_held.specs.Writes.{Holds, Stays, is_fault, Unless, UnlessFault, Writes}
 use Rattle.zarrs_codec_held.specs.Through.{through, says_of, through_says, decoded}
 use Rattle.zarrs_codec_held.proofs.PartLaws.{within_value, value_there, none_absent}
-use Rattle.zarrs_codec_held.proofs.IntervalLaws.{keeps_same}
 
 within_held : (held : Held) (offset len : ℕ) (bytes : List ℕ) → part_of held (FromStart offset (Some len)) ≡ Some (Some bytes) → HasPart (part_of held) offset len bytes
 within_held None offset len bytes is = cc
@@ -146,7 +142,7 @@ module _ {T : Type 0} (meaning : Options → List ℕ → Option (List ℕ)) (be
     ok = on_ok_weaker result holds_above writes.ok;
     failed = on_err_weaker result (λ case. ⊎_elim (λ (same : (under : Options) → new.held under ≡ old.held under). inl (λ (under : Options). ap (through (meaning under)) (same under)))
         (λ (more : Holds below new ⊎ Holds None new). inr (⊎_elim (λ (h : Holds below new). inl (holds_above h)) (λ (h : Holds None new). inr (holds_none h)) more)) case) writes.failed;
-    unchanged = unless result (λ (stays : Stays old new). let s : Stays (decoded meaning old) (decoded meaning new) = record { held = λ under. ap (through (meaning under)) (stays.held under); content = stays.content } in s) writes.unchanged;
+    unchanged = unless result (λ (stays : Stays old new). let s : Stays (decoded meaning old) (decoded meaning new) = record { there = stays.there; held = λ under. ap (through (meaning under)) (stays.held under); content = stays.content } in s) writes.unchanged;
     others = writes.others;
     key = writes.key;
     place = writes.place;
@@ -164,4 +160,4 @@ writes_some meaning value encoded old new result gives writes = decoded_writes m
 -- nothing was changed for want of memory
 pub writes_not : {T : Type 0} (value : Option (List ℕ)) (seen : Seen) (e : CodecError) → e ≡ codec.OutOfMemory → Writes {T = T} value seen seen (Err e)
 writes_not {T} value seen e is = subst (λ (x : CodecError). Writes {T = T} value seen seen (Err x)) (sym is)
-    (record { ok = tt; failed = inl (λ under. refl); unchanged = record { held = λ under. refl; content = λ key. refl }; others = λ other other_key. refl; key = refl; place = refl; cost = refl; later = omega arith })
+    (record { ok = tt; failed = inl (λ under. refl); unchanged = record { there = refl; held = λ under. refl; content = λ key. refl }; others = λ other other_key. refl; key = refl; place = refl; cost = refl; later = omega arith })

@@ -1,5 +1,5 @@
 -- What a handle of bytes holds, and what it shows of what is below.
-use Rattle.std.specs.Prelude.{◌≡◌, ◌≤◌, ℕ, ◌+◌, Bool, true, false, is_some, if◌then◌else◌, List, [], length, take, drop, Option, Some, None}
+use Rattle.std.specs.Prelude.{◌≡◌, ◌≤◌, ℕ, ◌+◌, Bool, is_some, if◌then◌else◌, List, [], length, take, drop, Option, Some, None}
 use Rattle.zarr_model.specs.Codec.{Options}
 use Rattle.zarr_model.specs.Shown.{Shown}
 use Rattle.zarrs_storage.specs.declared.byte_range.ByteRange.{ByteRange}

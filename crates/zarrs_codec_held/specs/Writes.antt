@@ -14,6 +14,7 @@ Holds value new = (under : Options) → new.held under ≡ Some value
 
 -- it holds what it held, and all that is below is as it was
 pub record Stays (old new : Seen) : Type 0 where
+  pub there : new.there ≡ old.there
   pub held : (under : Options) → new.held under ≡ old.held under
   pub content : (key : List ℕ) → new.shown.content key ≡ old.shown.content key
 

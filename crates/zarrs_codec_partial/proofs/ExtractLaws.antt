@@ -37,12 +37,12 @@ says_some codec.OutOfMemory same = cc
 kept : (b : Bool) (why : Refusal) → b ≡ true → refused_if (not b) why ≡ None
 kept b why is = ap (λ b. refused_if (not b) why) is
 
-record Masked (kind : Kind) (number : ℕ) (under : ArrayBytes) (mask : List ℕ) : Type 0 where
-  list : List Element
-  inner : meaning kind number under ≡ Some list
-  long : length mask ≡ number
+pub record Masked (kind : Kind) (number : ℕ) (under : ArrayBytes) (mask : List ℕ) : Type 0 where
+  pub list : List Element
+  pub inner : meaning kind number under ≡ Some list
+  pub long : length mask ≡ number
 
-masked : (kind : Kind) (number : ℕ) (under : ArrayBytes) (mask : List ℕ) (xs : List Element) → meaning (optional kind) number (optional_bytes under mask) ≡ Some xs → Masked kind number under mask
+pub masked : (kind : Kind) (number : ℕ) (under : ArrayBytes) (mask : List ℕ) (xs : List Element) → meaning (optional kind) number (optional_bytes under mask) ≡ Some xs → Masked kind number under mask
 masked kind number under mask xs e = go (is_mask number mask) refl e
   where
     go : (b : Bool) → is_mask number mask ≡ b → (if b then option_map (mask_over mask) (meaning kind number under) else None) ≡ Some xs → Masked kind number under mask
@@ -67,7 +67,7 @@ offsets_long number end (first ∷ offsets) is =
     let long : length offsets ≡ number = eqb-true _ _ (and_parts _ _ is).0 in
     eq-eqb _ _ (let all : suc (length offsets) ≡ number + 1 = omega (arith, long) in all)
 
-lengths_kept : (kind : Kind) (number : ℕ) (raw : ArrayBytes) (xs : List Element) → meaning kind number raw ≡ Some xs → lengths_refusal (size_in (fixed_size kind)) number raw ≡ None
+pub lengths_kept : (kind : Kind) (number : ℕ) (raw : ArrayBytes) (xs : List Element) → meaning kind number raw ≡ Some xs → lengths_refusal (size_in (fixed_size kind)) number raw ≡ None
 lengths_kept (fixed n) number (fixed_bytes value) xs e = kept _ _ (when_some _ _ _ e).0
 lengths_kept (fixed n) number (variable_bytes value offsets) xs e = cc
 lengths_kept (fixed n) number (optional_bytes under mask) xs e = cc

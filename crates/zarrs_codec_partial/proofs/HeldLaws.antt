@@ -7,7 +7,7 @@ use Rattle.zarr_model.specs.Region.{Region, count, count_of, ends_within, tuples
 use Rattle.zarr_model.proofs.RegionLaws.{length-tuples}
 use Rattle.zarrs_codec_bytes.specs.Picking.{picked}
 use Rattle.zarrs_codec_array_bytes.specs.Selection.{linear}
-use Rattle.zarr_model.specs.Element.{Element, null, Kind, kind_of, fill_element}
+use Rattle.zarr_model.specs.Element.{Element, null, kind_of, fill_element}
 use Rattle.zarrs_codec_bytes.specs.Filling.{has_size, filled_with}
 use Rattle.zarrs_codec_bytes.proofs.FilledLaws.{filled_valid}
 use Rattle.zarr_model.specs.ArrayBytes.{ArrayBytes, meaning}
@@ -28,9 +28,10 @@ use Rattle.zarrs_codec_traits.specs.Words.{list_at, at_box, select, Gives}
 use Rattle.zarrs_codec_held.specs.Held.{Held, Seen, IsSound, value_part}
 use Rattle.zarrs_codec_held.specs.Reads.{Keeps, Looks, Reads, GivesParts, AreParts, RefusesSome, IsHandleError, IsReadError, IsPartError}
 use Rattle.zarrs_codec_held.proofs.PartLaws.{as_many}
+use Rattle.zarrs_codec_partial_traits.specs.Boxes.{smaller_box, is_smaller}
 use Rattle.zarrs_codec_partial_traits.specs.Lists.{fills, IsListError, KeepsList, LooksAt, ReadsList}
-use Rattle.zarrs_codec_partial.specs.Level.{list_of, IsRefused, AreGiven, IsOtherFill, own_says, list_says, ranges_for, listed, smaller_box, is_smaller}
-use Rattle.zarrs_codec_partial.specs.Boxes.{Denotes, IsShort, GivesAll, GivesBox, GivesPlaces}
+use Rattle.zarrs_codec_partial.specs.Level.{list_of, IsRefused, AreGiven, IsOtherFill, own_says, list_says, ranges_for, listed}
+use Rattle.zarrs_codec_partial.specs.Boxes.{IsShort, GivesAll, GivesBox, GivesPlaces}
 use Rattle.zarrs_codec_partial.proofs.SelectLaws.{select-replicate, boxed-picked}
 use Rattle.zarrs_codec_partial.proofs.ExtractLaws.{says_some, extract_told}
 
@@ -361,6 +362,7 @@ module _ (level : Level) (fill : List ℕ) (unserved : Option Unserved) (meaning
   listed_keeps old new keeps = record {
     level = refl;
     fill = refl;
+    short = refl;
     unserved = refl;
     there = keeps.there;
     list = λ under. ap (list_of (meaning under) (fills level fill)) (keeps.held under);

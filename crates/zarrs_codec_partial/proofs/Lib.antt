@@ -1,3 +1,4 @@
 pub mod SelectLaws
 pub mod ExtractLaws
 pub mod HeldLaws
+pub mod WriteLaws

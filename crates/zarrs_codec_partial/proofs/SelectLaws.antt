@@ -16,7 +16,7 @@ use Rattle.zarrs_codec_array_bytes.specs.Selection.{linear}
 use Rattle.zarrs_codec_traits.specs.Words.{select, IsFit, at_box, list_at}
 
 -- a list of a region's elements, by each of its tuples
-listed : {E : Type 0} (region : Region) (f : List ℕ → E) (list : List E) (filler : E) → length list ≡ count region →
+pub listed : {E : Type 0} (region : Region) (f : List ℕ → E) (list : List E) (filler : E) → length list ≡ count region →
     ((tuple : List ℕ) → contains region tuple ≡ true → f tuple ≡ get_or list (place region tuple) filler) → map f (tuples region) ≡ list
 listed region f list filler full agrees =
     let long : length (map f (tuples region)) ≡ length list = length-map (tuples region) f ∙ (length-tuples region ∙ sym full) in

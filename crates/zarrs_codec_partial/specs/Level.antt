@@ -1,6 +1,6 @@
 -- An array-to-bytes codec with its level, over what a handle of bytes holds.
-use Rattle.std.specs.Prelude.{◌≡◌, ◌⊎◌, ℕ, ◌==◌, ◌&&◌, not, is_some, Bool, true, false, if◌then◌else◌, List, [], ◌∷◌, Option, Some, None, option_and_then}
-use Rattle.zarr_model.specs.Region.{Region, ends_within, sizes}
+use Rattle.std.specs.Prelude.{◌≡◌, ◌⊎◌, ℕ, not, is_some, Bool, false, List, Option, Some, None, option_and_then}
+use Rattle.zarr_model.specs.Region.{Region}
 use Rattle.zarr_model.specs.Element.{Element, kind_of}
 use Rattle.zarr_model.specs.Codec.{Level, Options}
 use Rattle.zarrs_storage.specs.declared.byte_range.ByteRange.{ByteRange}
@@ -12,7 +12,8 @@ use Rattle.zarrs_codec_traits.specs.Errors.{Unserved}
 use Rattle.zarrs_codec_traits.specs.Views.{level_of}
 use Rattle.zarrs_codec_held.specs.Held.{Held, Seen}
 use Rattle.zarrs_codec_held.specs.Reads.{RefusesSome, GivesParts}
-use Rattle.zarrs_codec_partial_traits.specs.Lists.{ListSeen, fills}
+use Rattle.zarrs_codec_partial_traits.specs.Boxes.{smaller_box}
+use Rattle.zarrs_codec_partial_traits.specs.Lists.{ListSeen, fills, is_short}
 use Rattle.zarrs_codec_partial.specs.declared.level.BottomLevel.{BottomLevel}
 
 -- its level, and the bytes of its fill value
@@ -61,21 +62,6 @@ list_says level fill says tells below under asked e =
     ⊎ own_says level fill says (AreGiven below.there (below.part under) asked)
     (below.held under) e
 
--- two shapes have the same lengths
-abbrev pub same_lengths : List ℕ → List ℕ → Bool
-same_lengths [] [] = true
-same_lengths (n ∷ ns) (m ∷ ms) = (n == m) && same_lengths ns ms
-same_lengths ns ms = false
-
--- a box lies inside a shape, and is not all of it
-abbrev pub is_smaller : List ℕ → Region → Bool
-is_smaller shape box = ends_within box shape && not (same_lengths (sizes box) shape)
-
--- the box that is read by itself, if one is
-abbrev pub smaller_box : List ℕ → Option Region → Option Region
-smaller_box shape None = None
-smaller_box shape (Some box) = if is_smaller shape box then Some box else None
-
 -- the ranges that are read for what is asked for, or none where the whole value is read
 abbrev pub ranges_for : (Region → Option (List ByteRange)) → List ℕ → Option Region
     → Option (List ByteRange)
@@ -87,6 +73,7 @@ abbrev pub listed : Level → List ℕ → Option Unserved → (Options → List
 listed level fill unserved meaning request below = record {
   level = level;
   fill = fill;
+  short = is_short level fill;
   unserved = unserved;
   there = below.there;
   list = λ under. list_of (meaning under) (fills level fill) (below.held under);

@@ -1,2 +1,4 @@
 pub mod Level
 pub mod Boxes
+pub mod Writing
+pub mod Counted

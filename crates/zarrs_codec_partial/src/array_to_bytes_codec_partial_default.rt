@@ -12,7 +12,10 @@ use zarrs_chunk_grid_indexer::Indexer;
 use zarrs_codec_array_bytes::ArrayBytes;
 use zarrs_codec_error::CodecError;
 use zarrs_codec_options::CodecOptions;
-use zarrs_codec_partial_traits::{ArrayPartialDecoderTraits, BytesPartialDecoderTraits};
+use zarrs_codec_partial_traits::{
+    ArrayPartialDecoderTraits, ArrayPartialEncoderTraits, BytesPartialDecoderTraits,
+    BytesPartialEncoderTraits,
+};
 use zarrs_codec_traits::ArrayToBytesCodecTraits;
 use zarrs_data_type_elements::FillValue;
 use zarrs_data_type_names::DataType;
@@ -70,7 +73,9 @@ impl<H, C: Drop> ArrayToBytesCodecPartialDefault<H, C> {
 impl<H: BytesPartialDecoderTraits, C: ArrayToBytesCodecTraits> ArrayPartialDecoderTraits
     for ArrayToBytesCodecPartialDefault<H, C> {
     ghost use Rattle.std.specs.Prelude.{◌&&◌};
+    ghost use Rattle.std.proofs.Common.{refl, ◌∙◌};
     ghost use Rattle.zarrs_codec_traits.specs.Errors.{unserved_at};
+    ghost use Rattle.zarrs_codec_partial.specs.Counted.{listed_count};
     ghost use Rattle.zarrs_codec_partial_traits.specs.Lists.{fills};
     ghost use Rattle.zarrs_codec_partial.specs.Level.{bottom_level, bottom_fill, listed, list_says, ranges_for};
 
@@ -86,6 +91,15 @@ impl<H: BytesPartialDecoderTraits, C: ArrayToBytesCodecTraits> ArrayPartialDecod
         (bottom_level h.level).data_type) (bottom_level h.level).shape asked) e };
 
     ghost same = { λ a b. (a.level ≡ b.level) × H.same a.handle b.handle };
+
+    ghost counted = { λ h under xs served is. listed_count
+        (C.meaning h.level.codec under (bottom_level h.level)) (bottom_level h.level)
+        (bottom_fill h.level) ((H.seen h.handle).held under) xs
+        (λ value given. C.counted h.level.codec under (bottom_level h.level) value xs given) is };
+
+    ghost same_self = { λ h. (refl, H.same_self h.handle) };
+
+    ghost same_twice = { λ a b c x y. (x.0 ∙ y.0, H.same_twice a.handle b.handle c.handle x.1 y.1) };
 
     ghost reads_parts = { λ h. (C.decodes_parts h.level.codec).partial_decode
         && H.reads_parts h.handle };
@@ -121,5 +135,41 @@ impl<H: BytesPartialDecoderTraits, C: ArrayToBytesCodecTraits> ArrayPartialDecod
     ) -> Result<ArrayBytes<'static>, CodecError> {
         self.level
             .decode_elements(alloc, &mut self.handle, indexer, options)
+    }
+}
+
+impl<H: BytesPartialEncoderTraits, C: ArrayToBytesCodecTraits> ArrayPartialEncoderTraits
+    for ArrayToBytesCodecPartialDefault<H, C> {
+    ghost use Rattle.std.specs.Prelude.{◌&&◌};
+    ghost use Rattle.zarrs_codec_partial.specs.Level.{bottom_level};
+    ghost use Rattle.zarrs_codec_partial.specs.Writing.{IsBeyond};
+
+    ghost writes_parts = { λ h. (C.encodes_parts h.level.codec).partial_encode
+        && H.writes_parts h.handle };
+
+    ghost unencoded = { λ h list e. IsBeyond (C.beyond h.level.codec (bottom_level h.level))
+        (bottom_level h.level) list e };
+
+    ghost encodes_short = { λ h. C.takes h.level.codec (bottom_level h.level) };
+
+    #[tactic(auto, using(crate::proofs::WriteLaws::written_rest))]
+    fn erase(&mut self) -> Result<(), CodecError> {
+        self.handle.erase()
+    }
+
+    fn supports_partial_encode(&self) -> bool {
+        self.level.codec.partial_encoder_capability().partial_encode
+            && self.handle.supports_partial_encode()
+    }
+
+    fn partial_encode<I: Indexer>(
+        &mut self,
+        alloc: Global,
+        indexer: &I,
+        bytes: &ArrayBytes<'_>,
+        options: &CodecOptions,
+    ) -> Result<(), CodecError> {
+        self.level
+            .encode_elements(alloc, &mut self.handle, indexer, bytes, options)
     }
 }

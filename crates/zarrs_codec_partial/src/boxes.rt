@@ -1,8 +1,8 @@
 //! The box that an indexer is.
 
-ghost use Rattle.std.specs.Prelude.{◌≡◌, IfOk, option_map};
+ghost use Rattle.std.specs.Prelude.{◌≡◌, Some, IfOk, option_map};
 ghost use Rattle.zarrs_array_subset.specs.ArraySubset.{region as box_of};
-ghost use Rattle.zarrs_codec_partial.specs.Level.{same_lengths as have_same_lengths, is_smaller as is_smaller_box, smaller_box as box_within};
+ghost use Rattle.zarrs_codec_partial_traits.specs.Boxes.{same_lengths as have_same_lengths, is_smaller as is_smaller_box, is_all as is_whole, smaller_box as box_within};
 
 use std::alloc::{AllocError, Global};
 use zarrs_array_subset::ArraySubset;
@@ -48,6 +48,27 @@ pub fn smaller_box<I: Indexer>(
             }
         }
         Ok(None) => Ok(None),
+        Err(error) => Err(error),
+    }
+}
+
+// Whether a region is all of a shape.
+fn is_all(region: &ArraySubset, shape: &[u64]) -> bool
+    ensures { result ≡ is_whole shape.now (Some (box_of region.now)) }
+{
+    region.inbounds_shape(shape) && same_lengths(region.shape(), shape)
+}
+
+/// Whether an indexer is the box of a whole shape.
+///
+/// # Errors
+/// [`AllocError`] where memory runs out.
+pub fn covers<I: Indexer>(alloc: Global, indexer: &I, shape: &[u64]) -> Result<bool, AllocError>
+    ensures { IfOk result (λ b. b ≡ is_whole shape.now (I.as_region indexer.now)) }
+{
+    match indexer.as_array_subset(alloc) {
+        Ok(Some(region)) => Ok(is_all(&region, shape)),
+        Ok(None) => Ok(false),
         Err(error) => Err(error),
     }
 }

@@ -2,9 +2,10 @@
 #![tactic(auto)]
 
 mod array_to_bytes_codec_partial_default;
-mod boxes;
+pub mod boxes;
 mod level;
-mod read;
+pub mod read;
+pub mod write;
 
 pub use array_to_bytes_codec_partial_default::ArrayToBytesCodecPartialDefault;
 pub use level::BottomLevel;

@@ -14,8 +14,8 @@ ghost use Rattle.zarrs_codec_traits.specs.Views.{lengths, options_of};
 ghost use Rattle.zarrs_codec_traits.specs.Words.{IsFit};
 ghost use Rattle.zarrs_codec_held.specs.Reads.{Reads};
 ghost use Rattle.zarrs_codec_partial_traits.specs.Lists.{fills, AreFew, IsUnread, IsListError};
-ghost use Rattle.zarrs_codec_partial.specs.Boxes.{GivesAll, GivesBox, GivesPlaces};
-ghost use Rattle.zarrs_codec_partial.specs.Level.{list_of, list_says, IsOtherFill, is_smaller, ranges_for};
+ghost use Rattle.zarrs_codec_partial.specs.Boxes.{Denotes, GivesAll, GivesBox, GivesPlaces};
+ghost use Rattle.zarrs_codec_partial.specs.Level.{list_of, list_says, IsOtherFill, ranges_for};
 
 use crate::boxes::smaller_box;
 use crate::level::BottomLevel;
@@ -31,8 +31,11 @@ use zarrs_codec_partial_traits::BytesPartialDecoderTraits;
 use zarrs_codec_traits::{ArrayToBytesCodecTraits, num_elements, shape_numbers};
 use zarrs_storage::ByteRange;
 
-// The lengths of a shape that an indexer fits.
-fn fitting_numbers<I: Indexer>(
+/// The lengths of a shape that an indexer fits.
+///
+/// # Errors
+/// [`CodecError::IncompatibleIndexer`] exactly where it does not fit, or [`CodecError::OutOfMemory`].
+pub fn fitting_numbers<I: Indexer>(
     alloc: Global,
     indexer: &I,
     shape: &[NonZeroU64],
@@ -123,6 +126,12 @@ impl<C: ArrayToBytesCodecTraits> BottomLevel<C> {
             let under = options_of options.now in
             unserved_at (C.unserved self.now.codec) level fill ≡ None
             → (H.seen handle.old).there ≡ true → OnOk result
+            (IsSome (list_of (C.meaning self.now.codec under level) (fills level fill)
+            ((H.seen handle.old).held under))) }
+        ensures filled { let level = bottom_level self.now in let fill = bottom_fill self.now in
+            let under = options_of options.now in
+            unserved_at (C.unserved self.now.codec) level fill ≡ None
+            → Denotes level fill → OnOk result
             (IsSome (list_of (C.meaning self.now.codec under level) (fills level fill)
             ((H.seen handle.old).held under))) }
         ensures reads { Reads None (H.seen handle.old) (H.seen handle.new) result }

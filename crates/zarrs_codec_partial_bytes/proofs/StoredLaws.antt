@@ -1,16 +1,15 @@
 -- What handles on a value under a key answer.
-use Rattle.std.proofs.Common.{◌≡◌, ◌⊎◌, ℕ, ◌+◌, true, is_some, List, [], ◌∷◌, length, map, Vec, Global, Option, Some, None, Ok, option_map, refl, sym, ap, ap₂, ◌∙◌, subst, inl, inr}
+use Rattle.std.proofs.Common.{◌≡◌, ℕ, is_some, List, length, map, Vec, Global, Option, Some, None, Ok, option_map, refl, sym, ap, ◌∙◌, subst, inl, inr}
 use Rattle.std.specs.List.{sum}
 use Rattle.std.proofs.lemmas.List.Sums.{sum-map}
 use Rattle.std.proofs.lemmas.Simd.{map-map}
 use Rattle.zarrs_storage.specs.declared.byte_range.ByteRange.{ByteRange}
 use Rattle.zarrs_storage.specs.declared.store.StorageError.{StorageError}
 use Rattle.zarrs_storage.specs.declared.store.StorageError.TheVariants as storage
-use Rattle.zarrs_storage.specs.ByteRange.{slices_of, first_invalid}
+use Rattle.zarrs_storage.specs.ByteRange.{slices_of}
 use Rattle.zarrs_storage.specs.Store.{part_bytes, handed_parts, total_of, invalid_range, IsRangeError, IsFault, GetsParts}
 use Rattle.zarr_model.specs.Prelude.{Rose, Shown, counted}
 use Rattle.zarrs_codec_error.specs.declared.error.CodecError.{CodecError}
-use Rattle.zarrs_codec_error.specs.declared.error.CodecError.TheVariants as codec
 use Rattle.zarrs_codec_error.specs.CodecError.{codec_of_storage}
 use Rattle.zarrs_codec_held.specs.Held.{value_part}
 use Rattle.zarrs_codec_held.specs.Reads as reads

@@ -1,6 +1,6 @@
 //! What a bytes-to-bytes codec makes of the value that a handle holds.
 
-ghost use Rattle.std.specs.Prelude.{◌≡◌, Some, None, IfOk, IfErr};
+ghost use Rattle.std.specs.Prelude.{◌≡◌, ◌⊎◌, Some, None, IfOk, IfErr};
 ghost use Rattle.zarr_model.specs.Codec.{Options};
 ghost use Rattle.zarrs_storage.specs.Parts.{PartsFit, held_bytes, with_parts};
 ghost use Rattle.zarrs_storage.specs.Store.{value_bytes, part_bytes};
@@ -8,7 +8,7 @@ ghost use Rattle.zarrs_codec_error.specs.declared.error.CodecError.{CodecError};
 ghost use Rattle.zarrs_codec_error.specs.declared.error.CodecError.TheVariants as codec;
 ghost use Rattle.zarrs_codec_traits.specs.Views.{options_of};
 ghost use Rattle.zarrs_codec_held.specs.Held.{part_of};
-ghost use Rattle.zarrs_codec_held.specs.Reads.{Reads, GivesParts, IsHandleError, IsReadError, IsPartError, RefusesFirst};
+ghost use Rattle.zarrs_codec_held.specs.Reads.{Reads, GivesParts, IsHandleError, IsReadError, IsPartError, IsRangeError, RefusesFirst};
 ghost use Rattle.zarrs_codec_held.specs.Writes.{Writes, Unasked};
 ghost use Rattle.zarrs_codec_held.specs.Through.{through, through_says, decoded};
 
@@ -218,6 +218,12 @@ impl<H: BytesPartialEncoderTraits, C: BytesToBytesCodecTraits> BytesToBytesCodec
             (decoded (C.meaning self.old.codec) (H.seen self.old.handle))
             (decoded (C.meaning self.old.codec) (H.seen self.new.handle)) result }
         ensures unasked { Unasked (H.seen self.old.handle) (H.seen self.new.handle) }
+        ensures tells { (under : Options) (e : CodecError)
+            → through_says (C.meaning self.old.codec under) (C.says self.old.codec under)
+            (H.tells self.new.handle under) ((H.seen self.new.handle).held under) e
+            → through_says (C.meaning self.old.codec under) (C.says self.old.codec under)
+            (H.tells self.old.handle under) ((H.seen self.old.handle).held under) e
+            ⊎ IsRangeError e }
         ensures cause { IfErr result (IsHandleError (H.seen self.old.handle).shown.faults
             (H.seen self.new.handle).shown.faults) }
         ensures same { (self.old.codec ≡ self.new.codec)

@@ -1,5 +1,5 @@
 -- What a handle of elements holds, and what it shows of what is below.
-use Rattle.std.specs.Prelude.{◌≡◌, ◌≤◌, ◌⊎◌, ℕ, ◌+◌, ◌*◌, ◌^◌, ◌<◌, Bool, false, List, length, replicate, Option, None, IsSome, option_map, Result, OnOk, OnErr}
+use Rattle.std.specs.Prelude.{◌≡◌, ◌≤◌, ◌⊎◌, ℕ, ◌+◌, ◌*◌, ◌^◌, ◌<◌, nat_lt, Bool, true, false, List, length, replicate, Option, None, IsSome, option_map, Result, OnOk, OnErr}
 use Rattle.zarr_model.specs.Region.{Region, count_of}
 use Rattle.zarr_model.specs.Element.{Element, Kind, fill_element, fixed_size, kind_of}
 use Rattle.zarr_model.specs.Codec.{Level, Options}
@@ -16,6 +16,8 @@ pub record ListSeen : Type 0 where
   -- its shape, data type and fill element, and the bytes of its fill value
   pub level : Level
   pub fill : List ℕ
+  -- whether that, and what codecs make of it below, is short
+  pub short : Bool
   -- why its codecs do not serve these, if they do not
   pub unserved : Option Unserved
   -- whether the value is there, and the list of all elements, which is that of the fill where the
@@ -41,13 +43,16 @@ abbrev pub fills : Level → List ℕ → Option (List Element)
 fills level fill = option_map (replicate (count_of level.shape))
     (fill_element (kind_of level.data_type) fill)
 
--- the fill value denotes an element, and is short
+-- the fill value denotes an element, and is short here and below
 abbrev pub HasFill : ListSeen → Type 0
 HasFill seen = IsSome (fill_element (kind_of seen.level.data_type) seen.fill)
 
 abbrev pub HasShortFill : ListSeen → Type 0
-HasShortFill seen =
-    length (innermost_fill (kind_of seen.level.data_type) seen.fill) < 2 ^ 32
+HasShortFill seen = seen.short ≡ true
+
+-- whether a fill value is short
+abbrev pub is_short : Level → List ℕ → Bool
+is_short level fill = nat_lt (length (innermost_fill (kind_of level.data_type) fill)) (2 ^ 32)
 
 -- so many elements can be counted, and their bytes be addressed
 pub record AreFew (kind : Kind) (number : ℕ) : Type 0 where
@@ -58,6 +63,7 @@ pub record AreFew (kind : Kind) (number : ℕ) : Type 0 where
 pub record KeepsList (old new : ListSeen) : Type 0 where
   pub level : new.level ≡ old.level
   pub fill : new.fill ≡ old.fill
+  pub short : new.short ≡ old.short
   pub unserved : new.unserved ≡ old.unserved
   pub there : new.there ≡ old.there
   pub list : (under : Options) → new.list under ≡ old.list under

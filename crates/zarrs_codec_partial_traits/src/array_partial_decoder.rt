@@ -1,7 +1,7 @@
 //! Handles on elements that are read.
 
 ghost use Rattle.std.specs.Prelude.{◌≡◌, Bool, true, false, List, length, Option, Some, None, IsSome, IfOk, IfErr, OnOk};
-ghost use Rattle.zarr_model.specs.Region.{Region};
+ghost use Rattle.zarr_model.specs.Region.{Region, count_of};
 ghost use Rattle.zarr_model.specs.Prelude.{Rose};
 ghost use Rattle.zarr_model.specs.Element.{Element, null, kind_of};
 ghost use Rattle.zarr_model.specs.ArrayBytes as model;
@@ -118,4 +118,13 @@ pub trait ArrayPartialDecoderTraits {
         ensures same { same self.old self.new }
         ensures tells { (under : Options) (asked : Option Region) (e : CodecError)
             → tells self.new under asked e → tells self.old under asked e };
+
+    // The list has an element for each place.
+    ghost counted: { (h : Self) (under : Options) (xs : List Element) → (seen h).unserved ≡ None
+        → (seen h).list under ≡ Some xs → length xs ≡ count_of (seen h).level.shape };
+
+    // Settings that are kept by two calls are kept.
+    ghost same_self: { (h : Self) → same h h };
+
+    ghost same_twice: { (a b c : Self) → same a b → same b c → same a c };
 }

@@ -1,10 +1,11 @@
 //! Handles on bytes that are read and written.
 
-ghost use Rattle.std.specs.Prelude.{◌≡◌, ◌∷◌, [], ◌≤◌, ◌+◌, ◌-◌, ◌^◌, Bool, length, Some, None, IfErr};
+ghost use Rattle.std.specs.Prelude.{◌≡◌, ◌⊎◌, ◌∷◌, [], ◌≤◌, ◌+◌, ◌-◌, ◌^◌, Bool, length, Some, None, IfErr};
 ghost use Rattle.zarrs_storage.specs.Parts.{PartsFit, with_parts};
 ghost use Rattle.zarrs_codec_error.specs.declared.error.CodecError.{CodecError};
+ghost use Rattle.zarr_model.specs.Codec.{Options};
 ghost use Rattle.zarrs_codec_traits.specs.Views.{options_of};
-ghost use Rattle.zarrs_codec_held.specs.Reads.{IsReadError, IsHandleError, IsFault};
+ghost use Rattle.zarrs_codec_held.specs.Reads.{IsReadError, IsHandleError, IsFault, IsRangeError};
 ghost use Rattle.zarrs_codec_held.specs.Writes.{Writes, Edits, Unasked};
 
 use crate::bytes_partial_decoder::BytesPartialDecoderTraits;
@@ -27,6 +28,8 @@ pub trait BytesPartialEncoderTraits: BytesPartialDecoderTraits {
     /// [`CodecError::StorageError`] where what is below fails. The value is then as before, or absent.
     fn erase(&mut self) -> Result<(), CodecError>
         ensures same { Self.same self.old self.new }
+        ensures tells { (under : Options) (e : CodecError) → Self.tells self.new under e
+            → Self.tells self.old under e ⊎ IsRangeError e }
         ensures writes { Writes None (Self.seen self.old) (Self.seen self.new) result }
         ensures unasked { Unasked (Self.seen self.old) (Self.seen self.new) }
         ensures cause { IfErr result (IsFault (Self.seen self.old).shown.faults
@@ -49,6 +52,8 @@ pub trait BytesPartialEncoderTraits: BytesPartialDecoderTraits {
     ) -> Result<(), CodecError>
         requires fit { offset + length bytes.items ≤ 2 ^ 64 - 1 }
         ensures same { Self.same self.old self.new }
+        ensures tells { (under : Options) (e : CodecError) → Self.tells self.new under e
+            → Self.tells self.old under e ⊎ IsRangeError e }
         ensures edits { Edits
             (λ value. with_parts (record { offset = offset; bytes = bytes } ∷ []) value)
             (rereads self.old) (options_of options.now)
@@ -76,6 +81,8 @@ pub trait BytesPartialEncoderTraits: BytesPartialDecoderTraits {
     ) -> Result<(), CodecError>
         requires fit { PartsFit offset_values.now }
         ensures same { Self.same self.old self.new }
+        ensures tells { (under : Options) (e : CodecError) → Self.tells self.new under e
+            → Self.tells self.old under e ⊎ IsRangeError e }
         ensures edits { Edits (with_parts offset_values.now) (rereads self.old)
             (options_of options.now) (Self.seen self.old) (Self.seen self.new) result }
         ensures cause { IfErr result
@@ -95,6 +102,8 @@ pub trait BytesPartialEncoderTraits: BytesPartialDecoderTraits {
         options: &CodecOptions,
     ) -> Result<(), CodecError>
         ensures same { Self.same self.old self.new }
+        ensures tells { (under : Options) (e : CodecError) → Self.tells self.new under e
+            → Self.tells self.old under e ⊎ IsRangeError e }
         ensures writes { Writes (Some bytes.now) (Self.seen self.old) (Self.seen self.new) result }
         ensures unasked { Unasked (Self.seen self.old) (Self.seen self.new) }
         ensures cause { IfErr result (IsHandleError (Self.seen self.old).shown.faults

@@ -5,10 +5,12 @@
 #![tactic(auto)]
 
 mod array_partial_decoder;
+mod array_partial_encoder;
 mod bytes_partial_decoder;
 mod bytes_partial_encoder;
 mod in_memory;
 
 pub use array_partial_decoder::ArrayPartialDecoderTraits;
+pub use array_partial_encoder::ArrayPartialEncoderTraits;
 pub use bytes_partial_decoder::BytesPartialDecoderTraits;
 pub use bytes_partial_encoder::BytesPartialEncoderTraits;

@@ -2,7 +2,7 @@ use Rattle.std.proofs.Common.{map, ap, ◌∙◌, subst, IfErr}
 use Rattle.zarr_model.specs.Prelude.{with_keys}
 use Rattle.zarr_array.specs.OpenArray.{described}
 use Rattle.zarr_array.specs.Command.{command_of}
-use Rattle.zarr_array.specs.Options.{options_of}
+use Rattle.zarrs_codec_traits.specs.Views.{options_of}
 use Rattle.zarr_cli_lines.specs.Parts.{entry_view}
 use Rattle.zarr_cli.specs.Input.{with_entries}
 use Rattle.zarr_cli.specs.Steps.{IsRunFault}

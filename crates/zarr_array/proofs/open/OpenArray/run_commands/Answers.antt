@@ -1,7 +1,7 @@
 use Rattle.std.proofs.Common.{◌≡◌, ◌+◌, [], ◌∷◌, ◌++◌, map, Ok, arith, ap, ◌∙◌, sym, subst, subst₂, vec_len, le_trans, if◌then◌else◌, is_ok}
 use Rattle.std.proofs.lemmas.List.{map-append}
 use Rattle.zarr_array.specs.Command.{command_of, answer_of}
-use Rattle.zarr_array.specs.Options.{options_of}
+use Rattle.zarrs_codec_traits.specs.Views.{options_of}
 use Rattle.zarr_array.specs.OpenArray.{described}
 use Rattle.zarr_array.specs.Runs.{Runs}
 use Rattle.zarr_array.proofs.ServedLaws.{described_covers, described_sound}
@@ -24,12 +24,12 @@ loop-number-preserved g c = record {
   room = le_trans c.loop-number.invariant.room c.push.ensures.capacity;
 }
 
-pub returns : goal.returns
-returns g c = subst (λ commands. Runs (described c.args.self.now) (options_of c.args.options.now) commands (g.S.Store.shown c.args.store.now) (g.S.Store.shown c.loop-number.store) (Ok (map answer_of c.loop-number.replies.items)))
+pub returns-clause-runs : goal.returns-clause-runs
+returns-clause-runs g c = subst (λ commands. Runs (described c.args.self.now) (options_of c.args.options.now) commands (g.S.Store.shown c.args.store.now) (g.S.Store.shown c.loop-number.store) (Ok (map answer_of c.loop-number.replies.items)))
     (take_whole command_of c.args.commands.now c.loop-number.number (omega arith)) c.loop-number.invariant.so_far
 
-pub returns-in-Err-run_command : goal.returns-in-Err-run_command
-returns-in-Err-run_command g c =
+pub returns-in-Err-run_command-clause-runs : goal.returns-in-Err-run_command-clause-runs
+returns-in-Err-run_command-clause-runs g c =
     let options = options_of c.args.options.now in
     let here = command_here command_of c.args.commands.now c.loop-number.number c.index-commands-number.result c.loop-number-test.true c.index-commands-number.is in
     stops_at (described c.args.self.now) options (described_covers c.args.self.now) (described_sound c.args.self.now options)

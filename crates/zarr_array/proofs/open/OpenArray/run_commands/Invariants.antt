@@ -1,6 +1,6 @@
 use Rattle.std.proofs.Common.{◌≡◌, ◌≤◌, length, take, map, Ok, vec_len, vec_capacity}
 use Rattle.zarr_array.specs.Command.{command_of, answer_of}
-use Rattle.zarr_array.specs.Options.{options_of}
+use Rattle.zarrs_codec_traits.specs.Views.{options_of}
 use Rattle.zarr_array.specs.OpenArray.{described}
 use Rattle.zarr_array.specs.Runs.{Runs}
 use Rattle.zarr_array.proofs.open.OpenArray.run_commands.Given as goal

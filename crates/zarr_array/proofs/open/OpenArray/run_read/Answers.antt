@@ -1,9 +1,10 @@
-use Rattle.std.proofs.Common.{rules, [], ◌∷◌}
+use Rattle.std.proofs.Common.{rules, [], ◌∷◌, Ok, sym, subst}
 use Rattle.std.proofs.lemmas.Result.{err_from_is_err_and}
-use Rattle.zarr_model.specs.Prelude.{read}
+use Rattle.zarr_model.specs.Prelude.{read, answered}
 use Rattle.zarrs_array_subset.specs.ArraySubset.{region}
 use Rattle.zarr_array.specs.OpenArray.{described}
-use Rattle.zarr_array.specs.Options.{options_of}
+use Rattle.zarrs_codec_traits.specs.Views.{options_of}
+use Rattle.zarr_array.specs.Runs.{Runs}
 use Rattle.zarr_array.proofs.ServedLaws.{described_covers, described_sound}
 use Rattle.zarr_array.proofs.RunsLaws.{ran_gives, failed_gives}
 use Rattle.zarr_array.proofs.ReadCommand.{read-fails}
@@ -19,6 +20,7 @@ returns-in_err-elements-clause-runs g c =
     (search rules) (search rules) c.read_elements.ensures.later)
 
 pub returns-clause-runs : goal.returns-clause-runs
-returns-clause-runs g c = ran_gives (described c.args.self.now) (options_of c.args.options.now) (described_covers c.args.self.now) (described_sound c.args.self.now (options_of c.args.options.now)) (read (region c.args.subset.now) ∷ []) (g.S.Store.shown c.args.store.now) (g.S.Store.shown c.read_elements.new.store) _
+returns-clause-runs g c = subst (λ raw. Runs (described c.args.self.now) (options_of c.args.options.now) (read (region c.args.subset.now) ∷ []) (g.S.Store.shown c.args.store.now) (g.S.Store.shown c.read_elements.new.store) (Ok (answered raw ∷ [])))
+    (sym c.from.ensures) (ran_gives (described c.args.self.now) (options_of c.args.options.now) (described_covers c.args.self.now) (described_sound c.args.self.now (options_of c.args.options.now)) (read (region c.args.subset.now) ∷ []) (g.S.Store.shown c.args.store.now) (g.S.Store.shown c.read_elements.new.store) _
     (bytes-read c.args.self.now (options_of c.args.options.now) (region c.args.subset.now) (g.S.Store.shown c.args.store.now) (g.S.Store.shown c.read_elements.new.store) c.in_ok-elements.elements.items
-    c.in_ok-elements.ensures.as_long (search rules) c.read_elements.ensures.same c.in_ok-elements.ensures.decodes c.in_ok-elements.ensures.elements c.in_ok-elements.ensures.asks c.read_elements.ensures.later)
+    c.in_ok-elements.ensures.as_long (search rules) c.read_elements.ensures.same c.in_ok-elements.ensures.decodes c.in_ok-elements.ensures.elements c.in_ok-elements.ensures.asks c.read_elements.ensures.later))

@@ -3,7 +3,7 @@ use Rattle.zarr_model.specs.Prelude.{written, chunks_meeting}
 use Rattle.zarrs_array_subset.specs.ArraySubset.{region}
 use Rattle.zarrs_codec_bytes.specs.Elements.{fixed_elements}
 use Rattle.zarr_array.specs.OpenArray.{described}
-use Rattle.zarr_array.specs.Options.{options_of}
+use Rattle.zarrs_codec_traits.specs.Views.{options_of}
 use Rattle.zarr_array.proofs.ServedLaws.{described_sound}
 use Rattle.zarr_array.proofs.PartWayLaws.{changed-starved, met-chunks}
 use Rattle.zarr_array.proofs.open.OpenArray.write_elements.Goals as goal

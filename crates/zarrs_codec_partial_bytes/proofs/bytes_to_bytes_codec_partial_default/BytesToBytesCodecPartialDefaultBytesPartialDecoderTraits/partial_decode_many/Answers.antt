@@ -1,5 +1,5 @@
-use Rattle.std.proofs.Common.{◌≡◌, ◌∙◌, ap, Some, None}
-use Rattle.zarrs_storage.specs.Store.{value_bytes, part_bytes}
+use Rattle.std.proofs.Common.{◌∙◌, ap, Some, None}
+use Rattle.zarrs_storage.specs.Store.{value_bytes}
 use Rattle.zarrs_storage.specs.ByteRange.{parts_of}
 use Rattle.zarrs_codec_traits.specs.Views.{options_of}
 use Rattle.zarrs_codec_held.specs.Through.{through, through_says}

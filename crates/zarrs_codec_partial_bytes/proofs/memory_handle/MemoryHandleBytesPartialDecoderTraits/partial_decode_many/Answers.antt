@@ -1,4 +1,4 @@
-use Rattle.std.proofs.Common.{◌≡◌, ap, sym, subst, is_some, Option, None, Vec, ℕ, Global}
+use Rattle.std.proofs.Common.{ap, sym, subst, is_some, Option, Vec, ℕ, Global}
 use Rattle.zarrs_storage.specs.Store.{value_bytes}
 use Rattle.zarrs_codec_held.specs.Held.{value_part}
 use Rattle.zarrs_codec_held.specs.Reads.{AreAbsent}

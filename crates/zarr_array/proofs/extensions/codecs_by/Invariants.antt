@@ -1,9 +1,0 @@
-use Rattle.std.proofs.Common.{◌≡◌, map, take, Ok}
-use Rattle.zarrs_plugin.specs.Registry.{registry_of}
-use Rattle.zarrs_metadata_parts.specs.MetadataV3.{extensions_seen}
-use Rattle.zarr_basics.specs.BytesCodec.{named_order}
-use Rattle.zarr_array.specs.Opening.{codecs_by}
-use Rattle.zarr_array.proofs.extensions.codecs_by.Given as goal
-
-abbrev pub invariant-loop-extension : goal.invariant-loop-extension
-invariant-loop-extension l = codecs_by (registry_of l.registry) (extensions_seen (take l.extension-index l.extensions)) ≡ Ok (map named_order l.codecs.items)

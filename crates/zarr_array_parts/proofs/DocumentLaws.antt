@@ -1,0 +1,32 @@
+-- The array that a document describes has a sound layout.
+use Rattle.std.proofs.Common.{◌≡◌, ℕ, ◌^◌, nat_le, true, List, [], ◌∷◌, map}
+use Rattle.std.specs.List.{AllByRecursion}
+use Rattle.std.proofs.lemmas.Bool.{and_parts, leb-true}
+use Rattle.zarr_model.specs.Prelude.{Options, KeepsCount, IsChunk, IsSound, layout}
+use Rattle.zarr_model.proofs.ChainLaws.{decode_chain-counted, array_to_bytes-counted, offset-keeps_count, transpose-keeps_count}
+use Rattle.zarr_basics.specs.Keys.{IsCountable}
+use Rattle.zarr_array_parts.specs.Sizes.{are_countable}
+use Rattle.zarr_array_parts.specs.Document.{ArrayDocument, ArrayToArray, offset, transpose, array_codec_of, to_bytes_of, describe}
+
+-- each number of chunks has a u64's range
+pub countable_is : (grid_shape : List ℕ) → are_countable grid_shape ≡ true → IsCountable grid_shape
+countable_is [] e = tt
+countable_is (n ∷ grid_shape) e =
+    let parts = and_parts (nat_le n (2 ^ 64)) (are_countable grid_shape) e in
+    (leb-true n (2 ^ 64) parts.0, countable_is grid_shape parts.1)
+
+keep_count : (codecs : List ArrayToArray) → AllByRecursion KeepsCount (map array_codec_of codecs)
+keep_count [] = tt
+keep_count (offset number ∷ codecs) = (offset-keeps_count number, keep_count codecs)
+keep_count (transpose order ∷ codecs) = (transpose-keeps_count order, keep_count codecs)
+
+-- where different chunks have different keys
+pub describe-sound : (document : ArrayDocument) (options : Options) →
+    ((chunk other : List ℕ) → IsChunk (describe document).grid chunk → IsChunk (describe document).grid other → (describe document).key chunk ≡ (describe document).key other → chunk ≡ other) →
+    IsSound (layout (describe document) options)
+describe-sound document options apart = record {
+  count = λ chunk value elements is_chunk e.
+      decode_chain-counted ((describe document).chain options) (keep_count document.array_codecs) (array_to_bytes-counted options (to_bytes_of document.to_bytes))
+      _ value elements e;
+  keys_apart = apart;
+}

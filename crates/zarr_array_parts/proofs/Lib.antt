@@ -1,0 +1,10 @@
+pub mod OpeningLaws
+pub mod FieldLaws
+pub mod SizeLaws
+pub mod ServingLaws
+pub mod ChainOrderLaws
+pub mod ChunkLaws
+pub mod ChainLaws
+pub mod DocumentLaws
+pub mod ServedLaws
+pub mod Documents

@@ -1,0 +1,29 @@
+use Rattle.std.proofs.Common.{◌∙◌}
+use Rattle.zarrs_codec_traits.specs.Views.{lengths, level_of}
+use Rattle.zarrs_data_type_elements.specs.FillValue.{fill_bytes}
+use Rattle.zarr_array_parts.proofs.ChainLaws.{chunk_sizes, shape_fits, chain_means, decodes_chunks, array_means, bytes_mean, byte_means, has_forms}
+use Rattle.zarr_array_parts.proofs.ServingLaws.{not_built}
+use Rattle.zarr_array_parts.proofs.parts.ArrayParts.chain.Goals as goal
+
+pub build-built-requires-clause-fits : goal.build-built-requires-clause-fits
+build-built-requires-clause-fits c =
+    let array = c.args.self.now in
+    shape_fits array (lengths c.chunk_shape.result.now) c.requires.some (chunk_sizes array (lengths c.chunk_shape.result.now) c.chunk_shape.ensures)
+
+pub no_memory-requires : goal.no_memory-requires
+no_memory-requires c =
+    let array = c.args.self.now in
+    not_built array.array_codecs.items c.in_ok-array_codecs.array_codecs.items array.to_bytes array.byte_codecs.items (level_of c.chunk_shape.result.now array.data_type array.fill) (fill_bytes array.fill) c.in-Err.error
+    array.served (c.in_ok-array_codecs.ensures ∙ c.deref.ensures.value) c.in-Err.ensures.exact
+
+pub returns-in-Ok-clause-chunks : goal.returns-in-Ok-clause-chunks
+returns-in-Ok-clause-chunks c =
+    let array = c.args.self.now in
+    decodes_chunks array_means bytes_mean byte_means array (lengths c.chunk_shape.result.now) c.in-Ok.chain (chunk_sizes array (lengths c.chunk_shape.result.now) c.chunk_shape.ensures)
+    c.in-Ok.ensures.first c.in-Ok.ensures.fill
+    (λ options. c.in-Ok.ensures.codecs options ∙ chain_means array c.in_ok-array_codecs.array_codecs.items c.in_ok-byte_codecs.byte_codecs.items (c.in_ok-array_codecs.ensures ∙ c.deref.ensures.value) (c.in_ok-byte_codecs.ensures ∙ c.deref-2.ensures.value) options)
+
+pub returns-in-Ok-clause-forms : goal.returns-in-Ok-clause-forms
+returns-in-Ok-clause-forms c =
+    has_forms c.args.self.now c.in_ok-array_codecs.array_codecs.items c.in_ok-byte_codecs.byte_codecs.items c.in-Ok.chain
+    (c.in_ok-array_codecs.ensures ∙ c.deref.ensures.value) (c.in_ok-byte_codecs.ensures ∙ c.deref-2.ensures.value) c.in-Ok.ensures.held

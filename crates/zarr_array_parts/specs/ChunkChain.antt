@@ -1,0 +1,43 @@
+-- The chain of an array's chunks.
+use Rattle.std.specs.Prelude.{◌≡◌, ℕ, List, map}
+use Rattle.zarr_model.specs.Prelude.{of_bytes, sizes, Level, ArrayCodec, Options, IsChunk, Description, layout}
+use Rattle.zarr_basics_grids.specs.RegularGrid.{nonzeros}
+use Rattle.zarr_basics_grids.specs.declared.basic_grid.BasicGrid.{BasicGrid}
+use Rattle.zarr_basics_grids.specs.declared.basic_grid.BasicGrid.TheVariants.{Regular}
+use Rattle.zarr_codecs_kinds.specs.declared.array_to_array.BasicArrayToArray.{BasicArrayToArray}
+use Rattle.zarr_codecs_kinds.specs.declared.array_to_bytes.BasicArrayToBytes.{BasicArrayToBytes}
+use Rattle.zarr_codecs_kinds.specs.declared.bytes_to_bytes.BasicBytesToBytes.{BasicBytesToBytes}
+use Rattle.zarr_array_parts.specs.Document.{ArrayDocument}
+use Rattle.zarr_array_parts.specs.Chain.{array_form, bytes_form, byte_form}
+use Rattle.zarr_chain.specs.Chain.{Listing, Opening, first_level, first_fill, decoded}
+use Rattle.zarr_chain.specs.declared.chain.CodecChain.{CodecChain}
+
+-- the lengths of the chunks of a grid, which all have the same
+abbrev pub basic_lengths : BasicGrid → List ℕ
+basic_lengths (Regular grid) = nonzeros grid.chunk_shape.items
+
+-- the level of a chunk
+abbrev pub chunk_level : Description → List ℕ → Level
+chunk_level description chunk = record {
+  shape = sizes (description.grid.chunk_box chunk);
+  data_type = description.data_type;
+  fill = description.fill;
+}
+
+-- a chain has the level of each chunk of an array, with the bytes of its fill value, and decodes
+-- each value as the array does
+pub record DecodesChunks {A B C : Type 0} (array : A → ArrayCodec) (to_list : Listing B)
+    (opens : Opening C) (description : Description) (chain : CodecChain A B C) : Type 0 where
+  pub level : (chunk : List ℕ) → IsChunk description.grid chunk
+      → first_level chain ≡ chunk_level description chunk
+  pub fill : of_bytes (first_fill chain) ≡ description.fill
+  pub values : (options : Options) (chunk value : List ℕ) → IsChunk description.grid chunk
+      → decoded array to_list opens chain options value
+      ≡ (layout description options).decode (sizes (description.grid.chunk_box chunk)) value
+
+-- a chain has the codecs that a document names, in its order
+pub record HasForms (document : ArrayDocument)
+    (chain : CodecChain BasicArrayToArray BasicArrayToBytes BasicBytesToBytes) : Type 0 where
+  pub levels : map (λ level. array_form level.codec) chain.levels.items ≡ document.array_codecs
+  pub bottom : bytes_form chain.bottom.codec ≡ document.to_bytes
+  pub codecs : map byte_form chain.codecs.items ≡ document.byte_codecs

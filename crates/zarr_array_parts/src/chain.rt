@@ -1,0 +1,97 @@
+//! The chain of an array's chunks.
+
+ghost use Rattle.std.specs.Prelude.{◌≡◌, true, IfOk};
+ghost use Rattle.zarrs_codec_error.specs.declared.error.CodecError.TheVariants as codec;
+ghost use Rattle.zarrs_codec_traits.specs.Views.{lengths};
+ghost use Rattle.zarr_chain.specs.Chain.{IsServed};
+ghost use Rattle.zarr_chain.specs.Levels.{above};
+ghost use Rattle.zarr_array_parts.specs.ChunkChain.{HasForms, DecodesChunks, basic_lengths};
+ghost use Rattle.zarr_array_parts.specs.Parts.{documented, described};
+ghost use Rattle.zarr_array_parts.specs.Sizes.{have_chunks};
+
+use crate::parts::ArrayParts;
+use std::alloc::{AllocError, Global};
+use std::num::NonZeroU64;
+use zarr_basics::BasicGrid;
+use zarr_chain::CodecChain;
+use zarr_codecs_kinds::{BasicArrayToArray, BasicArrayToBytes, BasicBytesToBytes};
+use zarrs_chunk_grid_traits::ChunkGridTraits;
+use zarrs_codec_error::CodecError;
+use zarrs_codec_traits::{
+    ArrayCodecTraits, ArrayToArrayCodecTraits, ArrayToBytesCodecTraits, BytesToBytesCodecTraits,
+};
+
+/// A chain of this project's codecs.
+pub type BasicChain = CodecChain<BasicArrayToArray, BasicArrayToBytes, BasicBytesToBytes>;
+
+// The shape of the chunks of a grid, which all have one.
+fn chunk_shape(grid: &BasicGrid) -> &[NonZeroU64]
+    ensures { lengths result.now ≡ basic_lengths grid.now }
+{
+    match grid {
+        BasicGrid::Regular(grid) => &grid.chunk_shape,
+    }
+}
+
+// The same items.
+fn copies<T: Copy>(alloc: Global, items: &[T]) -> Result<Vec<T>, AllocError>
+    ensures { IfOk result (λ v. v.items ≡ items.now) }
+{
+    let mut same = Vec::with_capacity(alloc, items.len())?;
+    for item in items {
+        same.push(*item)?;
+    }
+    Ok(same)
+}
+
+// The only error of building a chain whose codecs serve their levels.
+fn no_memory(error: CodecError) -> AllocError
+    requires { error ≡ codec.OutOfMemory }
+{
+    AllocError
+}
+
+impl ArrayParts {
+    /// Whether the grid has a chunk.
+    pub fn has_chunks(&self) -> bool
+        ensures { result ≡ have_chunks (described self.now).grid.grid_shape }
+    {
+        self.grid.grid_shape().iter().all(|n| 0 < *n)
+    }
+
+    /// The chain of the array's codecs with their levels, which is one for all chunks.
+    ///
+    /// # Errors
+    /// [`AllocError`] where memory runs out.
+    pub fn chain(&self, alloc: Global) -> Result<BasicChain, AllocError>
+        requires some { have_chunks (described self.now).grid.grid_shape ≡ true }
+        ensures served { IfOk result (IsServed
+            ⟦<BasicArrayToArray as ArrayToArrayCodecTraits>⟧.meaning
+            ⟦<BasicArrayToArray as ArrayCodecTraits>⟧.unserved
+            ⟦<BasicArrayToBytes as ArrayCodecTraits>⟧.unserved) }
+        ensures takes { IfOk result (λ chain. ⟦<BasicArrayToBytes as ArrayToBytesCodecTraits>⟧.takes
+            chain.bottom.codec (above chain.bottom)) }
+        ensures chunks { IfOk result (DecodesChunks
+            ⟦<BasicArrayToArray as ArrayToArrayCodecTraits>⟧.meaning
+            ⟦<BasicArrayToBytes as ArrayToBytesCodecTraits>⟧.meaning
+            ⟦<BasicBytesToBytes as BytesToBytesCodecTraits>⟧.meaning
+            (described self.now)) }
+        ensures forms { IfOk result (HasForms (documented self.now)) }
+    {
+        let array_codecs = copies(alloc, &self.array_codecs)?;
+        let byte_codecs = copies(alloc, &self.byte_codecs)?;
+        let built = CodecChain::build(
+            alloc,
+            array_codecs,
+            self.to_bytes,
+            byte_codecs,
+            chunk_shape(&self.grid),
+            &self.data_type,
+            &self.fill,
+        );
+        match built {
+            Ok(chain) => Ok(chain),
+            Err(error) => Err(no_memory(error)),
+        }
+    }
+}

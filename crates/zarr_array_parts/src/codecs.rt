@@ -1,0 +1,71 @@
+//! The codecs of a document in the order of a chain.
+
+ghost use Rattle.std.specs.Prelude.{◌≡◌, ◌≤◌, IfOk, map, drop, length};
+ghost use Rattle.zarr_codecs_kinds.specs.CodecForm.{form_of};
+ghost use Rattle.zarr_array_parts.specs.Chain.{leading, behind, all_byte_codecs, chain_in, array_form, byte_form, chain_form};
+ghost use Rattle.zarr_array_parts.specs.Opening.{chain_order, or_refused};
+ghost use Rattle.zarr_array_parts.specs.Parts.{Opens};
+
+use crate::open_error::OpenError;
+use std::alloc::{AllocError, Global};
+use zarr_codecs_kinds::{BasicArrayToArray, BasicArrayToBytes, BasicBytesToBytes, BasicCodec};
+use zarrs_codec_metadata::Codec;
+
+// The codecs of a chain.
+#[derive(Drop)]
+pub(crate) struct ChainCodecs {
+    pub(crate) array_codecs: Vec<BasicArrayToArray>,
+    pub(crate) to_bytes: BasicArrayToBytes,
+    pub(crate) byte_codecs: Vec<BasicBytesToBytes>,
+}
+
+// The array-to-array codecs that a list begins with.
+fn leading(alloc: Global, codecs: &[BasicCodec]) -> Result<Vec<BasicArrayToArray>, AllocError>
+    ensures first { IfOk result (λ v. map array_form v.items ≡ leading (map form_of codecs.now)) }
+    ensures rest { IfOk result (λ v. map form_of (drop (length v.items) codecs.now)
+        ≡ behind (map form_of codecs.now)) }
+    ensures few { IfOk result (λ v. length v.items ≤ length codecs.now) }
+{
+    let mut first = Vec::new(alloc);
+    for codec in codecs {
+        let Codec::ArrayToArray(codec) = codec else {
+            return Ok(first);
+        };
+        first.push(*codec)?;
+    }
+    Ok(first)
+}
+
+// Bytes-to-bytes codecs, if all are.
+fn byte_codecs(alloc: Global, codecs: &[BasicCodec]) -> Result<Vec<BasicBytesToBytes>, OpenError>
+    ensures { Opens (λ v. map byte_form v.items) result
+        (or_refused chain_order (all_byte_codecs (map form_of codecs.now))) }
+{
+    let mut others = Vec::with_capacity(alloc, codecs.len())?;
+    for codec in codecs {
+        let Codec::BytesToBytes(codec) = codec else {
+            return Err(OpenError::ChainOrder);
+        };
+        others.push(*codec)?;
+    }
+    Ok(others)
+}
+
+// The chain that codecs are.
+pub(crate) fn chain_of(alloc: Global, codecs: &[BasicCodec]) -> Result<ChainCodecs, OpenError>
+    ensures { Opens (λ c. chain_form c.array_codecs.items c.to_bytes c.byte_codecs.items) result
+        (or_refused chain_order (chain_in (map form_of codecs.now))) }
+{
+    let array_codecs = leading(alloc, codecs)?;
+    match &codecs[array_codecs.len()..] {
+        [Codec::ArrayToBytes(to_bytes), rest @ ..] => {
+            let byte_codecs = byte_codecs(alloc, rest)?;
+            Ok(ChainCodecs {
+                array_codecs,
+                to_bytes: *to_bytes,
+                byte_codecs,
+            })
+        }
+        _ => Err(OpenError::ChainOrder),
+    }
+}

@@ -1,0 +1,14 @@
+//! The parts of an array that a document describes: its data type, fill value, grid, chunk keys and codecs.
+#![tactic(auto)]
+
+mod chain;
+mod codecs;
+mod document;
+mod extensions;
+mod open_error;
+pub mod parts;
+mod served;
+
+pub use chain::BasicChain;
+pub use open_error::OpenError;
+pub use parts::ArrayParts;

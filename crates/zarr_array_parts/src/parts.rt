@@ -1,0 +1,207 @@
+//! Opening an array document.
+//!
+//! See <https://zarr-specs.readthedocs.io/en/latest/v3/core/index.html#array-metadata>.
+
+ghost use Rattle.std.specs.Prelude.{◌≡◌, ◌<◌, Some, true, false, length, is_some};
+ghost use Rattle.serde_json.specs.Read.{read as read_json};
+ghost use Rattle.zarr_model.specs.Prelude.{fill_element, kind_of, of_bytes};
+ghost use Rattle.zarrs_metadata.specs.ArrayMetadata.{array_seen};
+ghost use Rattle.zarrs_data_type_elements.specs.FillValue.{fill_bytes};
+ghost use Rattle.zarrs_data_type.specs.DataType.{type_of, is_type};
+ghost use Rattle.zarr_basics_grids.specs.BasicGrid.{basic_shape, basic_grid, basic_form};
+ghost use Rattle.zarr_basics_grids.specs.Limits.{has_large_chunk};
+ghost use Rattle.zarr_basics.specs.Keys.{keys_of};
+ghost use Rattle.zarr_basics.specs.Registries.{names_of};
+ghost use Rattle.zarr_array_parts.specs.Chain.{chain_form};
+ghost use Rattle.zarr_array_parts.specs.Sizes.{sized_kind, are_countable};
+ghost use Rattle.zarr_array_parts.specs.Opening.{is_served, served_document, document_of, document_read, open_document};
+
+use crate::codecs::{ChainCodecs, chain_of};
+use crate::document::read_document;
+use crate::extensions::{
+    codecs_by, data_type_by, expect_known_fields, fill_value_of, grid_by, keys_by,
+};
+use crate::open_error::OpenError;
+use crate::served::served_size;
+use std::alloc::Global;
+use zarr_basics::{BasicGrid, ChunkKeyEncoding, Registries};
+use zarr_codecs_kinds::{BasicArrayToArray, BasicArrayToBytes, BasicBytesToBytes};
+use zarrs_chunk_grid_traits::ChunkGridTraits;
+use zarrs_data_type::{DataType, FillValue};
+use zarrs_metadata::ArrayMetadataV3;
+
+/// The parts of an array that a document describes: its data type, its fill value, its grid, and the keys and the
+/// codecs of its chunks.
+#[derive(Drop)]
+pub struct ArrayParts {
+    pub(crate) data_type: DataType,
+    pub(crate) fill: FillValue,
+    pub(crate) grid: BasicGrid,
+    pub(crate) keys: ChunkKeyEncoding,
+    pub(crate) array_codecs: Vec<BasicArrayToArray>,
+    pub(crate) to_bytes: BasicArrayToBytes,
+    pub(crate) byte_codecs: Vec<BasicBytesToBytes>,
+    // The size of an element in bytes.
+    pub(crate) size: usize,
+    ghost sized: { sized_kind (kind_of (type_of data_type)) ≡ Some size },
+    ghost some: { 0 < size },
+    ghost filled: { length (fill_bytes fill) ≡ size },
+    ghost countable: { are_countable (basic_grid grid).grid_shape ≡ true },
+    ghost fits: { has_large_chunk (basic_grid grid) (Some size) ≡ false },
+    ghost served: { is_served (chain_form array_codecs.items to_bytes byte_codecs.items)
+        (type_of data_type) ≡ true },
+}
+
+// Numbers of chunks have the range of a `u64`, as these are held.
+#[tactic(auto, using(crate::proofs::OpeningLaws::counts_fit))]
+fn countable(_grid_shape: &[u64])
+    ensures { are_countable _grid_shape.now ≡ true }
+{}
+
+impl ArrayParts {
+    ghost use Rattle.zarr_array_parts.specs.Parts.{documented, described, Opens, OpensAs};
+
+    // The array with these parts, if its codecs serve them.
+    #[tactic(auto, using(crate::proofs::OpeningLaws::of_served))]
+    fn with_parts(
+        alloc: Global,
+        data_type: DataType,
+        fill: FillValue,
+        grid: BasicGrid,
+        keys: ChunkKeyEncoding,
+        codecs: ChainCodecs,
+    ) -> Result<ArrayParts, OpenError>
+        requires proper { is_type (type_of data_type) ≡ true }
+        requires filled { is_some (fill_element (kind_of (type_of data_type)) (fill_bytes fill))
+            ≡ true }
+        ensures { Opens documented result (served_document (keys_of keys)
+            (chain_form codecs.array_codecs.items codecs.to_bytes codecs.byte_codecs.items)
+            (type_of data_type) (basic_shape grid) (basic_form grid) (fill_bytes fill)) }
+    {
+        countable(grid.grid_shape());
+        let size = served_size(alloc, &codecs, &data_type)?;
+        if grid.has_large_chunk(Some(size)) {
+            return Err(OpenError::ChunkTooLarge);
+        }
+        let ChainCodecs {
+            array_codecs,
+            to_bytes,
+            byte_codecs,
+        } = codecs;
+        Ok(ArrayParts {
+            data_type,
+            fill,
+            grid,
+            keys,
+            array_codecs,
+            to_bytes,
+            byte_codecs,
+            size,
+        })
+    }
+
+    // The array that the fields of a document describe.
+    #[tactic(auto, unfolding(crate::specs::Opening::document_of), using(crate::proofs::OpeningLaws::fails_after))]
+    fn from_metadata(
+        alloc: Global,
+        metadata: &ArrayMetadataV3,
+        registries: &Registries,
+    ) -> Result<ArrayParts, OpenError>
+        ensures { Opens documented result (document_of (names_of registries.now)
+            (array_seen metadata.now)) }
+    {
+        expect_known_fields(metadata)?;
+        let data_type = data_type_by(alloc, &metadata.data_type, &registries.data_types)?;
+        let grid = grid_by(
+            alloc,
+            &metadata.shape,
+            &metadata.chunk_grid,
+            &registries.grids,
+        )?;
+        let keys = keys_by(
+            alloc,
+            &metadata.chunk_key_encoding,
+            &registries.key_encodings,
+        )?;
+        let codecs = codecs_by(alloc, &metadata.codecs, &registries.codecs)?;
+        let fill = fill_value_of(alloc, &data_type, &metadata.fill_value)?;
+        let codecs = chain_of(alloc, &codecs)?;
+        Self::with_parts(alloc, data_type, fill, grid, keys, codecs)
+    }
+
+    // The array that a text describes.
+    #[tactic(auto, using(crate::proofs::OpeningLaws::fails_after))]
+    fn from_text(
+        alloc: Global,
+        text: &str,
+        registries: &Registries,
+    ) -> Result<ArrayParts, OpenError>
+        ensures { Opens documented result (document_read (names_of registries.now)
+            (read_json text.now)) }
+    {
+        let metadata = read_document(alloc, text)?;
+        Self::from_metadata(alloc, &metadata, registries)
+    }
+
+    /// Opens the array that a document describes, by the names of some registries.
+    ///
+    /// Served are the types whose elements have one size: booleans, whole numbers and raw bits, with any chain of
+    /// `zarr_basics.offset`, which serves whole numbers, then `bytes` in either byte order, then `zarr_basics.sha256`,
+    /// at any rank and of any length. Attributes, dimension names and fields that need not be understood are read and
+    /// left alone.
+    ///
+    /// # Errors
+    /// The first of [`OpenError`] that applies, or `OutOfMemory`.
+    #[tactic(auto, using(crate::proofs::OpeningLaws::opens_as))]
+    pub fn open(alloc: Global, text: &str, registries: &Registries) -> Result<ArrayParts, OpenError>
+        ensures { OpensAs result (open_document (names_of registries.now) text.now) }
+    {
+        Self::from_text(alloc, text, registries)
+    }
+
+    /// The data type of the elements.
+    pub fn data_type(&self) -> &DataType
+        ensures { type_of result.now ≡ (documented self.now).data_type }
+    {
+        &self.data_type
+    }
+
+    /// The fill value.
+    pub fn fill_value(&self) -> &FillValue
+        ensures element { of_bytes (fill_bytes result.now) ≡ (documented self.now).fill }
+        ensures sized { sized_kind (kind_of (documented self.now).data_type)
+            ≡ Some (length (fill_bytes result.now)) }
+    {
+        &self.fill
+    }
+
+    /// The size of an element in bytes.
+    pub fn element_size(&self) -> usize
+        ensures size { sized_kind (kind_of (documented self.now).data_type) ≡ Some result }
+        ensures some { 0 < result }
+    {
+        self.size
+    }
+
+    /// The shape of the array.
+    pub fn shape(&self) -> &[u64]
+        ensures { result.now ≡ (documented self.now).shape }
+    {
+        self.grid.array_shape()
+    }
+
+    /// The grid of chunks.
+    pub fn grid(&self) -> &BasicGrid
+        ensures grid { basic_grid result.now ≡ (described self.now).grid }
+        ensures shape { basic_shape result.now ≡ (documented self.now).shape }
+    {
+        &self.grid
+    }
+
+    /// The encoding of chunk keys.
+    pub fn keys(&self) -> &ChunkKeyEncoding
+        ensures { keys_of result.now ≡ (documented self.now).keys }
+    {
+        &self.keys
+    }
+}

@@ -1,0 +1,64 @@
+-- The chunk that has the fill value everywhere.
+use Rattle.std.proofs.Common.{◌≡◌, ◌⊎◌, ⊎_elim, ℕ, Bool, true, false, List, replicate, Option, Some, None, IsSome, unwrap_or, Result, Ok, Err, IfOk, MatchResult, refl, subst, length, subst₂, sym, ◌<◌, ◌^◌}
+use Rattle.std.specs.declared.num.NonZeroU64.{NonZeroU64}
+use Rattle.zarr_model.specs.Region.{count_of}
+use Rattle.zarr_model.specs.Element.{Element, Kind, fixed, variable, optional, null, kind_of, fill_element, fixed_size}
+use Rattle.zarr_model.specs.ArrayBytes.{meaning}
+use Rattle.zarr_model.specs.Codec.{Level}
+use Rattle.zarrs_data_type_elements.specs.FillValue.{fill_bytes}
+use Rattle.zarrs_data_type_elements.specs.declared.fill_value.FillValue.{FillValue}
+use Rattle.zarrs_data_type_names.specs.DataType.{type_of}
+use Rattle.zarrs_data_type_names.specs.declared.data_type.DataType.{DataType}
+use Rattle.zarrs_codec_bytes.specs.Filling.{has_size, inner_fill, innermost_fill, filled_with}
+use Rattle.zarrs_codec_bytes.proofs.FilledLaws.{element_fits, filled_short}
+use Rattle.zarrs_codec_error.specs.declared.error.CodecError.{CodecError}
+use Rattle.zarrs_codec_error.specs.declared.error.CodecError.TheVariants as codec
+use Rattle.zarrs_codec_array_bytes.specs.declared.array_bytes.ArrayBytes as code
+use Rattle.zarrs_codec_array_bytes.specs.Raw.{raw_of}
+use Rattle.zarrs_codec_array_bytes.specs.Refusals.{Answers, fill_answer, fine, told_by}
+use Rattle.zarrs_codec_traits.specs.Views.{lengths, level_of}
+use Rattle.zarrs_codec_traits.specs.Words.{list_at}
+use Rattle.zarr_chain.proofs.LevelLaws.{says_some}
+use Rattle.zarr_model.specs.Command.{has_long_element}
+use Rattle.zarr_chain.specs.declared.chain.CodecChain.{CodecChain}
+use Rattle.zarr_chain.specs.Chain.{first_level, first_fill}
+use Rattle.zarr_chain_stored.specs.Fetch.{blank_chunk, HasFill}
+
+-- a fill value that denotes an element is refused for want of memory alone
+fill_memory : (b : Bool) (e : CodecError) → b ≡ true → (e ≡ codec.OutOfMemory) ⊎ (told_by e ≡ fill_answer b) → e ≡ codec.OutOfMemory
+fill_memory true e fits answer = ⊎_elim (λ (memory : e ≡ codec.OutOfMemory). memory) (λ (told : told_by e ≡ fine). absurd (says_some e told)) answer
+fill_memory false e fits answer = cc
+
+denoted : (o : Option Element) → IsSome o → o ≡ Some (unwrap_or o null)
+denoted None there = cc
+denoted (Some x) there = refl
+
+filled_gives : (level : Level) (number : ℕ) (fill : List ℕ) (r : Result code.ArrayBytes CodecError) → number ≡ count_of level.shape → fill_element (kind_of level.data_type) fill ≡ Some level.fill →
+    Answers (fill_answer (has_size (kind_of level.data_type) fill)) r →
+    ((x : Element) → fill_element (kind_of level.data_type) fill ≡ Some x → IfOk r (λ v. meaning (kind_of level.data_type) number (raw_of v) ≡ Some (replicate number x))) →
+    MatchResult r (λ v. list_at level (raw_of v) ≡ Some (replicate (count_of level.shape) level.fill)) (λ e. e ≡ codec.OutOfMemory)
+filled_gives level number fill (Ok v) same denotes answers filled =
+    subst (λ n. meaning (kind_of level.data_type) n (raw_of v) ≡ Some (replicate n level.fill)) same (filled level.fill denotes)
+filled_gives level number fill (Err e) same denotes answers filled =
+    fill_memory (has_size (kind_of level.data_type) fill) e (element_fits (kind_of level.data_type) fill level.fill denotes) answers
+
+pub filled_value : (shape : List NonZeroU64) (data_type : DataType) (value : FillValue) (number : ℕ) (r : Result code.ArrayBytes CodecError) → number ≡ count_of (lengths shape) →
+    IsSome (fill_element (kind_of (type_of data_type)) (fill_bytes value)) → Answers (fill_answer (has_size (kind_of (type_of data_type)) (fill_bytes value))) r →
+    ((x : Element) → fill_element (kind_of (type_of data_type)) (fill_bytes value) ≡ Some x → IfOk r (λ v. meaning (kind_of (type_of data_type)) number (raw_of v) ≡ Some (replicate number x))) →
+    MatchResult r (λ v. list_at (level_of shape data_type value) (raw_of v) ≡ Some (replicate (count_of (level_of shape data_type value).shape) (level_of shape data_type value).fill)) (λ e. e ≡ codec.OutOfMemory)
+filled_value shape data_type value number r same there answers filled =
+    filled_gives (level_of shape data_type value) number (fill_bytes value) r same (denoted _ there) answers filled
+
+-- what is asked of the fill value of a chain, by its first level
+pub has_fill : {A B C : Type 0} (chain : CodecChain A B C) (level : Level) (fill : List ℕ) → first_level chain ≡ level → first_fill chain ≡ fill → fill_element (kind_of level.data_type) fill ≡ Some level.fill →
+    length (innermost_fill (kind_of level.data_type) fill) < 2 ^ 32 → HasFill chain
+has_fill chain level fill same under denotes short = record {
+  denotes = subst₂ (λ l f. fill_element (kind_of l.data_type) f ≡ Some l.fill) (sym same) (sym under) denotes;
+  short = subst₂ (λ l f. has_long_element (blank_chunk l f) ≡ false) (sym same) (sym under) (filled_short (kind_of level.data_type) (count_of level.shape) fill short);
+}
+
+-- elements of one size are never too long
+pub sized_short : (kind : Kind) (number size : ℕ) (fill : List ℕ) → fixed_size kind ≡ Some size → has_long_element (filled_with kind number fill) ≡ false
+sized_short (fixed n) number size fill same = refl
+sized_short variable number size fill same = cc
+sized_short (optional kind) number size fill same = sized_short kind number size (inner_fill kind fill) same

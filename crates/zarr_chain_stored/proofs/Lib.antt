@@ -1,0 +1,4 @@
+pub mod FetchLaws
+pub mod PutLaws
+pub mod UpdateLaws
+pub mod ReadLaws

@@ -1,0 +1,51 @@
+-- A box of array bytes that are valid is refused for want of memory alone.
+use Rattle.std.proofs.Common.{◌≡◌, ⊎_elim, ℕ, ◌*◌, Bool, true, List, length, get_or, Some, None, Result, Ok, Err, IfOk, MatchResult, refl, sym, ap, ap₂, ◌∙◌}
+use Rattle.std.proofs.lemmas.Simd.{map-map}
+use Rattle.zarr_model.specs.Element.{Element, Kind, fixed, variable, optional, fixed_size, null}
+use Rattle.zarr_model.specs.ArrayBytes.{ArrayBytes, fixed_bytes, variable_bytes, optional_bytes, meaning}
+use Rattle.zarr_model.specs.Region.{Region, count, tuples, linear_index}
+use Rattle.zarr_model.specs.Command.{bytes_refusal}
+use Rattle.zarr_model.proofs.RegionLaws.{length-tuples}
+use Rattle.zarrs_codec_bytes.specs.Picking.{size_in, picked}
+use Rattle.zarrs_codec_error.specs.declared.error.CodecError.{CodecError}
+use Rattle.zarrs_codec_error.specs.declared.error.CodecError.TheVariants as codec
+use Rattle.zarrs_codec_array_bytes.specs.declared.array_bytes.ArrayBytes as code
+use Rattle.zarrs_codec_array_bytes.specs.Levels.{inner_length}
+use Rattle.zarrs_codec_array_bytes.specs.Raw.{raw_of}
+use Rattle.zarrs_codec_array_bytes.specs.Selection.{linear}
+use Rattle.zarrs_codec_array_bytes.specs.Refusals.{fine, kind_refusal, first_answer, lengths_answer, sized_answer, extract_answer, told_by, Answers}
+use Rattle.zarrs_codec_traits.specs.Words.{select}
+use Rattle.zarr_chain.proofs.LevelLaws.{says_some}
+use Rattle.zarr_chain_stored.proofs.UpdateLaws.{both_none, lengths_none, valid_of}
+
+-- valid array bytes are of their kind
+kind_none : (kind : Kind) (n : ℕ) (raw : ArrayBytes) → bytes_refusal kind n raw ≡ None → kind_refusal kind raw ≡ None
+kind_none (fixed k) n (fixed_bytes a) valid = refl
+kind_none (fixed k) n (variable_bytes a from) valid = cc
+kind_none (fixed k) n (optional_bytes a mask) valid = cc
+kind_none variable n (fixed_bytes a) valid = cc
+kind_none variable n (variable_bytes a from) valid = refl
+kind_none variable n (optional_bytes a mask) valid = cc
+kind_none (optional kind) n (fixed_bytes a) valid = cc
+kind_none (optional kind) n (variable_bytes a from) valid = cc
+kind_none (optional kind) n (optional_bytes a mask) valid = kind_none kind n a (both_none _ _ valid).1
+
+extract_fine : (kind : Kind) (fits : Bool) (n : ℕ) (raw : ArrayBytes) (xs : List Element) → fits ≡ true → meaning kind n raw ≡ Some xs → extract_answer kind fits n raw ≡ fine
+extract_fine kind fits n raw xs inside was =
+    let valid = valid_of kind n raw xs was in
+    ap₂ (λ o b. first_answer o b (lengths_answer (size_in (fixed_size kind)) n raw)) (kind_none kind n raw valid) inside
+    ∙ ap (sized_answer (inner_length raw) (n * size_in (fixed_size kind))) (lengths_none kind n raw valid)
+
+pub extract_gives : (kind : Kind) (fits : Bool) (n : ℕ) (raw : ArrayBytes) (xs : List Element) (Wanted : code.ArrayBytes → Type 0) (r : Result code.ArrayBytes CodecError) → fits ≡ true → meaning kind n raw ≡ Some xs →
+    Answers (extract_answer kind fits n raw) r → IfOk r Wanted → MatchResult r Wanted (λ e. e ≡ codec.OutOfMemory)
+extract_gives kind fits n raw xs Wanted (Ok v) inside was answers gives = gives
+extract_gives kind fits n raw xs Wanted (Err e) inside was answers gives =
+    ⊎_elim (λ (memory : e ≡ codec.OutOfMemory). memory)
+    (λ (told : told_by e ≡ extract_answer kind fits n raw). absurd (says_some e (told ∙ extract_fine kind fits n raw xs inside was))) answers
+
+-- what was picked is the selection
+pub picked_selects : {E : Type 0} (kind : Kind) (shape : List ℕ) (box : Region) (xs : List Element) (r : Result code.ArrayBytes E) →
+    IfOk r (λ v. meaning kind (length (tuples box)) (raw_of v) ≡ Some (picked null (linear shape (tuples box)) xs)) → IfOk r (λ v. meaning kind (count box) (raw_of v) ≡ Some (select shape box xs))
+picked_selects kind shape box xs (Ok v) is =
+    ap (λ n. meaning kind n (raw_of v)) (sym (length-tuples box)) ∙ (is ∙ ap Some (map-map (λ (k : ℕ). get_or xs k null) (linear_index shape) (tuples box)))
+picked_selects kind shape box xs (Err e) is = tt

@@ -1,0 +1,18 @@
+use Rattle.std.proofs.Common.{ap, ◌∙◌}
+use Rattle.zarr_model.specs.Region.{count_of}
+use Rattle.zarr_model.specs.Element.{kind_of, fill_element}
+use Rattle.zarr_model.proofs.BytesLaws.{length-meaning}
+use Rattle.zarrs_codec_array_bytes.specs.Raw.{raw_of}
+use Rattle.zarr_chain.specs.Chain.{first_level}
+use Rattle.zarr_chain_stored.proofs.PutLaws.{blank_is, chunk_some}
+use Rattle.zarr_chain_stored.proofs.putting.is_blank_chunk.Goals as goal
+
+pub returns : goal.returns
+returns g c = λ list means.
+    let chain = c.args.chain.now in
+    let level = first_level chain in
+    let kind = kind_of level.data_type in
+    let number = count_of level.shape in
+    let denotes = ap (fill_element kind) c.fill_value.ensures ∙ c.requires.fill.denotes in
+    blank_is c.is_fill_value.result number level.fill list (length-meaning kind number (raw_of c.args.chunk.now) list means)
+    (c.is_fill_value.ensures.elements kind number list level.fill means (chunk_some chain.levels.items chain.bottom) denotes)

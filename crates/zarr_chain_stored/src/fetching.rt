@@ -1,0 +1,123 @@
+//! The elements of a chunk in a store.
+
+ghost use Rattle.std.specs.Prelude.{◌≡◌, ◌≤◌, false, Some, IsSome, replicate, IfOk, IfErr, MatchResult};
+ghost use Rattle.zarr_model.specs.Command.{has_long_element};
+ghost use Rattle.zarr_model.specs.Element.{fill_element, kind_of};
+ghost use Rattle.zarr_model.specs.Region.{count_of};
+ghost use Rattle.zarr_model.specs.Cost.{counted};
+ghost use Rattle.zarrs_storage.specs.Store.{SameContent, value_bytes};
+ghost use Rattle.zarrs_data_type_elements.specs.FillValue.{fill_bytes};
+ghost use Rattle.zarrs_data_type_names.specs.DataType.{type_of};
+ghost use Rattle.zarrs_codec_error.specs.declared.error.CodecError.TheVariants as codec;
+ghost use Rattle.zarrs_codec_array_bytes.specs.Raw.{raw_of};
+ghost use Rattle.zarrs_codec_traits.specs.Errors.{IsDecodeError};
+ghost use Rattle.zarrs_codec_traits.specs.Views.{lengths, level_of, options_of};
+ghost use Rattle.zarrs_codec_traits.specs.Words.{list_at, Gives, IsFit};
+ghost use Rattle.zarr_chain.specs.Chain.{IsServed, first_level};
+ghost use Rattle.zarr_chain_stored.specs.Fetch.{blank_chunk, HasFill, chunk_content, chunk_says, ChunkFails};
+
+use std::alloc::Global;
+use std::num::NonZeroU64;
+use zarr_chain::CodecChain;
+use zarrs_codec_array_bytes::ArrayBytes;
+use zarrs_codec_error::CodecError;
+use zarrs_codec_options::CodecOptions;
+use zarrs_codec_traits::{
+    ArrayToArrayCodecTraits, ArrayToBytesCodecTraits, BytesToBytesCodecTraits, num_elements,
+};
+use zarrs_data_type_elements::FillValue;
+use zarrs_data_type_names::DataType;
+use zarrs_storage::{Store, StoreKey};
+
+// A chunk that has the fill value everywhere.
+fn filled_chunk(
+    alloc: Global,
+    shape: &[NonZeroU64],
+    data_type: &DataType,
+    fill_value: &FillValue,
+) -> Result<ArrayBytes<'static>, CodecError>
+    requires fits { IsFit (lengths shape.now) (type_of data_type.now) }
+    requires denotes { IsSome (fill_element (kind_of (type_of data_type.now))
+        (fill_bytes fill_value.now)) }
+    ensures value { let level = level_of shape.now data_type.now fill_value.now in
+        MatchResult result
+        (λ v. list_at level (raw_of v) ≡ Some (replicate (count_of level.shape) level.fill))
+        (λ e. e ≡ codec.OutOfMemory) }
+    ensures bytes { IfOk result (λ v. raw_of v
+        ≡ blank_chunk (level_of shape.now data_type.now fill_value.now)
+        (fill_bytes fill_value.now)) }
+{
+    ArrayBytes::new_fill_value(alloc, data_type, num_elements(shape), fill_value)
+}
+
+// The same of a chain's chunks.
+fn blank<A: ArrayToArrayCodecTraits, B: ArrayToBytesCodecTraits, C: BytesToBytesCodecTraits>(
+    chain: &CodecChain<A, B, C>,
+    alloc: Global,
+) -> Result<ArrayBytes<'static>, CodecError>
+    requires served { IsServed A.meaning A.unserved B.unserved chain.now }
+    requires fill { HasFill chain.now }
+    ensures value { let level = first_level chain.now in MatchResult result
+        (λ v. list_at level (raw_of v) ≡ Some (replicate (count_of level.shape) level.fill))
+        (λ e. e ≡ codec.OutOfMemory) }
+    ensures short { IfOk result (λ v. has_long_element (raw_of v) ≡ false) }
+{
+    filled_chunk(alloc, chain.shape(), chain.data_type(), chain.fill_value())
+}
+
+// The elements of a chunk, by its value.
+fn elements_of<A: ArrayToArrayCodecTraits, B: ArrayToBytesCodecTraits, C: BytesToBytesCodecTraits>(
+    chain: &CodecChain<A, B, C>,
+    alloc: Global,
+    value: Option<Vec<u8>>,
+    options: &CodecOptions,
+) -> Result<ArrayBytes<'static>, CodecError>
+    requires served { IsServed A.meaning A.unserved B.unserved chain.now }
+    requires fill { HasFill chain.now }
+    ensures value { IfOk result (λ v. Gives (list_at (first_level chain.now) (raw_of v))
+        (chunk_content A.meaning B.meaning C.meaning chain.now (options_of options.now)
+        (value_bytes value))) }
+    ensures failed { let under = options_of options.now in IfErr result (IsDecodeError
+        (chunk_content A.meaning B.meaning C.meaning chain.now under (value_bytes value))
+        (chunk_says B.says C.meaning C.says chain.now under (value_bytes value))) }
+    ensures short { IfOk result (λ v. has_long_element (raw_of v) ≡ false) }
+{
+    match value {
+        Some(value) => chain.decode(alloc, value, options),
+        None => blank(chain, alloc),
+    }
+}
+
+/// The elements of a chunk: those of its value, or the fill value where its key is absent. One reading call.
+///
+/// # Errors
+/// The error of the store; that of the first codec, in the order of decoding, that gives nothing; or
+/// [`CodecError::OutOfMemory`].
+pub fn fetch<
+    S: Store,
+    A: ArrayToArrayCodecTraits,
+    B: ArrayToBytesCodecTraits,
+    C: BytesToBytesCodecTraits,
+>(
+    chain: &CodecChain<A, B, C>,
+    alloc: Global,
+    key: &StoreKey,
+    store: &mut S,
+    options: &CodecOptions,
+) -> Result<ArrayBytes<'static>, CodecError>
+    requires served { IsServed A.meaning A.unserved B.unserved chain.now }
+    requires fill { HasFill chain.now }
+    ensures value { IfOk result (λ v. Gives (list_at (first_level chain.now) (raw_of v))
+        (chunk_content A.meaning B.meaning C.meaning chain.now (options_of options.now)
+        ((S.shown store.old).content key.now))) }
+    ensures failed { IfErr result (ChunkFails A.meaning B.meaning C.meaning B.says C.says chain.now
+        (options_of options.now) ((S.shown store.old).content key.now)
+        (S.shown store.old).faults (S.shown store.new).faults) }
+    ensures short { IfOk result (λ v. has_long_element (raw_of v) ≡ false) }
+    ensures same { SameContent (S.shown store.old) (S.shown store.new) }
+    ensures asks { (S.shown store.new).asks ≡ counted (S.shown store.old).asks 1 }
+    ensures later { (S.shown store.old).faults ≤ (S.shown store.new).faults }
+{
+    let value = store.get(alloc, key)?;
+    elements_of(chain, alloc, value, options)
+}

@@ -1,0 +1,16 @@
+//! Chunks under their keys in a store, through a chain of codecs.
+//!
+//! See <https://zarr-specs.readthedocs.io/en/latest/v3/core/index.html#chunk-encoding>.
+#![tactic(auto)]
+
+mod fetching;
+mod handle;
+mod putting;
+mod reading;
+mod updating;
+
+pub use fetching::fetch;
+pub use handle::ChainHandle;
+pub use putting::put;
+pub use reading::read;
+pub use updating::write;

@@ -1,0 +1,112 @@
+//! A region of a chunk in a store.
+
+ghost use Rattle.std.specs.Prelude.{◌≡◌, ◌≤◌, true, false, List, Some, IsSome, IfOk, IfErr, MatchResult};
+ghost use Rattle.zarr_model.specs.Command.{has_long_element};
+ghost use Rattle.zarr_model.specs.Cost.{counted};
+ghost use Rattle.zarr_model.specs.ArrayBytes.{meaning};
+ghost use Rattle.zarr_model.specs.Element.{Element, kind_of};
+ghost use Rattle.zarr_model.specs.Region.{count, count_of, ends_within};
+ghost use Rattle.zarrs_array_subset.specs.ArraySubset.{region as box_of};
+ghost use Rattle.zarrs_storage.specs.Store.{SameContent};
+ghost use Rattle.zarrs_data_type_names.specs.DataType.{type_of};
+ghost use Rattle.zarrs_codec_error.specs.declared.error.CodecError.TheVariants as codec;
+ghost use Rattle.zarrs_codec_array_bytes.specs.Raw.{raw_of};
+ghost use Rattle.zarrs_codec_traits.specs.Views.{lengths, options_of};
+ghost use Rattle.zarrs_codec_traits.specs.Words.{list_at, at_box, select, IsFit};
+ghost use Rattle.zarr_chain.specs.Chain.{IsServed, first_level};
+ghost use Rattle.zarr_chain_stored.specs.Fetch.{HasFill, chunk_content, ChunkFails};
+
+use crate::fetching::fetch;
+use std::alloc::Global;
+use std::num::NonZeroU64;
+use zarr_chain::CodecChain;
+use zarrs_array_subset::ArraySubset;
+use zarrs_codec_array_bytes::ArrayBytes;
+use zarrs_codec_error::CodecError;
+use zarrs_codec_options::CodecOptions;
+use zarrs_codec_traits::{
+    ArrayToArrayCodecTraits, ArrayToBytesCodecTraits, BytesToBytesCodecTraits, shape_numbers,
+};
+use zarrs_data_type_names::DataType;
+use zarrs_storage::{Store, StoreKey};
+
+// The elements of a box inside a shape.
+fn region_of(
+    alloc: Global,
+    whole: &ArrayBytes<'_>,
+    shape: &[NonZeroU64],
+    data_type: &DataType,
+    region: &ArraySubset,
+) -> Result<ArrayBytes<'static>, CodecError>
+    requires fits { IsFit (lengths shape.now) (type_of data_type.now) }
+    requires inside { ends_within (box_of region.now) (lengths shape.now) ≡ true }
+    ensures value { let kind = kind_of (type_of data_type.now) in (list : List Element)
+        → meaning kind (count_of (lengths shape.now)) (raw_of whole.now) ≡ Some list
+        → MatchResult result (λ v. meaning kind (count (box_of region.now)) (raw_of v)
+        ≡ Some (select (lengths shape.now) (box_of region.now) list))
+        (λ e. e ≡ codec.OutOfMemory) }
+    ensures short { has_long_element (raw_of whole.now) ≡ false
+        → IfOk result (λ v. has_long_element (raw_of v) ≡ false) }
+{
+    let numbers = shape_numbers(alloc, shape)?;
+    whole.extract_array_subset(alloc, region, &numbers, data_type)
+}
+
+// The elements of a region of a chunk.
+fn part_of<A: ArrayToArrayCodecTraits, B: ArrayToBytesCodecTraits, C: BytesToBytesCodecTraits>(
+    chain: &CodecChain<A, B, C>,
+    alloc: Global,
+    whole: &ArrayBytes<'_>,
+    region: &ArraySubset,
+) -> Result<ArrayBytes<'static>, CodecError>
+    requires served { IsServed A.meaning A.unserved B.unserved chain.now }
+    requires inside { ends_within (box_of region.now) (first_level chain.now).shape ≡ true }
+    ensures value { let level = first_level chain.now in (list : List Element)
+        → list_at level (raw_of whole.now) ≡ Some list
+        → MatchResult result (λ v. list_at (at_box (box_of region.now) level) (raw_of v)
+        ≡ Some (select level.shape (box_of region.now) list)) (λ e. e ≡ codec.OutOfMemory) }
+    ensures short { has_long_element (raw_of whole.now) ≡ false
+        → IfOk result (λ v. has_long_element (raw_of v) ≡ false) }
+{
+    region_of(alloc, whole, chain.shape(), chain.data_type(), region)
+}
+
+/// The elements of a region of a chunk, out of the whole chunk. One reading call. The region lies inside the chunk.
+///
+/// # Errors
+/// As those of `fetch`.
+pub fn read<
+    S: Store,
+    A: ArrayToArrayCodecTraits,
+    B: ArrayToBytesCodecTraits,
+    C: BytesToBytesCodecTraits,
+>(
+    chain: &CodecChain<A, B, C>,
+    alloc: Global,
+    key: &StoreKey,
+    region: &ArraySubset,
+    store: &mut S,
+    options: &CodecOptions,
+) -> Result<ArrayBytes<'static>, CodecError>
+    requires served { IsServed A.meaning A.unserved B.unserved chain.now }
+    requires fill { HasFill chain.now }
+    requires inside { ends_within (box_of region.now) (first_level chain.now).shape ≡ true }
+    ensures elements { let level = first_level chain.now in (list : List Element)
+        → chunk_content A.meaning B.meaning C.meaning chain.now (options_of options.now)
+        ((S.shown store.old).content key.now) ≡ Some list
+        → IfOk result (λ v. list_at (at_box (box_of region.now) level) (raw_of v)
+        ≡ Some (select level.shape (box_of region.now) list)) }
+    ensures decodes { IfOk result
+        (λ _. IsSome (chunk_content A.meaning B.meaning C.meaning chain.now
+        (options_of options.now) ((S.shown store.old).content key.now))) }
+    ensures failed { IfErr result (ChunkFails A.meaning B.meaning C.meaning B.says C.says chain.now
+        (options_of options.now) ((S.shown store.old).content key.now)
+        (S.shown store.old).faults (S.shown store.new).faults) }
+    ensures short { IfOk result (λ v. has_long_element (raw_of v) ≡ false) }
+    ensures same { SameContent (S.shown store.old) (S.shown store.new) }
+    ensures asks { (S.shown store.new).asks ≡ counted (S.shown store.old).asks 1 }
+    ensures later { (S.shown store.old).faults ≤ (S.shown store.new).faults }
+{
+    let whole = fetch(chain, alloc, key, store, options)?;
+    part_of(chain, alloc, &whole, region)
+}

@@ -1,0 +1,166 @@
+//! A region of a chunk in a store, replaced.
+
+ghost use Rattle.std.specs.Prelude.{◌≡◌, ◌≤◌, true, false, List, Some, IsSome, option_map, IfOk, IfErr, OnOk, OnErr, MatchResult};
+ghost use Rattle.zarr_model.specs.Command.{has_long_element};
+ghost use Rattle.zarr_model.specs.Cost.{counted};
+ghost use Rattle.zarr_model.specs.ArrayBytes.{meaning};
+ghost use Rattle.zarr_model.specs.Element.{Element, fixed_size, kind_of};
+ghost use Rattle.zarr_model.specs.Region.{count, count_of, ends_within};
+ghost use Rattle.zarrs_array_subset.specs.ArraySubset.{region as box_of};
+ghost use Rattle.zarrs_storage.specs.Store.{SameContent};
+ghost use Rattle.zarrs_data_type_names.specs.DataType.{type_of};
+ghost use Rattle.zarrs_codec_error.specs.declared.error.CodecError.TheVariants as codec;
+ghost use Rattle.zarrs_codec_array_bytes.specs.Raw.{raw_of};
+ghost use Rattle.zarrs_codec_array_bytes.specs.Steps.{size_seen};
+ghost use Rattle.zarrs_codec_traits.specs.Views.{lengths, options_of};
+ghost use Rattle.zarrs_codec_traits.specs.Words.{list_at, at_box, IsFit};
+ghost use Rattle.zarrs_codec_held.specs.Writes.{UnlessFault};
+ghost use Rattle.zarr_chain.specs.Levels.{above};
+ghost use Rattle.zarr_chain.specs.Chain.{IsServed, first_level, decoded};
+ghost use Rattle.zarr_chain_stored.specs.Fetch.{HasFill, chunk_content, ChunkFails};
+ghost use Rattle.zarr_chain_stored.specs.Put.{is_dropped};
+ghost use Rattle.zarr_chain_stored.specs.Update.{with_box, UpdatesChunk, MayUpdateChunk};
+
+use crate::fetching::fetch;
+use crate::putting::put;
+use std::alloc::Global;
+use std::num::NonZeroU64;
+use zarr_chain::CodecChain;
+use zarrs_array_subset::ArraySubset;
+use zarrs_codec_array_bytes::ArrayBytes;
+use zarrs_codec_array_bytes_update::update_array_bytes;
+use zarrs_codec_error::CodecError;
+use zarrs_codec_options::CodecOptions;
+use zarrs_codec_traits::{
+    ArrayToArrayCodecTraits, ArrayToBytesCodecTraits, BytesToBytesCodecTraits, shape_numbers,
+};
+use zarrs_data_type_names::DataType;
+use zarrs_metadata_parts::DataTypeSize;
+use zarrs_storage::{Store, StoreKey};
+
+// The size of a data type's elements.
+fn size_of_type(data_type: &DataType) -> DataTypeSize
+    ensures { fixed_size (kind_of (type_of data_type.now)) ≡ size_seen result }
+{
+    match data_type.fixed_size() {
+        Some(size) => DataTypeSize::Fixed(size),
+        None => DataTypeSize::Variable,
+    }
+}
+
+// The elements of a shape with those of a box inside it replaced.
+fn with_region(
+    alloc: Global,
+    whole: &ArrayBytes<'_>,
+    shape: &[NonZeroU64],
+    data_type: &DataType,
+    region: &ArraySubset,
+    bytes: &ArrayBytes<'_>,
+) -> Result<ArrayBytes<'static>, CodecError>
+    requires fits { IsFit (lengths shape.now) (type_of data_type.now) }
+    requires inside { ends_within (box_of region.now) (lengths shape.now) ≡ true }
+    ensures value { let kind = kind_of (type_of data_type.now) in (old new : List Element)
+        → meaning kind (count_of (lengths shape.now)) (raw_of whole.now) ≡ Some old
+        → meaning kind (count (box_of region.now)) (raw_of bytes.now) ≡ Some new
+        → MatchResult result (λ v. meaning kind (count_of (lengths shape.now)) (raw_of v)
+        ≡ Some (with_box (lengths shape.now) (box_of region.now) new old))
+        (λ e. e ≡ codec.OutOfMemory) }
+    ensures short { has_long_element (raw_of whole.now) ≡ false
+        → has_long_element (raw_of bytes.now) ≡ false
+        → IfOk result (λ v. has_long_element (raw_of v) ≡ false) }
+{
+    let numbers = shape_numbers(alloc, shape)?;
+    update_array_bytes(
+        alloc,
+        whole,
+        &numbers,
+        region,
+        bytes,
+        size_of_type(data_type),
+    )
+}
+
+// A chunk with the elements of a region replaced.
+fn updated<A: ArrayToArrayCodecTraits, B: ArrayToBytesCodecTraits, C: BytesToBytesCodecTraits>(
+    chain: &CodecChain<A, B, C>,
+    alloc: Global,
+    whole: &ArrayBytes<'_>,
+    region: &ArraySubset,
+    bytes: &ArrayBytes<'_>,
+) -> Result<ArrayBytes<'static>, CodecError>
+    requires served { IsServed A.meaning A.unserved B.unserved chain.now }
+    requires inside { ends_within (box_of region.now) (first_level chain.now).shape ≡ true }
+    ensures value { let level = first_level chain.now in (old new : List Element)
+        → list_at level (raw_of whole.now) ≡ Some old
+        → list_at (at_box (box_of region.now) level) (raw_of bytes.now) ≡ Some new
+        → MatchResult result (λ v. list_at level (raw_of v)
+        ≡ Some (with_box level.shape (box_of region.now) new old)) (λ e. e ≡ codec.OutOfMemory) }
+    ensures short { has_long_element (raw_of whole.now) ≡ false
+        → has_long_element (raw_of bytes.now) ≡ false
+        → IfOk result (λ v. has_long_element (raw_of v) ≡ false) }
+{
+    with_region(
+        alloc,
+        whole,
+        chain.shape(),
+        chain.data_type(),
+        region,
+        bytes,
+    )
+}
+
+/// Replaces the elements of a region of a chunk, of which an old value that does not decode is an error. One reading
+/// call, and then one that puts or erases. The region lies inside the chunk, its bytes are valid, no element of them or of the fill value is too
+/// long to be stored, and the array-to-bytes codec takes such chunks.
+///
+/// # Errors
+/// As those of `fetch` and `put`; where it is not a fault of the store, the store is as it was.
+pub fn write<
+    S: Store,
+    A: ArrayToArrayCodecTraits,
+    B: ArrayToBytesCodecTraits,
+    C: BytesToBytesCodecTraits,
+>(
+    chain: &CodecChain<A, B, C>,
+    alloc: Global,
+    key: &StoreKey,
+    region: &ArraySubset,
+    bytes: &ArrayBytes<'_>,
+    store: &mut S,
+    options: &CodecOptions,
+) -> Result<(), CodecError>
+    requires served { IsServed A.meaning A.unserved B.unserved chain.now }
+    requires takes { B.takes chain.now.bottom.codec (above chain.now.bottom) }
+    requires fill { HasFill chain.now }
+    requires inside { ends_within (box_of region.now) (first_level chain.now).shape ≡ true }
+    requires means { IsSome (list_at (at_box (box_of region.now) (first_level chain.now))
+        (raw_of bytes.now)) }
+    requires short { has_long_element (raw_of bytes.now) ≡ false }
+    ensures ok { let level = first_level chain.now in let under = options_of options.now in
+        (new : List Element)
+        → list_at (at_box (box_of region.now) level) (raw_of bytes.now) ≡ Some new
+        → OnOk result (UpdatesChunk (decoded A.meaning B.meaning C.meaning chain.now under)
+        (is_dropped under level) (option_map (with_box level.shape (box_of region.now) new)
+        (chunk_content A.meaning B.meaning C.meaning chain.now under
+        ((S.shown store.old).content key.now)))
+        (S.shown store.old).content (S.shown store.new).content key.now) }
+    ensures failed { let level = first_level chain.now in let under = options_of options.now in
+        (new : List Element)
+        → list_at (at_box (box_of region.now) level) (raw_of bytes.now) ≡ Some new
+        → OnErr result (MayUpdateChunk (decoded A.meaning B.meaning C.meaning chain.now under)
+        (option_map (with_box level.shape (box_of region.now) new)
+        (chunk_content A.meaning B.meaning C.meaning chain.now under
+        ((S.shown store.old).content key.now)))
+        (S.shown store.old).content (S.shown store.new).content key.now) }
+    ensures unchanged { UnlessFault result (SameContent (S.shown store.old) (S.shown store.new)) }
+    ensures cause { IfErr result (ChunkFails A.meaning B.meaning C.meaning B.says C.says chain.now
+        (options_of options.now) ((S.shown store.old).content key.now)
+        (S.shown store.old).faults (S.shown store.new).faults) }
+    ensures asks { (S.shown store.new).asks ≡ counted (S.shown store.old).asks 1 }
+    ensures later { (S.shown store.old).faults ≤ (S.shown store.new).faults }
+{
+    let whole = fetch(chain, alloc, key, store, options)?;
+    let chunk = updated(chain, alloc, &whole, region, bytes)?;
+    put(chain, alloc, key, chunk, store, options)?;
+    Ok(())
+}

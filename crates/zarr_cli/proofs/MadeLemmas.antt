@@ -1,0 +1,237 @@
+-- A run that is made from a number: its array, its summary, and what it owes.
+use Rattle.std.proofs.Common.{◌≡◌, ℕ, ◌+◌, ◌<◌, List, length, map, Option, Some, None, Result, Ok, Err, IfOk, IfErr, OnOk, Vec, ◌⊎◌, inl, inr, refl, sym, ap, ◌∙◌, subst, arith}
+use Rattle.std.proofs.Math.Path.{fun_ext}
+use Rattle.std.specs.List.{AllZip}
+use Rattle.std.specs.declared.alloc.Global.{Global}
+use Rattle.zarr_model.specs.Prelude.{fixed, Options, Matches, Description, Command, Shown, Told, IsHonest, IsUntouched, Rose, layout, kind, all_asks, counted, LeavesArray, IsDamageMet}
+use Rattle.zarr_model.specs.Command as Model
+use Rattle.zarrs_storage.specs.Store.{ListsKeys, SameContent}
+use Rattle.zarr_array_parts.specs.Sizes.{sized_kind}
+use Rattle.zarr_array_parts.specs.Document.{ArrayDocument, describe}
+use Rattle.zarr_array_parts.specs.Opening.{OpenRefusal, OpenAnswer, opened}
+use Rattle.zarr_array_parts.specs.OpenError.{open_refusal_of}
+use Rattle.zarr_array.specs.OpenArray.{documented, described}
+use Rattle.zarr_array.specs.Command.{answer_of}
+use Rattle.zarr_array.specs.declared.open.OpenArray.{OpenArray}
+use Rattle.zarr_array.specs.declared.command.Reply.{Reply}
+use Rattle.zarr_cli_made.specs.Document.{made_document}
+use Rattle.zarr_cli_made.specs.Commands.{made_commands}
+use Rattle.zarr_cli_made.specs.Summary.{summary_text}
+use Rattle.zarr_cli.specs.Input.{input_limit}
+use Rattle.zarr_cli.specs.Run.{IsRunnable, IsChangedKey}
+use Rattle.zarr_cli.specs.Ending.{Ending, IsGiven, IsGivenFront, IsBeforeStore, damaged_chunk}
+use Rattle.zarr_cli.specs.Ending as end
+use Rattle.zarr_cli.specs.Words.{settings_of}
+use Rattle.zarr_cli.specs.Status.{ending_of}
+use Rattle.zarr_cli.specs.Steps.{IsReadFault, IsRunFault, IsPlainFault, IsRefusal, OpensLine}
+use Rattle.zarr_cli.specs.Made.{made_array, AnswersMade}
+use Rattle.zarr_cli.specs.MadeSteps.{RepliedBy, SumsAll, RanMade, RanInput}
+use Rattle.zarr_cli.specs.Seen.{Seen}
+use Rattle.zarr_cli.proofs.DumpLemmas.{counted_more}
+use Rattle.zarr_cli.proofs.EndingLemmas.{is_done, is_write}
+use Rattle.zarr_cli.specs.declared.status.Status.{Status}
+use Rattle.zarr_cli.specs.declared.status.Status.TheVariants.{Done, BadWords, BadInput, Document, Chunk, Store, Read, Write, TooLong, OutOfMemory}
+
+-- the made document is opened as its array, but for want of memory
+one_document : (a b : ArrayDocument) → opened a ≡ opened b → a ≡ b
+one_document a b e = cc
+
+described_as : (array : OpenArray) → documented array ≡ made_document → described array ≡ made_array
+unfolding made_array
+described_as array same = ap describe same
+
+pub made_opened : (answer : OpenAnswer) (result : Result OpenArray Status) → answer ≡ opened made_document → OpensLine result answer → IfOk result (λ array. described array ≡ made_array)
+made_opened answer (Ok array) opens is = described_as array (one_document (documented array) made_document (sym is ∙ opens))
+made_opened answer (Err status) opens is = tt
+
+not_refused : (answer : OpenAnswer) (document : ArrayDocument) (why : Option OpenRefusal) → answer ≡ opened document → IsRefusal why answer → ⊥
+not_refused answer document None opens is = is
+not_refused answer document (Some why) opens is = cc
+
+only_memory : (answer : OpenAnswer) (document : ArrayDocument) (status : Status) → answer ≡ opened document → OpensLine (Err status) answer → status ≡ OutOfMemory
+only_memory answer document (Document error) opens is = absurd (not_refused answer document (open_refusal_of error) opens is)
+only_memory answer document OutOfMemory opens is = refl
+only_memory answer document Done opens is = absurd is
+only_memory answer document BadWords opens is = absurd is
+only_memory answer document (BadInput line) opens is = absurd is
+only_memory answer document (Chunk key) opens is = absurd is
+only_memory answer document Store opens is = absurd is
+only_memory answer document Read opens is = absurd is
+only_memory answer document Write opens is = absurd is
+only_memory answer document TooLong opens is = absurd is
+
+pub made_fails : (answer : OpenAnswer) (result : Result OpenArray Status) → answer ≡ opened made_document → OpensLine result answer → IfErr result (λ status. status ≡ OutOfMemory)
+made_fails answer (Ok array) opens is = tt
+made_fails answer (Err status) opens is = only_memory answer made_document status opens is
+
+-- keys that were counted
+pub keys_counted : (before now : Shown) (keys : List (List ℕ)) (n : ℕ) → ListsKeys before.content keys → SameContent before now → n ≡ length keys →
+    (all : List (List ℕ)) × ListsKeys now.content all × (n ≡ length all)
+keys_counted before now keys n lists same is = (keys, subst (λ content. ListsKeys content keys) (sym (fun_ext same)) lists, is)
+
+-- replies and keys that were summed up
+pub summed_up : (description : Description) (n count : ℕ) (options : Options) (commands : List Command) (before mid now : Shown) (held : List Reply) (text : List ℕ) →
+    sized_kind (kind description) ≡ Some n → RepliedBy description options commands before mid held →
+    (keys : List (List ℕ)) × ListsKeys now.content keys × (count ≡ length keys) → now.content ≡ mid.content → now.asks ≡ counted mid.asks 1 →
+    ((answers : List Model.Reply) → AllZip (Matches (fixed n)) (map answer_of held) answers → text ≡ summary_text answers count) →
+    SumsAll description options commands before now text
+summed_up description n count options commands before mid now held text sized ran keys same asks sums = record {
+  sums = record {
+    summed = λ array means. (keys.0, keys.1, sums (Model.replies description commands array) (ran.matched n sized array means) ∙ ap (summary_text (Model.replies description commands array)) keys.2);
+    left = subst (λ content. LeavesArray description options commands before.content content) (sym same) ran.left;
+    undamaged = ran.undamaged;
+  };
+  asks = (let first : mid.asks ≡ counted before.asks (all_asks description commands) = ran.asks in counted_more before.asks mid.asks now.asks (all_asks description commands) 1 first asks);
+}
+
+-- what a made run came to
+pub ran_made : (number : ℕ) (options : Options) (source : Told) (before now : Shown) (result : Result (Vec ℕ Global) Status) →
+    IfOk result (λ text. SumsAll made_array options (made_commands number) before now text.items) →
+    IfErr result (λ status. IsRunFault made_array options (made_commands number) before now status) →
+    (IsHonest (layout made_array options) before.content → ¬ Rose before.faults now.faults → IfErr result (λ status. status ≡ OutOfMemory)) →
+    ((key : List ℕ) → ¬ IsChangedKey made_array (made_commands number) key → now.content key ≡ before.content key) →
+    RanMade number options source source before now result
+ran_made number options source before now (Ok text) ran fault complete unchanged = record { told = ran; unread = refl; complete = complete; unchanged = unchanged }
+ran_made number options source before now (Err status) ran fault complete unchanged = record { told = fault; unread = refl; complete = complete; unchanged = unchanged }
+
+plain_fault : (words : List (List ℕ)) (source_rose : Type 0) (description : Description) (options : Options) (commands : List Command) (before now : Shown) (status : Status) →
+    IsRunFault description options commands before now status → IsPlainFault words source_rose (Rose before.faults now.faults) status
+plain_fault words source_rose description options commands before now (Chunk key) fault = tt
+plain_fault words source_rose description options commands before now Store fault = fault
+plain_fault words source_rose description options commands before now OutOfMemory fault = tt
+plain_fault words source_rose description options commands before now Done fault = absurd fault
+plain_fault words source_rose description options commands before now BadWords fault = absurd fault
+plain_fault words source_rose description options commands before now (BadInput line) fault = absurd fault
+plain_fault words source_rose description options commands before now (Document error) fault = absurd fault
+plain_fault words source_rose description options commands before now Read fault = absurd fault
+plain_fault words source_rose description options commands before now Write fault = absurd fault
+plain_fault words source_rose description options commands before now TooLong fault = absurd fault
+
+pub made_plain : (words : List (List ℕ)) (source_rose : Type 0) (description : Description) (options : Options) (commands : List Command) (before now : Shown) (result : Result (Vec ℕ Global) Status) →
+    IfErr result (λ status. IsRunFault description options commands before now status) → IfErr result (λ status. IsPlainFault words source_rose (Rose before.faults now.faults) status)
+made_plain words source_rose description options commands before now (Ok text) fault = tt
+made_plain words source_rose description options commands before now (Err status) fault = plain_fault words source_rose description options commands before now status fault
+
+-- a made run ends after it began with the store
+begun : (description : Description) (options : Options) (commands : List Command) (before now : Shown) (status : Status) → IsRunFault description options commands before now status → ¬ IsBeforeStore (ending_of status)
+begun description options commands before now (Chunk key) fault = λ b. b
+begun description options commands before now Store fault = λ b. b
+begun description options commands before now OutOfMemory fault = λ b. b
+begun description options commands before now Done fault = absurd fault
+begun description options commands before now BadWords fault = absurd fault
+begun description options commands before now (BadInput line) fault = absurd fault
+begun description options commands before now (Document error) fault = absurd fault
+begun description options commands before now Read fault = absurd fault
+begun description options commands before now Write fault = absurd fault
+begun description options commands before now TooLong fault = absurd fault
+
+pub made_touches : (description : Description) (options : Options) (commands : List Command) (before now : Shown) (result : Result (Vec ℕ Global) Status) →
+    IfErr result (λ status. IsRunFault description options commands before now status) → IfErr result (λ status. IsBeforeStore (ending_of status) → IsUntouched before now)
+made_touches description options commands before now (Ok text) fault = tt
+made_touches description options commands before now (Err status) fault = λ b. absurd (begun description options commands before now status fault b)
+
+-- what an input came to
+pub on_ok : {T E : Type 0} (P : Type 0) (result : Result T E) → P → OnOk result P
+on_ok P (Ok value) p = p
+on_ok P (Err error) p = tt
+
+pub read_memory : (words : List (List ℕ)) (input : List ℕ) (old_store : Shown) (before now : Told) (status : Status) → before.left ≡ Some input → IsRunnable words input old_store.content → ¬ Rose before.faults now.faults →
+    IsReadFault before now status → status ≡ OutOfMemory
+read_memory words input old_store before now TooLong e runs calm fault =
+    let within : length input < input_limit + 1 = omega (arith, runs.0.within) in let above : input_limit < length input = fault input e in absurd (omega arith)
+read_memory words input old_store before now Read e runs calm fault = absurd (calm fault)
+read_memory words input old_store before now OutOfMemory e runs calm fault = refl
+read_memory words input old_store before now Done e runs calm fault = absurd fault
+read_memory words input old_store before now BadWords e runs calm fault = absurd fault
+read_memory words input old_store before now (BadInput line) e runs calm fault = absurd fault
+read_memory words input old_store before now (Document error) e runs calm fault = absurd fault
+read_memory words input old_store before now (Chunk key) e runs calm fault = absurd fault
+read_memory words input old_store before now Store e runs calm fault = absurd fault
+read_memory words input old_store before now Write e runs calm fault = absurd fault
+
+pub ran_bad : (words : List (List ℕ)) (input : List ℕ) (source : Told) (store : Shown) → settings_of words ≡ None → RanInput {Z = Global} words input source source store store (Err BadWords)
+ran_bad words input source store bad = record {
+  told = bad;
+  read_whole = tt;
+  complete = λ runs calm still. absurd (let both : None ≡ Some runs.0.settings = sym bad ∙ runs.0.are_words.0 in cc);
+  unchanged = λ key free. refl;
+  unasked = λ run all none. (refl, refl);
+}
+
+-- what a made run owes, from each of its ends
+module _ (number : ℕ) (options : Options) (before now : Seen) where
+  pub made_done : (text : List ℕ) → SumsAll made_array options (made_commands number) before.store now.store text → IsGiven text before.sink.bytes now.sink.bytes → now.source ≡ before.source →
+      ((key : List ℕ) → ¬ IsChangedKey made_array (made_commands number) key → now.store.content key ≡ before.store.content key) →
+      AnswersMade number options before now end.done
+  made_done text did given unread unchanged = record {
+    done = λ is. (text, did.sums, given);
+    asks = λ is. did.asks;
+    unread = unread;
+    begun = λ b. b;
+    chunk = λ key is. absurd (cc);
+    complete = λ honest sink store. inl refl;
+    front = λ is. absurd (cc);
+    unchanged = unchanged;
+  }
+
+  pub made_write : (text : List ℕ) → SumsAll made_array options (made_commands number) before.store now.store text → IsGivenFront text before.sink.bytes now.sink.bytes → Rose before.sink.faults now.sink.faults →
+      now.source ≡ before.source → ((key : List ℕ) → ¬ IsChangedKey made_array (made_commands number) key → now.store.content key ≡ before.store.content key) →
+      AnswersMade number options before now end.write_fault
+  made_write text did given rose unread unchanged = record {
+    done = λ is. absurd (cc);
+    asks = λ is. absurd (cc);
+    unread = unread;
+    begun = λ b. b;
+    chunk = λ key is. absurd (cc);
+    complete = λ honest sink store. absurd (sink rose);
+    front = λ is. (text, did.sums, given);
+    unchanged = unchanged;
+  }
+
+  abbrev Fails : Status → Type 0
+  Fails status = IsRunFault made_array options (made_commands number) before.store now.store status
+
+  last_fails : (status last : Status) → (last ≡ status) ⊎ (last ≡ OutOfMemory) → Fails status → Fails last
+  last_fails status last (inl same) fault = subst Fails (sym same) fault
+  last_fails status last (inr memory) fault = subst Fails (sym memory) tt
+
+  same_chunk : (a b : List ℕ) → damaged_chunk a ≡ damaged_chunk b → a ≡ b
+  same_chunk a b e = cc
+
+  fails_chunk : (status : Status) (key : List ℕ) → Fails status → ending_of status ≡ damaged_chunk key →
+      IsDamageMet made_array options (made_commands number) before.store.content key × (now.store.content key ≡ before.store.content key)
+  fails_chunk (Chunk other) key fault is = subst (λ k. IsDamageMet made_array options (made_commands number) before.store.content k × (now.store.content k ≡ before.store.content k)) (same_chunk other key is) fault
+  fails_chunk Store key fault is = absurd (cc)
+  fails_chunk OutOfMemory key fault is = absurd (cc)
+  fails_chunk Done key fault is = absurd fault
+  fails_chunk BadWords key fault is = absurd fault
+  fails_chunk (BadInput line) key fault is = absurd fault
+  fails_chunk (Document error) key fault is = absurd fault
+  fails_chunk Read key fault is = absurd fault
+  fails_chunk Write key fault is = absurd fault
+  fails_chunk TooLong key fault is = absurd fault
+
+  last_memory : (status last : Status) → (last ≡ status) ⊎ (last ≡ OutOfMemory) → status ≡ OutOfMemory → ending_of last ≡ end.out_of_memory
+  last_memory status last (inl same) is = ap ending_of (same ∙ is)
+  last_memory status last (inr memory) is = ap ending_of memory
+
+  fails_done : (status : Status) → Fails status → status ≡ Done → ⊥
+  fails_done status fault is = subst Fails is fault
+
+  fails_write : (status : Status) → Fails status → status ≡ Write → ⊥
+  fails_write status fault is = subst Fails is fault
+
+  pub made_early : (status last : Status) → (last ≡ status) ⊎ (last ≡ OutOfMemory) → Fails status → now.source ≡ before.source →
+      (IsHonest (layout made_array options) before.store.content → ¬ Rose before.store.faults now.store.faults → status ≡ OutOfMemory) →
+      ((key : List ℕ) → ¬ IsChangedKey made_array (made_commands number) key → now.store.content key ≡ before.store.content key) →
+      AnswersMade number options before now (ending_of last)
+  made_early status last which fault unread complete unchanged = let ends = last_fails status last which fault in record {
+    done = λ is. absurd (fails_done last ends (is_done last is));
+    asks = λ is. absurd (fails_done last ends (is_done last is));
+    unread = unread;
+    begun = begun made_array options (made_commands number) before.store now.store last ends;
+    chunk = λ key is. fails_chunk last key ends is;
+    complete = λ honest sink store. inr (last_memory status last which (complete honest store));
+    front = λ is. absurd (fails_write last ends (is_write last is));
+    unchanged = unchanged;
+  }

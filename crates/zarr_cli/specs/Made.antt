@@ -1,0 +1,65 @@
+-- A run that is made from a number: what it prints, what it leaves, and what it owes.
+use Rattle.std.specs.Prelude.{◌≡◌, ℕ, ◌+◌, List, length}
+use Rattle.zarr_model.specs.Prelude.{Element, Array, Options, Content, Means, IsHonest, Rose, Command, Description, layout, replies, all_asks, counted, LeavesArray, MeetsNoDamage, IsDamageMet}
+use Rattle.zarrs_storage.specs.Store.{ListsKeys}
+use Rattle.zarr_array_parts.specs.Document.{describe}
+use Rattle.zarr_cli_made.specs.Document.{made_document}
+use Rattle.zarr_cli_made.specs.Commands.{made_commands}
+use Rattle.zarr_cli_made.specs.Summary.{summary_text}
+use Rattle.zarr_cli.specs.Run.{IsChangedKey}
+use Rattle.zarr_cli.specs.Ending.{Ending, IsOrMemory, IsGiven, IsGivenFront, IsBeforeStore}
+use Rattle.zarr_cli.specs.Ending as end
+use Rattle.zarr_cli.specs.Seen.{Seen}
+
+-- the array that the commands are for
+unfoldable pub made_array : Description
+made_array = describe made_document
+
+-- the text of a run: the summary of the replies from an array, and of how many keys a store holds
+abbrev pub IsSummary : Description → List Command → Array Element → Content → List ℕ → Type 0
+IsSummary description commands array store output = (keys : List (List ℕ)) × ListsKeys store keys
+    × (output ≡ summary_text (replies description commands array) (length keys))
+
+-- commands ran to their end over a store, and this was printed
+pub record SumsUp (description : Description) (options : Options) (commands : List Command)
+    (old new : Content) (output : List ℕ) : Type 0 where
+  -- the summary of the replies of one plain array that the store meant, and of the keys at the end
+  pub summed : (array : Array Element) → Means (layout description options) old array →
+      IsSummary description commands array new output
+  -- the store is left as that array's
+  pub left : LeavesArray description options commands old new
+  -- each value that was met decodes
+  pub undamaged : MeetsNoDamage description options commands old
+
+-- the made commands went through, and wrote what passes the test: all of their text, or a front
+abbrev pub WentMade : ℕ → Options → Content → Content → (List ℕ → Type 0) → Type 0
+WentMade number options old new wrote = (output : List ℕ)
+    × SumsUp made_array options (made_commands number) old new output × wrote output
+
+-- what a run that is made from a number owes
+pub record AnswersMade (number : ℕ) (options : Options) (before now : Seen)
+    (ending : Ending) : Type 0 where
+  -- done: the sink has the summary of the replies of one plain array, and of the final keys
+  pub done : ending ≡ end.done → WentMade number options before.store.content now.store.content
+      (λ output. IsGiven output before.sink.bytes now.sink.bytes)
+  -- there were as many reading calls as chunks that reads and writes meet, and one for the keys
+  pub asks : ending ≡ end.done → now.store.asks
+      ≡ counted before.store.asks (all_asks made_array (made_commands number) + 1)
+  -- nothing is read, and no ending is one of the words, the reading or an input
+  pub unread : now.source ≡ before.source
+  pub begun : ¬ IsBeforeStore ending
+  -- a damaged chunk is one that a command met, and its value stands
+  pub chunk : (key : List ℕ) → ending ≡ end.damaged_chunk key →
+      IsDamageMet made_array options (made_commands number) before.store.content key
+      × (now.store.content key ≡ before.store.content key)
+  -- a run over an honest store is done, where nothing failed
+  pub complete : IsHonest (layout made_array options) before.store.content →
+      ¬ Rose before.sink.faults now.sink.faults → ¬ Rose before.store.faults now.store.faults →
+      IsOrMemory ending end.done
+  -- a sink that failed on the summary has a front of it
+  pub front : ending ≡ end.write_fault →
+      WentMade number options before.store.content now.store.content
+      (λ output. IsGivenFront output before.sink.bytes now.sink.bytes)
+  -- after every end: all keys but those of chunks that an accepted command changes are as before
+  pub unchanged : (key : List ℕ) → ¬ IsChangedKey made_array (made_commands number) key →
+      now.store.content key ≡ before.store.content key

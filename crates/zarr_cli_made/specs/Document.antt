@@ -1,0 +1,22 @@
+-- The document of the array that the commands are for.
+use Rattle.std.specs.Prelude.{List, ℕ, [], ◌∷◌, ◌++◌, codes, Some}
+use Rattle.zarr_model.specs.Prelude.{default_keys, big, uint_type}
+use Rattle.zarr_basics_grids.specs.GridForms.{regular}
+use Rattle.zarr_array_parts.specs.Document.{ArrayDocument, bytes, checksum, fixed_document}
+
+-- its text
+abbrev pub document_text : List ℕ
+document_text =
+    codes "{\"zarr_format\":3,\"node_type\":\"array\",\"shape\":[256,256],"
+    ++ (codes "\"data_type\":\"uint16\",\"chunk_grid\":{\"name\":\"regular\","
+    ++ (codes "\"configuration\":{\"chunk_shape\":[48,40]}},"
+    ++ (codes "\"chunk_key_encoding\":\"default\",\"fill_value\":7,\"codecs\":["
+    ++ (codes "{\"name\":\"bytes\",\"configuration\":{\"endian\":\"big\"}},"
+    ++ codes "\"zarr_basics.sha256\"]}"))))
+
+-- what it describes: 256 rows and columns of two bytes in chunks of 48 rows and 40 columns, fill 7,
+-- keys with slashes, high byte first in the store, and a digest behind each chunk
+abbrev pub made_document : ArrayDocument
+made_document = fixed_document (default_keys 47)
+    (record { array_codecs = []; to_bytes = bytes (Some big); byte_codecs = checksum ∷ [] })
+    (uint_type 2) (256 ∷ 256 ∷ []) (regular (48 ∷ 40 ∷ [])) (7 ∷ 0 ∷ [])

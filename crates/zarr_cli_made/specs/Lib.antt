@@ -1,0 +1,5 @@
+pub mod Generator
+pub mod Commands
+pub mod Document
+pub mod Summary
+pub mod Tally

@@ -1,0 +1,48 @@
+//! A region of one chunk, through a handle on its key.
+
+ghost use Rattle.std.specs.Prelude.{◌≡◌, ℕ, List, true, Some, IfOk};
+ghost use Rattle.zarr_model.specs.Prelude.{Element, IsChunk, ends_within, chunk_content, layout};
+ghost use Rattle.zarrs_array_subset.specs.ArraySubset.{region as region_of_subset};
+ghost use Rattle.zarrs_storage.specs.Store.{SameContent};
+ghost use Rattle.zarrs_codec_array_bytes.specs.Raw.{raw_of};
+ghost use Rattle.zarrs_codec_traits.specs.Views.{options_of};
+ghost use Rattle.zarrs_codec_traits.specs.Words.{list_at, at_box, select};
+ghost use Rattle.zarr_array_parts.specs.ChunkChain.{chunk_level};
+ghost use Rattle.zarr_array_parts.specs.Sizes.{have_chunks};
+ghost use Rattle.zarr_array.specs.OpenArray.{described};
+
+use std::alloc::Global;
+use zarr_array::{ChainHandle, CodecOptions, OpenArray};
+use zarrs_array_subset::ArraySubset;
+use zarrs_codec_array_bytes::ArrayBytes;
+use zarrs_codec_error::CodecError;
+use zarrs_storage::{Store, StoreKey};
+
+/// A region of the chunk under a key: that region of what the chunk has.
+pub fn region_of_chunk<S: Store>(
+    alloc: Global,
+    array: &OpenArray,
+    store: &mut S,
+    key: StoreKey,
+    region: &ArraySubset,
+    options: &CodecOptions,
+) -> Result<ArrayBytes<'static>, CodecError>
+    requires some { have_chunks (described array.now).grid.grid_shape ≡ true }
+    requires inside { (chunk : List ℕ) → IsChunk (described array.now).grid chunk →
+        ends_within (region_of_subset region.now) (chunk_level (described array.now) chunk).shape
+        ≡ true }
+    ensures elements { (chunk : List ℕ) (list : List Element) →
+        IsChunk (described array.now).grid chunk → key ≡ (described array.now).key chunk →
+        chunk_content (layout (described array.now) (options_of options.now))
+        (S.shown store.old).content chunk ≡ Some list →
+        let level = chunk_level (described array.now) chunk in
+        IfOk result (λ v. list_at (at_box (region_of_subset region.now) level) (raw_of v)
+        ≡ Some (select level.shape (region_of_subset region.now) list)) }
+    ensures same { SameContent (S.shown store.old) (S.shown store.new) }
+{
+    let chain = array.chain(alloc)?;
+    let mut handle = ChainHandle::from_parts(chain, store, key);
+    let result = handle.partial_decode(alloc, region, options);
+    let _store = handle.into_storage();
+    result
+}

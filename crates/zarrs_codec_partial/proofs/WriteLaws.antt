@@ -1,0 +1,389 @@
+-- Elements that are written through a codec.
+use Rattle.std.proofs.Common.{◌≡◌, ◌⊎◌, ℕ, suc, ◌*◌, ◌<◌, ◌≤◌, Bool, true, false, is_some, not, ◌||◌, ◌&&◌, ◌==◌, List, [], ◌∷◌, length, replicate, Option, Some, None, IsSome, option_map, Result, Ok, Err, IfOk, IfErr, OnOk, OnErr, refl, sym, ap, ap₂, ◌∙◌, ◌↔◌, zero, subst, arith, inl, inr, ⊎_elim, eqb-true}
+use Rattle.std.specs.List.{list_all}
+use Rattle.std.specs.Bool.{IsTrue}
+use Rattle.std.specs.Int.NonZero.{non_zero_u64_get}
+use Rattle.std.specs.declared.num.NonZeroU64.{NonZeroU64}
+use Rattle.std.proofs.lemmas.Result.{on_ok_weaker, on_err_weaker}
+use Rattle.std.proofs.lemmas.Bool.{and_parts}
+use Rattle.std.proofs.lemmas.Slice.Eq.{bytes_eq-Decides}
+use Rattle.std.proofs.Math.Nat.{mul-le-mul_right}
+use Rattle.zarr_model.specs.Region.{Region, count_of, sizes, tuples, ends_within}
+use Rattle.zarr_model.proofs.RegionLaws.{length-tuples}
+use Rattle.zarr_model.proofs.BytesLaws.{refusal-meaning}
+use Rattle.zarr_model.specs.Element.{Element, of_bytes, null, some, Kind, fixed, variable, optional, same_element, fill_element, kind_of, fixed_size}
+use Rattle.zarr_model.specs.ArrayBytes.{ArrayBytes, fixed_bytes, variable_bytes, optional_bytes, meaning}
+use Rattle.zarr_model.specs.Codec.{Level, Options}
+use Rattle.zarr_model.specs.Command.{Refusal, bytes_refusal}
+use Rattle.zarrs_storage.specs.declared.byte_range.ByteRange.{ByteRange}
+use Rattle.zarrs_codec_bytes.specs.Picking.{size_in, replaced}
+use Rattle.zarrs_codec_error.specs.declared.error.CodecError.{CodecError}
+use Rattle.zarrs_codec_error.specs.declared.error.CodecError.TheVariants as codec
+use Rattle.zarrs_codec_array_bytes.specs.Levels.{inner_length}
+use Rattle.zarrs_codec_array_bytes.specs.Refusals.{Told, fine, told_by, sized_answer, then_answer, first_answer, validity, Answers}
+use Rattle.zarrs_codec_array_bytes.specs.declared.array_bytes.ArrayBytes as code
+use Rattle.zarrs_codec_array_bytes.specs.Raw.{raw_of}
+use Rattle.zarrs_codec_array_bytes_update.specs.Pairs.{pair_refusal, both_answer, update_answer}
+use Rattle.zarrs_codec_traits.specs.Errors.{Unserved}
+use Rattle.zarrs_codec_traits.specs.Views.{lengths}
+use Rattle.zarrs_codec_traits.specs.Words.{list_at, Gives}
+use Rattle.zarrs_codec_held.specs.Held.{Seen, IsSound}
+use Rattle.zarrs_codec_held.specs.Reads.{Keeps, IsHandleError}
+use Rattle.zarrs_codec_held.specs.Writes.{Holds, Stays, is_fault, Unless, UnlessFault, Writes, Unasked, CountsIf}
+use Rattle.zarrs_codec_partial_traits.specs.Boxes.{same_lengths, is_all}
+use Rattle.zarrs_codec_partial_traits.specs.Lists.{ListSeen, fills}
+use Rattle.zarrs_codec_partial_traits.specs.ListWrites.{MayCountIf, given_answer, are_all, is_kept, updated, HoldsList, IsAbsent, ErasesList, PutsList, StaysList, KeepsRest, MayPutList, Rewrites, IsUnencoded}
+use Rattle.zarrs_codec_partial.specs.Level.{list_of, listed}
+use Rattle.zarrs_codec_partial.specs.Writing.{ReadsIf, IsBeyond}
+use Rattle.zarrs_codec_partial.proofs.ExtractLaws.{says_some, masked, lengths_kept}
+use Rattle.zarrs_codec_held.proofs.EditLaws.{fault_later}
+
+-- a shape has elements
+pub positive : (shape : List NonZeroU64) → 0 < count_of (lengths shape)
+positive [] = omega arith
+positive (p ∷ shape) =
+    let more : 0 < count_of (lengths shape) = positive shape in
+    let one : 1 ≤ non_zero_u64_get p = p.ok in
+    let times : 1 * count_of (lengths shape) ≤ non_zero_u64_get p * count_of (lengths shape) = mul-le-mul_right (count_of (lengths shape)) one in
+    omega (arith, more, times)
+
+-- array bytes that mean a list are valid
+pub valid_some : (level : Level) (raw : ArrayBytes) → IsSome (list_at level raw) → validity (kind_of level.data_type) (count_of level.shape) raw ≡ fine
+valid_some level raw there =
+    let kind = kind_of level.data_type in
+    let valid : bytes_refusal kind (count_of level.shape) raw ≡ None = (refusal-meaning kind (count_of level.shape) raw).1 there in
+    ap (sized_answer (inner_length raw) (count_of level.shape * size_in (fixed_size kind))) valid
+
+-- elements are the same where the test says so
+same_found : (a b : Element) → same_element a b ≡ true → a ≡ b
+same_found (of_bytes value) (of_bytes other) e = ap of_bytes ((bytes_eq-Decides value other).0 e)
+same_found (of_bytes value) null e = cc
+same_found (of_bytes value) (some other) e = cc
+same_found null (of_bytes other) e = cc
+same_found null null e = refl
+same_found null (some other) e = cc
+same_found (some a) (of_bytes other) e = cc
+same_found (some a) null e = cc
+same_found (some a) (some b) e = ap some (same_found a b e)
+
+same_here : (a : Element) → same_element a a ≡ true
+same_here (of_bytes value) = (bytes_eq-Decides value value).1 refl
+same_here null = refl
+same_here (some a) = same_here a
+
+all_found : (x : Element) (xs : List Element) → list_all (same_element x) xs ≡ true → xs ≡ replicate (length xs) x
+all_found x [] e = refl
+all_found x (y ∷ xs) e =
+    let parts = and_parts (same_element x y) (list_all (same_element x) xs) e in
+    ap₂ (λ (a : Element) (b : List Element). a ∷ b) (sym (same_found x y parts.0)) (all_found x xs parts.1)
+
+all_here : (x : Element) (n : ℕ) → list_all (same_element x) (replicate n x) ≡ true
+all_here x zero = refl
+all_here x (suc n) = ap₂ (λ (a b : Bool). a && b) (same_here x) (all_here x n)
+
+bool_split : (b : Bool) → (b ≡ true) ⊎ (b ≡ false)
+bool_split true = inl refl
+bool_split false = inr refl
+
+-- whether a list is of the fill
+pub tested : (element : Option Element) (number : ℕ) (xs : List Element) (b : Bool) → IsSome element → length xs ≡ number → ((x : Element) → element ≡ Some x → IsTrue b ↔ (xs ≡ replicate number x)) → b ≡ are_all element xs
+tested None number xs b there long test = cc
+tested (Some x) number xs b there long test =
+    ⊎_elim
+    (λ (yes : b ≡ true). yes ∙ sym (ap (list_all (same_element x)) ((test x refl).0 yes) ∙ all_here x number))
+    (λ (no : b ≡ false). ⊎_elim
+    (λ (all : list_all (same_element x) xs ≡ true). absurd (differ (sym no ∙ (test x refl).1 (all_found x xs all ∙ ap (λ (n : ℕ). replicate n x) long))))
+    (λ (none : list_all (same_element x) xs ≡ false). no ∙ sym none) (bool_split (list_all (same_element x) xs)))
+    (bool_split b)
+  where
+    differ : false ≡ true → ⊥
+    differ e = cc
+
+pub kept_by : (under : Options) (element : Option Element) (xs : List Element) (b : Bool) → b ≡ are_all element xs → not (not under.store_empty_chunks && b) ≡ is_kept under element xs
+kept_by under element xs b is = go under.store_empty_chunks b (are_all element xs) is
+  where
+    go : (s b a : Bool) → b ≡ a → not (not s && b) ≡ (s || not a)
+    go true b a is = refl
+    go false b a is = ap not is
+
+-- of a list that is not kept, the fill's is the same
+pub dropped_list : (level : Level) (fill : List ℕ) (under : Options) (xs : List Element) → length xs ≡ count_of level.shape → false ≡ is_kept under (fill_element (kind_of level.data_type) fill) xs → fills level fill ≡ Some xs
+dropped_list level fill under xs long dropped = go (fill_element (kind_of level.data_type) fill) under.store_empty_chunks dropped
+  where
+    not_true : (b : Bool) → false ≡ not b → b ≡ true
+    not_true true e = refl
+    not_true false e = cc
+
+    go : (element : Option Element) (s : Bool) → false ≡ (s || not (are_all element xs)) → option_map (replicate (count_of level.shape)) element ≡ Some xs
+    go element true e = cc
+    go None false e = cc
+    go (Some x) false e = ap Some (sym (all_found x xs (not_true _ e) ∙ ap (λ (n : ℕ). replicate n x) long))
+
+any : Options
+any = record { store_empty_chunks = true; validate_checksums = true }
+
+unless : {T P Q : Type 0} (r : Result T CodecError) → (P → Q) → UnlessFault r P → UnlessFault r Q
+unless (Ok v) f p = p
+unless {T} {P} {Q} (Err e) f p = go (is_fault e) p
+  where
+    go : (b : Bool) → Unless b P → Unless b Q
+    go true p = p
+    go false p = f p
+
+unless_of : {T P : Type 0} (r : Result T CodecError) → P → UnlessFault r P
+unless_of (Ok v) p = tt
+unless_of {T} {P} (Err e) p = go (is_fault e)
+  where
+    go : (b : Bool) → Unless b P
+    go true = tt
+    go false = p
+
+always_err : {T P : Type 0} (r : Result T CodecError) → P → OnErr r P
+always_err (Ok v) p = tt
+always_err (Err e) p = p
+
+-- what a change of the value is to its elements
+module _ (level : Level) (fill : List ℕ) (unserved : Option Unserved) (meaning : Options → List ℕ → Option (List Element)) (request : Region → Option (List ByteRange)) where
+  abbrev see : Seen → ListSeen
+  see seen = listed level fill unserved meaning request seen
+
+  holds_value : (value : List ℕ) (list : List Element) (new : Seen) → IsSound new → ((under : Options) → meaning under value ≡ Some list) → Holds (Some value) new → HoldsList true (Some list) (see new)
+  holds_value value list new sound means holds = record {
+    there = sym (sound.all_there any (Some value) (holds any));
+    list = λ under. ap (list_of (meaning under) (fills level fill)) (holds under) ∙ means under;
+  }
+
+  holds_none : (new : Seen) → IsSound new → Holds None new → HoldsList false (fills level fill) (see new)
+  holds_none new sound holds = record {
+    there = sym (sound.all_there any None (holds any));
+    list = λ under. ap (list_of (meaning under) (fills level fill)) (holds under);
+  }
+
+  same_list : (old new : Seen) → ((under : Options) → new.held under ≡ old.held under) → (under : Options) → (see new).list under ≡ (see old).list under
+  same_list old new same under = ap (list_of (meaning under) (fills level fill)) (same under)
+
+  pub puts_value : {T : Type 0} (value : List ℕ) (list : List Element) (old new : Seen) (result : Result T CodecError) → IsSound new → ((under : Options) → meaning under value ≡ Some list) → Writes (Some value) old new result
+      → PutsList true list (see old) (see new) result
+  puts_value value list old new result sound means writes = record {
+    ok = on_ok_weaker result (holds_value value list new sound means) writes.ok;
+    failed = on_err_weaker result (λ case. ⊎_elim (λ (same : (under : Options) → new.held under ≡ old.held under). inl (same_list old new same))
+        (λ (more : Holds (Some value) new ⊎ Holds None new). inr (⊎_elim (λ (h : Holds (Some value) new). inl (holds_value value list new sound means h)) (λ (h : Holds None new). inr (holds_none new sound h)) more)) case) writes.failed;
+  }
+
+  pub puts_absent : {T : Type 0} (list : List Element) (old new : Seen) (result : Result T CodecError) → IsSound new → fills level fill ≡ Some list → Writes None old new result → PutsList false list (see old) (see new) result
+  puts_absent list old new result sound is writes = record {
+    ok = on_ok_weaker result (λ (h : Holds None new). subst (λ (l : Option (List Element)). HoldsList false l (see new)) is (holds_none new sound h)) writes.ok;
+    failed = on_err_weaker result (λ case. ⊎_elim (λ (same : (under : Options) → new.held under ≡ old.held under). inl (same_list old new same))
+        (λ (more : Holds None new ⊎ Holds None new). inr (inr (⊎_elim (λ (h : Holds None new). holds_none new sound h) (λ (h : Holds None new). holds_none new sound h) more))) case) writes.failed;
+  }
+
+  pub puts_not : {T : Type 0} (stored : Bool) (list : List Element) (old : Seen) (e : CodecError) → PutsList {T = T} stored list (see old) (see old) (Err e)
+  puts_not stored list old e = record { ok = tt; failed = inl (λ under. refl) }
+
+  pub erases : {T : Type 0} (old new : Seen) (result : Result T CodecError) → IsSound new → Writes None old new result → ErasesList (see old) (see new) result
+  erases old new result sound writes = record {
+    ok = on_ok_weaker result (holds_none new sound) writes.ok;
+    failed = on_err_weaker result (λ case. ⊎_elim (λ (same : (under : Options) → new.held under ≡ old.held under). inl (same_list old new same))
+        (λ (more : Holds None new ⊎ Holds None new). inr (⊎_elim (λ (h : Holds None new). holds_none new sound h) (λ (h : Holds None new). holds_none new sound h) more)) case) writes.failed;
+  }
+
+  pub written_rest : {T : Type 0} (value : Option (List ℕ)) (old new : Seen) (result : Result T CodecError) → Writes value old new result → KeepsRest (see old) (see new)
+  written_rest value old new result writes = record { level = refl; fill = refl; short = refl; unserved = refl; others = writes.others; key = writes.key; place = writes.place; cost = writes.cost; whole = λ asked. refl; later = writes.later }
+
+  pub written_unchanged : {T : Type 0} (value : Option (List ℕ)) (old new : Seen) (result : Result T CodecError) → Writes value old new result → UnlessFault result (StaysList (see old) (see new))
+  written_unchanged value old new result writes =
+      unless result (λ (stays : Stays old new). let s : StaysList (see old) (see new) = record { there = stays.there; list = same_list old new stays.held; content = stays.content } in s) writes.unchanged
+
+  pub kept_rest : (old new : Seen) → Keeps old new → KeepsRest (see old) (see new)
+  kept_rest old new keeps = record { level = refl; fill = refl; short = refl; unserved = refl; others = λ other unlike. keeps.content other; key = keeps.key; place = keeps.place; cost = keeps.cost; whole = λ asked. refl; later = keeps.later }
+
+  pub kept_stays : (old new : Seen) → Keeps old new → StaysList (see old) (see new)
+  kept_stays old new keeps = record { there = keeps.there; list = same_list old new keeps.held; content = keeps.content }
+
+  -- a read, and then a change
+  pub puts_after : {T : Type 0} (stored : Bool) (list : List Element) (first old new : Seen) (result : Result T CodecError) → Keeps first old → PutsList stored list (see old) (see new) result → PutsList stored list (see first) (see new) result
+  puts_after stored list first old new result keeps puts = record {
+    ok = puts.ok;
+    failed = on_err_weaker result (λ case. ⊎_elim (λ (same : (under : Options) → (see new).list under ≡ (see old).list under). inl (λ (under : Options). same under ∙ same_list first old keeps.held under))
+        (λ (more : HoldsList true (Some list) (see new) ⊎ IsAbsent (see new)). inr more) case) puts.failed;
+  }
+
+  -- that was not made, where there is a list
+  pub may_not : (T : Type 0) (stored : List Element → Bool) (list : Option (List Element)) (old new : Seen) (e : CodecError) → Keeps old new → MayPutList {T = T} stored list (see old) (see new) (Err e)
+  may_not T stored None old new e keeps = tt
+  may_not T stored (Some list) old new e keeps = record { ok = tt; failed = inl (same_list old new keeps.held) }
+
+  pub may_put : {T : Type 0} (stored : List Element → Bool) (list : Option (List Element)) (given : Option (List Element)) (first old new : Seen) (result : Result T CodecError) → Gives given list → Keeps first old
+      → ((xs : List Element) → given ≡ Some xs → PutsList (stored xs) xs (see old) (see new) result) → MayPutList stored list (see first) (see new) result
+  may_put stored None given first old new result gives keeps puts = absurd (none_there given gives.same gives.there)
+    where
+      none_there : (o : Option (List Element)) → o ≡ None → IsSome o → ⊥
+      none_there None is there = cc
+      none_there (Some xs) is there = cc
+  may_put stored (Some list) given first old new result gives keeps puts = puts_after (stored list) list first old new result keeps (puts list gives.same)
+
+  pub rewrites_after : {T U E : Type 0} (rereads : Bool) (first old new : Seen) (read : U) (result : Result T CodecError) → ReadsIf {E = E} rereads first old (Ok read) → UnlessFault result (StaysList (see old) (see new))
+      → KeepsRest (see old) (see new) → Unasked old new → Rewrites rereads (see first) (see new) result
+  rewrites_after rereads first old new read result reads unchanged rest unasked =
+      let keeps = reads.keeps in
+      let asks : CountsIf rereads first.shown.asks new.shown.asks first.cost = subst (λ (n : ℕ). CountsIf rereads first.shown.asks n first.cost) (sym unasked.asks) reads.asks in
+      let taken : CountsIf rereads first.shown.taken new.shown.taken (first.taking None) = subst (λ (n : ℕ). CountsIf rereads first.shown.taken n (first.taking None)) (sym unasked.taken) reads.taken in
+      record {
+        unchanged = unless result (λ (stays : StaysList (see old) (see new)). let s : StaysList (see first) (see new) = record { there = stays.there ∙ keeps.there; list = λ under. stays.list under ∙ same_list first old keeps.held under; content = λ key. stays.content key ∙ keeps.content key } in s) unchanged;
+        rest = record {
+          level = refl;
+          fill = refl;
+          short = refl;
+          unserved = refl;
+          others = λ other unlike. rest.others other (λ is. unlike (is ∙ keeps.key)) ∙ keeps.content other;
+          key = rest.key ∙ keeps.key;
+          place = rest.place ∙ keeps.place;
+          cost = rest.cost ∙ keeps.cost;
+          whole = λ asked. refl;
+          later = let a : first.shown.faults ≤ old.shown.faults = keeps.later in let b : old.shown.faults ≤ new.shown.faults = rest.later in omega arith;
+        };
+        asks = ok_of result asks;
+        asks_err = always_err result (may rereads _ _ _ asks);
+        taken = ok_of result taken;
+        taken_err = always_err result (may rereads _ _ _ taken);
+      }
+    where
+      ok_of : {T P : Type 0} (r : Result T CodecError) → P → OnOk r P
+      ok_of (Ok v) p = p
+      ok_of (Err e) p = tt
+
+      may : (b : Bool) (before now more : ℕ) → CountsIf b before now more → MayCountIf b before now more
+      may true before now more is = inr is
+      may false before now more is = is
+
+  pub rewrites_not : {T U : Type 0} (rereads : Bool) (old new : Seen) (e : CodecError) → ReadsIf {T = U} rereads old new (Err e) → Rewrites {T = T} rereads (see old) (see new) (Err e)
+  rewrites_not {T} rereads old new e reads = record { unchanged = unless_of {T = T} (Err e) (kept_stays old new reads.keeps); rest = kept_rest old new reads.keeps; asks = tt; asks_err = reads.asks_err; taken = tt; taken_err = reads.taken_err }
+
+-- of options that drop, what is kept is not the fill
+pub kept_false : (under : Options) (element : Option Element) (xs : List Element) (b : Bool) → under.store_empty_chunks ≡ false → b ≡ are_all element xs → not b ≡ is_kept under element xs
+kept_false under element xs b is same = ap not same ∙ sym (ap (λ (s : Bool). s || not (are_all element xs)) is)
+
+-- the test of options and of elements
+pub dropped_by : (under : Options) (kind : Kind) (fill : List ℕ) (number : ℕ) (list : List Element) (b : Bool) → under.store_empty_chunks ≡ false → IsSome (fill_element kind fill) → length list ≡ number
+    → ((x : Element) → fill_element kind fill ≡ Some x → IsTrue b ↔ (list ≡ replicate number x)) → not b ≡ is_kept under (fill_element kind fill) list
+dropped_by under kind fill number list b off denotes long test = kept_false under (fill_element kind fill) list b off (tested (fill_element kind fill) number list b denotes long test)
+
+-- why a codec does not encode elements
+pub beyond_told : (level : Level) (raw : ArrayBytes) (list : List Element) (beyond : ArrayBytes → Told) (before now : ℕ) (e : CodecError) → list_at level raw ≡ Some list
+    → (e ≡ codec.OutOfMemory) ⊎ (told_by e ≡ then_answer (validity (kind_of level.data_type) (count_of level.shape) raw) (beyond raw)) → IsHandleError before now e ⊎ IsBeyond beyond level list e
+beyond_told level raw list beyond before now e means answer =
+    ⊎_elim (λ (m : e ≡ codec.OutOfMemory). inl (inl m))
+    (λ (t : told_by e ≡ then_answer (validity (kind_of level.data_type) (count_of level.shape) raw) (beyond raw)).
+    inr (let b : IsBeyond beyond level list e = record { bytes = raw; means = means; told = t ∙ ap (λ (v : Told). then_answer v (beyond raw)) (valid_some level raw (ap is_some means)) } in b)) answer
+
+pub short_told : (level : Level) (raw : ArrayBytes) (beyond : ArrayBytes → Told) (before now : ℕ) (e : CodecError) → IsSome (list_at level raw) → beyond raw ≡ fine
+    → (e ≡ codec.OutOfMemory) ⊎ (told_by e ≡ then_answer (validity (kind_of level.data_type) (count_of level.shape) raw) (beyond raw)) → IsHandleError before now e
+short_told level raw beyond before now e there all answer =
+    ⊎_elim (λ (m : e ≡ codec.OutOfMemory). inl m)
+    (λ (t : told_by e ≡ then_answer (validity (kind_of level.data_type) (count_of level.shape) raw) (beyond raw)).
+    absurd (says_some e (t ∙ ap₂ then_answer (valid_some level raw there) all))) answer
+
+-- elements and an indexer that are tested first
+pub given_memory : (kind : Kind) (fits : Bool) (number : ℕ) (raw : ArrayBytes) (given : List Element) (e : CodecError) → fits ≡ true → meaning kind number raw ≡ Some given
+    → (e ≡ codec.OutOfMemory) ⊎ (told_by e ≡ given_answer kind fits number raw) → e ≡ codec.OutOfMemory
+given_memory kind fits number raw given e inside means answer =
+    let refused : bytes_refusal kind number raw ≡ None = (refusal-meaning kind number raw).1 (ap is_some means) in
+    let valid : validity kind number raw ≡ fine = ap (sized_answer (inner_length raw) (number * size_in (fixed_size kind))) refused in
+    ⊎_elim (λ (m : e ≡ codec.OutOfMemory). m)
+    (λ (t : told_by e ≡ given_answer kind fits number raw). absurd (says_some e (t ∙ ap₂ (λ (v : Told) (f : Bool). then_answer v (first_answer None f fine)) valid inside))) answer
+
+-- an update of elements by others of their kind is not refused
+pub pair_kept : (kind : Kind) (n m : ℕ) (old new : ArrayBytes) (xs ys : List Element) → meaning kind n old ≡ Some xs → meaning kind m new ≡ Some ys → pair_refusal (fixed_size kind) old new ≡ None
+pair_kept (fixed size) n m (fixed_bytes a) (fixed_bytes b) xs ys e f = refl
+pair_kept (fixed size) n m (fixed_bytes a) (variable_bytes b o) xs ys e f = cc
+pair_kept (fixed size) n m (fixed_bytes a) (optional_bytes b o) xs ys e f = cc
+pair_kept (fixed size) n m (variable_bytes a k) new xs ys e f = cc
+pair_kept (fixed size) n m (optional_bytes a k) new xs ys e f = cc
+pair_kept variable n m (fixed_bytes a) new xs ys e f = cc
+pair_kept variable n m (variable_bytes a k) (fixed_bytes b) xs ys e f = cc
+pair_kept variable n m (variable_bytes a k) (variable_bytes b o) xs ys e f = refl
+pair_kept variable n m (variable_bytes a k) (optional_bytes b o) xs ys e f = cc
+pair_kept variable n m (optional_bytes a k) new xs ys e f = cc
+pair_kept (optional kind) n m (fixed_bytes a) new xs ys e f = cc
+pair_kept (optional kind) n m (variable_bytes a k) new xs ys e f = cc
+pair_kept (optional kind) n m (optional_bytes a k) (fixed_bytes b) xs ys e f = cc
+pair_kept (optional kind) n m (optional_bytes a k) (variable_bytes b o) xs ys e f = cc
+pair_kept (optional kind) n m (optional_bytes a k) (optional_bytes b o) xs ys e f =
+    let old = masked kind n a k xs e in let new = masked kind m b o ys f in
+    pair_kept kind n m a b old.list new.list old.inner new.inner
+
+pub update_memory : (kind : Kind) (size : Option ℕ) (fits : Bool) (n m : ℕ) (old new : ArrayBytes) (xs ys : List Element) (e : CodecError) → size ≡ fixed_size kind → fits ≡ true → meaning kind n old ≡ Some xs → meaning kind m new ≡ Some ys
+    → (e ≡ codec.OutOfMemory) ⊎ (told_by e ≡ update_answer size fits n old m new) → e ≡ codec.OutOfMemory
+update_memory kind size fits n m old new xs ys e sized inside o p answer =
+    let width = size_in (fixed_size kind) in
+    let lengths : both_answer width n old m new ≡ fine = ap₂ (λ (a b : Option Refusal). then_answer (sized_answer (inner_length old) (n * width) a) (sized_answer (inner_length new) (m * width) b)) (lengths_kept kind n old xs o) (lengths_kept kind m new ys p) in
+    let all : update_answer (fixed_size kind) fits n old m new ≡ fine = ap₂ (λ (a : Option Refusal) (f : Bool). first_answer a f (both_answer width n old m new)) (pair_kept kind n m old new xs ys o p) inside ∙ lengths in
+    ⊎_elim (λ (h : e ≡ codec.OutOfMemory). h)
+    (λ (t : told_by e ≡ update_answer size fits n old m new). absurd (says_some e (t ∙ (ap (λ (s : Option ℕ). update_answer s fits n old m new) sized ∙ all)))) answer
+
+none_some : {A : Type 0} (o : Option A) → o ≡ None → IsSome o → ⊥
+none_some None is there = cc
+none_some (Some x) is there = cc
+
+some_now : {A : Type 0} (o : Option A) (x : A) → o ≡ Some x → IsSome o
+some_now {A = A} o x is = subst (λ (p : Option A). IsSome p) (sym is) refl
+
+-- the old elements with some put in
+pub updated_gives : (level : Level) (indices : List ℕ) (given : List Element) (list : Option (List Element)) (old : ArrayBytes) (r : Result code.ArrayBytes CodecError) → IsSome list
+    → ((xs : List Element) → list ≡ Some xs → list_at level old ≡ Some xs)
+    → ((xs : List Element) → list_at level old ≡ Some xs → IfOk r (λ v. list_at level (raw_of v) ≡ Some (replaced indices given xs)))
+    → IfOk r (λ v. Gives (list_at level (raw_of v)) (option_map (replaced indices given) list))
+updated_gives level indices given None old r held value put = cc
+updated_gives level indices given (Some xs) old (Ok v) held value put = let is = put xs (value xs refl) in record { same = is; there = some_now _ _ is }
+updated_gives level indices given (Some xs) old (Err e) held value put = tt
+
+pub updated_fails : {T : Type 0} (list : Option (List Element)) (level : Level) (old : ArrayBytes) (P : CodecError → Type 0) (r : Result T CodecError) → IsSome (list_at level old)
+    → ((xs : List Element) → list_at level old ≡ Some xs → IfErr r (λ e. e ≡ codec.OutOfMemory)) → P codec.OutOfMemory → IfErr r P
+updated_fails list level old P (Ok v) there told memory = tt
+updated_fails list level old P (Err e) there told memory = go (list_at level old) refl there
+  where
+    go : (o : Option (List Element)) → list_at level old ≡ o → IsSome o → P e
+    go None is held = cc
+    go (Some xs) is held = subst P (sym (told xs is)) memory
+
+pub err_memory : {T : Type 0} (r : Result T CodecError) (told : CodecError → Type 0) → IfErr r told → ((e : CodecError) → told e → e ≡ codec.OutOfMemory) → IfErr r (λ e. e ≡ codec.OutOfMemory)
+err_memory (Ok v) told is to = tt
+err_memory (Err e) told is to = to e is
+
+pub answers_err : {T : Type 0} (wanted : Told) (r : Result T CodecError) → Answers wanted r → IfErr r (λ e. (e ≡ codec.OutOfMemory) ⊎ (told_by e ≡ wanted))
+answers_err wanted (Ok v) is = tt
+answers_err wanted (Err e) is = is
+
+-- all elements are given
+same_shape : (a b : List ℕ) → same_lengths a b ≡ true → a ≡ b
+same_shape [] [] e = refl
+same_shape [] (m ∷ b) e = cc
+same_shape (n ∷ a) [] e = cc
+same_shape (n ∷ a) (m ∷ b) e =
+    let parts = and_parts (n == m) (same_lengths a b) e in
+    ap₂ (λ (x : ℕ) (xs : List ℕ). x ∷ xs) (eqb-true n m parts.0) (same_shape a b parts.1)
+
+pub all_places : (shape : List ℕ) (asked : Option Region) (places : List (List ℕ)) → is_all shape asked ≡ true → ((box : Region) → asked ≡ Some box → places ≡ tuples box) → length places ≡ count_of shape
+all_places shape None places e boxed = cc
+all_places shape (Some box) places e boxed =
+    let parts = and_parts (ends_within box shape) (same_lengths (sizes box) shape) e in
+    ap length (boxed box refl) ∙ (length-tuples box ∙ ap count_of (same_shape (sizes box) shape parts.1))
+
+pub all_gives : (level : Level) (covers : Bool) (places : List (List ℕ)) (indices : List ℕ) (given : List Element) (list : Option (List Element)) (raw copy : ArrayBytes) → true ≡ covers → length places ≡ count_of level.shape → copy ≡ raw
+    → meaning (kind_of level.data_type) (length places) raw ≡ Some given → Gives (list_at level copy) (updated covers indices given list)
+all_gives level covers places indices given list raw copy all long same means =
+    let is : list_at level copy ≡ Some given = ap (list_at level) same ∙ (ap (λ (n : ℕ). meaning (kind_of level.data_type) n raw) (sym long) ∙ means) in
+    let gives : Gives (list_at level copy) (updated true indices given list) = record { same = is; there = some_now _ _ is } in
+    subst (λ (b : Bool). Gives (list_at level copy) (updated b indices given list)) all gives
+
+-- why elements are not stored
+pub stored_told : {T : Type 0} (given wanted : Option (List Element)) (U : CodecError → Type 0) (B : List Element → CodecError → Type 0) (first mid new : ℕ) (r : Result T CodecError) → Gives given wanted → first ≤ mid
+    → ((xs : List Element) → given ≡ Some xs → IfErr r (λ e. IsHandleError mid new e ⊎ B xs e)) → IfErr r (λ e. IsHandleError first new e ⊎ (U e ⊎ IsUnencoded wanted B e))
+stored_told given None U B first mid new r gives later told = absurd (none_some given gives.same gives.there)
+stored_told given (Some xs) U B first mid new (Ok v) gives later told = tt
+stored_told given (Some xs) U B first mid new (Err e) gives later told =
+    ⊎_elim (λ (h : IsHandleError mid new e). inl (fault_later first mid new e later h)) (λ (b : B xs e). inr (inr b)) (told xs gives.same)
+
+pub stored_short : {T : Type 0} (U : CodecError → Type 0) (first mid new : ℕ) (r : Result T CodecError) → first ≤ mid → IfErr r (IsHandleError mid new) → IfErr r (λ e. IsHandleError first new e ⊎ U e)
+stored_short U first mid new (Ok v) later told = tt
+stored_short U first mid new (Err e) later told = inl (fault_later first mid new e later told)

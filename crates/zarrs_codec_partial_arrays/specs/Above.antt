@@ -1,0 +1,70 @@
+-- An array-to-array codec with its level, over what a handle of elements holds.
+use Rattle.std.specs.Prelude.{◌≡◌, ℕ, suc, List, [], ◌∷◌, Option, Some, None, option_and_then}
+use Rattle.zarr_model.specs.Region.{Region, whole}
+use Rattle.zarr_model.specs.Element.{Element, Kind, fixed, variable, optional, DataType, fill_element, kind_of}
+use Rattle.zarr_model.specs.Codec.{Level, ArrayCodec}
+use Rattle.zarrs_data_type_elements.specs.FillValue.{fill_bytes}
+use Rattle.zarrs_codec_traits.specs.Errors.{Unserved, endianness_missing}
+use Rattle.zarrs_codec_traits.specs.Views.{level_of}
+use Rattle.zarrs_codec_partial_traits.specs.Boxes.{smaller_box}
+use Rattle.zarrs_codec_partial_traits.specs.Lists.{ListSeen}
+use Rattle.zarrs_codec_partial_arrays.specs.declared.level.ArrayLevel.{ArrayLevel}
+
+-- its level, and the bytes of its fill value
+abbrev pub array_level : {A : Type 0} → ArrayLevel A → Level
+array_level level = level_of level.shape.items level.data_type level.fill_value
+
+abbrev pub array_fill : {A : Type 0} → ArrayLevel A → List ℕ
+array_fill level = fill_bytes level.fill_value
+
+-- a kind as numbers
+abbrev pub kind_code : Kind → List ℕ
+kind_code (fixed n) = suc n ∷ []
+kind_code variable = []
+kind_code (optional kind) = 0 ∷ kind_code kind
+
+-- a handle is one of the level below
+pub record IsBelow (codec : ArrayCodec) (fill_below : DataType → List ℕ → List ℕ) (level : Level)
+    (bytes : List ℕ) (seen : ListSeen) : Type 0 where
+  pub shape : seen.level.shape ≡ (codec.level_below level).shape
+  pub kind : kind_code (kind_of seen.level.data_type)
+      ≡ kind_code (kind_of (codec.level_below level).data_type)
+  pub fill : seen.fill ≡ fill_below level.data_type bytes
+
+-- the box below that is read for what is asked for: that of a smaller box, or all
+abbrev pub box_for : (Region → Region) → Region → Option Region → Region
+box_for below all None = all
+box_for below all (Some box) = below box
+
+abbrev pub box_below : (List ℕ → Region → Region) → List ℕ → List ℕ → Option Region → Region
+box_below region_below shape shape_below asked =
+    box_for (region_below shape) (whole shape_below) (smaller_box shape asked)
+
+-- why nothing is served: by the codec, by what is below, or, for any reason, for a fill value that
+-- denotes no element
+abbrev pub first_unserved : Option Unserved → Option Unserved → Option Element → Option Unserved
+first_unserved (Some why) below element = Some why
+first_unserved None (Some why) element = Some why
+first_unserved None None None = Some endianness_missing
+first_unserved None None (Some element) = None
+
+-- what is shown of the handle below
+abbrev pub raised : Level → List ℕ → Option Unserved → ArrayCodec → (List ℕ → Region → Region)
+    → ListSeen → ListSeen
+raised level fill unserved codec region_below below = record {
+  level = level;
+  fill = fill;
+  short = below.short;
+  unserved = first_unserved unserved below.unserved (fill_element (kind_of level.data_type) fill);
+  there = below.there;
+  list = λ under. option_and_then (codec.decode_list level) (below.list under);
+  shown = below.shown;
+  key = below.key;
+  place = below.place;
+  cost = below.cost;
+  taking = λ asked. below.taking
+      (Some (box_below region_below level.shape (codec.level_below level).shape asked));
+  whole = λ asked. below.whole
+      (Some (box_below region_below level.shape (codec.level_below level).shape asked));
+  size = below.size;
+}
