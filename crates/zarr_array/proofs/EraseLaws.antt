@@ -4,7 +4,7 @@ use Rattle.std.specs.List.{list_any}
 use Rattle.std.proofs.lemmas.Bool.{cases_Bool, cond-true, cond-false, true≢false, or_parts, or_from}
 use Rattle.zarr_model.specs.Prelude.{IsChunk, CoversShape, Options, Content, IsSound, box_content, chunk_content, Shown, erase, Description, kind, layout, refusal, reply_of, array_of, after, answered_done, Matches, chunks_under, command_chunks, asks_store, is_among, present_in, present_under, erases_chunk, IsDamageMet, MeetsNoDamage, KeepsDamage, IsLeftAt, Rose, PutsKey, MayPutKey, LeavesKeys, ServesWhole}
 use Rattle.zarr_model.proofs.FailureLaws.{same_bytes, bytes_eq-refl, listed_is_chunk, part_way-start, part_way-fails, erase-done}
-use Rattle.zarr_array.specs.declared.error.SessionErrorKind.TheVariants.{Store, OutOfMemory}
+use Rattle.zarr_array_regions.specs.declared.error.SessionErrorKind.TheVariants.{Store, OutOfMemory}
 use Rattle.zarr_array.proofs.HasRun.{HasRun}
 use Rattle.zarr_array.specs.Session.{FailsAt}
 use Rattle.zarr_array.proofs.StepRuns.{command-starved}

@@ -4,8 +4,8 @@ use Rattle.std.specs.List.{list_all}
 use Rattle.std.proofs.lemmas.Bool.{and_parts, true≢false}
 use Rattle.zarr_model.specs.Prelude.{CoversShape, Options, IsHonest, Shown, Command, Description, layout, refusal, Rose, AreRefused}
 use Rattle.zarr_model.proofs.FailureLaws.{listed_is_chunk}
-use Rattle.zarr_array.specs.declared.error.SessionErrorKind.{SessionErrorKind}
-use Rattle.zarr_array.specs.declared.error.SessionErrorKind.TheVariants.{NotOpened, ChunkDecode, Store, OutOfMemory}
+use Rattle.zarr_array_regions.specs.declared.error.SessionErrorKind.{SessionErrorKind}
+use Rattle.zarr_array_regions.specs.declared.error.SessionErrorKind.TheVariants.{NotOpened, ChunkDecode, Store, OutOfMemory}
 use Rattle.zarr_array.specs.Session.{HasSessionCause}
 
 -- over an honest store, with no rise of the count, memory alone is wanting

@@ -5,7 +5,7 @@ use Rattle.zarr_model.specs.Prelude.{Region, Element, ArrayBytes, Array, element
 use Rattle.zarr_model.proofs.FailureLaws.{cut_short-start}
 use Rattle.zarr_model.proofs.StepLaws.{LeavesKeys-same, refused-serves, read-serves, KeepsDamage-read}
 use Rattle.zarr_model.proofs.DamageLaws.{MeetsNoDamage-read}
-use Rattle.zarr_array.specs.declared.error.SessionErrorKind.TheVariants.{OutOfMemory}
+use Rattle.zarr_array_regions.specs.declared.error.SessionErrorKind.TheVariants.{OutOfMemory}
 use Rattle.zarr_array.proofs.HasRun.{HasRun}
 use Rattle.zarr_array.specs.Session.{FailsAt}
 

@@ -5,13 +5,13 @@ use Rattle.std.proofs.lemmas.List.Folds.{Any-from_list_any, list_any_at}
 use Rattle.std.proofs.lemmas.Option.{slice_get_within, slice_get-get_or, get_or_from_slice_get}
 use Rattle.zarr_model.specs.Prelude.{Region, Element, ArrayBytes, Array, written, IsChunk, chunks_meeting, CoversShape, Options, Content, IsSound, WhollyMeans, chunk_content, Shown, Command, write, Description, kind, layout, refusal, written_elements, reply_of, array_of, after, answered_done, Matches, chunks_under, command_chunks, is_among, is_blank, counted, present_in, present_under, ChunkHas, IsPartWay, IsCutShort, IsDamageMet, MeetsNoDamage, KeepsDamage, IsLeftAt, LeavesKeys, ServesWhole}
 use Rattle.zarr_model.proofs.FailureLaws.{same_bytes, bytes_eq-refl, listed_is_chunk, chunks_under-once, part_way-end, part_way-fails}
-use Rattle.zarr_array.specs.declared.error.SessionErrorKind.{SessionErrorKind}
-use Rattle.zarr_array.specs.declared.error.SessionErrorKind.TheVariants.{NotOpened, ChunkDecode, Store, OutOfMemory}
-use Rattle.zarr_array.specs.Write.{StopsChunk}
-use Rattle.zarr_array.specs.PartWay.{ChangedSome, StopsBefore, FailsPartWay}
+use Rattle.zarr_array_regions.specs.declared.error.SessionErrorKind.{SessionErrorKind}
+use Rattle.zarr_array_regions.specs.declared.error.SessionErrorKind.TheVariants.{NotOpened, ChunkDecode, Store, OutOfMemory}
+use Rattle.zarr_array_regions.specs.Write.{StopsChunk}
+use Rattle.zarr_array_regions.specs.PartWay.{ChangedSome, StopsBefore, FailsPartWay}
 use Rattle.zarr_array.proofs.HasRun.{HasRun}
 use Rattle.zarr_array.specs.Session.{HasSessionCause, FailsAt}
-use Rattle.zarr_array.proofs.PartWayLaws.{content-same, changed-kept, changed-outside, met-chunks, met-once}
+use Rattle.zarr_array_regions.proofs.PartWayLaws.{content-same, changed-kept, changed-outside, met-chunks, met-once}
 
 -- what a write does to an array
 abbrev pub write_change : Description → Region → ArrayBytes → Array Element → Array Element

@@ -4,7 +4,7 @@ use Rattle.zarr_model.specs.Prelude.{Answer}
 use Rattle.zarr_array.specs.Command.{answer_of}
 use Rattle.zarr_array.specs.declared.command.Reply.{Reply}
 use Rattle.zarr_array.specs.declared.error.SessionError.{SessionError}
-use Rattle.zarr_array.specs.declared.error.CommandError.{CommandError}
+use Rattle.zarr_array_regions.specs.declared.error.CommandError.{CommandError}
 
 abbrev pub Ended : Type 0
 Ended = Result (List Answer) SessionError

@@ -1,13 +1,6 @@
 pub mod OpenError
 pub mod OpenArray
 pub mod Command
-pub mod Codecs
-pub mod Chunk
-pub mod Told
 pub mod Session
-pub mod Read
-pub mod Write
-pub mod PartWay
-pub mod CommandError
 pub mod Ended
 pub mod Runs

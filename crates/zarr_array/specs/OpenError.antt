@@ -3,8 +3,8 @@ use Rattle.std.specs.Prelude.{Option, Some, None}
 use Rattle.zarr_array_parts.specs.Opening.{OpenRefusal}
 use Rattle.zarr_array_parts.specs.OpenError.{open_refusal_of}
 use Rattle.zarr_array_parts.specs.declared.open_error.OpenError.{OpenError}
-use Rattle.zarr_array.specs.declared.error.SessionErrorKind.{SessionErrorKind}
-use Rattle.zarr_array.specs.declared.error.SessionErrorKind.TheVariants.{NotOpened, OutOfMemory}
+use Rattle.zarr_array_regions.specs.declared.error.SessionErrorKind.{SessionErrorKind}
+use Rattle.zarr_array_regions.specs.declared.error.SessionErrorKind.TheVariants.{NotOpened, OutOfMemory}
 
 -- a session whose document is not opened
 abbrev pub ended_for : Option OpenRefusal → OpenError → SessionErrorKind

@@ -3,7 +3,7 @@ use Rattle.std.specs.Prelude.{◌≡◌, ◌≤◌, List, IfOk, IfErr, OnOk}
 use Rattle.zarr_model.specs.Prelude.{Options, Shown, IsHonest, Command, Description, layout, all_asks, counted, Rose, MeetsNoDamage, KeepsDamage, LeavesKeys, ServesArray, RefusesRight, AreRefused, IsUntouched}
 use Rattle.zarr_array.specs.Session.{FailsAt}
 use Rattle.zarr_array.specs.Ended.{Ended}
-use Rattle.zarr_array.specs.declared.error.SessionErrorKind.TheVariants.{OutOfMemory}
+use Rattle.zarr_array_regions.specs.declared.error.SessionErrorKind.TheVariants.{OutOfMemory}
 
 -- what running commands over a store owes, however it ends
 pub record Runs (array : Description) (options : Options) (commands : List Command)

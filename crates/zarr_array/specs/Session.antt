@@ -4,8 +4,8 @@ use Rattle.zarr_model.specs.Prelude.{Options, Shown, Command, Description, IsPla
 use Rattle.zarr_array_parts.specs.Opening.{OpenRefusal}
 use Rattle.zarr_array_parts.specs.OpenError.{open_refusal_of}
 use Rattle.zarr_array.specs.Ended.{Ended}
-use Rattle.zarr_array.specs.declared.error.SessionErrorKind.{SessionErrorKind}
-use Rattle.zarr_array.specs.declared.error.SessionErrorKind.TheVariants.{NotOpened, ChunkDecode, Store, OutOfMemory}
+use Rattle.zarr_array_regions.specs.declared.error.SessionErrorKind.{SessionErrorKind}
+use Rattle.zarr_array_regions.specs.declared.error.SessionErrorKind.TheVariants.{NotOpened, ChunkDecode, Store, OutOfMemory}
 
 -- each error comes only with its cause, and says what it leaves; want of memory is free
 abbrev pub HasSessionCause : Description → Options → List Command → Shown → Shown → Option (ℕ × ℕ) →

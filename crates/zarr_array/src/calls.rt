@@ -5,7 +5,7 @@ ghost use Rattle.zarrs_codec_array_bytes.specs.Raw.{raw_of};
 ghost use Rattle.zarr_model.specs.Prelude.{read, write, erase, AreRefused};
 ghost use Rattle.zarrs_array_subset.specs.ArraySubset.{region as region_of_subset};
 ghost use Rattle.zarrs_codec_traits.specs.Views.{options_of};
-ghost use Rattle.zarr_array.specs.Told.{TellsWhy};
+ghost use Rattle.zarr_array_regions.specs.Told.{TellsWhy};
 ghost use Rattle.zarr_array.specs.Ended.{ended_one};
 ghost use Rattle.zarr_array.specs.Runs.{Runs};
 

@@ -2,15 +2,12 @@
 #![tactic(auto)]
 
 mod calls;
-mod chunk;
 pub mod command;
 pub mod error;
 pub mod open;
-mod read;
 pub mod refusal;
 pub mod session;
 mod step;
-mod write;
 
 pub use command::{Command, Reply};
 pub use error::{SessionError, SessionErrorKind};

@@ -2,19 +2,19 @@
 //!
 //! See <https://zarr-specs.readthedocs.io/en/latest/v3/core/index.html#array-metadata>.
 
-ghost use Rattle.std.specs.Prelude.{◌≡◌, ◌<◌, true, Some, IfOk};
-ghost use Rattle.zarr_model.specs.Prelude.{kind_of};
+ghost use Rattle.std.specs.Prelude.{◌≡◌, ◌<◌, ℕ, true, Some, IfOk};
+ghost use Rattle.zarr_model.specs.Prelude.{fixed, kind_of};
 ghost use Rattle.zarrs_data_type.specs.DataType.{type_of};
 ghost use Rattle.zarr_basics.specs.Registries.{names_of};
 ghost use Rattle.zarr_array_parts.specs.Opening.{open_document};
-ghost use Rattle.zarr_array_parts.specs.Parts.{documented as documented_parts};
 ghost use Rattle.zarr_array_parts.specs.Sizes.{sized_kind, have_chunks};
 ghost use Rattle.zarr_chain.specs.Levels.{above};
 ghost use Rattle.zarr_chain_stored.specs.Fetch.{HasFill};
-ghost use Rattle.zarr_array.specs.Codecs.{IsChainOf};
+ghost use Rattle.zarr_array_regions.specs.Codecs.{IsChainOf};
 
 use std::alloc::{AllocError, Global};
 use zarr_array_parts::{ArrayParts, BasicChain, OpenError};
+use zarr_array_regions::codec_chain;
 use zarr_basics::Registries;
 use zarr_codecs_kinds::BasicArrayToBytes;
 use zarrs_codec_traits::ArrayToBytesCodecTraits;
@@ -24,10 +24,6 @@ use zarrs_data_type::DataType;
 #[derive(Drop)]
 pub struct OpenArray {
     pub(crate) parts: ArrayParts,
-    // The size of an element in bytes.
-    pub(crate) size: usize,
-    ghost sized: { sized_kind (kind_of (documented_parts parts).data_type) ≡ Some size },
-    ghost some: { 0 < size },
 }
 
 impl OpenArray {
@@ -46,8 +42,7 @@ impl OpenArray {
         ensures { OpensAs result (open_document (names_of registries.now) text.now) }
     {
         let parts = ArrayParts::open(alloc, text, registries)?;
-        let size = parts.element_size();
-        Ok(OpenArray { parts, size })
+        Ok(OpenArray { parts })
     }
 
     /// Whether the array has a chunk: no length of its shape is 0.
@@ -69,13 +64,13 @@ impl OpenArray {
         ensures takes { IfOk result (λ chain. ⟦<BasicArrayToBytes as ArrayToBytesCodecTraits>⟧.takes
             chain.bottom.codec (above chain.bottom)) }
     {
-        let chain = self.parts.chain(alloc)?;
-        Ok(chain)
+        codec_chain(&self.parts, alloc)
     }
 
     /// The data type of the elements.
     pub fn data_type(&self) -> &DataType
-        ensures { type_of result.now ≡ (documented self.now).data_type }
+        ensures data_type { type_of result.now ≡ (documented self.now).data_type }
+        ensures sizes { (n : ℕ) → kind_of (type_of result.now) ≡ fixed n → 0 < n }
     {
         self.parts.data_type()
     }
@@ -85,7 +80,7 @@ impl OpenArray {
         ensures size { sized_kind (kind_of (documented self.now).data_type) ≡ Some result }
         ensures some { 0 < result }
     {
-        self.size
+        self.parts.element_size()
     }
 
     /// The shape of the array.

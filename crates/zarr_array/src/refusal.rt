@@ -1,11 +1,13 @@
 //! Why a command is refused.
 
-ghost use Rattle.std.specs.Prelude.{◌≡◌, false, Some, option_map};
+ghost use Rattle.std.specs.Prelude.{◌≡◌, ◌*◌, false, length, Some, option_map, IfNone};
 ghost use Rattle.zarr_model.specs.Prelude.{ArrayBytes, fixed_bytes, write, erase, region_refusal, refusal, refusal_name, is_too_large, count};
 ghost use Rattle.zarrs_array_subset.specs.ArraySubset.{region};
 ghost use Rattle.zarrs_codec_array_bytes.specs.Levels.{is_fixed};
+ghost use Rattle.zarr_array_regions.specs.Size.{size_of};
 
 use crate::open::OpenArray;
+use zarr_array_regions::element_size;
 use zarrs_array_subset::ArraySubset;
 use zarrs_chunk_grid_traits::ChunkGridTraits;
 
@@ -48,11 +50,13 @@ impl OpenArray {
 
     // Whether a region has too many elements, or too many bytes of them.
     fn is_too_large(&self, subset: &ArraySubset) -> bool
-        ensures { result ≡ is_too_large (Some self.now.size) (count (region subset.now)) }
+        ensures { result ≡ is_too_large (Some (size_of self.now.parts)) (count (region subset.now)) }
     {
         match subset.checked_num_elements() {
             None | Some(u64::MAX) => true,
-            Some(number) => number.checked_mul(self.size as u64).is_none(),
+            Some(number) => number
+                .checked_mul(element_size(&self.parts) as u64)
+                .is_none(),
         }
     }
 
@@ -87,14 +91,16 @@ impl OpenArray {
 
     /// Why a write is refused, if it is: its region is tested first, and then how many elements there are.
     pub(crate) fn write_refusal(&self, subset: &ArraySubset, elements: &[u8]) -> Option<Refusal>
-        ensures { option_map refusal_of result
+        ensures why { option_map refusal_of result
             ≡ refusal (described self.now) (write (region subset.now) (fixed_bytes elements.now)) }
+        ensures as_long { IfNone result
+            (length elements.now ≡ count (region subset.now) * size_of self.now.parts) }
     {
         let refusal = self.region_refusal(subset);
         if refusal.is_some() {
             return refusal;
         }
-        if elements.len() != subset.num_elements() as usize * self.size {
+        if elements.len() != subset.num_elements() as usize * element_size(&self.parts) {
             return Some(Refusal::UnexpectedChunkDecodedSize);
         }
         None

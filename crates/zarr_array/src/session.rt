@@ -8,7 +8,7 @@ ghost use Rattle.zarr_array.specs.OpenError.{ended_by};
 ghost use Rattle.zarr_array.specs.Command.{command_of};
 ghost use Rattle.zarrs_codec_traits.specs.Views.{options_of};
 ghost use Rattle.zarr_array.specs.Session.{EndsUnopened};
-ghost use Rattle.zarr_array.specs.Told.{TellsWhy};
+ghost use Rattle.zarr_array_regions.specs.Told.{TellsWhy};
 ghost use Rattle.zarr_array.specs.Ended.{ended};
 ghost use Rattle.zarr_array.specs.Runs.{Runs};
 
@@ -40,8 +40,8 @@ impl OpenArray {
         store: &mut S,
         options: &CodecOptions,
     ) -> Result<Vec<Reply>, SessionError>
-        ensures runs { Runs (described self.now) (options_of options.now) (map command_of commands.now)
-            (S.shown store.old) (S.shown store.new) (ended result) }
+        ensures runs { Runs (described self.now) (options_of options.now)
+            (map command_of commands.now) (S.shown store.old) (S.shown store.new) (ended result) }
         ensures told { IfErr result (λ error. TellsWhy (documented self.now)
             (options_of options.now) (S.shown store.new) error.kind) }
     {

@@ -7,14 +7,15 @@ ghost use Rattle.zarr_model.specs.Prelude.{fixed_bytes, read, write, erase, AreR
 ghost use Rattle.zarrs_array_subset.specs.ArraySubset.{region};
 ghost use Rattle.zarr_array.specs.Command.{command_of};
 ghost use Rattle.zarrs_codec_traits.specs.Views.{options_of};
-ghost use Rattle.zarr_array.specs.Told.{TellsWhy};
+ghost use Rattle.zarr_array_regions.specs.Told.{TellsWhy};
 ghost use Rattle.zarr_array.specs.Ended.{ended_step};
 ghost use Rattle.zarr_array.specs.Runs.{Runs};
 
 use crate::command::{Command, Reply};
-use crate::error::{CommandError, SessionErrorKind};
+use crate::error::SessionErrorKind;
 use crate::open::OpenArray;
 use std::alloc::Global;
+use zarr_array_regions::{CommandError, chunk_key, read_elements, write_elements};
 use zarrs_array_subset::ArraySubset;
 use zarrs_codec_array_bytes::ArrayBytes;
 use zarrs_codec_array_bytes::array_bytes::bytes_in;
@@ -56,7 +57,7 @@ impl OpenArray {
         if let Some(refusal) = self.region_refusal(subset) {
             return Ok(Reply::Refused(refusal));
         }
-        let elements = self.read_elements(alloc, subset, store, options)?;
+        let elements = read_elements(&self.parts, alloc, subset, store, options)?;
         Ok(Reply::Elements(ArrayBytes::from(elements)))
     }
 
@@ -80,7 +81,7 @@ impl OpenArray {
         if let Some(refusal) = self.write_refusal(subset, elements) {
             return Ok(Reply::Refused(refusal));
         }
-        self.write_elements(alloc, subset, elements, store, options)?;
+        write_elements(&self.parts, alloc, subset, elements, store, options)?;
         Ok(Reply::Done)
     }
 
@@ -126,7 +127,7 @@ impl OpenArray {
         if let Some(refusal) = self.erase_refusal(chunk_indices) {
             return Ok(Reply::Refused(refusal));
         }
-        let key = self.chunk_key(alloc, chunk_indices)?;
+        let key = chunk_key(&self.parts, alloc, chunk_indices)?;
         match store.erase(&key) {
             Ok(()) => Ok(Reply::Done),
             Err(StorageError::Failed) => Err(CommandError {

@@ -1,43 +1,15 @@
 -- Levels that are put below others, and why one is not.
-use Rattle.std.proofs.Common.{◌≡◌, ⊎_elim, inl, ℕ, zero, suc, ◌<◌, Bool, false, true, ◌==◌, if◌then◌else◌, List, [], ◌∷◌, ◌++◌, map, length, take, Option, Some, None, IsSome, option_map, unwrap_or, slice_index, refl, sym, ap, ap₂, ◌∙◌, subst, subst₂, Ok}
-use Rattle.std.specs.List.{AllByRecursion}
-use Rattle.zarr_model.specs.Element.{Element, of_bytes, null, some, Kind, fixed, variable, optional, fill_element, optional_fill}
+use Rattle.std.proofs.Common.{◌≡◌, ⊎_elim, inl, ℕ, List, [], ◌∷◌, ◌++◌, map, Option, Some, None, IsSome, unwrap_or, refl, sym, ap, ap₂, ◌∙◌, subst, subst₂, Ok}
+use Rattle.zarr_model.specs.Element.{Element, null}
 use Rattle.zarr_model.specs.Codec.{Level, ArrayCodec, Chain}
 use Rattle.zarrs_codec_error.specs.declared.error.CodecError.{CodecError}
 use Rattle.zarrs_codec_error.specs.declared.error.CodecError.TheVariants as codec
 use Rattle.zarrs_codec_traits.specs.Errors.{Unserved, unserved_at, RefusesBy}
-use Rattle.zarrs_codec_traits.specs.Words.{IsFit, AreBytes}
+use Rattle.zarrs_codec_traits.specs.Words.{IsFit}
 use Rattle.zarr_chain.specs.declared.level.CodecLevel.{CodecLevel}
 use Rattle.zarr_chain.specs.Levels.{above, top, top_fill, Serving, AreFit, IsLink, AreLinked}
 use Rattle.zarr_chain.specs.Building.{Filling, IsReady, first_reason, levels_unserved, FailsToBuild}
 use Rattle.zarrs_data_type_elements.specs.FillValue.{fill_bytes}
-
--- the first bytes of some are bytes
-bytes_taken : (n : ℕ) (bytes : List ℕ) → AllByRecursion (λ b. b < 256) bytes → AllByRecursion (λ b. b < 256) (take n bytes)
-bytes_taken zero bytes small = tt
-bytes_taken (suc n) [] small = tt
-bytes_taken (suc n) (b ∷ bytes) small = (small.0, bytes_taken n bytes small.1)
-
--- the element that bytes denote has bytes in it
-fixed_bytes : (same : Bool) (fill : List ℕ) (x : Element) → AllByRecursion (λ b. b < 256) fill → (if same then Some (of_bytes fill) else None) ≡ Some x → AreBytes x
-fixed_bytes true fill x small is = let e : of_bytes fill ≡ x = cc in subst AreBytes e small
-fixed_bytes false fill x small is = cc
-
-some_bytes : (inner : Option Element) (x : Element) → ((y : Element) → inner ≡ Some y → AreBytes y) → option_map some inner ≡ Some x → AreBytes x
-some_bytes None x below is = cc
-some_bytes (Some y) x below is = let e : some y ≡ x = cc in subst AreBytes e (below y refl)
-
-optional_bytes : (last : ℕ) (inner : Option Element) (x : Element) → ((y : Element) → inner ≡ Some y → AreBytes y) → optional_fill last inner ≡ Some x → AreBytes x
-optional_bytes zero inner x below is = let e : null ≡ x = cc in subst AreBytes e tt
-optional_bytes (suc last) inner x below is = some_bytes inner x below is
-
-pub element_bytes : (kind : Kind) (fill : List ℕ) (x : Element) → AllByRecursion (λ b. b < 256) fill → fill_element kind fill ≡ Some x → AreBytes x
-element_bytes (fixed n) fill x small is = fixed_bytes (length fill == n) fill x small is
-element_bytes variable fill x small is = let e : of_bytes fill ≡ x = cc in subst AreBytes e small
-element_bytes (optional kind) [] x small is = cc
-element_bytes (optional kind) (b ∷ value) x small is =
-    optional_bytes (slice_index (b ∷ value) (length value)) (fill_element kind (take (length value) (b ∷ value))) x
-    (λ y inner. element_bytes kind (take (length value) (b ∷ value)) y (bytes_taken (length value) (b ∷ value) small) inner) is
 
 -- what is there is what it is unwrapped to
 pub denoted : (o : Option Element) → IsSome o → o ≡ Some (unwrap_or o null)

@@ -14,6 +14,7 @@ use Rattle.zarr_chain.specs.declared.level.CodecLevel.{CodecLevel}
 use Rattle.zarr_chain.specs.Levels.{above, Serving, AreLinked, elements_above, top, SaysInvalid}
 use Rattle.zarr_chain.specs.Values.{byte_codecs, bytes_says, said_at}
 use Rattle.zarr_chain.specs.Chain.{Listing, Opening, decoded, chain_says}
+use Rattle.zarr_chain.specs.Encoding.{StandFor, AnswersBelow}
 use Rattle.zarr_chain.proofs.LevelLaws.{valid_some, says_some, chain-value, chain-none, chain-back, none_invalid}
 
 -- what an answer or an error says, weakened
@@ -46,6 +47,28 @@ memory_taken level raw beyond e there taken answer =
     ⊎_elim (λ (memory : e ≡ codec.OutOfMemory). memory)
     (λ (told : told_by e ≡ then_answer (validity (kind_of level.data_type) (count_of level.shape) raw) beyond).
     absurd (says_some e (told ∙ (ap (λ (t : Told). then_answer t beyond) (valid_some level raw there) ∙ taken)))) answer
+
+-- and what is refused of those that are valid is what is refused of them besides
+pub refused_beyond : (level : Level) (raw : ArrayBytes) (beyond : Told) (e : CodecError) → IsSome (list_at level raw) →
+    (e ≡ codec.OutOfMemory) ⊎ (told_by e ≡ then_answer (validity (kind_of level.data_type) (count_of level.shape) raw) beyond) → (e ≡ codec.OutOfMemory) ⊎ (told_by e ≡ beyond)
+refused_beyond level raw beyond e there answer =
+    ⊎_elim (λ (memory : e ≡ codec.OutOfMemory). inl memory)
+    (λ (told : told_by e ≡ then_answer (validity (kind_of level.data_type) (count_of level.shape) raw) beyond).
+    inr (told ∙ ap (λ (t : Told). then_answer t beyond) (valid_some level raw there))) answer
+
+pub taken_beyond : (level : Level) (raw : ArrayBytes) (beyond : Told) → IsSome (list_at level raw) →
+    then_answer (validity (kind_of level.data_type) (count_of level.shape) raw) beyond ≡ fine → beyond ≡ fine
+taken_beyond level raw beyond there answer = sym (ap (λ (t : Told). then_answer t beyond) (valid_some level raw there)) ∙ answer
+
+-- so the call answers as the array-to-bytes codec does
+module _ {A : Type 0} (meaning : A → ArrayCodec) (beyond : ArrayBytes → Told) (steps : List (CodecLevel A)) (bottom : Level) (list : List Element) (bytes below : ArrayBytes) (stands : StandFor meaning steps bottom list bytes below) where
+  pub answers_error : (e : CodecError) → (e ≡ codec.OutOfMemory) ⊎ (told_by e ≡ beyond below) →
+      (e ≡ codec.OutOfMemory) ⊎ ((below : ArrayBytes) × StandFor meaning steps bottom list bytes below × (told_by e ≡ beyond below))
+  answers_error e cause = ⊎_elim (λ (memory : e ≡ codec.OutOfMemory). inl memory) (λ (told : told_by e ≡ beyond below). inr (below, stands, told)) cause
+
+  pub answers_last : {T : Type 0} (P : T → Type 0) (result : Result T CodecError) → beyond below ≡ fine → MatchResult result P (λ e. e ≡ codec.OutOfMemory) → AnswersBelow meaning beyond steps bottom list bytes result
+  answers_last P (Ok v) taken last = (below, stands, taken)
+  answers_last P (Err e) taken last = inl last
 
 -- elements that are not valid are refused as such, whatever else is refused
 then_first : (first next : Told) → (first ≡ fine → ⊥) → then_answer first next ≡ first

@@ -11,6 +11,7 @@ ghost use Rattle.zarrs_codec_traits.specs.Views.{options_of};
 ghost use Rattle.zarrs_codec_traits.specs.Words.{list_at, Gives};
 ghost use Rattle.zarr_chain.specs.Levels.{above, SaysInvalid};
 ghost use Rattle.zarr_chain.specs.Chain.{IsServed, first_level, decoded, chain_says};
+ghost use Rattle.zarr_chain.specs.Encoding.{AnswersBelow};
 
 use crate::decode::{decode_through, decode_up};
 use crate::encode::{encode_down, encode_through};
@@ -73,8 +74,9 @@ impl<A: ArrayToArrayCodecTraits, B: ArrayToBytesCodecTraits, C: BytesToBytesCode
     /// The value of a chunk, which decodes to these elements under all options.
     ///
     /// # Errors
-    /// [`CodecError`] where the bytes are not valid elements of the chunk, with the first reason; where the array-to-bytes
-    /// codec takes no such elements; or where memory runs out.
+    /// [`CodecError`] where the bytes are not valid elements of the chunk, with the first reason; else where the
+    /// array-to-bytes codec refuses what they are encoded to above it, as too many or too long elements, with its error;
+    /// or where memory runs out.
     pub fn encode(
         &self,
         alloc: Global,
@@ -93,6 +95,10 @@ impl<A: ArrayToArrayCodecTraits, B: ArrayToBytesCodecTraits, C: BytesToBytesCode
             → has_long_element (raw_of bytes.entry) ≡ false
             → B.takes self.now.bottom.codec (above self.now.bottom)
             → IfErr result (λ e. e ≡ codec.OutOfMemory) }
+        ensures beyond { (list : List Element)
+            → list_at (first_level self.now) (raw_of bytes.entry) ≡ Some list
+            → AnswersBelow A.meaning (B.beyond self.now.bottom.codec (above self.now.bottom))
+            self.now.levels.items (above self.now.bottom) list (raw_of bytes.entry) result }
     {
         let below = encode_down(alloc, &self.levels, bytes, options)?;
         let bottom = &self.bottom;

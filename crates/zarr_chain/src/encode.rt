@@ -40,6 +40,7 @@ pub fn encode_down<A: ArrayToArrayCodecTraits>(
         (SaysInvalid (top levels.now bottom) (raw_of bytes.entry)) }
     ensures short { has_long_element (raw_of bytes.entry) ≡ false
         → IfOk result (λ v. has_long_element (raw_of v) ≡ false) }
+    ensures none { levels.now ≡ [] → IfOk result (λ v. raw_of v ≡ raw_of bytes.entry) }
 {
     let mut encoded = bytes;
     for level in levels {

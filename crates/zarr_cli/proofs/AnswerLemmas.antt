@@ -4,15 +4,15 @@ use Rattle.zarr_model.specs.Prelude.{Rose}
 use Rattle.zarr_array_parts.specs.Opening.{OpenRefusal}
 use Rattle.zarr_array_parts.specs.OpenError.{open_refusal_of}
 use Rattle.zarr_cli.specs.Input.{input_limit, HasLongInput}
-use Rattle.zarr_cli.specs.Ending.{Ending, IsGiven, IsGivenFront, IsOrMemory}
+use Rattle.zarr_cli_runs.specs.Ending.{Ending, IsGiven, IsGivenFront, IsOrMemory, IsWritten}
 use Rattle.zarr_cli.specs.Run.{IsRunnable, SameButChanged}
-use Rattle.zarr_cli.specs.Ending as end
-use Rattle.zarr_cli.specs.Status.{ending_of}
+use Rattle.zarr_cli_runs.specs.Ending as end
+use Rattle.zarr_cli_runs.specs.Status.{ending_of}
 use Rattle.zarr_cli.specs.Steps.{PrintsInput, RefusesInput, IsToldFault, IsUnaskedIfRefused}
 use Rattle.zarr_cli.specs.Seen.{Seen}
 use Rattle.zarr_cli.specs.Answers.{Answers}
-use Rattle.zarr_cli.specs.declared.status.Status.{Status}
-use Rattle.zarr_cli.specs.declared.status.Status.TheVariants.{Done, BadWords, BadInput, Document, Chunk, Store, Read, Write, TooLong, OutOfMemory}
+use Rattle.zarr_cli_runs.specs.declared.status.Status.{Status}
+use Rattle.zarr_cli_runs.specs.declared.status.Status.TheVariants.{Done, BadWords, BadInput, Document, Chunk, Store, Read, Write, TooLong, OutOfMemory}
 use Rattle.zarr_cli.proofs.EndingLemmas.{is_done, is_bad_input, is_write, is_too_long}
 use Rattle.zarr_cli.proofs.EndLemmas.{went, did_asks, did_refused, not_reading, not_long, not_bad, not_refused, told_chunk, told_opening, told_input, told_document}
 
@@ -52,7 +52,7 @@ module _ (words : List (List ℕ)) (input : List ℕ) (before now : Seen) where
   answers_write text did given rose lines unasked = record {
     done = λ is. absurd (cc);
     read_whole = λ is. absurd (cc);
-    asks = λ run is. absurd (cc);
+    asks = λ run is. did_asks words input before.store now.store text did run;
     bad_input = λ line is. absurd (cc);
     document = λ why is. absurd (cc);
     chunk = λ key is. absurd (cc);
@@ -93,6 +93,12 @@ module _ (words : List (List ℕ)) (input : List ℕ) (before now : Seen) where
   or_memory status last called_for (inl same) h = subst (λ s. IsOrMemory (ending_of s) called_for) (sym same) h
   or_memory status last called_for (inr memory) h = inr (ap ending_of memory)
 
+  unwritten : (status last : Status) → (last ≡ status) ⊎ (last ≡ OutOfMemory) → IsToldFault words input (Rose before.source.faults now.source.faults) before.store now.store status → IsWritten (ending_of last) → ⊥
+  unwritten status last which told written = ⊎_elim
+      (λ (is : ending_of last ≡ end.done). told_at status last which told Done (is_done last is) (λ e. cc))
+      (λ (is : ending_of last ≡ end.write_fault). told_at status last which told Write (is_write last is) (λ e. cc))
+      written
+
   -- it ended before the replies were written
   pub answers_early : (status last : Status) → (last ≡ status) ⊎ (last ≡ OutOfMemory) → IsToldFault words input (Rose before.source.faults now.source.faults) before.store now.store status →
       (IsRunnable words input before.store.content → ¬ Rose before.source.faults now.source.faults → ¬ Rose before.store.faults now.store.faults → status ≡ OutOfMemory) →
@@ -101,7 +107,7 @@ module _ (words : List (List ℕ)) (input : List ℕ) (before now : Seen) where
   answers_early status last which told complete lines unasked = record {
     done = λ is. absurd (told_at status last which told Done (is_done last is) (λ e. cc));
     read_whole = λ is. absurd (told_at status last which told Done (is_done last is) (λ e. cc));
-    asks = λ run is. absurd (told_at status last which told Done (is_done last is) (λ e. cc));
+    asks = λ run written. absurd (unwritten status last which told written);
     bad_input = λ line is. told_at status last which told (BadInput line) (is_bad_input last line is) (λ e. cc);
     document = λ why is. told_opening words input (Rose before.source.faults now.source.faults) before.store now.store status last why which told is;
     chunk = λ key is. told_chunk words input (Rose before.source.faults now.source.faults) before.store now.store status last key which told is;
@@ -113,8 +119,5 @@ module _ (words : List (List ℕ)) (input : List ℕ) (before now : Seen) where
     front = λ is. absurd (told_at status last which told Write (is_write last is) (λ e. cc));
     unchanged = lines;
     unasked = unasked;
-    refused = λ run written all none. absurd (⊎_elim
-        (λ (is : ending_of last ≡ end.done). told_at status last which told Done (is_done last is) (λ e. cc))
-        (λ (is : ending_of last ≡ end.write_fault). told_at status last which told Write (is_write last is) (λ e. cc))
-        written);
+    refused = λ run written all none. absurd (unwritten status last which told written);
   }

@@ -11,14 +11,16 @@ use Rattle.zarr_cli_lines.specs.Parts.{entry_view}
 use Rattle.zarr_cli.specs.Words.{Settings, ReadsBy, settings_of, IsReading}
 use Rattle.zarr_cli.specs.Run.{Run, HasDamage, WentThrough}
 use Rattle.zarr_cli.specs.Input.{input_limit, input_entries, with_entries, store_after_keys, HasBadLine, HasRefusedDocument, HasLongInput}
-use Rattle.zarr_cli.specs.Ending.{Ending, bad_input, refused_document, damaged_chunk, IsOrMemory}
-use Rattle.zarr_cli.specs.Status.{ending_of, refused_by}
-use Rattle.zarr_cli.specs.Steps.{SaysInput, PrintsAll, PrintsInput, CountsDump, IsRunFault, IsReadFault, RefusesInput, IsToldFault, IsPlainFault}
+use Rattle.zarr_cli_runs.specs.Ending.{Ending, bad_input, refused_document, damaged_chunk, IsOrMemory}
+use Rattle.zarr_cli_runs.specs.Status.{ending_of, refused_by}
+use Rattle.zarr_cli.specs.Steps.{SaysInput, PrintsAll, PrintsInput, IsReadFault, RefusesInput, IsToldFault, IsPlainFault}
+use Rattle.zarr_cli_runs.specs.Keys.{CountsDump}
+use Rattle.zarr_cli_runs.specs.Commands.{IsRunFault}
 use Rattle.zarr_cli.proofs.ProgramLaws.{one_run}
 use Rattle.zarr_cli.proofs.OutcomeLemmas.{did_run, run_told, run_not_bad, run_not_refused, refused_not_bad, one_bad_line}
 use Rattle.zarr_cli.specs.declared.input.ParsedInput.{ParsedInput}
-use Rattle.zarr_cli.specs.declared.status.Status.{Status}
-use Rattle.zarr_cli.specs.declared.status.Status.TheVariants.{Done, BadWords, BadInput, Document, Chunk, Store, Read, Write, TooLong, OutOfMemory}
+use Rattle.zarr_cli_runs.specs.declared.status.Status.{Status}
+use Rattle.zarr_cli_runs.specs.declared.status.Status.TheVariants.{Done, BadWords, BadInput, Document, Chunk, Store, Read, Write, TooLong, OutOfMemory}
 
 -- what a parsed input came to, whatever the result
 pub bytes_told : (words : List (List ℕ)) (settings : Settings) (input : List ℕ) (parsed : ParsedInput) (before now : Shown) (result : Result (Vec ℕ Global) Status) →

@@ -2,11 +2,11 @@
 use Rattle.std.proofs.Common.{◌≡◌, ℕ, Option, Some, None, refl, sym, ap, subst}
 use Rattle.zarr_array_parts.specs.Opening.{OpenRefusal}
 use Rattle.zarr_array_parts.specs.OpenError.{open_refusal_of}
-use Rattle.zarr_cli.specs.Ending.{Ending}
-use Rattle.zarr_cli.specs.Ending as end
-use Rattle.zarr_cli.specs.Status.{ending_of, refused_by}
-use Rattle.zarr_cli.specs.declared.status.Status.{Status}
-use Rattle.zarr_cli.specs.declared.status.Status.TheVariants.{Done, BadInput, Document, Write, TooLong}
+use Rattle.zarr_cli_runs.specs.Ending.{Ending}
+use Rattle.zarr_cli_runs.specs.Ending as end
+use Rattle.zarr_cli_runs.specs.Status.{ending_of, refused_by}
+use Rattle.zarr_cli_runs.specs.declared.status.Status.{Status}
+use Rattle.zarr_cli_runs.specs.declared.status.Status.TheVariants.{Done, BadInput, Document, Write, TooLong}
 
 -- an ending that no refused document has
 abbrev IsOther : Ending → Type 0

@@ -8,9 +8,7 @@ mod RunLemmas
 mod OutcomeLemmas
 mod EndLemmas
 mod WordLemmas
-mod DumpLemmas
 mod RefusingLemmas
 mod EndingLemmas
 mod AnswerLemmas
-mod KeysLaws
 mod MadeLemmas

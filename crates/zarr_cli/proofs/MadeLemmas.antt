@@ -1,88 +1,23 @@
 -- A run that is made from a number: its array, its summary, and what it owes.
-use Rattle.std.proofs.Common.{◌≡◌, ℕ, ◌+◌, ◌<◌, List, length, map, Option, Some, None, Result, Ok, Err, IfOk, IfErr, OnOk, Vec, ◌⊎◌, inl, inr, refl, sym, ap, ◌∙◌, subst, arith}
-use Rattle.std.proofs.Math.Path.{fun_ext}
-use Rattle.std.specs.List.{AllZip}
+use Rattle.std.proofs.Common.{◌≡◌, ℕ, ◌+◌, ◌<◌, List, length, Some, None, Result, Ok, Err, IfOk, IfErr, OnOk, Vec, ◌⊎◌, ⊎_elim, inl, inr, refl, sym, ap, ◌∙◌, subst, arith}
 use Rattle.std.specs.declared.alloc.Global.{Global}
-use Rattle.zarr_model.specs.Prelude.{fixed, Options, Matches, Description, Command, Shown, Told, IsHonest, IsUntouched, Rose, layout, kind, all_asks, counted, LeavesArray, IsDamageMet}
-use Rattle.zarr_model.specs.Command as Model
-use Rattle.zarrs_storage.specs.Store.{ListsKeys, SameContent}
-use Rattle.zarr_array_parts.specs.Sizes.{sized_kind}
-use Rattle.zarr_array_parts.specs.Document.{ArrayDocument, describe}
-use Rattle.zarr_array_parts.specs.Opening.{OpenRefusal, OpenAnswer, opened}
-use Rattle.zarr_array_parts.specs.OpenError.{open_refusal_of}
-use Rattle.zarr_array.specs.OpenArray.{documented, described}
-use Rattle.zarr_array.specs.Command.{answer_of}
-use Rattle.zarr_array.specs.declared.open.OpenArray.{OpenArray}
-use Rattle.zarr_array.specs.declared.command.Reply.{Reply}
-use Rattle.zarr_cli_made.specs.Document.{made_document}
+use Rattle.zarr_model.specs.Prelude.{Options, Description, Command, Shown, Told, IsHonest, IsUntouched, Rose, layout, IsDamageMet}
 use Rattle.zarr_cli_made.specs.Commands.{made_commands}
-use Rattle.zarr_cli_made.specs.Summary.{summary_text}
 use Rattle.zarr_cli.specs.Input.{input_limit}
-use Rattle.zarr_cli.specs.Run.{IsRunnable, IsChangedKey}
-use Rattle.zarr_cli.specs.Ending.{Ending, IsGiven, IsGivenFront, IsBeforeStore, damaged_chunk}
-use Rattle.zarr_cli.specs.Ending as end
+use Rattle.zarr_cli.specs.Run.{IsRunnable}
+use Rattle.zarr_cli_runs.specs.Commands.{IsChangedKey, IsRunFault}
+use Rattle.zarr_cli_runs.specs.Ending.{IsGiven, IsGivenFront, IsBeforeStore, damaged_chunk}
+use Rattle.zarr_cli_runs.specs.Ending as end
 use Rattle.zarr_cli.specs.Words.{settings_of}
-use Rattle.zarr_cli.specs.Status.{ending_of}
-use Rattle.zarr_cli.specs.Steps.{IsReadFault, IsRunFault, IsPlainFault, IsRefusal, OpensLine}
-use Rattle.zarr_cli.specs.Made.{made_array, AnswersMade}
-use Rattle.zarr_cli.specs.MadeSteps.{RepliedBy, SumsAll, RanMade, RanInput}
+use Rattle.zarr_cli_runs.specs.Status.{ending_of}
+use Rattle.zarr_cli.specs.Steps.{IsReadFault, IsPlainFault}
+use Rattle.zarr_cli_runs.specs.Made.{made_array, SumsAll}
+use Rattle.zarr_cli.specs.Made.{AnswersMade}
+use Rattle.zarr_cli.specs.MadeSteps.{RanMade, RanInput}
 use Rattle.zarr_cli.specs.Seen.{Seen}
-use Rattle.zarr_cli.proofs.DumpLemmas.{counted_more}
 use Rattle.zarr_cli.proofs.EndingLemmas.{is_done, is_write}
-use Rattle.zarr_cli.specs.declared.status.Status.{Status}
-use Rattle.zarr_cli.specs.declared.status.Status.TheVariants.{Done, BadWords, BadInput, Document, Chunk, Store, Read, Write, TooLong, OutOfMemory}
-
--- the made document is opened as its array, but for want of memory
-one_document : (a b : ArrayDocument) → opened a ≡ opened b → a ≡ b
-one_document a b e = cc
-
-described_as : (array : OpenArray) → documented array ≡ made_document → described array ≡ made_array
-unfolding made_array
-described_as array same = ap describe same
-
-pub made_opened : (answer : OpenAnswer) (result : Result OpenArray Status) → answer ≡ opened made_document → OpensLine result answer → IfOk result (λ array. described array ≡ made_array)
-made_opened answer (Ok array) opens is = described_as array (one_document (documented array) made_document (sym is ∙ opens))
-made_opened answer (Err status) opens is = tt
-
-not_refused : (answer : OpenAnswer) (document : ArrayDocument) (why : Option OpenRefusal) → answer ≡ opened document → IsRefusal why answer → ⊥
-not_refused answer document None opens is = is
-not_refused answer document (Some why) opens is = cc
-
-only_memory : (answer : OpenAnswer) (document : ArrayDocument) (status : Status) → answer ≡ opened document → OpensLine (Err status) answer → status ≡ OutOfMemory
-only_memory answer document (Document error) opens is = absurd (not_refused answer document (open_refusal_of error) opens is)
-only_memory answer document OutOfMemory opens is = refl
-only_memory answer document Done opens is = absurd is
-only_memory answer document BadWords opens is = absurd is
-only_memory answer document (BadInput line) opens is = absurd is
-only_memory answer document (Chunk key) opens is = absurd is
-only_memory answer document Store opens is = absurd is
-only_memory answer document Read opens is = absurd is
-only_memory answer document Write opens is = absurd is
-only_memory answer document TooLong opens is = absurd is
-
-pub made_fails : (answer : OpenAnswer) (result : Result OpenArray Status) → answer ≡ opened made_document → OpensLine result answer → IfErr result (λ status. status ≡ OutOfMemory)
-made_fails answer (Ok array) opens is = tt
-made_fails answer (Err status) opens is = only_memory answer made_document status opens is
-
--- keys that were counted
-pub keys_counted : (before now : Shown) (keys : List (List ℕ)) (n : ℕ) → ListsKeys before.content keys → SameContent before now → n ≡ length keys →
-    (all : List (List ℕ)) × ListsKeys now.content all × (n ≡ length all)
-keys_counted before now keys n lists same is = (keys, subst (λ content. ListsKeys content keys) (sym (fun_ext same)) lists, is)
-
--- replies and keys that were summed up
-pub summed_up : (description : Description) (n count : ℕ) (options : Options) (commands : List Command) (before mid now : Shown) (held : List Reply) (text : List ℕ) →
-    sized_kind (kind description) ≡ Some n → RepliedBy description options commands before mid held →
-    (keys : List (List ℕ)) × ListsKeys now.content keys × (count ≡ length keys) → now.content ≡ mid.content → now.asks ≡ counted mid.asks 1 →
-    ((answers : List Model.Reply) → AllZip (Matches (fixed n)) (map answer_of held) answers → text ≡ summary_text answers count) →
-    SumsAll description options commands before now text
-summed_up description n count options commands before mid now held text sized ran keys same asks sums = record {
-  sums = record {
-    summed = λ array means. (keys.0, keys.1, sums (Model.replies description commands array) (ran.matched n sized array means) ∙ ap (summary_text (Model.replies description commands array)) keys.2);
-    left = subst (λ content. LeavesArray description options commands before.content content) (sym same) ran.left;
-    undamaged = ran.undamaged;
-  };
-  asks = (let first : mid.asks ≡ counted before.asks (all_asks description commands) = ran.asks in counted_more before.asks mid.asks now.asks (all_asks description commands) 1 first asks);
-}
+use Rattle.zarr_cli_runs.specs.declared.status.Status.{Status}
+use Rattle.zarr_cli_runs.specs.declared.status.Status.TheVariants.{Done, BadWords, BadInput, Document, Chunk, Store, Read, Write, TooLong, OutOfMemory}
 
 -- what a made run came to
 pub ran_made : (number : ℕ) (options : Options) (source : Told) (before now : Shown) (result : Result (Vec ℕ Global) Status) →
@@ -165,7 +100,7 @@ module _ (number : ℕ) (options : Options) (before now : Seen) where
       AnswersMade number options before now end.done
   made_done text did given unread unchanged = record {
     done = λ is. (text, did.sums, given);
-    asks = λ is. did.asks;
+    asks = λ written. did.asks;
     unread = unread;
     begun = λ b. b;
     chunk = λ key is. absurd (cc);
@@ -179,7 +114,7 @@ module _ (number : ℕ) (options : Options) (before now : Seen) where
       AnswersMade number options before now end.write_fault
   made_write text did given rose unread unchanged = record {
     done = λ is. absurd (cc);
-    asks = λ is. absurd (cc);
+    asks = λ written. did.asks;
     unread = unread;
     begun = λ b. b;
     chunk = λ key is. absurd (cc);
@@ -227,7 +162,10 @@ module _ (number : ℕ) (options : Options) (before now : Seen) where
       AnswersMade number options before now (ending_of last)
   made_early status last which fault unread complete unchanged = let ends = last_fails status last which fault in record {
     done = λ is. absurd (fails_done last ends (is_done last is));
-    asks = λ is. absurd (fails_done last ends (is_done last is));
+    asks = λ written. absurd (⊎_elim
+        (λ (is : ending_of last ≡ end.done). fails_done last ends (is_done last is))
+        (λ (is : ending_of last ≡ end.write_fault). fails_write last ends (is_write last is))
+        written);
     unread = unread;
     begun = begun made_array options (made_commands number) before.store now.store last ends;
     chunk = λ key is. fails_chunk last key ends is;

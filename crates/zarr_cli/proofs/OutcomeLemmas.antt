@@ -14,11 +14,13 @@ use Rattle.zarr_cli_lines.proofs.TextLaws.{good_lines_all}
 use Rattle.zarr_cli.specs.Words.{Settings, ReadsBy}
 use Rattle.zarr_cli.specs.Run.{Run, IsRunnable}
 use Rattle.zarr_cli.specs.Input.{input_limit, command_grammar, document_line, lines_after_document, store_after_keys, with_entries, IsBadLine}
-use Rattle.zarr_cli.specs.Steps.{SaysInput, PrintsAll, PrintsInput, IsRunFault, IsInputFault, IsRefusal, RefusesInput, IsToldFault}
+use Rattle.zarr_cli.specs.Steps.{SaysInput, PrintsAll, PrintsInput, IsInputFault, RefusesInput, IsToldFault}
+use Rattle.zarr_cli_runs.specs.Commands.{IsRunFault}
+use Rattle.zarr_cli_runs.specs.Opening.{IsRefusal}
 use Rattle.zarr_cli.proofs.ProgramLaws.{one_run}
 use Rattle.zarr_cli.specs.declared.input.ParsedInput.{ParsedInput}
-use Rattle.zarr_cli.specs.declared.status.Status.{Status}
-use Rattle.zarr_cli.specs.declared.status.Status.TheVariants.{Done, BadWords, BadInput, Document, Chunk, Store, Read, Write, TooLong, OutOfMemory}
+use Rattle.zarr_cli_runs.specs.declared.status.Status.{Status}
+use Rattle.zarr_cli_runs.specs.declared.status.Status.TheVariants.{Done, BadWords, BadInput, Document, Chunk, Store, Read, Write, TooLong, OutOfMemory}
 
 -- the run of an input in form under words in form
 abbrev pub its_run : (words : List (List ℕ)) (settings : Settings) (input : List ℕ) (parsed : ParsedInput) → ReadsBy words settings → length input ≤ input_limit → SaysInput input parsed →

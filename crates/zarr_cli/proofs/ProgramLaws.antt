@@ -8,7 +8,8 @@ use Rattle.zarr_array_parts.specs.Document.{ArrayDocument, describe}
 use Rattle.zarr_array_parts.specs.Opening.{opened, open_builtin}
 use Rattle.zarr_cli_lines.specs.Text.{commands_of}
 use Rattle.zarr_cli.specs.Words.{Settings, settings_of}
-use Rattle.zarr_cli.specs.Run.{Run, Prints, ListsStore, WentThrough}
+use Rattle.zarr_cli.specs.Run.{Run, Prints, WentThrough}
+use Rattle.zarr_cli_runs.specs.Keys.{ListsStore}
 use Rattle.zarr_cli.specs.Input.{store_after_keys, command_grammar, document_line, lines_after_document}
 
 one_document : (a b : ArrayDocument) → opened a ≡ opened b → a ≡ b

@@ -6,11 +6,12 @@ use Rattle.zarr_array.specs.OpenArray.{documented, described}
 use Rattle.zarr_array.specs.Command.{command_of}
 use Rattle.zarr_cli_lines.specs.Parts.{entry_view}
 use Rattle.zarr_cli.specs.Words.{Settings, ReadsBy, settings_of}
-use Rattle.zarr_cli.specs.Run.{Run, IsChangedKey, SameButChanged}
+use Rattle.zarr_cli.specs.Run.{Run, SameButChanged}
+use Rattle.zarr_cli_runs.specs.Commands.{IsChangedKey}
 use Rattle.zarr_cli.specs.Input.{input_limit, IsLineKey}
 use Rattle.zarr_cli.specs.Steps.{SaysInput, IsKeyOf, IsUnasked, IsUnaskedIfRefused}
 use Rattle.zarr_cli.proofs.ProgramLaws.{one_run}
-use Rattle.zarr_cli.proofs.KeysLaws.{refused_unchanged}
+use Rattle.zarr_cli_runs.proofs.ChangeLaws.{refused_unchanged}
 use Rattle.zarr_cli.proofs.OutcomeLemmas.{its_run}
 use Rattle.zarr_cli.specs.declared.input.ParsedInput.{ParsedInput}
 

@@ -12,9 +12,10 @@ use Rattle.zarr_model.specs.Prelude.{of_bytes, fixed_bytes, regular_grid, Option
 use Rattle.zarr_array_parts.specs.Document.{ArrayDocument, describe}
 use Rattle.zarr_array_parts.specs.Opening.{opened, open_builtin}
 use Rattle.zarr_cli.specs.Input.{input_limit, document_line, lines_after_document, store_after_keys, command_grammar, IsBadLine}
-use Rattle.zarr_cli.specs.Run.{ListsStore, IsDump, IsDumpAsks, WentThrough}
+use Rattle.zarr_cli_runs.specs.Keys.{ListsStore, IsDump, IsDumpAsks}
+use Rattle.zarr_cli.specs.Run.{WentThrough}
 use Rattle.zarr_cli.specs.Words.{first_settings}
-use Rattle.zarr_cli.specs.Ending.{bad_words, ending_line, IsGivenFront, IsGivenLine}
+use Rattle.zarr_cli_runs.specs.Ending.{bad_words, ending_line, IsGivenFront, IsGivenLine}
 use Rattle.zarr_cli_lines.specs.Text.{line_at, good_lines, replies_text, entries_text}
 use Rattle.zarrs_metadata_parts.specs.declared.array.chunk_key_separator.ChunkKeySeparator.TheVariants.{Slash}
 use Rattle.zarr_basics.specs.declared.chunk_key_encoding.ChunkKeyEncoding.TheVariants.{Default}

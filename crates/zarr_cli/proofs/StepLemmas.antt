@@ -3,13 +3,11 @@ use Rattle.std.proofs.Common.{◌≡◌, ℕ, ◌+◌, ◌^◌, ◌<◌, ◌≤�
 use Rattle.std.proofs.Math.Path.{fun_ext}
 use Rattle.std.proofs.Math.Seq.{drop-cons}
 use Rattle.std.proofs.lemmas.List.{get_or-map, length-map}
-use Rattle.zarr_model.specs.Prelude.{fixed, Command, Content, kind, with_key, with_keys, ReadsNext, PutsKey}
+use Rattle.zarr_model.specs.Prelude.{Kind, Command, Content, kind, with_key, with_keys, ReadsNext, PutsKey}
 use Rattle.zarr_model.proofs.FailureLaws.{same_bytes, bytes_eq-refl}
 use Rattle.zarr_array_parts.specs.Opening.{opened, open_builtin}
-use Rattle.zarr_array_parts.specs.Sizes.{sized_kind}
 use Rattle.zarr_array.specs.OpenArray.{documented, described}
 use Rattle.zarr_array.specs.Command.{command_of}
-use Rattle.zarr_array.proofs.FormLaws.{sized_is}
 use Rattle.zarr_array.specs.declared.open.OpenArray.{OpenArray}
 use Rattle.zarr_cli.specs.declared.input.ParsedInput.{ParsedInput}
 use Rattle.zarr_cli_lines.specs.Text.{input_lines, first_entries, line_command, commands_of, good_lines}
@@ -107,10 +105,10 @@ pub form_fault : (grammar : List ℕ → Option Command) (error : LineError) (go
 form_fault grammar error good lines is fault = subst (λ e. IsLineFault e grammar lines) is fault
 
 -- the first line out of form, of an input whose first line opens
-pub bad_line : (text line : List ℕ) (rest : List (List ℕ)) (array : OpenArray) (n good : ℕ) → IsUtf8 text → input_lines text ≡ line ∷ rest → open_builtin line ≡ opened (documented array) →
-    sized_kind (kind (described array)) ≡ Some n → good ≡ good_lines (line_command (fixed n)) rest → good < length rest → IsBadLine text (good + 2)
-bad_line text line rest array n good utf8 lines opens sized counted below =
-    let count : good ≡ good_lines (command_grammar (documented array)) rest = counted ∙ ap (λ k. good_lines (line_command k) rest) (sym (sized_is (kind (described array)) n sized)) in
+pub bad_line : (text line : List ℕ) (rest : List (List ℕ)) (array : OpenArray) (form : Kind) (good : ℕ) → IsUtf8 text → input_lines text ≡ line ∷ rest → open_builtin line ≡ opened (documented array) →
+    form ≡ kind (described array) → good ≡ good_lines (line_command form) rest → good < length rest → IsBadLine text (good + 2)
+bad_line text line rest array form good utf8 lines opens same counted below =
+    let count : good ≡ good_lines (command_grammar (documented array)) rest = counted ∙ ap (λ k. good_lines (line_command k) rest) same in
     inr (
       utf8,
       documented array,
@@ -120,15 +118,15 @@ bad_line text line rest array n good utf8 lines opens sized counted below =
     )
 
 -- what an input in form says
-pub says_input : (text line : List ℕ) (rest : List (List ℕ)) (parsed : ParsedInput) (n : ℕ) → IsUtf8 text → input_lines text ≡ line ∷ rest → open_builtin line ≡ opened (documented parsed.array) →
-    sized_kind (kind (described parsed.array)) ≡ Some n → map entry_view parsed.entries.items ≡ first_entries rest →
-    commands_of (line_command (fixed n)) rest ≡ Some (map command_of parsed.commands.items) → SaysInput text parsed
-says_input text line rest parsed n utf8 lines opens sized entries commands = record {
+pub says_input : (text line : List ℕ) (rest : List (List ℕ)) (parsed : ParsedInput) (form : Kind) → IsUtf8 text → input_lines text ≡ line ∷ rest → open_builtin line ≡ opened (documented parsed.array) →
+    form ≡ kind (described parsed.array) → map entry_view parsed.entries.items ≡ first_entries rest →
+    commands_of (line_command form) rest ≡ Some (map command_of parsed.commands.items) → SaysInput text parsed
+says_input text line rest parsed form utf8 lines opens same entries commands = record {
   is_text = utf8;
   is_opened = subst (λ all. open_builtin (first_line all) ≡ opened (documented parsed.array)) (sym lines) opens;
   entries_are = subst (λ all. map entry_view parsed.entries.items ≡ first_entries (drop 1 all)) (sym lines) entries;
   commands_are = subst (λ all. commands_of (command_grammar (documented parsed.array)) (drop 1 all) ≡ Some (map command_of parsed.commands.items)) (sym lines)
-      (ap (λ k. commands_of (line_command k) rest) (sized_is (kind (described parsed.array)) n sized) ∙ commands);
+      (ap (λ k. commands_of (line_command k) rest) (sym same) ∙ commands);
 }
 
 -- the number of a line fits

@@ -5,9 +5,10 @@ use Rattle.zarr_array_parts.specs.Document.{describe}
 use Rattle.zarr_array_parts.specs.Opening.{OpenRefusal}
 use Rattle.zarr_cli.specs.Words.{HasBadWords}
 use Rattle.zarr_cli.specs.Input.{input_entries, with_entries, store_after_keys, HasLongInput, HasBadLine, HasRefusedDocument}
-use Rattle.zarr_cli.specs.Run.{Run, IsDumpAsks, HasDamage, WentThrough, IsRunnable, SameButChanged}
-use Rattle.zarr_cli.specs.Ending.{Ending, IsOrMemory, IsWritten, IsGiven, IsGivenFront, IsGivenLine, ending_line, IsBeforeStore}
-use Rattle.zarr_cli.specs.Ending as end
+use Rattle.zarr_cli.specs.Run.{Run, HasDamage, WentThrough, IsRunnable, SameButChanged}
+use Rattle.zarr_cli_runs.specs.Keys.{IsDumpAsks}
+use Rattle.zarr_cli_runs.specs.Ending.{Ending, IsOrMemory, IsWritten, IsGiven, IsGivenFront, IsGivenLine, ending_line, IsBeforeStore}
+use Rattle.zarr_cli_runs.specs.Ending as end
 use Rattle.zarr_cli.specs.Seen.{Seen}
 
 -- what a run owes over a source that tells its bytes, which are the input
@@ -18,8 +19,9 @@ pub record Answers (words : List (List ℕ)) (input : List ℕ) (before now : Se
       (λ output. IsGiven output before.sink.bytes now.sink.bytes)
   -- the source has no byte left
   pub read_whole : ending ≡ end.done → now.source.left ≡ Some []
-  -- there were as many reading calls as chunks that its reads and writes meet, and those of a dump
-  pub asks : (run : Run words input) → ending ≡ end.done →
+  -- where replies are written, there were as many reading calls as chunks that its reads and writes
+  -- meet, and those of a dump
+  pub asks : (run : Run words input) → IsWritten ending →
       (more : ℕ) × IsDumpAsks run.settings.dump now.store.content more
       × (now.store.asks ≡ counted before.store.asks
       (all_asks (describe run.document) run.commands + more))
@@ -65,10 +67,12 @@ pub record Answers (words : List (List ℕ)) (input : List ℕ) (before now : Se
 
 -- what a run owes over any source
 pub record Ends (words : List (List ℕ)) (before now : Seen) (ending : Ending) : Type 0 where
-  -- bad words are answered as such, but for want of memory, and nothing is read
+  -- bad words are answered as such, but for want of memory, nothing is read, and the store is as
+  -- before
   pub bad_words : ending ≡ end.bad_words → HasBadWords words
   pub exactly_words : HasBadWords words → IsOrMemory ending end.bad_words
   pub unread : HasBadWords words → now.source ≡ before.source
+  pub unstored : HasBadWords words → IsUntouched before.store now.store
   -- a fault from outside is answered only where its count rose
   pub store : ending ≡ end.store_fault → Rose before.store.faults now.store.faults
   pub read : ending ≡ end.read_fault → Rose before.source.faults now.source.faults

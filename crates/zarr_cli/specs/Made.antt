@@ -1,35 +1,12 @@
 -- A run that is made from a number: what it prints, what it leaves, and what it owes.
-use Rattle.std.specs.Prelude.{◌≡◌, ℕ, ◌+◌, List, length}
-use Rattle.zarr_model.specs.Prelude.{Element, Array, Options, Content, Means, IsHonest, Rose, Command, Description, layout, replies, all_asks, counted, LeavesArray, MeetsNoDamage, IsDamageMet}
-use Rattle.zarrs_storage.specs.Store.{ListsKeys}
-use Rattle.zarr_array_parts.specs.Document.{describe}
-use Rattle.zarr_cli_made.specs.Document.{made_document}
+use Rattle.std.specs.Prelude.{◌≡◌, ℕ, ◌+◌, List}
+use Rattle.zarr_model.specs.Prelude.{Options, Content, IsHonest, Rose, layout, all_asks, counted, IsDamageMet}
 use Rattle.zarr_cli_made.specs.Commands.{made_commands}
-use Rattle.zarr_cli_made.specs.Summary.{summary_text}
-use Rattle.zarr_cli.specs.Run.{IsChangedKey}
-use Rattle.zarr_cli.specs.Ending.{Ending, IsOrMemory, IsGiven, IsGivenFront, IsBeforeStore}
-use Rattle.zarr_cli.specs.Ending as end
+use Rattle.zarr_cli_runs.specs.Commands.{IsChangedKey}
+use Rattle.zarr_cli_runs.specs.Ending.{Ending, IsOrMemory, IsGiven, IsGivenFront, IsWritten, IsBeforeStore}
+use Rattle.zarr_cli_runs.specs.Ending as end
 use Rattle.zarr_cli.specs.Seen.{Seen}
-
--- the array that the commands are for
-unfoldable pub made_array : Description
-made_array = describe made_document
-
--- the text of a run: the summary of the replies from an array, and of how many keys a store holds
-abbrev pub IsSummary : Description → List Command → Array Element → Content → List ℕ → Type 0
-IsSummary description commands array store output = (keys : List (List ℕ)) × ListsKeys store keys
-    × (output ≡ summary_text (replies description commands array) (length keys))
-
--- commands ran to their end over a store, and this was printed
-pub record SumsUp (description : Description) (options : Options) (commands : List Command)
-    (old new : Content) (output : List ℕ) : Type 0 where
-  -- the summary of the replies of one plain array that the store meant, and of the keys at the end
-  pub summed : (array : Array Element) → Means (layout description options) old array →
-      IsSummary description commands array new output
-  -- the store is left as that array's
-  pub left : LeavesArray description options commands old new
-  -- each value that was met decodes
-  pub undamaged : MeetsNoDamage description options commands old
+use Rattle.zarr_cli_runs.specs.Made.{made_array, SumsUp}
 
 -- the made commands went through, and wrote what passes the test: all of their text, or a front
 abbrev pub WentMade : ℕ → Options → Content → Content → (List ℕ → Type 0) → Type 0
@@ -42,8 +19,9 @@ pub record AnswersMade (number : ℕ) (options : Options) (before now : Seen)
   -- done: the sink has the summary of the replies of one plain array, and of the final keys
   pub done : ending ≡ end.done → WentMade number options before.store.content now.store.content
       (λ output. IsGiven output before.sink.bytes now.sink.bytes)
-  -- there were as many reading calls as chunks that reads and writes meet, and one for the keys
-  pub asks : ending ≡ end.done → now.store.asks
+  -- where its text is written, there were as many reading calls as chunks that reads and writes meet,
+  -- and one for the keys
+  pub asks : IsWritten ending → now.store.asks
       ≡ counted before.store.asks (all_asks made_array (made_commands number) + 1)
   -- nothing is read, and no ending is one of the words, the reading or an input
   pub unread : now.source ≡ before.source

@@ -1,32 +1,13 @@
 -- What each step of a run that is made from a number promises to the next one.
-use Rattle.std.specs.Prelude.{◌≡◌, ℕ, ◌+◌, List, [], map, Some, Result, IfErr, OnOk, MatchResult, Vec}
-use Rattle.std.specs.List.{AllZip}
-use Rattle.zarr_model.specs.Prelude.{Element, Array, fixed, Options, Means, IsHonest, Shown, Told, Command, Description, kind, layout, replies, Matches, LeavesArray, MeetsNoDamage, all_asks, counted, Rose}
-use Rattle.zarr_array_parts.specs.Sizes.{sized_kind}
-use Rattle.zarr_array.specs.Command.{answer_of}
-use Rattle.zarr_array.specs.declared.command.Reply.{Reply}
+use Rattle.std.specs.Prelude.{◌≡◌, ℕ, List, [], Some, Result, IfErr, OnOk, MatchResult, Vec}
+use Rattle.zarr_model.specs.Prelude.{Options, IsHonest, Shown, Told, layout, Rose}
 use Rattle.zarr_cli_made.specs.Commands.{made_commands}
-use Rattle.zarr_cli.specs.Run.{IsRunnable, SameButChanged, IsChangedKey}
-use Rattle.zarr_cli.specs.Made.{made_array, SumsUp}
-use Rattle.zarr_cli.specs.Steps.{PrintsInput, IsToldFault, IsRunFault, IsUnaskedIfRefused}
-use Rattle.zarr_cli.specs.declared.status.Status.{Status}
-use Rattle.zarr_cli.specs.declared.status.Status.TheVariants.{OutOfMemory}
-
--- commands were run over a store, and these are their replies
-pub record RepliedBy (description : Description) (options : Options) (commands : List Command)
-    (before now : Shown) (held : List Reply) : Type 0 where
-  pub matched : (n : ℕ) → sized_kind (kind description) ≡ Some n → (array : Array Element) →
-      Means (layout description options) before.content array →
-      AllZip (Matches (fixed n)) (map answer_of held) (replies description commands array)
-  pub left : LeavesArray description options commands before.content now.content
-  pub undamaged : MeetsNoDamage description options commands before.content
-  pub asks : now.asks ≡ counted before.asks (all_asks description commands)
-
--- commands were run over a store, and this is their summary, at the cost of the calls they make
-pub record SumsAll (description : Description) (options : Options) (commands : List Command)
-    (before now : Shown) (text : List ℕ) : Type 0 where
-  pub sums : SumsUp description options commands before.content now.content text
-  pub asks : now.asks ≡ counted before.asks (all_asks description commands + 1)
+use Rattle.zarr_cli.specs.Run.{IsRunnable, SameButChanged}
+use Rattle.zarr_cli_runs.specs.Commands.{IsChangedKey, IsRunFault}
+use Rattle.zarr_cli_runs.specs.Made.{made_array, SumsAll}
+use Rattle.zarr_cli.specs.Steps.{PrintsInput, IsToldFault, IsUnaskedIfRefused}
+use Rattle.zarr_cli_runs.specs.declared.status.Status.{Status}
+use Rattle.zarr_cli_runs.specs.declared.status.Status.TheVariants.{OutOfMemory}
 
 -- what a made run comes to before its text is written
 pub record RanMade {Z : Type 0} (number : ℕ) (options : Options) (source_before source_now : Told)

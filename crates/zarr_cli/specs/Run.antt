@@ -1,15 +1,13 @@
 -- A run: what its words and its input say, what it prints, and what it leaves in the store.
-use Rattle.std.specs.Prelude.{◌≡◌, ℕ, ◌+◌, ◌≤◌, Bool, true, false, List, [], ◌++◌, length, IsUtf8, Some}
-use Rattle.std.specs.Cmp.Lexicographic.{slice_cmp}
-use Rattle.std.specs.Ordering.{nat_cmp}
-use Rattle.std.specs.FinMap.{is_sorted, find}
-use Rattle.std.specs.List.{list_any}
-use Rattle.zarr_model.specs.Prelude.{Element, Array, IsChunk, Content, Means, IsHonest, Command, Description, layout, replies, changes_chunk, LeavesArray, MeetsNoDamage, IsDamageMet}
-use Rattle.zarr_cli_lines.specs.Text.{commands_of, replies_text, entries_text}
+use Rattle.std.specs.Prelude.{◌≡◌, ℕ, ◌+◌, ◌≤◌, Bool, List, ◌++◌, length, IsUtf8, Some}
+use Rattle.zarr_model.specs.Prelude.{Element, Array, Content, Means, IsHonest, Command, Description, layout, replies, LeavesArray, MeetsNoDamage, IsDamageMet}
+use Rattle.zarr_cli_lines.specs.Text.{commands_of, replies_text}
 use Rattle.zarr_array_parts.specs.Document.{ArrayDocument, describe}
 use Rattle.zarr_array_parts.specs.Opening.{opened, open_builtin}
 use Rattle.zarr_cli.specs.Words.{Settings, ReadsBy}
 use Rattle.zarr_cli.specs.Input.{input_limit, document_line, lines_after_document, command_grammar, store_after_keys, IsLineKey}
+use Rattle.zarr_cli_runs.specs.Keys.{IsDump}
+use Rattle.zarr_cli_runs.specs.Commands.{IsChangedKey}
 
 -- what the words and the input of a run say, where all of them have their form: there is one such
 -- run, or none
@@ -23,23 +21,6 @@ pub record Run (words : List (List ℕ)) (input : List ℕ) : Type 0 where
   pub is_opened : open_builtin (document_line input) ≡ opened document
   pub are_commands : commands_of (command_grammar document) (lines_after_document input)
       ≡ Some commands
-
--- these are all keys of a store with their values, in the order of the keys' bytes
-pub record ListsStore (store : Content) (entries : List (List ℕ × List ℕ)) : Type 0 where
-  pub in_order : is_sorted (slice_cmp nat_cmp) entries ≡ true
-  pub held : (key : List ℕ) → find (slice_cmp nat_cmp) key entries ≡ store key
-
--- the lines of the final keys, or none where they were not asked for
-abbrev pub IsDump : Bool → Content → List ℕ → Type 0
-IsDump false store dump = dump ≡ []
-IsDump true store dump =
-    (entries : List (List ℕ × List ℕ)) × ListsStore store entries × (dump ≡ entries_text entries)
-
--- the reading calls of a dump: one for the list of keys, and one for each key
-abbrev pub IsDumpAsks : Bool → Content → ℕ → Type 0
-IsDumpAsks false store asks = asks ≡ 0
-IsDumpAsks true store asks =
-    (entries : List (List ℕ × List ℕ)) × ListsStore store entries × (asks ≡ length entries + 1)
 
 -- the text of a run: the replies to the commands from an array, and the final keys
 abbrev pub IsOutput : Description → List Command → Array Element → Bool → Content → List ℕ → Type 0
@@ -76,11 +57,6 @@ abbrev pub HasDamage : List (List ℕ) → List ℕ → Content → List ℕ →
 HasDamage words input old key = (run : Run words input)
     × IsDamageMet (describe run.document) run.settings.options run.commands
     (store_after_keys input old) key
-
--- a key is that of a chunk that an accepted command writes or erases
-abbrev pub IsChangedKey : Description → List Command → List ℕ → Type 0
-IsChangedKey array commands key = (chunk : List ℕ) × IsChunk array.grid chunk
-    × (list_any (changes_chunk array chunk) commands ≡ true) × (array.key chunk ≡ key)
 
 -- Each key that is neither a key line's nor that of a chunk that an accepted command writes or
 -- erases holds what it held. Without a run in form each key does.

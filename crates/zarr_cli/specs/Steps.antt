@@ -1,27 +1,21 @@
 -- What each step of the program promises to the next one.
-use Rattle.std.specs.Prelude.{◌≡◌, ℕ, ◌+◌, ◌<◌, Bool, false, List, [], ◌++◌, length, map, flat_map, IsUtf8, Contains, Option, Some, None, unwrap_or, Result, Ok, Err}
-use Rattle.zarr_model.specs.Prelude.{Element, Array, Options, Content, Means, Shown, Told, Command, Description, layout, replies, LeavesArray, AreRefused, IsUntouched, all_asks, counted, Rose, IsDamageMet, MeetsNoDamage}
+use Rattle.std.specs.Prelude.{◌≡◌, ℕ, ◌+◌, ◌<◌, false, List, ◌++◌, length, map, IsUtf8, Contains, Option, Some, None}
+use Rattle.zarr_model.specs.Prelude.{Element, Array, Options, Means, Shown, Told, Command, Description, layout, replies, LeavesArray, AreRefused, IsUntouched, all_asks, counted, Rose, MeetsNoDamage}
 use Rattle.zarr_array_parts.specs.Document.{describe}
-use Rattle.zarr_array_parts.specs.Opening.{OpenRefusal, OpenAnswer, opened, not_opened, open_builtin}
+use Rattle.zarr_array_parts.specs.Opening.{OpenRefusal, opened, open_builtin}
 use Rattle.zarr_array.specs.OpenArray.{documented}
 use Rattle.zarr_array_parts.specs.OpenError.{open_refusal_of}
 use Rattle.zarr_array.specs.Command.{command_of}
-use Rattle.zarr_array.specs.declared.open.OpenArray.{OpenArray}
-use Rattle.zarr_array.specs.declared.command.Reply.{Reply}
-use Rattle.zarr_array.specs.declared.error.SessionErrorKind.{SessionErrorKind}
-use Rattle.zarr_array.specs.declared.error.SessionErrorKind.TheVariants.{NotOpened, ChunkDecode}
-use Rattle.zarr_array.specs.declared.error.SessionErrorKind.TheVariants as Kind
-use Rattle.zarrs_storage.specs.declared.store.StorageError.{StorageError}
-use Rattle.zarrs_storage.specs.declared.store.StorageError.TheVariants.{Failed}
-use Rattle.zarrs_storage.specs.declared.store.StorageError.TheVariants as Storage
-use Rattle.zarr_cli_lines.specs.Text.{line_of, commands_of, replies_text}
-use Rattle.zarr_cli_lines.specs.Parts.{entry_view, answer_text}
+use Rattle.zarr_cli_lines.specs.Text.{commands_of, replies_text}
+use Rattle.zarr_cli_lines.specs.Parts.{entry_view}
 use Rattle.zarr_cli.specs.Words.{Settings, HasBadWords}
 use Rattle.zarr_cli.specs.Input.{input_limit, document_line, lines_after_document, command_grammar, input_entries, with_entries, store_after_keys, IsBadLine, HasLongInput, HasBadLine, HasRefusedDocument}
-use Rattle.zarr_cli.specs.Run.{Run, Prints, IsDump, IsDumpAsks, HasDamage}
-use Rattle.zarr_cli.specs.declared.status.Status.{Status}
-use Rattle.zarr_cli.specs.declared.status.Status.TheVariants.{BadWords, BadInput, Document, Chunk, Store, Read, TooLong, OutOfMemory}
+use Rattle.zarr_cli.specs.Run.{Run, Prints, HasDamage}
+use Rattle.zarr_cli_runs.specs.declared.status.Status.{Status}
+use Rattle.zarr_cli_runs.specs.declared.status.Status.TheVariants.{BadWords, BadInput, Document, Chunk, Store, Read, TooLong, OutOfMemory}
 use Rattle.zarr_cli.specs.declared.input.ParsedInput.{ParsedInput}
+use Rattle.zarr_cli_runs.specs.Keys.{CountsDump}
+use Rattle.zarr_cli_runs.specs.Opening.{IsRefusal}
 
 -- these bytes were taken from what a source had left, where it tells that
 abbrev pub HasTaken : Option (List ℕ) → List ℕ → Option (List ℕ) → Type 0
@@ -52,21 +46,6 @@ pub record SaysInput (input : List ℕ) (parsed : ParsedInput) : Type 0 where
       commands_of (command_grammar (documented parsed.array)) (lines_after_document input)
       ≡ Some (map command_of parsed.commands.items)
 
--- opening refused for a reason other than memory
-abbrev pub IsRefusal : Option OpenRefusal → OpenAnswer → Type 0
-IsRefusal None answer = ⊥
-IsRefusal (Some why) answer = answer ≡ not_opened why
-
--- a first line was opened as the array of its document, or refused, or memory ran out
-abbrev pub IsOpenFault : Status → OpenAnswer → Type 0
-IsOpenFault (Document error) answer = IsRefusal (open_refusal_of error) answer
-IsOpenFault OutOfMemory answer = Unit {0}
-IsOpenFault _ _ = ⊥
-
-abbrev pub OpensLine : Result OpenArray Status → OpenAnswer → Type 0
-OpensLine (Ok array) answer = answer ≡ opened (documented array)
-OpensLine (Err status) answer = IsOpenFault status answer
-
 -- the input is out of form
 abbrev pub IsInputFault : List ℕ → Status → Type 0
 IsInputFault input (BadInput line) = IsBadLine input line
@@ -74,10 +53,6 @@ IsInputFault input (Document error) =
     IsUtf8 input × IsRefusal (open_refusal_of error) (open_builtin (document_line input))
 IsInputFault input OutOfMemory = Unit {0}
 IsInputFault _ _ = ⊥
-
--- the lines of replies as the program holds them, where elements have n bytes
-abbrev pub answers_text : ℕ → List Reply → List ℕ
-answers_text n held = flat_map (λ reply. line_of (answer_text n reply)) held
 
 -- commands were run over a store, and the text is that of their replies
 pub record RepliesTo (description : Description) (options : Options) (commands : List Command)
@@ -88,56 +63,12 @@ pub record RepliesTo (description : Description) (options : Options) (commands :
   pub undamaged : MeetsNoDamage description options commands before.content
   pub asks : now.asks ≡ counted before.asks (all_asks description commands)
 
--- the calls of a dump, counted onto those before
-abbrev pub CountsDump : Bool → ℕ → Shown → Shown → Type 0
-CountsDump dump earlier before now = (more : ℕ) × IsDumpAsks dump now.content more
-    × (now.asks ≡ counted before.asks (earlier + more))
-
--- the lines of the keys were appended to a text where they were asked for, and the store holds what
--- it held
-pub record Dumps (dump : Bool) (before now : Shown) (old_text new_text : List ℕ) : Type 0 where
-  pub text : (keys : List ℕ) × IsDump dump now.content keys × (new_text ≡ old_text ++ keys)
-  pub same : now.content ≡ before.content
-  pub asks : CountsDump dump 0 before now
-
--- the status of a call of the store that gave no answer, and was given no ranges
-abbrev pub storage_status : StorageError → Status
-storage_status Failed = Store
-storage_status (Storage.InvalidByteRange error) = Store
-storage_status Storage.OutOfMemory = OutOfMemory
-
--- listing the keys with their values ended early
-abbrev pub IsDumpFault : Shown → Shown → Status → Type 0
-IsDumpFault before now Store = Rose before.faults now.faults
-IsDumpFault before now OutOfMemory = Unit {0}
-IsDumpFault _ _ _ = ⊥
-
--- keys of a store with their values
-abbrev pub entries_at : Content → List (List ℕ) → List (List ℕ × List ℕ)
-entries_at store keys = map (λ key. (key, unwrap_or (store key) [])) keys
-
 -- commands were run over a store, and the text is what they print, at the cost of the calls that
 -- they make
 pub record PrintsAll (description : Description) (settings : Settings) (commands : List Command)
     (before now : Shown) (text : List ℕ) : Type 0 where
   pub prints : Prints description settings commands before.content now.content text
   pub asks : CountsDump settings.dump (all_asks description commands) before now
-
--- commands ended early, and the value of a damaged chunk stands
-abbrev pub IsRunFault : Description → Options → List Command → Shown → Shown → Status → Type 0
-IsRunFault description options commands before now (Chunk key) =
-    IsDamageMet description options commands before.content key
-    × (now.content key ≡ before.content key)
-IsRunFault description options commands before now Store = Rose before.faults now.faults
-IsRunFault description options commands before now OutOfMemory = Unit {0}
-IsRunFault _ _ _ _ _ _ = ⊥
-
--- the status of a session that ended early
-abbrev pub session_status : SessionErrorKind → Status
-session_status (NotOpened error) = Document error
-session_status (ChunkDecode key error) = Chunk key
-session_status Kind.Store = Store
-session_status Kind.OutOfMemory = OutOfMemory
 
 -- a key is one of some entries
 abbrev pub IsKeyOf : List (List ℕ × List ℕ) → List ℕ → Type 0

@@ -3,15 +3,17 @@
 ghost use Rattle.std.specs.Prelude.{◌≡◌, ◌==◌, ◌+◌, ◌≤◌, length, count_by, IfOk, IfErr};
 ghost use Rattle.zarr_array_parts.specs.Opening.{open_builtin};
 ghost use Rattle.zarr_cli.specs.Input.{input_limit};
-ghost use Rattle.zarr_cli.specs.Steps.{SaysInput, OpensLine, IsInputFault};
+ghost use Rattle.zarr_cli.specs.Steps.{SaysInput, IsInputFault};
+ghost use Rattle.zarr_cli_runs.specs.Opening.{OpensLine};
 
-use crate::status::Status;
 use std::alloc::Global;
+use zarr_array::OpenArray;
 use zarr_array::command::Command;
-use zarr_array::{OpenArray, OpenError, builtin_registries};
 use zarr_cli_lines::entry::Entry;
 use zarr_cli_lines::lines::Lines;
 use zarr_cli_lines::parse::{LineError, ParsedLines, parse_lines};
+use zarr_cli_runs::Status;
+use zarr_cli_runs::opening::open_line;
 
 /// An input in form: the array of its first line, its key lines and its commands.
 #[derive(Drop)]
@@ -29,20 +31,6 @@ fn line_after(bytes: &[u8]) -> u64
     bytes.iter().filter(|b| **b == b'\n').count() as u64 + 1
 }
 
-// The array of a first line, by the built-in names.
-pub(crate) fn open_line(alloc: Global, line: &str) -> Result<OpenArray, Status>
-    ensures { OpensLine result (open_builtin line.now) }
-{
-    let Ok(registries) = builtin_registries(alloc) else {
-        return Err(Status::OutOfMemory);
-    };
-    match OpenArray::open(alloc, line, &registries) {
-        Ok(array) => Ok(array),
-        Err(OpenError::OutOfMemory) => Err(Status::OutOfMemory),
-        Err(error) => Err(Status::Document(error)),
-    }
-}
-
 // What a text says.
 fn parse_text(alloc: Global, text: &str) -> Result<ParsedInput, Status>
     requires { length text.now ≤ input_limit }
@@ -51,7 +39,7 @@ fn parse_text(alloc: Global, text: &str) -> Result<ParsedInput, Status>
 {
     let (line, rest) = Lines::split_text(text);
     let array = open_line(alloc, line)?;
-    match parse_lines(alloc, rest, array.element_size()) {
+    match parse_lines(alloc, rest, array.data_type()) {
         Ok(ParsedLines { entries, commands }) => Ok(ParsedInput {
             array,
             entries,

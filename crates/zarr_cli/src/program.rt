@@ -5,8 +5,9 @@ ghost use Rattle.zarr_model.specs.Prelude.{Rose, IsUntouched, Options};
 ghost use Rattle.zarr_cli.specs.Words.{ReadsBy, HasBadWords, MakesFrom, MakesNothing};
 ghost use Rattle.zarr_cli.specs.Input.{input_limit};
 ghost use Rattle.zarr_cli.specs.Run.{IsRunnable, SameButChanged};
-ghost use Rattle.zarr_cli.specs.Ending.{IsBeforeStore};
-ghost use Rattle.zarr_cli.specs.Status.{words_of, ending_of, settings_view};
+ghost use Rattle.zarr_cli_runs.specs.Ending.{IsBeforeStore};
+ghost use Rattle.zarr_cli.specs.Status.{words_of, settings_view};
+ghost use Rattle.zarr_cli_runs.specs.Status.{ending_of};
 ghost use Rattle.zarr_cli.specs.Steps.{PrintsInput, IsToldFault, IsPlainFault, IsUnaskedIfRefused};
 ghost use Rattle.zarr_cli.specs.MadeSteps.{RanInput, RanMade};
 ghost use Rattle.zarr_cli.specs.Seen.{seen};
@@ -14,14 +15,14 @@ ghost use Rattle.zarr_cli.specs.Answers.{Answers, Ends};
 ghost use Rattle.zarr_cli.specs.Made.{AnswersMade};
 
 use crate::input::parse_input;
-use crate::made::run_made;
 use crate::read::read_input;
 use crate::run::run_input;
-use crate::status::Status;
 use crate::words::{Settings, parse_words};
 use crate::write::{end_with, write_text};
 use std::alloc::Global;
 use zarr_array::OpenError;
+use zarr_cli_runs::Status;
+use zarr_cli_runs::made::run_made;
 use zarrs_storage::sink::Sink;
 use zarrs_storage::source::Source;
 use zarrs_storage::store::Store;
@@ -121,7 +122,8 @@ fn output_of<R: Source, S: Store>(
 /// commands, listing the keys, writing. The first that fails decides the status.
 ///
 /// With `--make` and a number nothing is read: the commands are made from the number, and the text is the summary of
-/// their replies and of how many keys the store then holds.
+/// their replies and of how many keys the store then holds. The last `--make` counts, and `--dump` has no effect beside
+/// it.
 pub fn run_program<R: Source, W: Sink, S: Store>(
     alloc: Global,
     words: &[String],

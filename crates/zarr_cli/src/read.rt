@@ -5,8 +5,8 @@ ghost use Rattle.zarr_model.specs.Prelude.{ReadsNext};
 ghost use Rattle.zarr_cli.specs.Input.{input_limit};
 ghost use Rattle.zarr_cli.specs.Steps.{IsPieceFault, IsReadFault};
 
-use crate::status::Status;
 use std::alloc::Global;
+use zarr_cli_runs::Status;
 use zarrs_storage::source::{IoFailed, Source};
 
 /// The greatest number of bytes that an input may have.

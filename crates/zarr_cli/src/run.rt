@@ -1,6 +1,6 @@
 //! Running the commands of an input over a store.
 
-ghost use Rattle.std.specs.Prelude.{◌≡◌, ◌<◌, ◌≤◌, false, map, List, ℕ, IfOk, IfErr, OnOk};
+ghost use Rattle.std.specs.Prelude.{◌≡◌, ◌≤◌, false, map, List, ℕ, IfOk, IfErr, OnOk};
 ghost use Rattle.zarr_model.specs.Prelude.{Rose, HasCause, IsHonest, with_keys, layout, AreRefused, IsUntouched};
 ghost use Rattle.zarrs_storage.specs.Store.{IsFault as IsStoreFault, IsPlain};
 ghost use Rattle.zarr_array.specs.OpenArray.{described};
@@ -8,22 +8,20 @@ ghost use Rattle.zarr_array.specs.Command.{command_of};
 ghost use Rattle.zarrs_codec_traits.specs.Views.{options_of};
 ghost use Rattle.zarr_cli_lines.specs.Parts.{entry_view};
 ghost use Rattle.zarr_cli.specs.Input.{with_entries};
-ghost use Rattle.zarr_cli.specs.Run.{IsChangedKey};
+ghost use Rattle.zarr_cli_runs.specs.Commands.{IsChangedKey, IsRunFault};
 ghost use Rattle.zarr_cli.specs.Status.{settings_view};
-ghost use Rattle.zarr_cli.specs.MadeSteps.{RepliedBy};
-ghost use Rattle.zarr_cli.specs.Steps.{answers_text, RepliesTo, PrintsAll, IsRunFault, IsKeyOf, IsUnasked, session_status};
+ghost use Rattle.zarr_cli.specs.Steps.{RepliesTo, PrintsAll, IsKeyOf, IsUnasked};
 
-use crate::dump::push_dump;
 use crate::input::ParsedInput;
-use crate::status::Status;
 use crate::words::Settings;
-use std::alloc::{AllocError, Global};
+use std::alloc::Global;
 use zarr_array::CodecOptions;
-use zarr_array::command::{Command, Reply};
-use zarr_array::error::SessionErrorKind;
+use zarr_array::command::Command;
 use zarr_array::open::OpenArray;
 use zarr_cli_lines::entry::Entry;
-use zarr_cli_lines::reply_text::push_reply;
+use zarr_cli_runs::Status;
+use zarr_cli_runs::commands::{replies_of, text_of_replies};
+use zarr_cli_runs::keys::push_dump;
 use zarrs_storage::store::{StorageError, Store};
 
 // Sets the key lines, the first one first.
@@ -46,64 +44,6 @@ fn set_entries<S: Store>(
         store.set(alloc, &entry.key, &entry.value)?;
     }
     Ok(())
-}
-
-// The lines of replies, whose elements have `size` bytes.
-pub(crate) fn text_of_replies(
-    alloc: Global,
-    replies: &[Reply],
-    size: usize,
-) -> Result<Vec<u8>, AllocError>
-    requires { 0 < size }
-    ensures { IfOk result (λ text. text.items ≡ answers_text size replies.now) }
-{
-    let mut text = Vec::new(alloc);
-    for reply in replies {
-        push_reply(&mut text, reply, size)?;
-    }
-    Ok(text)
-}
-
-// The status of a session that ended early.
-fn session_status(kind: SessionErrorKind) -> Status
-    ensures { result ≡ session_status kind }
-{
-    match kind {
-        SessionErrorKind::NotOpened(error) => Status::Document(error),
-        SessionErrorKind::ChunkDecode { key, error: _ } => Status::Chunk { key },
-        SessionErrorKind::Store => Status::Store,
-        SessionErrorKind::OutOfMemory => Status::OutOfMemory,
-    }
-}
-
-/// Runs commands over a store, and gives their replies.
-pub(crate) fn replies_of<S: Store>(
-    alloc: Global,
-    array: &OpenArray,
-    commands: &[Command],
-    store: &mut S,
-    options: &CodecOptions,
-) -> Result<Vec<Reply>, Status>
-    ensures ran { IfOk result (λ held. RepliedBy (described array.now) (options_of options.now)
-        (map command_of commands.now) (S.shown store.old) (S.shown store.new) held.items) }
-    ensures refused { AreRefused (described array.now) (map command_of commands.now) →
-        IsUntouched (S.shown store.old) (S.shown store.new) }
-    ensures unchanged { (key : List ℕ) →
-        ¬ IsChangedKey (described array.now) (map command_of commands.now) key →
-        (S.shown store.new).content key ≡ (S.shown store.old).content key }
-    ensures later { (S.shown store.old).faults ≤ (S.shown store.new).faults }
-    ensures fault { IfErr result (λ status.
-        IsRunFault (described array.now) (options_of options.now)
-        (map command_of commands.now) (S.shown store.old) (S.shown store.new) status) }
-    ensures complete { IsHonest (layout (described array.now) (options_of options.now))
-        (S.shown store.old).content →
-        ¬ Rose (S.shown store.old).faults (S.shown store.new).faults →
-        IfErr result (λ status. status ≡ Status.OutOfMemory) }
-{
-    match array.run_commands(alloc, commands, store, options) {
-        Ok(replies) => Ok(replies),
-        Err(error) => Err(session_status(error.kind)),
-    }
 }
 
 // Runs commands over a store, and gives the text of their replies.
@@ -131,7 +71,7 @@ fn text_of_commands<S: Store>(
         IfErr result (λ status. status ≡ Status.OutOfMemory) }
 {
     match replies_of(alloc, array, commands, store, options) {
-        Ok(replies) => Ok(text_of_replies(alloc, &replies, array.element_size())?),
+        Ok(replies) => Ok(text_of_replies(alloc, &replies, array.data_type())?),
         Err(status) => Err(status),
     }
 }

@@ -2,12 +2,12 @@
 
 ghost use Rattle.std.specs.Prelude.{◌≡◌, ◌⊎◌, true, false, Some, IfOk, IfSome, string_bytes};
 ghost use Rattle.zarr_model.specs.Prelude.{Rose};
-ghost use Rattle.zarr_cli.specs.Ending.{IsGiven, IsGivenFront, IsGivenLine, ending_line};
-ghost use Rattle.zarr_cli.specs.Status.{ending_of};
+ghost use Rattle.zarr_cli_runs.specs.Ending.{IsGiven, IsGivenFront, IsGivenLine, ending_line};
+ghost use Rattle.zarr_cli_runs.specs.Status.{ending_of};
 
-use crate::status::Status;
 use std::alloc::{AllocError, Global};
 use zarr_array::OpenError;
+use zarr_cli_runs::Status;
 use zarrs_storage::sink::Sink;
 
 /// Writes a text piece by piece. False says that the sink failed.

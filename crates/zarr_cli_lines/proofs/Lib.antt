@@ -1,5 +1,4 @@
 pub mod TextLaws
 pub mod SplitLemmas
 pub mod LineLemmas
-pub mod ElementLemmas
 pub mod ReplyLemmas

@@ -1,24 +1,14 @@
 -- The parts of a text between separators.
 use Rattle.std.proofs.Common.{◌≡◌, ◌≢◌, ℕ, suc, ◌+◌, ◌<◌, ◌≤◌, Bool, true, false, not, ◌==◌, List, [], ◌∷◌, ◌++◌, length, None, refl, sym, ap, ◌∙◌, arith, cond, eqb-true}
-use Rattle.std.specs.List.{onto_first, position_or_len}
+use Rattle.std.specs.List.{onto_first}
 use Rattle.std.proofs.lemmas.List.Splits.{length-slice_split, join_with_byte-slice_split}
 use Rattle.std.proofs.lemmas.List.Sums.{count_by-le-length}
-use Rattle.zarr_cli_lines.specs.Text.{split_at, input_lines, without_last_empty, hex_of}
+use Rattle.zarr_cli_lines.specs.Text.{split_at, input_lines, without_last_empty}
 use Rattle.zarr_cli_lines.specs.Parts.{two_of}
 
 -- a text has a part
 pub split_nonempty : (separator : ℕ) (text : List ℕ) → 0 < length (split_at separator text)
 split_nonempty separator text = omega (arith, length-slice_split (λ b. b == separator) text)
-
--- a text without the separator is one part
-pub split_at-none : (separator : ℕ) (text : List ℕ) → position_or_len (λ b. b == separator) text ≡ length text → split_at separator text ≡ text ∷ []
-split_at-none separator [] e = refl
-split_at-none separator (x ∷ text) e = go (x == separator) (split_at-none separator text) e
-  where
-    go : (b : Bool) → (position_or_len (λ y. y == separator) text ≡ length text → split_at separator text ≡ text ∷ []) →
-        cond (not b) (1 + position_or_len (λ y. y == separator) text) 0 ≡ suc (length text) → cond b ([] ∷ split_at separator text) (onto_first x (split_at separator text)) ≡ (x ∷ text) ∷ []
-    go true rest h = absurd (omega arith)
-    go false rest h = ap (onto_first x) (rest (omega arith))
 
 -- after two parts and a separator there is a third one
 pub more_than_two : (separator : ℕ) (first second rest : List ℕ) → two_of (first ∷ second ∷ split_at separator rest) ≡ None
@@ -102,12 +92,3 @@ pub few_lines : (text : List ℕ) → length (input_lines text) ≤ length text 
 few_lines text =
     let fewer = fewer_lines (split_at 10 text) in
     omega (arith, length-slice_split (λ b. b == 10) text, count_by-le-length (λ b. b == 10) text)
-
--- without an `h` in front a text denotes no bytes
-pub hex_of-no_h : (text : List ℕ) → ((rest : List ℕ) → text ≢ 104 ∷ rest) → hex_of text ≡ None
-hex_of-no_h [] h = refl
-hex_of-no_h (b ∷ digits) h = go (b == 104) refl
-  where
-    go : (t : Bool) → (b == 104) ≡ t → cond t (hex_of (104 ∷ digits)) None ≡ None
-    go true e = absurd (h digits (ap (λ c. c ∷ digits) (eqb-true b 104 e)))
-    go false e = refl

@@ -1,20 +1,9 @@
 -- The program's lines: the grammar of its input, and the text of its replies.
 use Rattle.std.specs.Prelude.{ℕ, ◌+◌, ◌-◌, ◌==◌, if◌then◌else◌, List, [], ◌∷◌, ◌++◌, length, map, flat_map, take, drop, codes, bytes_eq, count_by, Option, Some, None, is_some, option_map, option_and_then}
-use Rattle.std.specs.List.{slice_split, prefix_len}
-use Rattle.std.specs.Result.{result_ok}
-use Rattle.hex.specs.Hex.{encode_lower, decode_of}
+use Rattle.std.specs.List.{prefix_len}
 use Rattle.zarrs_data_type_names.specs.Number.{number_of}
-use Rattle.zarr_model.specs.Prelude.{Region, Span, Element, of_bytes, null, some, Kind, fixed, variable, optional, array_bytes, is_store_key, Command, read, write, erase, Reply, elements, done, refused, refusal_name}
-
--- the parts of a text between the bytes that are this one
-abbrev pub split_at : ℕ → List ℕ → List (List ℕ)
-split_at separator line = slice_split (λ b. b == separator) line
-
--- the values, if each is there
-abbrev pub all_some : {A : Type 0} → List (Option A) → Option (List A)
-all_some [] = Some []
-all_some (None ∷ options) = None
-all_some (Some x ∷ options) = option_map (λ xs. x ∷ xs) (all_some options)
+pub use Rattle.zarr_cli_elements.specs.Text.{split_at, words_left, all_some, hex_of, element_of, hex_text, element_text, elements_text}
+use Rattle.zarr_model.specs.Prelude.{Region, Span, Element, Kind, array_bytes, is_store_key, Command, read, write, erase, Reply, elements, done, refused, refusal_name}
 
 -- the span of `a..b`, which is empty at a where b is below a; the text is split at its dots
 abbrev pub span_between : ℕ → Option ℕ → Option Span
@@ -35,24 +24,6 @@ box_of line = if bytes_eq line (codes ".") then Some []
 abbrev pub indices_of : List ℕ → Option (List ℕ)
 indices_of line = if bytes_eq line (codes ".") then Some []
     else all_some (map number_of (split_at 44 line))
-
--- bytes: `h` and hexadecimal, in either case
-abbrev pub hex_of : List ℕ → Option (List ℕ)
-hex_of [] = None
-hex_of (b ∷ digits) = if b == 104 then result_ok (decode_of digits) else None
-
--- bytes of a fixed length as an element
-abbrev pub fixed_element : ℕ → List ℕ → Option Element
-fixed_element n value = if length value == n then Some (of_bytes value) else None
-
--- an element: its bytes in hexadecimal; of an optional kind `-` for null, or `+` and an element
-abbrev pub element_of : Kind → List ℕ → Option Element
-element_of (fixed n) line = option_and_then (fixed_element n) (hex_of line)
-element_of variable line = option_map of_bytes (hex_of line)
-element_of (optional kind) [] = None
-element_of (optional kind) (b ∷ []) = if b == 45 then Some null else None
-element_of (optional kind) (b ∷ c ∷ line) = if b == 43
-    then option_map some (element_of kind (c ∷ line)) else None
 
 -- the write command of a region and some elements, if all are there
 abbrev pub write_of : Kind → Option Region → Option (List Element) → Option Command
@@ -128,18 +99,9 @@ good_lines grammar lines = length (first_entries lines) + prefix_len
 abbrev pub line_at : List ℕ → ℕ → ℕ
 line_at input n = count_by (λ b. b == 10) (take n input) + 1
 
--- the text of bytes and of an element
-abbrev pub hex_text : List ℕ → List ℕ
-hex_text value = 104 ∷ encode_lower value
-
-abbrev pub element_text : Element → List ℕ
-element_text (of_bytes value) = hex_text value
-element_text null = codes "-"
-element_text (some element) = 43 ∷ element_text element
-
 -- the text of a reply: `ok` and the elements, `done`, or `refused` and the refusal's name
 abbrev pub reply_text : Reply → List ℕ
-reply_text (elements list) = codes "ok" ++ flat_map (λ element. 32 ∷ element_text element) list
+reply_text (elements list) = codes "ok" ++ elements_text list
 reply_text done = codes "done"
 reply_text (refused why) = codes "refused " ++ refusal_name why
 

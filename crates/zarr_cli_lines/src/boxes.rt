@@ -6,9 +6,10 @@ ghost use Rattle.zarrs_array_subset.specs.ArraySubset.{region};
 ghost use Rattle.zarr_cli_lines.specs.Text.{split_at, all_some, span_of, box_of};
 ghost use Rattle.zarr_cli_lines.specs.Parts.{span_of_range};
 
-use crate::parts::{cut, three_parts};
+use crate::parts::three_parts;
 use std::alloc::{AllocError, Global};
 use std::ops::Range;
+use zarr_cli_elements::parts::cut;
 use zarrs_array_subset::ArraySubset;
 use zarrs_data_type_names::parse_number;
 

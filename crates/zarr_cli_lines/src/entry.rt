@@ -5,9 +5,8 @@ ghost use Rattle.zarr_cli_lines.specs.Text.{hex_of, entry_of_line, entry_text, l
 ghost use Rattle.zarr_cli_lines.specs.Parts.{entry_view};
 
 use crate::parts::three_parts;
-use crate::reply_text::push_hex;
-use hex::FromHexError;
 use std::alloc::{AllocError, Global};
+use zarr_cli_elements::digits::{parse_hex, push_hex};
 use zarrs_storage::store_key::StoreKey;
 
 /// A key of a store, and the value to be put under it.
@@ -17,20 +16,6 @@ pub struct Entry {
     pub key: StoreKey,
     /// The value.
     pub value: Vec<u8>,
-}
-
-// The bytes that `h` and hexadecimal digits of either case denote.
-fn parse_hex(alloc: Global, text: &str) -> Result<Option<Vec<u8>>, AllocError>
-    ensures { IfOk result (λ value. option_map (λ v. v.items) value ≡ hex_of text.now) }
-{
-    let Some(digits) = text.strip_prefix('h') else {
-        return Ok(None);
-    };
-    match hex::decode(alloc, digits) {
-        Ok(value) => Ok(Some(value)),
-        Err(FromHexError::OutOfMemory) => Err(AllocError),
-        Err(_) => Ok(None),
-    }
 }
 
 /// The entry of a key line, if the line is one. An error comes only for want of memory.

@@ -4,8 +4,8 @@ ghost use Rattle.std.specs.Prelude.{◌≡◌, map, IfOk, option_map};
 ghost use Rattle.zarr_cli_lines.specs.Text.{split_at, all_some, indices_of};
 ghost use Rattle.zarrs_data_type_names.specs.Number.{number_of};
 
-use crate::parts::cut;
 use std::alloc::{AllocError, Global};
+use zarr_cli_elements::parts::cut;
 use zarrs_array_subset::ArrayIndices;
 use zarrs_data_type_names::parse_number;
 

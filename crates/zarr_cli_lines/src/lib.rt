@@ -2,7 +2,6 @@
 #![tactic(auto)]
 
 mod boxes;
-mod elements;
 pub mod entry;
 mod indices;
 pub mod lines;

@@ -4,7 +4,7 @@ ghost use Rattle.std.specs.Prelude.{◌≡◌, [], ◌∷◌, IfSome, IfNone};
 ghost use Rattle.zarr_cli_lines.specs.Text.{split_at, input_lines};
 ghost use Rattle.zarr_cli_lines.specs.Parts.{lines_left};
 
-use crate::parts::cut;
+use zarr_cli_elements::parts::cut;
 
 /// The lines of a text that are left. Each ends with a newline, which the last one may lack; no text is one empty line.
 #[derive(Clone, Copy)]

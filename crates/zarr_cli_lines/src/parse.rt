@@ -2,21 +2,21 @@
 
 ghost use Rattle.std.specs.Prelude.{◌≡◌, ◌<◌, ◌^◌, ℕ, map, length, Some, is_some, IfOk, IfErr, option_map};
 ghost use Rattle.std.specs.List.{prefix_len};
-ghost use Rattle.zarr_model.specs.Prelude.{fixed};
+ghost use Rattle.zarrs_codec_array_bytes.specs.Steps.{kind_seen};
 ghost use Rattle.zarr_array.specs.Command.{command_of};
-ghost use Rattle.zarr_cli_lines.specs.Text.{first_entries, lines_after_entries, line_command, commands_of, all_some, box_of, element_of, write_of};
-ghost use Rattle.zarr_cli_lines.specs.Parts.{lines_left, words_left, entry_view, IsLineFault};
+ghost use Rattle.zarr_cli_lines.specs.Text.{words_left, first_entries, lines_after_entries, line_command, commands_of, all_some, box_of, element_of, write_of};
+ghost use Rattle.zarr_cli_lines.specs.Parts.{lines_left, entry_view, IsLineFault};
 
 use crate::boxes::parse_box;
-use crate::elements::parse_elements;
 use crate::entry::{Entry, parse_key_line};
 use crate::indices::parse_indices;
 use crate::lines::Lines;
-use crate::parts::cut;
 use std::alloc::{AllocError, AllocFailed, Global};
 use thiserror::Error;
 use zarr_array::command::Command;
-use zarrs_codec_array_bytes::ArrayBytes;
+use zarr_cli_elements::parse_elements;
+use zarr_cli_elements::parts::cut;
+use zarrs_data_type_names::DataType;
 
 /// The key lines and the commands of an input.
 #[derive(Drop)]
@@ -62,35 +62,35 @@ impl<T: Drop> From<AllocFailed<T>> for LineError {
 }
 
 // The write of a box and of elements after it.
-#[tactic(auto, using(crate::proofs::ElementLemmas::of_writes))]
+#[tactic(auto, using(crate::proofs::LineLemmas::of_writes))]
 fn parse_write(
     alloc: Global,
     region: &str,
     elements: Option<&str>,
-    size: usize,
+    data_type: &DataType,
 ) -> Result<Option<Command>, AllocError>
     ensures { IfOk result (λ command. option_map command_of command
-        ≡ write_of (fixed size) (box_of region.now)
-        (all_some (map (element_of (fixed size)) (words_left elements.entry)))) }
+        ≡ write_of (kind_seen data_type.now) (box_of region.now)
+        (all_some (map (element_of (kind_seen data_type.now)) (words_left elements.entry)))) }
 {
     let Some(region) = parse_box(alloc, region)? else {
         return Ok(None);
     };
-    let Some(value) = parse_elements(alloc, elements, size)? else {
+    let Some(value) = parse_elements(alloc, elements, data_type)? else {
         return Ok(None);
     };
-    Ok(Some(Command::Write(region, ArrayBytes::from(value))))
+    Ok(Some(Command::Write(region, value)))
 }
 
-/// The command of a line, if the line is one; elements have `size` bytes. An error comes only for want of memory.
+/// The command of a line, if the line is one; elements are of a data type. An error comes only for want of memory.
 #[tactic(auto, using(crate::proofs::LineLemmas::no_longer_line))]
 pub fn parse_command_line(
     alloc: Global,
     line: &str,
-    size: usize,
+    data_type: &DataType,
 ) -> Result<Option<Command>, AllocError>
     ensures { IfOk result (λ command.
-        option_map command_of command ≡ line_command (fixed size) line.now) }
+        option_map command_of command ≡ line_command (kind_seen data_type.now) line.now) }
 {
     let (word, rest) = cut(line, ' ');
     let Some(rest) = rest else {
@@ -98,7 +98,7 @@ pub fn parse_command_line(
     };
     let (first, more) = cut(rest, ' ');
     if word == "write" {
-        return parse_write(alloc, first, more, size);
+        return parse_write(alloc, first, more, data_type);
     }
     let None = more else {
         return Ok(None);
@@ -129,12 +129,16 @@ fn take_entries(alloc: Global, lines: &mut Lines) -> Result<Vec<Entry>, AllocErr
 }
 
 // The commands of lines, or how many come before the first that is none.
-fn parse_commands(alloc: Global, lines: Lines, size: usize) -> Result<Vec<Command>, LineError>
+fn parse_commands(
+    alloc: Global,
+    lines: Lines,
+    data_type: &DataType,
+) -> Result<Vec<Command>, LineError>
     ensures ok { IfOk result (λ commands.
-        all_some (map (line_command (fixed size)) (lines_left lines.entry))
+        all_some (map (line_command (kind_seen data_type.now)) (lines_left lines.entry))
         ≡ Some (map command_of commands.items)) }
     ensures fault { IfErr result (λ error. (good : ℕ) → error ≡ LineError.OutOfForm good →
-        (good ≡ prefix_len (λ line. is_some (line_command (fixed size) line))
+        (good ≡ prefix_len (λ line. is_some (line_command (kind_seen data_type.now) line))
         (lines_left lines.entry))
         × (good < length (lines_left lines.entry))) }
     ensures small { IfErr result (λ error. (good : ℕ) → error ≡ LineError.OutOfForm good →
@@ -143,7 +147,7 @@ fn parse_commands(alloc: Global, lines: Lines, size: usize) -> Result<Vec<Comman
     let mut commands = Vec::new(alloc);
     let mut left = lines;
     'commands: while let Some((line, rest)) = left.split_first() {
-        let Some(command) = parse_command_line(alloc, line, size)? else {
+        let Some(command) = parse_command_line(alloc, line, data_type)? else {
             return Err(LineError::OutOfForm {
                 good_lines: commands.len(),
             });
@@ -154,24 +158,28 @@ fn parse_commands(alloc: Global, lines: Lines, size: usize) -> Result<Vec<Comman
     Ok(commands)
 }
 
-/// Parses the lines after the document, each once; elements have `size` bytes.
+/// Parses the lines after the document, each once; elements are of a data type.
 ///
 /// # Errors
 ///
 /// [`LineError::OutOfForm`] where a line is out of form: how many come before the first such line.
 /// [`LineError::OutOfMemory`] for want of memory.
-pub fn parse_lines(alloc: Global, lines: Lines, size: usize) -> Result<ParsedLines, LineError>
+pub fn parse_lines(
+    alloc: Global,
+    lines: Lines,
+    data_type: &DataType,
+) -> Result<ParsedLines, LineError>
     ensures entries { IfOk result (λ parsed. map entry_view parsed.entries.items
         ≡ first_entries (lines_left lines.entry)) }
     ensures commands { IfOk result (λ parsed.
-        commands_of (line_command (fixed size)) (lines_left lines.entry)
+        commands_of (line_command (kind_seen data_type.now)) (lines_left lines.entry)
         ≡ Some (map command_of parsed.commands.items)) }
     ensures fault { IfErr result (λ error.
-        IsLineFault error (line_command (fixed size)) (lines_left lines.entry)) }
+        IsLineFault error (line_command (kind_seen data_type.now)) (lines_left lines.entry)) }
 {
     let mut left = lines;
     let entries = take_entries(alloc, &mut left)?;
-    match parse_commands(alloc, left, size) {
+    match parse_commands(alloc, left, data_type) {
         Ok(commands) => Ok(ParsedLines { entries, commands }),
         Err(LineError::OutOfForm { good_lines }) => Err(LineError::OutOfForm {
             good_lines: entries.len() + good_lines,

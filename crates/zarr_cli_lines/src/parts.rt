@@ -1,22 +1,10 @@
 //! The parts of a text between separators.
 
-ghost use Rattle.std.specs.Prelude.{◌≡◌, ◌<◌, [], ◌∷◌, length, IfSome, option_map};
-ghost use Rattle.std.specs.Option.{option_map_or};
+ghost use Rattle.std.specs.Prelude.{◌≡◌, ◌<◌, option_map};
 ghost use Rattle.zarr_cli_lines.specs.Text.{split_at};
 ghost use Rattle.zarr_cli_lines.specs.Parts.{three_of, two_of};
 
-/// What stands before the first `separator`, and what stands after it, if it is there.
-pub(crate) fn cut(text: &str, separator: char) -> (&str, Option<&str>)
-    requires { separator < 128 }
-    ensures parts { split_at separator text.now
-        ≡ result.0.now ∷ option_map_or (λ rest. split_at separator rest.now) result.1 [] }
-    ensures shorter { IfSome result.1 (λ rest. length rest.now < length text.now) }
-{
-    match text.split_once(separator) {
-        Some((before, after)) => (before, Some(after)),
-        None => (text, None),
-    }
-}
+use zarr_cli_elements::parts::cut;
 
 /// The two parts of a text, if it has exactly one `separator`.
 #[tactic(auto, using(crate::proofs::SplitLemmas::more_than_two))]

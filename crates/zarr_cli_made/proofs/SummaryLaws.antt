@@ -10,11 +10,11 @@ use Rattle.zarrs_codec_array_bytes.specs.Raw.{raw_of}
 use Rattle.zarr_array.specs.Command.{answer_of}
 use Rattle.zarr_array.specs.declared.command.Reply.{Reply}
 use Rattle.zarr_array.specs.declared.command.Reply.TheVariants.{Elements, Done, Refused}
-use Rattle.zarr_cli_lines.specs.Text.{line_of, replies_text}
-use Rattle.zarr_cli_lines.specs.Parts.{fixed_part}
-use Rattle.zarr_cli_lines.proofs.ReplyLemmas.{answered_text}
+use Rattle.zarr_cli_elements.specs.Place.{fixed_part}
+use Rattle.zarr_cli_lines.specs.Text.{replies_text}
+use Rattle.zarr_cli_lines.specs.Parts.{IsTextOf}
 use Rattle.zarr_cli_made.specs.Summary.{ok_count, done_count, refused_count, element_count, summary_lines, summary_text}
-use Rattle.zarr_cli_made.specs.Tally.{ok_held, done_held, refused_held, elements_held, answers_text, summary_held}
+use Rattle.zarr_cli_made.specs.Tally.{ok_held, done_held, refused_held, elements_held, summary_held}
 
 some_is : (l : List Element) (o : Option (List Element)) → o ≡ Some l → IsSome o
 some_is l None e = cc
@@ -52,7 +52,7 @@ same_counts n (Refused why) (Model.elements list) some h = absurd h
 same_counts n (Refused why) Model.done some h = absurd h
 same_counts n (Refused why) (Model.refused other) some h = record { ok = refl; done = refl; refused = refl; elements = refl }
 
--- so are their sums, and the lines
+-- so are their sums
 same_sums : (f : Reply → ℕ) (g : Model.Reply → ℕ) (n : ℕ) → ((held : Reply) (reply : Model.Reply) → Matches (fixed n) (answer_of held) reply → f held ≡ g reply) →
     (held : List Reply) (replies : List Model.Reply) → AllZip (Matches (fixed n)) (map answer_of held) replies → sum_by f held ≡ sum_by g replies
 same_sums f g n same [] [] h = refl
@@ -61,23 +61,17 @@ same_sums f g n same (one ∷ held) [] h = absurd h
 same_sums f g n same (one ∷ held) (reply ∷ replies) h =
     sum_by-cons f one held ∙ (ap₂ (λ a b. a + b) (same one reply h.0) (same_sums f g n same held replies h.1) ∙ sym (sum_by-cons g reply replies))
 
-pub same_lines : (n : ℕ) → 0 < n → (held : List Reply) (replies : List Model.Reply) → AllZip (Matches (fixed n)) (map answer_of held) replies → answers_text n held ≡ replies_text replies
-same_lines n some [] [] h = refl
-same_lines n some [] (reply ∷ replies) h = absurd h
-same_lines n some (one ∷ held) [] h = absurd h
-same_lines n some (one ∷ held) (reply ∷ replies) h = ap₂ (λ text rest. line_of text ++ rest) (sym (answered_text n one reply some h.0)) (same_lines n some held replies h.1)
-
-pub same_summary : (n keys : ℕ) → 0 < n → (held : List Reply) (replies : List Model.Reply) → AllZip (Matches (fixed n)) (map answer_of held) replies → summary_held n held keys ≡ summary_text replies keys
-same_summary n keys some held replies h =
-    ap₂ (λ a b. summary_lines a b (sum_by refused_held held) (sum_by (elements_held n) held) keys (answers_text n held))
+pub same_summary : (n keys : ℕ) (text : List ℕ) → 0 < n → (held : List Reply) (replies : List Model.Reply) → AllZip (Matches (fixed n)) (map answer_of held) replies → text ≡ replies_text replies → summary_held n held keys text ≡ summary_text replies keys
+same_summary n keys text some held replies h lines =
+    ap₂ (λ a b. summary_lines a b (sum_by refused_held held) (sum_by (elements_held n) held) keys text)
     (same_sums ok_held ok_count n (λ one reply m. (same_counts n one reply some m).ok) held replies h)
     (same_sums done_held done_count n (λ one reply m. (same_counts n one reply some m).done) held replies h)
-    ∙ (ap₂ (λ a b. summary_lines (sum_by ok_count replies) (sum_by done_count replies) a b keys (answers_text n held))
+    ∙ (ap₂ (λ a b. summary_lines (sum_by ok_count replies) (sum_by done_count replies) a b keys text)
     (same_sums refused_held refused_count n (λ one reply m. (same_counts n one reply some m).refused) held replies h)
     (same_sums (elements_held n) element_count n (λ one reply m. (same_counts n one reply some m).elements) held replies h)
-    ∙ ap (λ text. summary_lines (sum_by ok_count replies) (sum_by done_count replies) (sum_by refused_count replies) (sum_by element_count replies) keys text) (same_lines n some held replies h))
+    ∙ ap (λ lines. summary_lines (sum_by ok_count replies) (sum_by done_count replies) (sum_by refused_count replies) (sum_by element_count replies) keys lines) lines)
 
 -- the text with a summary of replies is that with the summary of each list that they match
-pub summarised : (n keys : ℕ) (before now : List ℕ) → 0 < n → (held : List Reply) (replies : List Model.Reply) → now ≡ before ++ summary_held n held keys →
+pub summarised : (n keys : ℕ) (lines before now : List ℕ) → 0 < n → (held : List Reply) (replies : List Model.Reply) → now ≡ before ++ summary_held n held keys lines → IsTextOf (fixed n) held lines →
     AllZip (Matches (fixed n)) (map answer_of held) replies → now ≡ before ++ summary_text replies keys
-summarised n keys before now some held replies put h = put ∙ ap (λ text. before ++ text) (same_summary n keys some held replies h)
+summarised n keys lines before now some held replies put text h = put ∙ ap (λ text. before ++ text) (same_summary n keys lines some held replies h (text replies h))

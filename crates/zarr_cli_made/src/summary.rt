@@ -7,7 +7,8 @@ ghost use Rattle.zarr_model.specs.Element.{fixed};
 ghost use Rattle.zarr_model.specs.Command as Model;
 ghost use Rattle.zarr_array.specs.Command.{answer_of};
 ghost use Rattle.zarr_cli_made.specs.Summary.{number_line, digest_line, summary_lines, summary_text};
-ghost use Rattle.zarr_cli_made.specs.Tally.{answers_text, summary_held};
+ghost use Rattle.zarr_cli_lines.specs.Parts.{IsTextOf};
+ghost use Rattle.zarr_cli_made.specs.Tally.{summary_held};
 
 use crate::commands::COMMANDS;
 use crate::tally::{Tally, tally_of};
@@ -77,9 +78,9 @@ pub fn push_summary(
     keys: usize,
 ) -> Result<(), AllocError>
     requires some { 0 < size }
-    requires lines { lines.now ≡ answers_text size replies.now }
+    requires lines { IsTextOf (fixed size) replies.now lines.now }
     ensures held { OnOk result (text.new.items ≡ text.old.items
-        ++ summary_held size replies.now keys) }
+        ++ summary_held size replies.now keys lines.now) }
     ensures replies { OnOk result ((answers : List Model.Reply) →
         AllZip (Matches (fixed size)) (map answer_of replies.now) answers →
         text.new.items ≡ text.old.items ++ summary_text answers keys) }

@@ -3,7 +3,7 @@
 ghost use Rattle.std.specs.Prelude.{◌≡◌, ◌<◌, ◌≤◌, ◌+◌, ◌-◌, ◌^◌, length, IfOk, OnOk};
 ghost use Rattle.std.specs.List.{sum_by};
 ghost use Rattle.zarrs_codec_array_bytes.specs.Raw.{raw_of};
-ghost use Rattle.zarr_cli_lines.specs.Parts.{fixed_part};
+ghost use Rattle.zarr_cli_elements.specs.Place.{fixed_part};
 ghost use Rattle.zarr_cli_made.specs.Tally.{ok_held, done_held, refused_held, elements_held};
 
 use std::alloc::AllocError;

@@ -31,7 +31,7 @@ fn fill(alloc: Global, bytes: &[u8]) -> Result<FillValue, AllocError> {
 }
 
 // The bytes of elements of one size, or the error.
-fn told(
+pub fn told(
     alloc: Global,
     made: Result<ArrayBytes<'static>, CodecError>,
 ) -> Result<String, AllocError> {

@@ -2,12 +2,11 @@
 
 ghost use Rattle.std.specs.Prelude.{◌≡◌, None};
 
-use crate::failing_store::FailingStore;
-use crate::made::SQUARE;
 use std::alloc::{AllocError, Global};
 use std::test::Fail;
+use zarr_cli::Status;
 use zarr_cli::program::run_program;
-use zarr_cli::status::Status;
+use zarr_test_parts::{FailingStore, SQUARE};
 use zarrs_storage::memory_store::MemoryStore;
 use zarrs_storage::sink::{MemorySink, Sink};
 use zarrs_storage::source::{IoFailed, MemorySource, Source};

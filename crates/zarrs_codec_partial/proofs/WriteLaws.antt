@@ -1,5 +1,5 @@
 -- Elements that are written through a codec.
-use Rattle.std.proofs.Common.{◌≡◌, ◌⊎◌, ℕ, suc, ◌*◌, ◌<◌, ◌≤◌, Bool, true, false, is_some, not, ◌||◌, ◌&&◌, ◌==◌, List, [], ◌∷◌, length, replicate, Option, Some, None, IsSome, option_map, Result, Ok, Err, IfOk, IfErr, OnOk, OnErr, refl, sym, ap, ap₂, ◌∙◌, ◌↔◌, zero, subst, arith, inl, inr, ⊎_elim, eqb-true}
+use Rattle.std.proofs.Common.{◌≡◌, ◌⊎◌, ℕ, suc, ◌*◌, ◌<◌, ◌≤◌, Bool, true, false, is_some, not, ◌||◌, ◌&&◌, ◌==◌, List, [], ◌∷◌, length, replicate, Option, Some, None, IsSome, option_map, Result, Ok, Err, IfOk, IfErr, refl, sym, ap, ap₂, ◌∙◌, ◌↔◌, zero, subst, arith, inl, inr, ⊎_elim, eqb-true}
 use Rattle.std.specs.List.{list_all}
 use Rattle.std.specs.Bool.{IsTrue}
 use Rattle.std.specs.Int.NonZero.{non_zero_u64_get}
@@ -10,7 +10,7 @@ use Rattle.std.proofs.lemmas.Slice.Eq.{bytes_eq-Decides}
 use Rattle.std.proofs.Math.Nat.{mul-le-mul_right}
 use Rattle.zarr_model.specs.Region.{Region, count_of, sizes, tuples, ends_within}
 use Rattle.zarr_model.proofs.RegionLaws.{length-tuples}
-use Rattle.zarr_model.proofs.BytesLaws.{refusal-meaning}
+use Rattle.zarr_model.proofs.BytesLaws.{length-meaning, refusal-meaning}
 use Rattle.zarr_model.specs.Element.{Element, of_bytes, null, some, Kind, fixed, variable, optional, same_element, fill_element, kind_of, fixed_size}
 use Rattle.zarr_model.specs.ArrayBytes.{ArrayBytes, fixed_bytes, variable_bytes, optional_bytes, meaning}
 use Rattle.zarr_model.specs.Codec.{Level, Options}
@@ -28,15 +28,16 @@ use Rattle.zarrs_codec_traits.specs.Errors.{Unserved}
 use Rattle.zarrs_codec_traits.specs.Views.{lengths}
 use Rattle.zarrs_codec_traits.specs.Words.{list_at, Gives}
 use Rattle.zarrs_codec_held.specs.Held.{Seen, IsSound}
-use Rattle.zarrs_codec_held.specs.Reads.{Keeps, IsHandleError}
-use Rattle.zarrs_codec_held.specs.Writes.{Holds, Stays, is_fault, Unless, UnlessFault, Writes, Unasked, CountsIf}
+use Rattle.zarrs_codec_held.specs.Reads.{IsFault, IsHandleError}
+use Rattle.zarrs_codec_held.specs.Writes.{Holds, Stays, UnlessFault, Writes, Unasked}
 use Rattle.zarrs_codec_partial_traits.specs.Boxes.{same_lengths, is_all}
 use Rattle.zarrs_codec_partial_traits.specs.Lists.{ListSeen, fills}
-use Rattle.zarrs_codec_partial_traits.specs.ListWrites.{MayCountIf, given_answer, are_all, is_kept, updated, HoldsList, IsAbsent, ErasesList, PutsList, StaysList, KeepsRest, MayPutList, Rewrites, IsUnencoded}
+use Rattle.zarrs_codec_partial_traits.specs.ListWrites.{given_answer, are_all, is_kept, updated, HoldsList, ErasesList, PutsList, StaysList, KeepsRest}
+use Rattle.zarrs_codec_partial_traits.specs.Updates.{Stores}
+use Rattle.zarrs_codec_partial_traits.proofs.UpdateLaws.{unless, fault_told, fault_only, handle_told}
 use Rattle.zarrs_codec_partial.specs.Level.{list_of, listed}
-use Rattle.zarrs_codec_partial.specs.Writing.{ReadsIf, IsBeyond}
+use Rattle.zarrs_codec_partial.specs.Writing.{IsBeyond}
 use Rattle.zarrs_codec_partial.proofs.ExtractLaws.{says_some, masked, lengths_kept}
-use Rattle.zarrs_codec_held.proofs.EditLaws.{fault_later}
 
 -- a shape has elements
 pub positive : (shape : List NonZeroU64) → 0 < count_of (lengths shape)
@@ -122,25 +123,16 @@ dropped_list level fill under xs long dropped = go (fill_element (kind_of level.
 any : Options
 any = record { store_empty_chunks = true; validate_checksums = true }
 
-unless : {T P Q : Type 0} (r : Result T CodecError) → (P → Q) → UnlessFault r P → UnlessFault r Q
-unless (Ok v) f p = p
-unless {T} {P} {Q} (Err e) f p = go (is_fault e) p
+-- and where the options drop, what is the fill's is not kept
+pub filled_list : (level : Level) (fill : List ℕ) (under : Options) (xs : List Element) → fills level fill ≡ Some xs → under.store_empty_chunks ≡ false → is_kept under (fill_element (kind_of level.data_type) fill) xs ≡ false
+filled_list level fill under xs is off = go (fill_element (kind_of level.data_type) fill) is
   where
-    go : (b : Bool) → Unless b P → Unless b Q
-    go true p = p
-    go false p = f p
-
-unless_of : {T P : Type 0} (r : Result T CodecError) → P → UnlessFault r P
-unless_of (Ok v) p = tt
-unless_of {T} {P} (Err e) p = go (is_fault e)
-  where
-    go : (b : Bool) → Unless b P
-    go true = tt
-    go false = p
-
-always_err : {T P : Type 0} (r : Result T CodecError) → P → OnErr r P
-always_err (Ok v) p = tt
-always_err (Err e) p = p
+    go : (element : Option Element) → option_map (replicate (count_of level.shape)) element ≡ Some xs → is_kept under element xs ≡ false
+    go None is = cc
+    go (Some x) is =
+        let same : replicate (count_of level.shape) x ≡ xs = cc in
+        let all : list_all (same_element x) xs ≡ true = subst (λ (l : List Element). list_all (same_element x) l ≡ true) same (all_here x (count_of level.shape)) in
+        ap₂ (λ (s a : Bool). s || not a) off all
 
 -- what a change of the value is to its elements
 module _ (level : Level) (fill : List ℕ) (unserved : Option Unserved) (meaning : Options → List ℕ → Option (List Element)) (request : Region → Option (List ByteRange)) where
@@ -177,9 +169,6 @@ module _ (level : Level) (fill : List ℕ) (unserved : Option Unserved) (meaning
         (λ (more : Holds None new ⊎ Holds None new). inr (inr (⊎_elim (λ (h : Holds None new). holds_none new sound h) (λ (h : Holds None new). holds_none new sound h) more))) case) writes.failed;
   }
 
-  pub puts_not : {T : Type 0} (stored : Bool) (list : List Element) (old : Seen) (e : CodecError) → PutsList {T = T} stored list (see old) (see old) (Err e)
-  puts_not stored list old e = record { ok = tt; failed = inl (λ under. refl) }
-
   pub erases : {T : Type 0} (old new : Seen) (result : Result T CodecError) → IsSound new → Writes None old new result → ErasesList (see old) (see new) result
   erases old new result sound writes = record {
     ok = on_ok_weaker result (holds_none new sound) writes.ok;
@@ -194,70 +183,35 @@ module _ (level : Level) (fill : List ℕ) (unserved : Option Unserved) (meaning
   written_unchanged value old new result writes =
       unless result (λ (stays : Stays old new). let s : StaysList (see old) (see new) = record { there = stays.there; list = same_list old new stays.held; content = stays.content } in s) writes.unchanged
 
-  pub kept_rest : (old new : Seen) → Keeps old new → KeepsRest (see old) (see new)
-  kept_rest old new keeps = record { level = refl; fill = refl; short = refl; unserved = refl; others = λ other unlike. keeps.content other; key = keeps.key; place = keeps.place; cost = keeps.cost; whole = λ asked. refl; later = keeps.later }
-
-  pub kept_stays : (old new : Seen) → Keeps old new → StaysList (see old) (see new)
-  kept_stays old new keeps = record { there = keeps.there; list = same_list old new keeps.held; content = keeps.content }
-
-  -- a read, and then a change
-  pub puts_after : {T : Type 0} (stored : Bool) (list : List Element) (first old new : Seen) (result : Result T CodecError) → Keeps first old → PutsList stored list (see old) (see new) result → PutsList stored list (see first) (see new) result
-  puts_after stored list first old new result keeps puts = record {
-    ok = puts.ok;
-    failed = on_err_weaker result (λ case. ⊎_elim (λ (same : (under : Options) → (see new).list under ≡ (see old).list under). inl (λ (under : Options). same under ∙ same_list first old keeps.held under))
-        (λ (more : HoldsList true (Some list) (see new) ⊎ IsAbsent (see new)). inr more) case) puts.failed;
+  -- the value was replaced by one that decodes to these elements
+  pub stores_value : {T : Type 0} (under : Options) (raw : ArrayBytes) (unencoded : List Element → CodecError → Type 0) (Short : Type 0) (value : List ℕ) (old new : Seen) (result : Result T CodecError) → IsSound new
+      → ((list : List Element) → IsSome (fill_element (kind_of level.data_type) fill) → list_at level raw ≡ Some list → true ≡ is_kept under (fill_element (kind_of level.data_type) fill) list)
+      → (unserved ≡ None → (under : Options) → meaning under value ≡ list_at level raw) → Writes (Some value) old new result → Unasked old new → IfErr result (IsHandleError old.shown.faults new.shown.faults)
+      → Stores under raw unencoded Short (see old) (see new) result
+  stores_value under raw unencoded Short value old new result sound kept decodes writes unasked cause = record {
+    puts = λ list served filled means. subst (λ (b : Bool). PutsList b list (see old) (see new) result) (kept list filled means) (puts_value value list old new result sound (λ under. decodes served under ∙ means) writes);
+    unchanged = written_unchanged (Some value) old new result writes;
+    rest = written_rest (Some value) old new result writes;
+    unasked = record { asks = unasked.asks; taken = unasked.taken };
+    cause = λ list served filled means. handle_told _ _ (unencoded list) result cause;
+    encoded = λ served filled few takes there short. cause;
   }
 
-  -- that was not made, where there is a list
-  pub may_not : (T : Type 0) (stored : List Element → Bool) (list : Option (List Element)) (old new : Seen) (e : CodecError) → Keeps old new → MayPutList {T = T} stored list (see old) (see new) (Err e)
-  may_not T stored None old new e keeps = tt
-  may_not T stored (Some list) old new e keeps = record { ok = tt; failed = inl (same_list old new keeps.held) }
-
-  pub may_put : {T : Type 0} (stored : List Element → Bool) (list : Option (List Element)) (given : Option (List Element)) (first old new : Seen) (result : Result T CodecError) → Gives given list → Keeps first old
-      → ((xs : List Element) → given ≡ Some xs → PutsList (stored xs) xs (see old) (see new) result) → MayPutList stored list (see first) (see new) result
-  may_put stored None given first old new result gives keeps puts = absurd (none_there given gives.same gives.there)
-    where
-      none_there : (o : Option (List Element)) → o ≡ None → IsSome o → ⊥
-      none_there None is there = cc
-      none_there (Some xs) is there = cc
-  may_put stored (Some list) given first old new result gives keeps puts = puts_after (stored list) list first old new result keeps (puts list gives.same)
-
-  pub rewrites_after : {T U E : Type 0} (rereads : Bool) (first old new : Seen) (read : U) (result : Result T CodecError) → ReadsIf {E = E} rereads first old (Ok read) → UnlessFault result (StaysList (see old) (see new))
-      → KeepsRest (see old) (see new) → Unasked old new → Rewrites rereads (see first) (see new) result
-  rewrites_after rereads first old new read result reads unchanged rest unasked =
-      let keeps = reads.keeps in
-      let asks : CountsIf rereads first.shown.asks new.shown.asks first.cost = subst (λ (n : ℕ). CountsIf rereads first.shown.asks n first.cost) (sym unasked.asks) reads.asks in
-      let taken : CountsIf rereads first.shown.taken new.shown.taken (first.taking None) = subst (λ (n : ℕ). CountsIf rereads first.shown.taken n (first.taking None)) (sym unasked.taken) reads.taken in
-      record {
-        unchanged = unless result (λ (stays : StaysList (see old) (see new)). let s : StaysList (see first) (see new) = record { there = stays.there ∙ keeps.there; list = λ under. stays.list under ∙ same_list first old keeps.held under; content = λ key. stays.content key ∙ keeps.content key } in s) unchanged;
-        rest = record {
-          level = refl;
-          fill = refl;
-          short = refl;
-          unserved = refl;
-          others = λ other unlike. rest.others other (λ is. unlike (is ∙ keeps.key)) ∙ keeps.content other;
-          key = rest.key ∙ keeps.key;
-          place = rest.place ∙ keeps.place;
-          cost = rest.cost ∙ keeps.cost;
-          whole = λ asked. refl;
-          later = let a : first.shown.faults ≤ old.shown.faults = keeps.later in let b : old.shown.faults ≤ new.shown.faults = rest.later in omega arith;
-        };
-        asks = ok_of result asks;
-        asks_err = always_err result (may rereads _ _ _ asks);
-        taken = ok_of result taken;
-        taken_err = always_err result (may rereads _ _ _ taken);
-      }
-    where
-      ok_of : {T P : Type 0} (r : Result T CodecError) → P → OnOk r P
-      ok_of (Ok v) p = p
-      ok_of (Err e) p = tt
-
-      may : (b : Bool) (before now more : ℕ) → CountsIf b before now more → MayCountIf b before now more
-      may true before now more is = inr is
-      may false before now more is = is
-
-  pub rewrites_not : {T U : Type 0} (rereads : Bool) (old new : Seen) (e : CodecError) → ReadsIf {T = U} rereads old new (Err e) → Rewrites {T = T} rereads (see old) (see new) (Err e)
-  rewrites_not {T} rereads old new e reads = record { unchanged = unless_of {T = T} (Err e) (kept_stays old new reads.keeps); rest = kept_rest old new reads.keeps; asks = tt; asks_err = reads.asks_err; taken = tt; taken_err = reads.taken_err }
+  -- it was erased
+  pub stores_none : {T : Type 0} (under : Options) (raw : ArrayBytes) (unencoded : List Element → CodecError → Type 0) (Short : Type 0) (old new : Seen) (result : Result T CodecError) → IsSound new
+      → ((list : List Element) → IsSome (fill_element (kind_of level.data_type) fill) → list_at level raw ≡ Some list → false ≡ is_kept under (fill_element (kind_of level.data_type) fill) list)
+      → Writes None old new result → Unasked old new → IfErr result (IsFault old.shown.faults new.shown.faults) → Stores under raw unencoded Short (see old) (see new) result
+  stores_none under raw unencoded Short old new result sound dropped writes unasked cause = record {
+    puts = λ list served filled means.
+        let long = length-meaning (kind_of level.data_type) (count_of level.shape) raw list means in
+        let not_kept = dropped list filled means in
+        subst (λ (b : Bool). PutsList b list (see old) (see new) result) not_kept (puts_absent list old new result sound (dropped_list level fill under list long not_kept) writes);
+    unchanged = written_unchanged None old new result writes;
+    rest = written_rest None old new result writes;
+    unasked = record { asks = unasked.asks; taken = unasked.taken };
+    cause = λ list served filled means. fault_told _ _ (unencoded list) result cause;
+    encoded = λ served filled few takes there short. fault_only _ _ result cause;
+  }
 
 -- of options that drop, what is kept is not the fill
 pub kept_false : (under : Options) (element : Option Element) (xs : List Element) (b : Bool) → under.store_empty_chunks ≡ false → b ≡ are_all element xs → not b ≡ is_kept under element xs
@@ -375,15 +329,3 @@ all_gives level covers places indices given list raw copy all long same means =
     let is : list_at level copy ≡ Some given = ap (list_at level) same ∙ (ap (λ (n : ℕ). meaning (kind_of level.data_type) n raw) (sym long) ∙ means) in
     let gives : Gives (list_at level copy) (updated true indices given list) = record { same = is; there = some_now _ _ is } in
     subst (λ (b : Bool). Gives (list_at level copy) (updated b indices given list)) all gives
-
--- why elements are not stored
-pub stored_told : {T : Type 0} (given wanted : Option (List Element)) (U : CodecError → Type 0) (B : List Element → CodecError → Type 0) (first mid new : ℕ) (r : Result T CodecError) → Gives given wanted → first ≤ mid
-    → ((xs : List Element) → given ≡ Some xs → IfErr r (λ e. IsHandleError mid new e ⊎ B xs e)) → IfErr r (λ e. IsHandleError first new e ⊎ (U e ⊎ IsUnencoded wanted B e))
-stored_told given None U B first mid new r gives later told = absurd (none_some given gives.same gives.there)
-stored_told given (Some xs) U B first mid new (Ok v) gives later told = tt
-stored_told given (Some xs) U B first mid new (Err e) gives later told =
-    ⊎_elim (λ (h : IsHandleError mid new e). inl (fault_later first mid new e later h)) (λ (b : B xs e). inr (inr b)) (told xs gives.same)
-
-pub stored_short : {T : Type 0} (U : CodecError → Type 0) (first mid new : ℕ) (r : Result T CodecError) → first ≤ mid → IfErr r (IsHandleError mid new) → IfErr r (λ e. IsHandleError first new e ⊎ U e)
-stored_short U first mid new (Ok v) later told = tt
-stored_short U first mid new (Err e) later told = inl (fault_later first mid new e later told)

@@ -1,14 +1,14 @@
 -- An array-to-bytes codec with its level, over what a handle of bytes holds.
 use Rattle.std.specs.Prelude.{◌≡◌, ◌⊎◌, ℕ, not, is_some, Bool, false, List, Option, Some, None, option_and_then}
 use Rattle.zarr_model.specs.Region.{Region}
-use Rattle.zarr_model.specs.Element.{Element, kind_of}
+use Rattle.zarr_model.specs.Element.{Element, DataType, kind_of}
 use Rattle.zarr_model.specs.Codec.{Level, Options}
 use Rattle.zarrs_storage.specs.declared.byte_range.ByteRange.{ByteRange}
 use Rattle.zarrs_data_type_elements.specs.FillValue.{fill_bytes}
 use Rattle.zarrs_codec_error.specs.declared.error.CodecError.{CodecError}
 use Rattle.zarrs_codec_bytes.specs.Filling.{has_size}
 use Rattle.zarrs_codec_array_bytes.specs.Refusals.{told_by, other_fill}
-use Rattle.zarrs_codec_traits.specs.Errors.{Unserved}
+use Rattle.zarrs_codec_traits.specs.Errors.{Unserved, unserved_at}
 use Rattle.zarrs_codec_traits.specs.Views.{level_of}
 use Rattle.zarrs_codec_held.specs.Held.{Held, Seen}
 use Rattle.zarrs_codec_held.specs.Reads.{RefusesSome, GivesParts}
@@ -85,3 +85,13 @@ listed level fill unserved meaning request below = record {
   whole = λ asked. not (is_some (ranges_for request level.shape asked));
   size = below.size;
 }
+
+-- the same of a codec's members
+abbrev pub seen_by : {B : Type 0} → BottomLevel B
+    → (Option (List ℕ) → Option DataType → Option (List ℕ) → Option Unserved)
+    → (Options → Level → List ℕ → Option (List Element))
+    → (List ℕ → DataType → Region → Option (List ByteRange)) → Seen → ListSeen
+seen_by bottom unserved meaning request below = listed (bottom_level bottom) (bottom_fill bottom)
+    (unserved_at unserved (bottom_level bottom) (bottom_fill bottom))
+    (λ under. meaning under (bottom_level bottom))
+    (request (bottom_level bottom).shape (bottom_level bottom).data_type) below

@@ -99,7 +99,10 @@ impl<H: BytesPartialDecoderTraits, C: ArrayToBytesCodecTraits> ArrayPartialDecod
 
     ghost same_self = { λ h. (refl, H.same_self h.handle) };
 
-    ghost same_twice = { λ a b c x y. (x.0 ∙ y.0, H.same_twice a.handle b.handle c.handle x.1 y.1) };
+    ghost same_twice = { λ a b c x y. (
+      x.0 ∙ y.0,
+      H.same_twice a.handle b.handle c.handle x.1 y.1,
+    ) };
 
     ghost reads_parts = { λ h. (C.decodes_parts h.level.codec).partial_decode
         && H.reads_parts h.handle };
@@ -141,6 +144,7 @@ impl<H: BytesPartialDecoderTraits, C: ArrayToBytesCodecTraits> ArrayPartialDecod
 impl<H: BytesPartialEncoderTraits, C: ArrayToBytesCodecTraits> ArrayPartialEncoderTraits
     for ArrayToBytesCodecPartialDefault<H, C> {
     ghost use Rattle.std.specs.Prelude.{◌&&◌};
+    ghost use Rattle.std.proofs.Common.{subst, sym};
     ghost use Rattle.zarrs_codec_partial.specs.Level.{bottom_level};
     ghost use Rattle.zarrs_codec_partial.specs.Writing.{IsBeyond};
 
@@ -151,6 +155,12 @@ impl<H: BytesPartialEncoderTraits, C: ArrayToBytesCodecTraits> ArrayPartialEncod
         (bottom_level h.level) list e };
 
     ghost encodes_short = { λ h. C.takes h.level.codec (bottom_level h.level) };
+
+    ghost same_unencoded = { λ a b list e same told. subst (λ at. IsBeyond
+        (C.beyond at.codec (bottom_level at)) (bottom_level at) list e) (sym same.0) told };
+
+    ghost same_short = { λ a b same takes. subst (λ at. C.takes at.codec (bottom_level at))
+        same.0 takes };
 
     #[tactic(auto, using(crate::proofs::WriteLaws::written_rest))]
     fn erase(&mut self) -> Result<(), CodecError> {

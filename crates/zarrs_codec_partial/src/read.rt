@@ -13,6 +13,7 @@ ghost use Rattle.zarrs_codec_traits.specs.Errors.{unserved_at, RefusesAs};
 ghost use Rattle.zarrs_codec_traits.specs.Views.{lengths, options_of};
 ghost use Rattle.zarrs_codec_traits.specs.Words.{IsFit};
 ghost use Rattle.zarrs_codec_held.specs.Reads.{Reads};
+ghost use Rattle.zarrs_codec_partial_traits.specs.Boxes.{is_all};
 ghost use Rattle.zarrs_codec_partial_traits.specs.Lists.{fills, AreFew, IsUnread, IsListError};
 ghost use Rattle.zarrs_codec_partial.specs.Boxes.{Denotes, GivesAll, GivesBox, GivesPlaces};
 ghost use Rattle.zarrs_codec_partial.specs.Level.{list_of, list_says, IsOtherFill, ranges_for};
@@ -347,6 +348,11 @@ impl<C: ArrayToBytesCodecTraits> BottomLevel<C> {
             → (H.seen handle.old).there ≡ true → OnOk result
             (IsSome (list_of (C.meaning self.now.codec under level) (fills level fill)
             ((H.seen handle.old).held under))) }
+        ensures all { let level = bottom_level self.now in let fill = bottom_fill self.now in
+            let under = options_of options.now in
+            unserved_at (C.unserved self.now.codec) level fill ≡ None → Denotes level fill
+            → OnOk result (IsSome (list_of (C.meaning self.now.codec under level) (fills level fill)
+            ((H.seen handle.old).held under))) }
         ensures reads { Reads None (H.seen handle.old) (H.seen handle.new) result }
         ensures same { H.same handle.old handle.new }
         ensures tells { (under : Options) (e : CodecError) → H.tells handle.new under e
@@ -394,6 +400,12 @@ impl<C: ArrayToBytesCodecTraits> BottomLevel<C> {
             → (H.seen handle.old).there ≡ true → OnOk result
             (IsSome (list_of (C.meaning self.now.codec under level) (fills level fill)
             ((H.seen handle.old).held under))) }
+        ensures all { let level = bottom_level self.now in let fill = bottom_fill self.now in
+            let under = options_of options.now in
+            unserved_at (C.unserved self.now.codec) level fill ≡ None → Denotes level fill
+            → is_all level.shape (I.as_region indexer.now) ≡ true
+            → OnOk result (IsSome (list_of (C.meaning self.now.codec under level) (fills level fill)
+            ((H.seen handle.old).held under))) }
         ensures reads { Reads (ranges_for (C.request self.now.codec
             (bottom_level self.now).shape (bottom_level self.now).data_type)
             (bottom_level self.now).shape (I.as_region indexer.now))
@@ -437,8 +449,8 @@ impl<C: ArrayToBytesCodecTraits> BottomLevel<C> {
             (fills level fill) ((H.seen handle.old).held under)) result }
         ensures failed { let level = bottom_level self.now in let fill = bottom_fill self.now in
             let under = options_of options.now in
-            unserved_at (C.unserved self.now.codec) level fill ≡ None → I.fits indexer.now level.shape
-            ≡ true → IfErr result
+            unserved_at (C.unserved self.now.codec) level fill ≡ None
+            → I.fits indexer.now level.shape ≡ true → IfErr result
             (IsListError (H.seen handle.old).there
             (list_of (C.meaning self.now.codec under level) (fills level fill)
             ((H.seen handle.old).held under))
@@ -453,6 +465,12 @@ impl<C: ArrayToBytesCodecTraits> BottomLevel<C> {
             level.data_type) level.shape (I.as_region indexer.now)) ≡ None
             → (H.seen handle.old).there ≡ true → OnOk result
             (IsSome (list_of (C.meaning self.now.codec under level) (fills level fill)
+            ((H.seen handle.old).held under))) }
+        ensures all { let level = bottom_level self.now in let fill = bottom_fill self.now in
+            let under = options_of options.now in
+            unserved_at (C.unserved self.now.codec) level fill ≡ None → Denotes level fill
+            → is_all level.shape (I.as_region indexer.now) ≡ true
+            → OnOk result (IsSome (list_of (C.meaning self.now.codec under level) (fills level fill)
             ((H.seen handle.old).held under))) }
         ensures reads { Reads (ranges_for (C.request self.now.codec
             (bottom_level self.now).shape (bottom_level self.now).data_type)

@@ -1,7 +1,6 @@
 -- Elements of the level below, and what a codec makes of them.
-use Rattle.std.proofs.Common.{◌≡◌, ◌⊎◌, ℕ, suc, ◌+◌, ◌≤◌, Bool, true, false, List, [], ◌∷◌, length, get_or, Option, Some, None, IsSome, option_and_then, unwrap_or, nat_le, ◌&&◌, Result, Ok, Err, IfOk, IfErr, OnOk, refl, sym, ap, ap₂, ◌∙◌, subst, arith, inl, inr, ⊎_elim}
+use Rattle.std.proofs.Common.{◌≡◌, ◌⊎◌, ℕ, suc, Bool, true, false, List, length, get_or, Option, Some, None, IsSome, option_and_then, unwrap_or, Result, Ok, Err, IfOk, IfErr, OnOk, refl, sym, ap, ap₂, ◌∙◌, subst, arith, inl, inr, ⊎_elim}
 use Rattle.std.proofs.lemmas.Simd.{map-map}
-use Rattle.std.proofs.lemmas.Bool.{le-leb}
 use Rattle.zarr_model.specs.Region.{Region, count, count_of, sizes, whole, ends_within, tuples, place, linear_index}
 use Rattle.zarr_model.proofs.RegionLaws.{length-tuples}
 use Rattle.zarr_model.proofs.ChainLaws.{sizes-whole}
@@ -18,6 +17,8 @@ use Rattle.zarrs_codec_array_bytes.specs.Selection.{linear}
 use Rattle.zarrs_codec_traits.specs.Errors.{Unserved}
 use Rattle.zarrs_codec_traits.specs.Words.{list_at, at_box, select, Gives, IsFit}
 use Rattle.zarrs_codec_held.specs.Reads.{IsHandleError}
+use Rattle.zarrs_codec_partial_traits.specs.Boxes.{is_all}
+use Rattle.zarrs_codec_partial_traits.proofs.BoxLaws.{whole_is_all}
 use Rattle.zarrs_codec_partial_traits.specs.Lists.{ListSeen, HasFill, AreFew, KeepsList, LooksAt, ReadsList, IsListError}
 use Rattle.zarrs_codec_partial.proofs.ExtractLaws.{says_some}
 use Rattle.zarrs_codec_partial.proofs.SelectLaws.{listed, box-fits, boxed-picked}
@@ -58,10 +59,12 @@ module _ (codec : ArrayCodec) (fill_below : DataType → List ℕ → List ℕ) 
       subst (λ (n : ℕ). AreFew (kind_of seen.level.data_type) n) (sym (length-tuples box))
       (subst (λ (k : Kind). AreFew k (count box)) (sym same_kind) (record { count = fit.count; bytes = fit.bytes }))
 
+  pub all_long : (box : Region) → box ≡ whole below.shape → length (tuples box) ≡ count_of below.shape
+  all_long box all = length-tuples box ∙ ap count all ∙ ap count_of (sizes-whole below.shape)
+
   pub all_few : (box : Region) → IsFit below.shape below.data_type → box ≡ whole below.shape → AreFew (kind_of seen.level.data_type) (length (tuples box))
   all_few box fits all =
-      let long : length (tuples box) ≡ count_of below.shape = length-tuples box ∙ ap count all ∙ ap count_of (sizes-whole below.shape) in
-      subst (λ (n : ℕ). AreFew (kind_of seen.level.data_type) n) (sym long)
+      subst (λ (n : ℕ). AreFew (kind_of seen.level.data_type) n) (sym (all_long box all))
       (subst (λ (k : Kind). AreFew k (count_of below.shape)) (sym same_kind) (record { count = fits.count; bytes = fits.bytes }))
 
   -- what is given of a box of it
@@ -87,6 +90,13 @@ module _ (codec : ArrayCodec) (fill_below : DataType → List ℕ → List ℕ) 
       ap (λ (n : ℕ). meaning (kind_of below.data_type) n raw) (sym n) ∙ (box_means box raw ys means
       ∙ (ap (λ (b : Region). Some (select below.shape b ys)) all
       ∙ ap Some (listed (whole below.shape) (λ tuple. get_or ys (place (whole below.shape) tuple) null) ys null (long ∙ sym (ap count_of (sizes-whole below.shape))) (λ tuple here. refl))))
+
+  -- what is given for all of it is at its level
+  pub all_same : (box : Region) (raw : ArrayBytes) → box ≡ whole below.shape → meaning (kind_of seen.level.data_type) (length (tuples box)) raw ≡ list_at below raw
+  all_same box raw all = ap₂ (λ (k : Kind) (n : ℕ). meaning k n raw) same_kind (all_long box all)
+
+  pub all_below : (box : Region) → box ≡ whole below.shape → is_all seen.level.shape (Some box) ≡ true
+  all_below box all = ap₂ (λ (s : List ℕ) (b : Region). is_all s (Some b)) is.shape all ∙ whole_is_all below.shape
 
 -- a list above is one of a list below
 pub above_of : (decode : List Element → Option (List Element)) (list : Option (List Element)) (xs : List Element) → option_and_then decode list ≡ Some xs → (ys : List Element) × ((list ≡ Some ys) × (decode ys ≡ Some xs))
@@ -192,11 +202,6 @@ module _ (level : Level) (fill : List ℕ) (unserved : Option Unserved) (codec :
 
   pub raised_looks : {T E : Type 0} (old new : ListSeen) (result : Result T E) → LooksAt old new result → LooksAt (raised level fill unserved codec region_below old) (raised level fill unserved codec region_below new) result
   raised_looks old new result looks = record { keeps = raised_keeps old new looks.keeps; asks = looks.asks; asks_err = looks.asks_err; taken = looks.taken }
-
--- a whole shape lies within itself
-pub whole_inside : (shape : List ℕ) → ends_within (whole shape) shape ≡ true
-whole_inside [] = refl
-whole_inside (n ∷ shape) = ap₂ (λ (a b : Bool). a && b) (let plus : 0 + n ≡ n = omega arith in subst (λ (m : ℕ). nat_le m n ≡ true) (sym plus) (le-leb n n (let same : n ≤ n = omega arith in same))) (whole_inside shape)
 
 -- a fill value that denotes an element does so below
 pub denoted_fill : (o : Option Element) → IsSome o → o ≡ Some (unwrap_or o null)

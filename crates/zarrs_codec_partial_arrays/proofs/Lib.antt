@@ -1,1 +1,2 @@
 pub mod AboveLaws
+pub mod StoreLaws

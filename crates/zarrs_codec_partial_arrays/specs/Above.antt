@@ -4,7 +4,8 @@ use Rattle.zarr_model.specs.Region.{Region, whole}
 use Rattle.zarr_model.specs.Element.{Element, Kind, fixed, variable, optional, DataType, fill_element, kind_of}
 use Rattle.zarr_model.specs.Codec.{Level, ArrayCodec}
 use Rattle.zarrs_data_type_elements.specs.FillValue.{fill_bytes}
-use Rattle.zarrs_codec_traits.specs.Errors.{Unserved, endianness_missing}
+use Rattle.zarrs_codec_error.specs.declared.error.CodecError.{CodecError}
+use Rattle.zarrs_codec_traits.specs.Errors.{Unserved, endianness_missing, unserved_at}
 use Rattle.zarrs_codec_traits.specs.Views.{level_of}
 use Rattle.zarrs_codec_partial_traits.specs.Boxes.{smaller_box}
 use Rattle.zarrs_codec_partial_traits.specs.Lists.{ListSeen}
@@ -68,3 +69,18 @@ raised level fill unserved codec region_below below = record {
       (Some (box_below region_below level.shape (codec.level_below level).shape asked));
   size = below.size;
 }
+
+-- the same of a codec's members
+abbrev pub raised_by : {A : Type 0} → ArrayLevel A
+    → (Option (List ℕ) → Option DataType → Option (List ℕ) → Option Unserved) → ArrayCodec
+    → (List ℕ → Region → Region) → ListSeen → ListSeen
+raised_by above unserved codec region_below below = raised (array_level above) (array_fill above)
+    (unserved_at unserved (array_level above) (array_fill above)) codec region_below below
+
+-- some list below that decodes to these elements is not encoded
+pub record IsUnencodedBelow (decode : List Element → Option (List Element))
+    (unencoded : List Element → CodecError → Type 0) (list : List Element) (e : CodecError)
+    : Type 0 where
+  pub below : List Element
+  pub decodes : decode below ≡ Some list
+  pub told : unencoded below e

@@ -16,7 +16,7 @@ use zarrs_chunk_grid_indexer::Indexer;
 use zarrs_codec_array_bytes::ArrayBytes;
 use zarrs_codec_error::CodecError;
 use zarrs_codec_options::CodecOptions;
-use zarrs_codec_partial_traits::ArrayPartialDecoderTraits;
+use zarrs_codec_partial_traits::{ArrayPartialDecoderTraits, ArrayPartialEncoderTraits};
 use zarrs_codec_traits::ArrayToArrayCodecTraits;
 use zarrs_data_type_elements::FillValue;
 use zarrs_data_type_names::DataType;
@@ -24,7 +24,8 @@ use zarrs_storage::StorageError;
 
 /// The elements that those of a handle on the level below decode to, by an array-to-array codec.
 ///
-/// A box that is smaller than the shape is read by the box below that the codec names; else all elements are decoded.
+/// A box that is smaller than the shape is read by the box below that the codec names; else all elements are decoded. A
+/// write encodes all elements, and hands them on in one call.
 #[derive(Drop)]
 pub struct ArrayToArrayCodecPartialDefault<
     H: ArrayPartialDecoderTraits,
@@ -123,7 +124,10 @@ impl<H: ArrayPartialDecoderTraits, C: ArrayToArrayCodecTraits> ArrayPartialDecod
 
     ghost same_self = { λ h. (refl, H.same_self h.handle) };
 
-    ghost same_twice = { λ a b c x y. (x.0 ∙ y.0, H.same_twice a.handle b.handle c.handle x.1 y.1) };
+    ghost same_twice = { λ a b c x y. (
+      x.0 ∙ y.0,
+      H.same_twice a.handle b.handle c.handle x.1 y.1,
+    ) };
 
     ghost reads_parts = { λ h. (C.decodes_parts h.level.codec).partial_decode
         && H.reads_parts h.handle };
@@ -159,5 +163,50 @@ impl<H: ArrayPartialDecoderTraits, C: ArrayToArrayCodecTraits> ArrayPartialDecod
     ) -> Result<ArrayBytes<'static>, CodecError> {
         self.level
             .decode_elements(alloc, &mut self.handle, indexer, options)
+    }
+}
+
+impl<H: ArrayPartialEncoderTraits, C: ArrayToArrayCodecTraits> ArrayPartialEncoderTraits
+    for ArrayToArrayCodecPartialDefault<H, C> {
+    ghost use Rattle.std.specs.Prelude.{Some, ◌&&◌};
+    ghost use Rattle.std.proofs.Common.{subst, sym};
+    ghost use Rattle.zarrs_codec_partial_arrays.specs.Above.{array_level, IsUnencodedBelow};
+
+    ghost writes_parts = { λ h. (C.encodes_parts h.level.codec).partial_encode
+        && H.writes_parts h.handle };
+
+    ghost unencoded = { λ h list e. IsUnencodedBelow ((C.meaning h.level.codec).decode_list
+        (array_level h.level)) (H.unencoded h.handle) list e };
+
+    ghost encodes_short = { λ h. H.encodes_short h.handle };
+
+    ghost same_unencoded = { λ a b list e same why. record {
+      below = why.below;
+      decodes = subst (λ at. (C.meaning at.codec).decode_list (array_level at) why.below
+          ≡ Some list) (sym same.0) why.decodes;
+      told = H.same_unencoded a.handle b.handle why.below e same.1 why.told;
+    } };
+
+    ghost same_short = { λ a b same takes. H.same_short a.handle b.handle same.1 takes };
+
+    fn erase(&mut self) -> Result<(), CodecError> {
+        self.level.fill_is_bytes();
+        self.handle.erase()
+    }
+
+    fn supports_partial_encode(&self) -> bool {
+        self.level.codec.partial_encoder_capability().partial_encode
+            && self.handle.supports_partial_encode()
+    }
+
+    fn partial_encode<I: Indexer>(
+        &mut self,
+        alloc: Global,
+        indexer: &I,
+        bytes: &ArrayBytes<'_>,
+        options: &CodecOptions,
+    ) -> Result<(), CodecError> {
+        self.level
+            .encode_elements(alloc, &mut self.handle, indexer, bytes, options)
     }
 }

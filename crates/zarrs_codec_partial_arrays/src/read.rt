@@ -17,6 +17,7 @@ ghost use Rattle.zarrs_codec_traits.specs.Errors.{unserved_at, RefusesAs};
 ghost use Rattle.zarrs_codec_traits.specs.Views.{lengths, options_of};
 ghost use Rattle.zarrs_codec_traits.specs.Words.{list_at, at_box, select, IsFit};
 ghost use Rattle.zarrs_codec_partial.specs.Boxes.{Denotes};
+ghost use Rattle.zarrs_codec_partial_traits.specs.Boxes.{is_all};
 ghost use Rattle.zarrs_codec_partial_traits.specs.Lists.{ReadsList, IsUnread, IsListError};
 ghost use Rattle.zarrs_codec_partial_arrays.specs.Above.{IsBelow, box_below};
 
@@ -47,7 +48,7 @@ impl<C: ArrayToArrayCodecTraits> ArrayLevel<C> {
     ghost use Rattle.zarrs_codec_partial_arrays.specs.Above.{array_level, array_fill};
 
     // Tests that the codec serves the shape, the data type and the fill value.
-    fn expect_served(&self, alloc: Global) -> Result<(), CodecError>
+    pub(crate) fn expect_served(&self, alloc: Global) -> Result<(), CodecError>
         requires fits { IsFit (array_level self.now).shape (array_level self.now).data_type }
         ensures served { IfOk result (λ _. unserved_at (C.unserved self.now.codec)
             (array_level self.now) (array_fill self.now) ≡ None) }
@@ -65,7 +66,7 @@ impl<C: ArrayToArrayCodecTraits> ArrayLevel<C> {
     }
 
     // The box of all elements of the level below.
-    fn whole_below(&self, alloc: Global) -> Result<ArraySubset, CodecError>
+    pub(crate) fn whole_below(&self, alloc: Global) -> Result<ArraySubset, CodecError>
         requires served { unserved_at (C.unserved self.now.codec) (array_level self.now)
             (array_fill self.now) ≡ None }
         ensures { MatchResult result (λ r. box_of r ≡ whole
@@ -145,7 +146,7 @@ impl<C: ArrayToArrayCodecTraits> ArrayLevel<C> {
     }
 
     // All elements, out of all those below.
-    fn decode_whole<H: ArrayPartialDecoderTraits>(
+    pub(crate) fn decode_whole<H: ArrayPartialDecoderTraits>(
         &self,
         alloc: Global,
         handle: &mut H,
@@ -179,6 +180,11 @@ impl<C: ArrayToArrayCodecTraits> ArrayLevel<C> {
             below.unserved ≡ None → Denotes level fill → below.there ≡ true
             → below.whole (Some (whole ((C.meaning self.now.codec).level_below
             (array_level self.now)).shape)) ≡ true
+            → OnOk result (IsSome (option_and_then ((C.meaning self.now.codec).decode_list level)
+            (below.list under))) }
+        ensures all { let level = array_level self.now in let fill = array_fill self.now in
+            let below = H.seen handle.old in let under = options_of options.now in
+            below.unserved ≡ None → Denotes level fill
             → OnOk result (IsSome (option_and_then ((C.meaning self.now.codec).decode_list level)
             (below.list under))) }
         ensures short { (H.seen handle.old).unserved ≡ None → (H.seen handle.old).short ≡ true
@@ -254,6 +260,11 @@ impl<C: ArrayToArrayCodecTraits> ArrayLevel<C> {
             (array_level self.now)).shape)) ≡ true
             → OnOk result (IsSome (option_and_then ((C.meaning self.now.codec).decode_list level)
             (below.list under))) }
+        ensures all { let level = array_level self.now in let fill = array_fill self.now in
+            let below = H.seen handle.old in let under = options_of options.now in
+            below.unserved ≡ None → Denotes level fill
+            → OnOk result (IsSome (option_and_then ((C.meaning self.now.codec).decode_list level)
+            (below.list under))) }
         ensures short { (H.seen handle.old).unserved ≡ None → (H.seen handle.old).short ≡ true
             → IfOk result (λ v. has_long_element (raw_of v) ≡ false) }
         ensures same { H.same handle.old handle.new }
@@ -315,6 +326,12 @@ impl<C: ArrayToArrayCodecTraits> ArrayLevel<C> {
             (array_level self.now).shape
             ((C.meaning self.now.codec).level_below (array_level self.now)).shape
             (I.as_region indexer.now))) ≡ true
+            → OnOk result (IsSome (option_and_then ((C.meaning self.now.codec).decode_list level)
+            (below.list under))) }
+        ensures all { let level = array_level self.now in let fill = array_fill self.now in
+            let below = H.seen handle.old in let under = options_of options.now in
+            below.unserved ≡ None → Denotes level fill
+            → is_all level.shape (I.as_region indexer.now) ≡ true
             → OnOk result (IsSome (option_and_then ((C.meaning self.now.codec).decode_list level)
             (below.list under))) }
         ensures short { (H.seen handle.old).unserved ≡ None → (H.seen handle.old).short ≡ true
@@ -394,6 +411,13 @@ impl<C: ArrayToArrayCodecTraits> ArrayLevel<C> {
             (array_level self.now).shape
             ((C.meaning self.now.codec).level_below (array_level self.now)).shape
             (I.as_region indexer.now))) ≡ true
+            → OnOk result (IsSome (option_and_then ((C.meaning self.now.codec).decode_list level)
+            (below.list under))) }
+        ensures all { let level = array_level self.now in let fill = array_fill self.now in
+            let below = H.seen handle.old in let under = options_of options.now in
+            unserved_at (C.unserved self.now.codec) level fill ≡ None
+            → below.unserved ≡ None → Denotes level fill
+            → is_all level.shape (I.as_region indexer.now) ≡ true
             → OnOk result (IsSome (option_and_then ((C.meaning self.now.codec).decode_list level)
             (below.list under))) }
         ensures short { unserved_at (C.unserved self.now.codec) (array_level self.now)

@@ -1,1 +1,3 @@
+pub mod ChunkLaws
+pub mod FewLaws
 pub mod TurnLaws

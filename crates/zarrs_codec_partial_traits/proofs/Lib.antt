@@ -1,1 +1,4 @@
+pub mod BoxLaws
 pub mod CountLaws
+pub mod SelectsLaws
+pub mod UpdateLaws

@@ -1,3 +1,5 @@
 pub mod Boxes
 pub mod Lists
 pub mod ListWrites
+pub mod Updates
+pub mod Selects

@@ -37,7 +37,8 @@ is_stored under seen list =
     is_kept under (fill_element (kind_of seen.level.data_type) seen.fill) list
 
 -- a handle holds this list under all options, of a value that is there or is absent
-pub record HoldsList (present : Bool) (elements : Option (List Element)) (new : ListSeen) : Type 0 where
+pub record HoldsList (present : Bool) (elements : Option (List Element)) (new : ListSeen)
+    : Type 0 where
   pub there : new.there ≡ present
   pub list : (under : Options) → new.list under ≡ elements
 
@@ -80,7 +81,8 @@ pub record PutsList {T : Type 0} (stored : Bool) (list : List Element) (old new 
       ⊎ (HoldsList true (Some list) new ⊎ IsAbsent new))
 
 -- a change of what is held to nothing
-pub record ErasesList {T : Type 0} (old new : ListSeen) (result : Result T CodecError) : Type 0 where
+pub record ErasesList {T : Type 0} (old new : ListSeen) (result : Result T CodecError)
+    : Type 0 where
   pub ok : OnOk result (IsAbsent new)
   pub failed : OnErr result (((under : Options) → new.list under ≡ old.list under)
       ⊎ IsAbsent new)

@@ -1,6 +1,6 @@
 //! Handles on elements that are read.
 
-ghost use Rattle.std.specs.Prelude.{◌≡◌, Bool, true, false, List, length, Option, Some, None, IsSome, IfOk, IfErr, OnOk};
+ghost use Rattle.std.specs.Prelude.{◌≡◌, ◌==◌, ◌&&◌, Bool, true, false, List, [], length, Option, Some, None, IsSome, IfOk, IfErr, OnOk};
 ghost use Rattle.zarr_model.specs.Region.{Region, count_of};
 ghost use Rattle.zarr_model.specs.Prelude.{Rose};
 ghost use Rattle.zarr_model.specs.Element.{Element, null, kind_of};
@@ -15,15 +15,23 @@ ghost use Rattle.zarrs_codec_error.specs.declared.error.CodecError.{CodecError};
 ghost use Rattle.zarrs_codec_array_bytes.specs.Raw.{raw_of};
 ghost use Rattle.zarrs_codec_array_bytes.specs.Selection.{linear};
 ghost use Rattle.zarrs_codec_array_bytes.specs.Refusals.{fine, first_answer, IfUnfit};
+ghost use Rattle.zarrs_codec_view.specs.Held.{held_by, IsTargetOf};
+ghost use Rattle.zarrs_codec_view.specs.Targets.{LeftBehind};
+ghost use Rattle.zarrs_codec_view.specs.TargetViews.{inner_view, mask_views};
 ghost use Rattle.zarrs_codec_traits.specs.Errors.{RefusesAs};
+ghost use Rattle.zarrs_codec_traits.specs.Into.{num_elements_in, into_answer, RefusesCount, IsPut};
 ghost use Rattle.zarrs_codec_traits.specs.Views.{options_of};
+ghost use Rattle.zarrs_codec_partial_traits.specs.Boxes.{is_all};
 ghost use Rattle.zarrs_codec_partial_traits.specs.Lists.{ListSeen, HasFill, HasShortFill, AreFew, LooksAt, ReadsList, IsUnread, IsListError};
+ghost use Rattle.zarrs_codec_partial_traits.specs.Selects.{chosen, SelectsInto};
 
+use crate::into_target::{read_into_fixed, read_into_optional};
 use std::alloc::Global;
 use zarrs_chunk_grid_indexer::Indexer;
 use zarrs_codec_array_bytes::ArrayBytes;
 use zarrs_codec_error::CodecError;
 use zarrs_codec_options::CodecOptions;
+use zarrs_codec_view::ArrayBytesDecodeIntoTarget;
 use zarrs_data_type_names::DataType;
 use zarrs_storage::StorageError;
 
@@ -111,6 +119,9 @@ pub trait ArrayPartialDecoderTraits {
         ensures decodes { (seen self.old).unserved ≡ None → (seen self.old).there ≡ true
             → (seen self.old).whole (I.as_region indexer.now) ≡ true
             → OnOk result (IsSome ((seen self.old).list (options_of options.now))) }
+        ensures all { (seen self.old).unserved ≡ None → HasFill (seen self.old)
+            → is_all (seen self.old).level.shape (I.as_region indexer.now) ≡ true
+            → OnOk result (IsSome ((seen self.old).list (options_of options.now))) }
         ensures short { (seen self.old).unserved ≡ None → HasShortFill (seen self.old)
             → IfOk result (λ v. has_long_element (raw_of v) ≡ false) }
         ensures reads { ReadsList (I.as_region indexer.now) (seen self.old) (seen self.new)
@@ -118,6 +129,77 @@ pub trait ArrayPartialDecoderTraits {
         ensures same { same self.old self.new }
         ensures tells { (under : Options) (asked : Option Region) (e : CodecError)
             → tells self.new under asked e → tells self.old under asked e };
+
+    /// Puts the elements at the indexer's indices into a target. On an error it is as it was.
+    ///
+    /// # Errors
+    /// [`CodecError::InvalidNumberOfElements`] exactly where the target has another number of elements than the indexer,
+    /// before anything is read; else as `partial_decode`, and then as the target answers to elements of the data type.
+    final fn partial_decode_into<I: Indexer>(
+        &mut self,
+        alloc: Global,
+        indexer: &I,
+        output_target: ArrayBytesDecodeIntoTarget<'_, '_>,
+        options: &CodecOptions,
+    ) -> Result<(), CodecError>
+        requires few { AreFew (kind_of (seen self.old).level.data_type)
+            (length (I.places indexer.now)) }
+        ensures counted { let num = num_elements_in output_target.entry in
+            RefusesCount (num == length (I.places indexer.now)) num
+            (length (I.places indexer.now)) result }
+        ensures unfit { (num_elements_in output_target.entry == length (I.places indexer.now))
+            ≡ true → RefusesAs (first_answer None
+            (I.fits indexer.now (seen self.old).level.shape) fine) result }
+        ensures refusal { (num_elements_in output_target.entry == length (I.places indexer.now))
+            ≡ true → I.fits indexer.now (seen self.old).level.shape ≡ false
+            → IfErr result (IfUnfit (I.refuses indexer.now (seen self.old).level.shape)) }
+        ensures unread { ((num_elements_in output_target.entry == length (I.places indexer.now))
+            && I.fits indexer.now (seen self.old).level.shape) ≡ false
+            → IsUnread (seen self.old).shown (seen self.new).shown }
+        ensures put { let level = (seen self.old).level in (list : List Element)
+            → (seen self.old).unserved ≡ None
+            → (seen self.old).list (options_of options.now) ≡ Some list
+            → IsTargetOf (kind_of level.data_type) (length (I.places indexer.now))
+            (mask_views output_target.entry) (inner_view output_target.entry)
+            → IfOk result (λ _. LeftBehind
+            (λ left. held_by [] left.0.now ≡ chosen level (I.places indexer.now) list)
+            (λ left. held_by left.1.0.now left.0.now ≡ chosen level (I.places indexer.now) list)
+            output_target.exit) }
+        ensures written { let level = (seen self.old).level in (list : List Element)
+            → (seen self.old).unserved ≡ None
+            → (seen self.old).list (options_of options.now) ≡ Some list
+            → IfOk result (λ _. LeftBehind
+            (λ left. IsPut (kind_of level.data_type) (length (I.places indexer.now))
+            (Some (chosen level (I.places indexer.now) list)) [] []
+            (inner_view output_target.entry) left.0.now)
+            (λ left. IsPut (kind_of level.data_type) (length (I.places indexer.now))
+            (Some (chosen level (I.places indexer.now) list))
+            (mask_views output_target.entry) left.1.0.now
+            (inner_view output_target.entry) left.0.now) output_target.exit) }
+        ensures selects { SelectsInto (options_of options.now) (I.as_region indexer.now)
+            ((num_elements_in output_target.entry == length (I.places indexer.now))
+            && I.fits indexer.now (seen self.old).level.shape)
+            (tells self.old (options_of options.now) (I.as_region indexer.now))
+            (into_answer (kind_of (seen self.old).level.data_type)
+            (length (I.places indexer.now)) (mask_views output_target.entry)
+            (inner_view output_target.entry)) (seen self.old) (seen self.new) result }
+        ensures kept { IfErr result (λ _. LeftBehind
+            (λ left. left.0.now ≡ inner_view output_target.entry)
+            (λ left. (left.0.now ≡ inner_view output_target.entry)
+            × (left.1.0.now ≡ mask_views output_target.entry)) output_target.exit) }
+        ensures same { same self.old self.new }
+        ensures tells { (under : Options) (asked : Option Region) (e : CodecError)
+            → tells self.new under asked e → tells self.old under asked e }
+    {
+        match output_target {
+            ArrayBytesDecodeIntoTarget::Fixed(view) => {
+                read_into_fixed(self, alloc, indexer, view, options)
+            }
+            ArrayBytesDecodeIntoTarget::Optional(view, masks) => {
+                read_into_optional(self, alloc, indexer, view, masks, options)
+            }
+        }
+    }
 
     // The list has an element for each place.
     ghost counted: { (h : Self) (under : Options) (xs : List Element) → (seen h).unserved ≡ None

@@ -1,19 +1,16 @@
 //! Handles on elements that are read and written.
 
-ghost use Rattle.std.specs.Prelude.{◌≡◌, ◌⊎◌, Bool, true, false, not, List, length, Some, None, IfOk, IfErr};
+ghost use Rattle.std.specs.Prelude.{◌≡◌, Bool, false, List, length, None, IfErr};
 ghost use Rattle.zarr_model.specs.Element.{Element, kind_of};
-ghost use Rattle.zarr_model.specs.ArrayBytes.{meaning};
-ghost use Rattle.zarr_model.specs.Command.{has_long_element};
 ghost use Rattle.zarrs_codec_array_bytes.specs.Raw.{raw_of};
 ghost use Rattle.zarrs_codec_array_bytes.specs.Refusals.{fine, validity, IfUnfit};
-ghost use Rattle.zarrs_codec_array_bytes.specs.Selection.{linear};
 ghost use Rattle.zarrs_codec_error.specs.declared.error.CodecError.{CodecError};
-ghost use Rattle.zarrs_codec_held.specs.Reads.{IsFault, IsHandleError};
+ghost use Rattle.zarrs_codec_held.specs.Reads.{IsFault};
 ghost use Rattle.zarrs_codec_traits.specs.Errors.{RefusesAs};
 ghost use Rattle.zarrs_codec_traits.specs.Views.{options_of};
-ghost use Rattle.zarrs_codec_partial_traits.specs.Lists.{ListSeen, HasFill, HasShortFill, AreFew};
-ghost use Rattle.zarrs_codec_partial_traits.specs.Boxes.{is_all};
-ghost use Rattle.zarrs_codec_partial_traits.specs.ListWrites.{given_answer, updated, is_stored, ErasesList, KeepsRest, UnaskedList, MayPutList, Rewrites, IsUntouched, IsUnencoded, IsUnreadList};
+ghost use Rattle.zarrs_codec_partial_traits.specs.Lists.{AreFew};
+ghost use Rattle.zarrs_codec_partial_traits.specs.ListWrites.{given_answer, ErasesList, KeepsRest, UnaskedList, IsUntouched};
+ghost use Rattle.zarrs_codec_partial_traits.specs.Updates.{change_of, Updates};
 
 use crate::array_partial_decoder::ArrayPartialDecoderTraits;
 use std::alloc::Global;
@@ -80,42 +77,17 @@ pub trait ArrayPartialEncoderTraits: ArrayPartialDecoderTraits {
             (kind_of (Self.seen self.old).level.data_type)
             (I.fits indexer.now (Self.seen self.old).level.shape) (length (I.places indexer.now))
             (raw_of bytes.now)) (Self.seen self.old) (Self.seen self.new) }
-        ensures puts { (given : List Element) → (Self.seen self.old).unserved ≡ None
-            → HasFill (Self.seen self.old)
-            → meaning (kind_of (Self.seen self.old).level.data_type)
-            (length (I.places indexer.now)) (raw_of bytes.now) ≡ Some given
-            → MayPutList (is_stored (options_of options.now) (Self.seen self.old))
-            (updated (is_all (Self.seen self.old).level.shape (I.as_region indexer.now))
-            (linear (Self.seen self.old).level.shape (I.places indexer.now)) given
-            ((Self.seen self.old).list (options_of options.now)))
-            (Self.seen self.old) (Self.seen self.new) result }
-        ensures rewrites { Rewrites
-            (not (is_all (Self.seen self.old).level.shape (I.as_region indexer.now)))
-            (Self.seen self.old) (Self.seen self.new) result }
-        ensures cause { (given : List Element) → (Self.seen self.old).unserved ≡ None
-            → HasFill (Self.seen self.old)
-            → I.fits indexer.now (Self.seen self.old).level.shape ≡ true
-            → meaning (kind_of (Self.seen self.old).level.data_type)
-            (length (I.places indexer.now)) (raw_of bytes.now) ≡ Some given
-            → IfErr result (λ e. IsHandleError (Self.seen self.old).shown.faults
-            (Self.seen self.new).shown.faults e
-            ⊎ (IsUnreadList (is_all (Self.seen self.old).level.shape (I.as_region indexer.now))
-            (Self.seen self.old).there ((Self.seen self.old).list (options_of options.now))
-            (Self.tells self.old (options_of options.now) None) e
-            ⊎ IsUnencoded (updated
-            (is_all (Self.seen self.old).level.shape (I.as_region indexer.now))
-            (linear (Self.seen self.old).level.shape (I.places indexer.now)) given
-            ((Self.seen self.old).list (options_of options.now))) (unencoded self.old) e)) }
-        ensures encoded { (given : List Element) → (Self.seen self.old).unserved ≡ None
-            → HasFill (Self.seen self.old) → HasShortFill (Self.seen self.old)
-            → encodes_short self.old → has_long_element (raw_of bytes.now) ≡ false
-            → I.fits indexer.now (Self.seen self.old).level.shape ≡ true
-            → meaning (kind_of (Self.seen self.old).level.data_type)
-            (length (I.places indexer.now)) (raw_of bytes.now) ≡ Some given
-            → IfErr result (λ e. IsHandleError (Self.seen self.old).shown.faults
-            (Self.seen self.new).shown.faults e
-            ⊎ IsUnreadList (is_all (Self.seen self.old).level.shape (I.as_region indexer.now))
-            (Self.seen self.old).there ((Self.seen self.old).list (options_of options.now))
-            (Self.tells self.old (options_of options.now) None) e) }
+        ensures updates { Updates (options_of options.now)
+            (change_of (Self.seen self.old).level
+            (I.fits indexer.now (Self.seen self.old).level.shape)
+            (I.as_region indexer.now) (I.places indexer.now) (raw_of bytes.now))
+            (Self.tells self.old (options_of options.now) None) (unencoded self.old)
+            (encodes_short self.old) (Self.seen self.old) (Self.seen self.new) result }
         ensures same { Self.same self.old self.new };
+
+    // Both are so wherever the settings are the same.
+    ghost same_unencoded: { (a b : Self) (list : List Element) (e : CodecError) → Self.same a b
+        → unencoded b list e → unencoded a list e };
+
+    ghost same_short: { (a b : Self) → Self.same a b → encodes_short a → encodes_short b };
 }

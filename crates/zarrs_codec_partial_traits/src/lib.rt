@@ -9,6 +9,7 @@ mod array_partial_encoder;
 mod bytes_partial_decoder;
 mod bytes_partial_encoder;
 mod in_memory;
+mod into_target;
 
 pub use array_partial_decoder::ArrayPartialDecoderTraits;
 pub use array_partial_encoder::ArrayPartialEncoderTraits;

@@ -1,2 +1,3 @@
 mod CountLaws
-mod IntoLaws
+pub mod FillLaws
+pub mod IntoLaws

@@ -57,7 +57,8 @@ DecodesInto (Some list) says told result = Answers told result
 -- array bytes that mean a list of so many elements of a kind were put into a target's views, each
 -- into its view's box, and nothing else of the views' bytes changed
 pub record IsPut (kind : Kind) (number : ℕ) (wanted : Option (List Element))
-    (olds news : List ArrayBytesFixedDisjointView) (from to : ArrayBytesFixedDisjointView) : Type 0 where
+    (olds news : List ArrayBytesFixedDisjointView) (from to : ArrayBytesFixedDisjointView)
+    : Type 0 where
   pub bytes : ArrayBytes
   pub means : Gives (meaning kind number bytes) wanted
   pub put : ArePut bytes olds news from to

@@ -17,4 +17,5 @@ pub use array_to_array::ArrayToArrayCodecTraits;
 pub use array_to_bytes::ArrayToBytesCodecTraits;
 pub use bytes_to_bytes::BytesToBytesCodecTraits;
 pub use codec_traits::{ArrayCodecTraits, CodecTraits, CodecTraitsV2, CodecTraitsV3};
+pub use put::{expect_number, put_fixed, put_optional};
 pub use shape::{fixed_value, num_elements, same_shape, shape_numbers};

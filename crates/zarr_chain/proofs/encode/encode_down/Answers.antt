@@ -1,4 +1,4 @@
-use Rattle.std.proofs.Common.{◌≡◌, ◌+◌, None, drop, sym, subst, subst₂, arith, rules}
+use Rattle.std.proofs.Common.{◌≡◌, ◌+◌, ◌<◌, ℕ, List, [], ◌∷◌, length, None, drop, sym, subst, subst₂, arith, rules}
 use Rattle.std.proofs.lemmas.List.{take_all, drop_all, nil_from_length}
 use Rattle.zarrs_codec_array_bytes.specs.Raw.{raw_of}
 use Rattle.zarrs_data_type_names.specs.DataType.{type_of}
@@ -8,6 +8,10 @@ use Rattle.zarr_chain.specs.Levels.{above, top, SaysInvalid}
 use Rattle.zarr_chain.proofs.ListSteps.{at-front, at-next}
 use Rattle.zarr_chain.proofs.LevelLaws.{fit-drop, none_invalid, at-start, memory_some, step-down, down-there}
 use Rattle.zarr_chain.proofs.encode.encode_down.Goals as goal
+
+none_below : {X : Type 0} (xs : List X) (i : ℕ) → xs ≡ [] → i < length xs → ⊥
+none_below [] i empty below = absurd (omega (arith, below))
+none_below (x ∷ xs) i empty below = cc
 
 pub encode-requires : goal.encode-requires
 encode-requires g c =
@@ -63,6 +67,7 @@ loop-level-preserved g c = record {
       let none_here : list_at (above c.level-item.result) (raw_of c.loop-level.encoded) ≡ None =
       subst₂ (λ level raw. list_at level raw ≡ None) first.1 (sym start.1) none in
       absurd (none_invalid (above c.level-item.result) (raw_of c.loop-level.encoded) none_here fine_here);
+  none = λ empty. absurd (none_below c.args.levels.now c.loop-level.level-index empty c.loop-level-test.true);
   short = λ short. c.in_ok-encoded.ensures.short (c.loop-level.invariant.short short);
 }
 

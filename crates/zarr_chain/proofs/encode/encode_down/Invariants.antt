@@ -1,4 +1,4 @@
-use Rattle.std.proofs.Common.{◌≡◌, List, Some, None, take, drop, false}
+use Rattle.std.proofs.Common.{◌≡◌, List, [], Some, None, take, drop, false}
 use Rattle.zarr_model.specs.Element.{Element}
 use Rattle.zarr_model.specs.Codec.{Level}
 use Rattle.zarr_model.specs.Command.{has_long_element}
@@ -13,5 +13,6 @@ invariant-loop-level g l = record {
       elements_above g.A.ArrayToArrayCodecTraits.meaning (take l.level-index l.levels) (list_at (top (drop l.level-index l.levels) bottom) (raw_of l.encoded)) ≡ Some list;
   started : (bottom : Level) → AreLinked g.A.ArrayToArrayCodecTraits.meaning g.A.ArrayCodecTraits.unserved l.levels bottom → list_at (top l.levels bottom) (raw_of l.fn.bytes) ≡ None →
       (l.level-index ≡ 0) × (raw_of l.encoded ≡ raw_of l.fn.bytes);
+  none : l.levels ≡ [] → raw_of l.encoded ≡ raw_of l.fn.bytes;
   short : has_long_element (raw_of l.fn.bytes) ≡ false → has_long_element (raw_of l.encoded) ≡ false;
 }

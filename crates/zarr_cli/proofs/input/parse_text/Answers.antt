@@ -1,5 +1,6 @@
-use Rattle.std.proofs.Common.{arith}
-use Rattle.zarr_model.specs.Prelude.{fixed}
+use Rattle.std.proofs.Common.{ap, arith}
+use Rattle.zarr_model.specs.Element.{kind_of}
+use Rattle.zarrs_data_type_names.specs.DataType.{type_of}
 use Rattle.zarr_cli_lines.specs.Text.{line_command}
 use Rattle.zarr_cli.proofs.StepLemmas.{bad_line, line_fits, form_fault}
 use Rattle.zarr_cli_lines.specs.Parts.{lines_left}
@@ -7,12 +8,12 @@ use Rattle.zarr_cli.proofs.input.parse_text.Goals as goal
 
 pub overflow_add-result : goal.overflow_add-result
 overflow_add-result c =
-    let fault = form_fault (line_command (fixed c.element_size.result)) c.in-Err-OutOfForm.field-0 c.in-Err-OutOfForm.good_lines (lines_left c.split_text.result.1) c.in-Err-OutOfForm.field-0-is c.in-Err-OutOfForm.ensures.fault in
+    let fault = form_fault (line_command (kind_of (type_of c.data_type.result.now))) c.in-Err-OutOfForm.field-0 c.in-Err-OutOfForm.good_lines (lines_left c.split_text.result.1) c.in-Err-OutOfForm.field-0-is c.in-Err-OutOfForm.ensures.fault in
     let small = line_fits c.args.text.now c.split_text.result.0.now (lines_left c.split_text.result.1) c.in-Err-OutOfForm.good_lines c.requires c.split_text.ensures fault.1 in
     omega arith
 
 pub returns-in-Err-OutOfForm-clause-fault : goal.returns-in-Err-OutOfForm-clause-fault
 returns-in-Err-OutOfForm-clause-fault c =
-    let fault = form_fault (line_command (fixed c.element_size.result)) c.in-Err-OutOfForm.field-0 c.in-Err-OutOfForm.good_lines (lines_left c.split_text.result.1) c.in-Err-OutOfForm.field-0-is c.in-Err-OutOfForm.ensures.fault in
-    bad_line c.args.text.now c.split_text.result.0.now (lines_left c.split_text.result.1) c.in_ok-array.array c.element_size.result c.in-Err-OutOfForm.good_lines
-    c.utf8.text c.split_text.ensures c.in_ok-array.ensures c.element_size.ensures.size fault.0 fault.1
+    let fault = form_fault (line_command (kind_of (type_of c.data_type.result.now))) c.in-Err-OutOfForm.field-0 c.in-Err-OutOfForm.good_lines (lines_left c.split_text.result.1) c.in-Err-OutOfForm.field-0-is c.in-Err-OutOfForm.ensures.fault in
+    bad_line c.args.text.now c.split_text.result.0.now (lines_left c.split_text.result.1) c.in_ok-array.array (kind_of (type_of c.data_type.result.now)) c.in-Err-OutOfForm.good_lines
+    c.utf8.text c.split_text.ensures c.in_ok-array.ensures (ap kind_of c.data_type.ensures.data_type) fault.0 fault.1

@@ -1,5 +1,5 @@
 use Rattle.std.proofs.Common.{subst}
-use Rattle.zarr_cli.specs.Ending.{IsGiven, IsGivenFront}
+use Rattle.zarr_cli_runs.specs.Ending.{IsGiven, IsGivenFront}
 use Rattle.zarr_cli.specs.Status.{words_of}
 use Rattle.zarr_cli.proofs.AnswerLemmas.{answers_done, answers_write, answers_early}
 use Rattle.zarr_cli.proofs.MadeLemmas.{made_done, made_write, made_early}

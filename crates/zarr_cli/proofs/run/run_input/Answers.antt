@@ -5,7 +5,7 @@ use Rattle.zarr_array.specs.Command.{command_of}
 use Rattle.zarrs_codec_traits.specs.Views.{options_of}
 use Rattle.zarr_cli_lines.specs.Parts.{entry_view}
 use Rattle.zarr_cli.specs.Input.{with_entries}
-use Rattle.zarr_cli.specs.Steps.{IsRunFault}
+use Rattle.zarr_cli_runs.specs.Commands.{IsRunFault}
 use Rattle.zarr_cli.proofs.RunLemmas.{earlier_fault}
 use Rattle.zarr_cli.proofs.run.run_input.Goals as goal
 

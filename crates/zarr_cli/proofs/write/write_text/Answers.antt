@@ -1,7 +1,7 @@
 use Rattle.std.proofs.Common.{◌≡◌, ℕ, ◌-◌, ◌≤◌, le_trans, List, ◌++◌, length, take, drop, Option, Some, None, option_map, refl, sym, subst, ap, ◌∙◌, append_assoc, arith, length-drop}
 use Rattle.std.proofs.lemmas.List.{take_all}
 use Rattle.std.proofs.Math.Seq.{take-add}
-use Rattle.zarr_cli.specs.Ending.{IsGiven}
+use Rattle.zarr_cli_runs.specs.Ending.{IsGiven}
 use Rattle.zarr_cli.proofs.write.write_text.Goals as goal
 
 -- a sink that was given two texts was given both as one

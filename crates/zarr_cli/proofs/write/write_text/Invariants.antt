@@ -1,5 +1,5 @@
 use Rattle.std.proofs.Common.{◌-◌, ◌≤◌, length, take}
-use Rattle.zarr_cli.specs.Ending.{IsGiven}
+use Rattle.zarr_cli_runs.specs.Ending.{IsGiven}
 use Rattle.zarr_cli.proofs.write.write_text.Given as goal
 
 abbrev pub invariant-pieces : goal.invariant-pieces

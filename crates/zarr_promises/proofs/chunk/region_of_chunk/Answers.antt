@@ -8,8 +8,8 @@ use Rattle.zarr_chain.specs.Chain.{first_level}
 use Rattle.zarr_chain_stored.specs.Fetch as stored
 use Rattle.zarr_array_parts.proofs.ChunkLaws.{first_chunk, is_first_chunk}
 use Rattle.zarr_array.specs.OpenArray.{described}
-use Rattle.zarr_array.specs.Codecs.{array_meaning, list_meaning, bytes_meaning}
-use Rattle.zarr_array.proofs.ChunkLaws.{content_as}
+use Rattle.zarr_array_regions.specs.Codecs.{array_meaning, list_meaning, bytes_meaning}
+use Rattle.zarr_array_regions.proofs.ChunkLaws.{content_as}
 use Rattle.zarr_promises.proofs.chunk.region_of_chunk.Goals as goal
 
 pub partial_decode-result-requires-clause-inside : goal.partial_decode-result-requires-clause-inside

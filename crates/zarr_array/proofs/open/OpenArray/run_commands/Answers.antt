@@ -4,7 +4,7 @@ use Rattle.zarr_array.specs.Command.{command_of, answer_of}
 use Rattle.zarrs_codec_traits.specs.Views.{options_of}
 use Rattle.zarr_array.specs.OpenArray.{described}
 use Rattle.zarr_array.specs.Runs.{Runs}
-use Rattle.zarr_array.proofs.ServedLaws.{described_covers, described_sound}
+use Rattle.zarr_array_parts.proofs.ServedLaws.{described_covers, described_sound}
 use Rattle.zarr_array.proofs.RunsLaws.{command_here, one_more_ran, stops_at, take_next, take_whole}
 use Rattle.zarr_array.proofs.open.OpenArray.run_commands.Goals as goal
 
@@ -19,7 +19,7 @@ loop-number-preserved g c = record {
       ap (map answer_of) (c.push.ensures.items ∙ ap (λ r. if is_ok r then c.loop-number.replies.items ++ c.in-Ok-run_command.reply ∷ [] else c.loop-number.replies.items) c.unwrap.ensures) ∙ map-append answer_of c.loop-number.replies.items (c.in-Ok-run_command.reply ∷ []) in
       subst₂ (λ commands answers. Runs array options commands (g.S.Store.shown c.args.store.now) (g.S.Store.shown c.run_command.new.store) (Ok answers))
       (sym (take_next commands c.loop-number.number (command_of c.index-commands-number.result) here)) (sym answered)
-      (one_more_ran array options (described_covers c.args.self.now) (described_sound c.args.self.now options) _ _ _ (g.S.Store.shown c.loop-number.store) _ _ _ c.loop-number.invariant.so_far c.in-Ok-run_command.ensures.runs);
+      (one_more_ran array options (described_covers c.args.self.now.parts) (described_sound c.args.self.now.parts options) _ _ _ (g.S.Store.shown c.loop-number.store) _ _ _ c.loop-number.invariant.so_far c.in-Ok-run_command.ensures.runs);
   long = c.push.ensures.len ∙ (ap (λ r. if is_ok r then vec_len c.loop-number.replies + 1 else vec_len c.loop-number.replies) c.unwrap.ensures ∙ ap (λ n. n + 1) c.loop-number.invariant.long);
   room = le_trans c.loop-number.invariant.room c.push.ensures.capacity;
 }
@@ -32,6 +32,6 @@ pub returns-in-Err-run_command-clause-runs : goal.returns-in-Err-run_command-cla
 returns-in-Err-run_command-clause-runs g c =
     let options = options_of c.args.options.now in
     let here = command_here command_of c.args.commands.now c.loop-number.number c.index-commands-number.result c.loop-number-test.true c.index-commands-number.is in
-    stops_at (described c.args.self.now) options (described_covers c.args.self.now) (described_sound c.args.self.now options)
+    stops_at (described c.args.self.now) options (described_covers c.args.self.now.parts) (described_sound c.args.self.now.parts options)
     (map command_of c.args.commands.now) c.loop-number.number (command_of c.index-commands-number.result) _ (g.S.Store.shown c.loop-number.store) _ _
     c.in-Err-run_command.error.chunks_done c.in-Err-run_command.error.kind here c.loop-number.invariant.so_far c.in-Err-run_command.ensures.runs

@@ -5,7 +5,7 @@ use Rattle.zarrs_array_subset.specs.ArraySubset.{region}
 use Rattle.zarr_array.specs.OpenArray.{described}
 use Rattle.zarrs_codec_traits.specs.Views.{options_of}
 use Rattle.zarr_array.specs.Runs.{Runs}
-use Rattle.zarr_array.proofs.ServedLaws.{described_covers, described_sound}
+use Rattle.zarr_array_parts.proofs.ServedLaws.{described_covers, described_sound}
 use Rattle.zarr_array.proofs.RunsLaws.{ran_gives, failed_gives}
 use Rattle.zarr_array.proofs.ReadCommand.{read-fails}
 use Rattle.zarr_array.proofs.FixedCommands.{bytes-read}
@@ -14,13 +14,13 @@ use Rattle.zarr_array.proofs.open.OpenArray.run_read.Goals as goal
 pub returns-in_err-elements-clause-runs : goal.returns-in_err-elements-clause-runs
 returns-in_err-elements-clause-runs g c =
     let p = err_from_is_err_and c.from_residual.result c.from_residual.ensures.1 in
-    rw (p.1, p.2) (failed_gives (described c.args.self.now) (options_of c.args.options.now) (described_covers c.args.self.now) (described_sound c.args.self.now (options_of c.args.options.now)) (read (region c.args.subset.now) ∷ []) (g.S.Store.shown c.args.store.now) (g.S.Store.shown c.read_elements.new.store) _ _
-    (read-fails c.args.self.now (options_of c.args.options.now) (region c.args.subset.now) _ (g.S.Store.shown c.args.store.now) (g.S.Store.shown c.read_elements.new.store)
-    _ (search rules) c.read_elements.ensures.same c.in_err-elements.ensures.failed)
-    (search rules) (search rules) c.read_elements.ensures.later)
+    rw (p.1, p.2) (failed_gives (described c.args.self.now) (options_of c.args.options.now) (described_covers c.args.self.now.parts) (described_sound c.args.self.now.parts (options_of c.args.options.now)) (read (region c.args.subset.now) ∷ []) (g.S.Store.shown c.args.store.now) (g.S.Store.shown c.read_elements.new.store) _ _
+    (read-fails c.args.self.now.parts (options_of c.args.options.now) (region c.args.subset.now) (g.S.Store.shown c.args.store.now) (g.S.Store.shown c.read_elements.new.store)
+    _ (search rules) c.in_err-elements.ensures)
+    (search rules) (search rules) c.in_err-elements.ensures.later)
 
 pub returns-clause-runs : goal.returns-clause-runs
 returns-clause-runs g c = subst (λ raw. Runs (described c.args.self.now) (options_of c.args.options.now) (read (region c.args.subset.now) ∷ []) (g.S.Store.shown c.args.store.now) (g.S.Store.shown c.read_elements.new.store) (Ok (answered raw ∷ [])))
-    (sym c.from.ensures) (ran_gives (described c.args.self.now) (options_of c.args.options.now) (described_covers c.args.self.now) (described_sound c.args.self.now (options_of c.args.options.now)) (read (region c.args.subset.now) ∷ []) (g.S.Store.shown c.args.store.now) (g.S.Store.shown c.read_elements.new.store) _
-    (bytes-read c.args.self.now (options_of c.args.options.now) (region c.args.subset.now) (g.S.Store.shown c.args.store.now) (g.S.Store.shown c.read_elements.new.store) c.in_ok-elements.elements.items
-    c.in_ok-elements.ensures.as_long (search rules) c.read_elements.ensures.same c.in_ok-elements.ensures.decodes c.in_ok-elements.ensures.elements c.in_ok-elements.ensures.asks c.read_elements.ensures.later))
+    (sym c.from.ensures) (ran_gives (described c.args.self.now) (options_of c.args.options.now) (described_covers c.args.self.now.parts) (described_sound c.args.self.now.parts (options_of c.args.options.now)) (read (region c.args.subset.now) ∷ []) (g.S.Store.shown c.args.store.now) (g.S.Store.shown c.read_elements.new.store) _
+    (bytes-read c.args.self.now.parts (options_of c.args.options.now) (region c.args.subset.now) (g.S.Store.shown c.args.store.now) (g.S.Store.shown c.read_elements.new.store) c.in_ok-elements.elements.items
+    (search rules) c.in_ok-elements.ensures))

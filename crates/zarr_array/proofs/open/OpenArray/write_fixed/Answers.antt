@@ -1,10 +1,10 @@
-use Rattle.std.proofs.Common.{rules, [], ◌∷◌}
+use Rattle.std.proofs.Common.{rules, [], ◌∷◌, le_trans}
 use Rattle.std.proofs.lemmas.Result.{err_from_is_err_and}
 use Rattle.zarr_model.specs.Prelude.{fixed_bytes, write}
 use Rattle.zarrs_array_subset.specs.ArraySubset.{region}
 use Rattle.zarr_array.specs.OpenArray.{described}
 use Rattle.zarrs_codec_traits.specs.Views.{options_of}
-use Rattle.zarr_array.proofs.ServedLaws.{described_covers, described_sound}
+use Rattle.zarr_array_parts.proofs.ServedLaws.{described_covers, described_sound}
 use Rattle.zarr_array.proofs.RunsLaws.{ran_gives, failed_gives}
 use Rattle.zarr_array.proofs.FixedCommands.{bytes-written, bytes-fail, bytes-fail-keys}
 use Rattle.zarr_array.proofs.open.OpenArray.write_fixed.Goals as goal
@@ -12,17 +12,18 @@ use Rattle.zarr_array.proofs.open.OpenArray.write_fixed.Goals as goal
 pub returns-in_err-write_elements-clause-runs : goal.returns-in_err-write_elements-clause-runs
 returns-in_err-write_elements-clause-runs g c =
     let p = err_from_is_err_and c.from_residual.result c.from_residual.ensures.1 in
-    rw (p.1, p.2) (failed_gives (described c.args.self.now) (options_of c.args.options.now) (described_covers c.args.self.now) (described_sound c.args.self.now (options_of c.args.options.now)) (write (region c.args.subset.now) (fixed_bytes c.args.elements.now) ∷ []) (g.S.Store.shown c.args.store.now) (g.S.Store.shown c.write_elements.new.store) _ _
-    (bytes-fail c.args.self.now (options_of c.args.options.now) (region c.args.subset.now) c.args.elements.now (search rules) (search rules)
+    rw (p.1, p.2) (failed_gives (described c.args.self.now) (options_of c.args.options.now) (described_covers c.args.self.now.parts) (described_sound c.args.self.now.parts (options_of c.args.options.now)) (write (region c.args.subset.now) (fixed_bytes c.args.elements.now) ∷ []) (g.S.Store.shown c.args.store.now) (g.S.Store.shown c.write_elements.new.store) _ _
+    (bytes-fail c.args.self.now.parts (options_of c.args.options.now) (region c.args.subset.now) c.args.elements.now (search rules) (search rules)
     (g.S.Store.shown c.args.store.now) (g.S.Store.shown c.write_elements.new.store)
-    _ _ c.in_err-write_elements.ensures.failed)
+    _ c.in_err-write_elements.ensures)
     (search rules)
-    (bytes-fail-keys c.args.self.now (options_of c.args.options.now) (region c.args.subset.now) c.args.elements.now (search rules) (search rules)
+    (bytes-fail-keys c.args.self.now.parts (options_of c.args.options.now) (region c.args.subset.now) c.args.elements.now (search rules) (search rules)
     (g.S.Store.shown c.args.store.now) (g.S.Store.shown c.write_elements.new.store)
-    c.in_err-write_elements.field-0.0.chunks_done c.in_err-write_elements.field-0.0.kind c.in_err-write_elements.ensures.failed) (search rules))
+    _ c.in_err-write_elements.ensures)
+    (le_trans c.in_err-write_elements.ensures.failed.changed.later c.in_err-write_elements.ensures.failed.later))
 
 pub returns-clause-runs : goal.returns-clause-runs
-returns-clause-runs g c = ran_gives (described c.args.self.now) (options_of c.args.options.now) (described_covers c.args.self.now) (described_sound c.args.self.now (options_of c.args.options.now)) (write (region c.args.subset.now) (fixed_bytes c.args.elements.now) ∷ []) (g.S.Store.shown c.args.store.now) (g.S.Store.shown c.write_elements.new.store) _
-    (bytes-written c.args.self.now (options_of c.args.options.now) (region c.args.subset.now) c.args.elements.now (search rules) (search rules)
+returns-clause-runs g c = ran_gives (described c.args.self.now) (options_of c.args.options.now) (described_covers c.args.self.now.parts) (described_sound c.args.self.now.parts (options_of c.args.options.now)) (write (region c.args.subset.now) (fixed_bytes c.args.elements.now) ∷ []) (g.S.Store.shown c.args.store.now) (g.S.Store.shown c.write_elements.new.store) _
+    (bytes-written c.args.self.now.parts (options_of c.args.options.now) (region c.args.subset.now) c.args.elements.now (search rules) (search rules)
     (g.S.Store.shown c.args.store.now) (g.S.Store.shown c.write_elements.new.store)
-    c.in_ok-write_elements.ensures.changed)
+    c.in_ok-write_elements.ensures)

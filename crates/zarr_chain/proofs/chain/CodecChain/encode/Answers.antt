@@ -1,11 +1,12 @@
-use Rattle.std.proofs.Common.{rules}
+use Rattle.std.proofs.Common.{rules, inl}
+use Rattle.std.proofs.lemmas.Result.{err_from_is_err_and}
 use Rattle.zarrs_data_type_elements.specs.FillValue.{fill_bytes}
 use Rattle.zarrs_codec_array_bytes.specs.Raw.{raw_of}
 use Rattle.zarrs_codec_traits.specs.Words.{list_at}
 use Rattle.zarr_chain.specs.Levels.{above}
 use Rattle.zarr_chain.specs.Chain.{first_level}
 use Rattle.zarr_chain.proofs.LevelLaws.{some-below}
-use Rattle.zarr_chain.proofs.ChainLaws.{some_of, memory_taken, invalid_below, taken_below, list_back, ok_of}
+use Rattle.zarr_chain.proofs.ChainLaws.{some_of, memory_taken, refused_beyond, taken_beyond, answers_error, answers_last, invalid_below, taken_below, list_back, ok_of}
 use Rattle.zarr_chain.proofs.chain.CodecChain.encode.Goals as goal
 
 pub returns-in_err-below-clause-memory : goal.returns-in_err-below-clause-memory
@@ -63,3 +64,36 @@ returns-clause-value g c = λ xs means.
     ok_of _ _ _ c.encode_through.result (λ v back. λ under. list_back g.A.ArrayToArrayCodecTraits.meaning g.A.ArrayCodecTraits.unserved list.meaning list.says bytes.meaning bytes.says self under
     v.items c.in_ok-value.value.items (list_at bottom (raw_of c.in_ok-below.below)) xs c.requires.linked (back under) (each under) got)
     through
+
+pub returns-in_err-below-clause-beyond : goal.returns-in_err-below-clause-beyond
+returns-in_err-below-clause-beyond g c = λ list means.
+    let p = err_from_is_err_and c.from_residual.result c.from_residual.ensures.1 in
+    let down = rw c.deref.ensures.value at c.in_err-below.ensures.value in
+    rw (p.1, p.2) (inl (down (above c.args.self.now.bottom) list c.requires.linked means))
+
+pub returns-in_err-value-clause-beyond : goal.returns-in_err-value-clause-beyond
+returns-in_err-value-clause-beyond g c = λ list means.
+    let p = err_from_is_err_and c.from_residual-in_err-value.result c.from_residual-in_err-value.ensures.1 in
+    let self = c.args.self.now in
+    let bottom = above self.bottom in
+    let code = g.B.ArrayToBytesCodecTraits in
+    let got = (rw c.deref.ensures.value at c.in_ok-below.ensures.value) bottom list c.requires.linked means in
+    let raw = raw_of c.in_ok-below.below in
+    let here = some-below g.A.ArrayToArrayCodecTraits.meaning g.A.ArrayCodecTraits.unserved bottom self.levels.items (list_at bottom raw) list got in
+    let refused = (rw c.deref-2.ensures.value at c.in_err-value.ensures.exact) c.requires.served in
+    rw (p.1, p.2) (answers_error g.A.ArrayToArrayCodecTraits.meaning (code.beyond self.bottom.codec bottom) self.levels.items bottom list (raw_of c.args.bytes) raw
+    (record { means = got; same = rw c.deref.ensures.value at c.in_ok-below.ensures.none }) c.in_err-value.field-0.0
+    (refused_beyond bottom raw (code.beyond self.bottom.codec bottom raw) c.in_err-value.field-0.0 here refused))
+
+pub returns-clause-beyond : goal.returns-clause-beyond
+returns-clause-beyond g c = λ list means.
+    let self = c.args.self.now in
+    let bottom = above self.bottom in
+    let code = g.B.ArrayToBytesCodecTraits in
+    let got = (rw c.deref.ensures.value at c.in_ok-below.ensures.value) bottom list c.requires.linked means in
+    let raw = raw_of c.in_ok-below.below in
+    let here = some-below g.A.ArrayToArrayCodecTraits.meaning g.A.ArrayCodecTraits.unserved bottom self.levels.items (list_at bottom raw) list got in
+    let taken = (rw c.deref-2.ensures.value at c.in_ok-value.ensures.exact) c.requires.served in
+    answers_last g.A.ArrayToArrayCodecTraits.meaning (code.beyond self.bottom.codec bottom) self.levels.items bottom list (raw_of c.args.bytes) raw
+    (record { means = got; same = rw c.deref.ensures.value at c.in_ok-below.ensures.none }) _ c.encode_through.result
+    (taken_beyond bottom raw (code.beyond self.bottom.codec bottom raw) here taken) c.encode_through.ensures

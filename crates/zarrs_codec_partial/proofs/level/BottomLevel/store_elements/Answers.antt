@@ -1,18 +1,18 @@
-use Rattle.std.proofs.Common.{◌∙◌, Bool, not, sym, ap, subst}
+use Rattle.std.proofs.Common.{◌∙◌, not, sym, ap}
 use Rattle.zarr_model.specs.Region.{count_of}
 use Rattle.zarr_model.specs.Element.{kind_of}
-use Rattle.zarr_model.proofs.BytesLaws.{length-meaning}
+use Rattle.zarr_model.specs.Codec.{Options}
 use Rattle.zarrs_codec_array_bytes.specs.Raw.{raw_of}
 use Rattle.zarrs_codec_traits.specs.Views.{options_of}
-use Rattle.zarr_model.specs.Codec.{Options}
 use Rattle.zarrs_codec_traits.specs.Errors.{unserved_at}
-use Rattle.zarrs_codec_partial_traits.specs.ListWrites.{PutsList}
-use Rattle.zarrs_codec_partial.specs.Level.{bottom_level, bottom_fill, listed}
-use Rattle.zarrs_codec_partial.proofs.WriteLaws.{puts_absent, dropped_list}
+use Rattle.zarrs_codec_partial_traits.proofs.UpdateLaws.{stores_not}
+use Rattle.zarrs_codec_partial.specs.Level.{bottom_level, bottom_fill, seen_by}
+use Rattle.zarrs_codec_partial.specs.Writing.{IsBeyond}
+use Rattle.zarrs_codec_partial.proofs.WriteLaws.{positive, stores_value, stores_none, beyond_told, short_told}
 use Rattle.zarrs_codec_partial.proofs.level.BottomLevel.store_elements.Goals as goal
 
-pub returns-then-is_dropped-clause-puts : goal.returns-then-is_dropped-clause-puts
-returns-then-is_dropped-clause-puts g c = λ list served some means.
+pub returns-then-is_dropped-clause-stores : goal.returns-then-is_dropped-clause-stores
+returns-then-is_dropped-clause-stores g c =
     let level = bottom_level c.args.self.now in
     let fill = bottom_fill c.args.self.now in
     let code = g.C.ArrayToBytesCodecTraits in
@@ -20,15 +20,13 @@ returns-then-is_dropped-clause-puts g c = λ list served some means.
     let means_at = (λ (under : Options). code.meaning c.args.self.now.codec under level) in
     let request = code.request c.args.self.now.codec level.shape level.data_type in
     let handle = g.H.BytesPartialDecoderTraits in
-    let old = handle.seen c.args.handle.now in
-    let new = handle.seen c.erase.new.self in
-    let dropped = sym (ap not c.if-is_dropped.true) ∙ c.is_dropped.ensures list some means in
-    let long = length-meaning (kind_of level.data_type) (count_of level.shape) (raw_of c.args.bytes) list means in
-    subst (λ (b : Bool). PutsList b list (listed level fill unserved means_at request old) (listed level fill unserved means_at request new) c.erase.result) dropped
-    (puts_absent level fill unserved means_at request list old new c.erase.result (g.met.H.BytesPartialDecoderTraits.sound c.erase.new.self) (dropped_list level fill (options_of c.args.options.now) list long dropped) c.erase.ensures.writes)
+    let under = options_of c.args.options.now in
+    stores_none level fill unserved means_at request under (raw_of c.args.bytes) _ _ (handle.seen c.args.handle.now) (handle.seen c.erase.new.self) c.erase.result (g.met.H.BytesPartialDecoderTraits.sound c.erase.new.self)
+    (λ list filled means. sym (ap not c.if-is_dropped.true) ∙ c.is_dropped.ensures (kind_of level.data_type) (count_of level.shape) list (positive c.args.self.now.shape.items) filled means)
+    c.erase.ensures.writes c.erase.ensures.unasked c.erase.ensures.cause
 
-pub returns-clause-puts : goal.returns-clause-puts
-returns-clause-puts g c = λ list served some means.
+pub returns-in-Ok-clause-stores : goal.returns-in-Ok-clause-stores
+returns-in-Ok-clause-stores g c =
     let level = bottom_level c.args.self.now in
     let fill = bottom_fill c.args.self.now in
     let code = g.C.ArrayToBytesCodecTraits in
@@ -36,7 +34,24 @@ returns-clause-puts g c = λ list served some means.
     let means_at = (λ (under : Options). code.meaning c.args.self.now.codec under level) in
     let request = code.request c.args.self.now.codec level.shape level.data_type in
     let handle = g.H.BytesPartialDecoderTraits in
-    let old = handle.seen c.args.handle.now in
-    let new = handle.seen c.replace_elements.new.handle in
-    let kept = sym (ap not c.if-is_dropped.false) ∙ c.is_dropped.ensures list some means in
-    subst (λ (b : Bool). PutsList b list (listed level fill unserved means_at request old) (listed level fill unserved means_at request new) c.replace_elements.result) kept (c.replace_elements.ensures.puts list served some means)
+    let under = options_of c.args.options.now in
+    stores_value level fill unserved means_at request under (raw_of c.args.bytes) _ _ c.in-Ok.value.items (handle.seen c.args.handle.now) (handle.seen c.replace.new.self) c.replace.result (g.met.H.BytesPartialDecoderTraits.sound c.replace.new.self)
+    (λ list filled means. sym (ap not c.if-is_dropped.false) ∙ c.is_dropped.ensures (kind_of level.data_type) (count_of level.shape) list (positive c.args.self.now.shape.items) filled means)
+    (rw c.deref.ensures.value at c.in-Ok.ensures.value) (rw c.deref-in-Ok.ensures.value at c.replace.ensures.writes) c.replace.ensures.unasked c.replace.ensures.cause
+
+pub returns-in-Err-clause-stores : goal.returns-in-Err-clause-stores
+returns-in-Err-clause-stores g c =
+    let level = bottom_level c.args.self.now in
+    let fill = bottom_fill c.args.self.now in
+    let code = g.C.ArrayToBytesCodecTraits in
+    let unserved = unserved_at (g.C.ArrayCodecTraits.unserved c.args.self.now.codec) level fill in
+    let means_at = (λ (under : Options). code.meaning c.args.self.now.codec under level) in
+    let request = code.request c.args.self.now.codec level.shape level.data_type in
+    let handle = g.H.BytesPartialDecoderTraits in
+    let under = options_of c.args.options.now in
+    let exact = rw c.deref.ensures.value at c.in-Err.ensures.exact in
+    let beyond = code.beyond c.args.self.now.codec level in
+    stores_not under (raw_of c.args.bytes) (IsBeyond beyond level) (code.takes c.args.self.now.codec level)
+    (seen_by c.args.self.now (g.C.ArrayCodecTraits.unserved c.args.self.now.codec) (code.meaning c.args.self.now.codec) (code.request c.args.self.now.codec) (handle.seen c.args.handle.now)) c.in-Err.error
+    (λ list served filled means. beyond_told level (raw_of c.args.bytes) list beyond _ _ c.in-Err.error means (exact served))
+    (λ served filled few takes there short. short_told level (raw_of c.args.bytes) beyond _ _ c.in-Err.error there (g.met.C.ArrayToBytesCodecTraits.taken c.args.self.now.codec level fill (raw_of c.args.bytes) served takes there short) (exact served))

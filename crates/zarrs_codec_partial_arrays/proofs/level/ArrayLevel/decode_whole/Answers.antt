@@ -6,7 +6,8 @@ use Rattle.zarrs_codec_array_bytes.specs.Raw.{raw_of}
 use Rattle.zarrs_codec_traits.specs.Views.{options_of}
 use Rattle.zarrs_codec_partial_traits.specs.Lists.{IsListError}
 use Rattle.zarrs_codec_partial_arrays.specs.Above.{array_level, array_fill}
-use Rattle.zarrs_codec_partial_arrays.proofs.AboveLaws.{all_few, all_valid, all_means, above_of, above_some, above_told, valid_fails, ok_always, denoted_fill, below_fill, decoded_means, decoded_valid, whole_inside}
+use Rattle.zarrs_codec_partial_arrays.proofs.AboveLaws.{all_few, all_valid, all_means, above_of, above_some, above_told, valid_fails, ok_always, denoted_fill, below_fill, decoded_means, decoded_valid, all_below}
+use Rattle.zarrs_codec_partial_traits.proofs.BoxLaws.{whole_inside}
 use Rattle.zarrs_codec_partial_arrays.proofs.level.ArrayLevel.decode_whole.Goals as goal
 
 pub partial_decode-requires : goal.partial_decode-requires
@@ -87,6 +88,23 @@ returns-in-Ok-partial_decode-clause-decodes g c = λ ok some there all.
     let old = g.H.ArrayPartialDecoderTraits.seen c.args.handle.now in
     let read = subst (λ (b : Region). old.whole (Some b) ≡ true) (sym c.in-Ok.ensures) all in
     ok_always c.decode.result (above_some (meaning.decode_list level) (old.list under) (c.in-Ok-partial_decode.ensures.decodes ok there read)
+    (λ ys e. laws.decodes codec level fill ys c.requires.served (g.met.H.ArrayPartialDecoderTraits.counted c.args.handle.now under ys ok e ∙ ap count_of c.requires.below.shape)))
+
+pub returns-in-Ok-partial_decode-clause-all : goal.returns-in-Ok-partial_decode-clause-all
+returns-in-Ok-partial_decode-clause-all g c = λ ok some.
+    let level = array_level c.args.self.now in
+    let fill = array_fill c.args.self.now in
+    let under = options_of c.args.options.now in
+    let code = g.C.ArrayToArrayCodecTraits in
+    let laws = g.met.C.ArrayToArrayCodecTraits in
+    let codec = c.args.self.now.codec in
+    let meaning = code.meaning codec in
+    let below = meaning.level_below level in
+    let old = g.H.ArrayPartialDecoderTraits.seen c.args.handle.now in
+    let denoted = laws.denotes codec level fill c.requires.served (denoted_fill (fill_element (kind_of level.data_type) fill) some) in
+    let filled = below_fill meaning (code.fill_below codec) level fill old below.fill c.requires.below denoted in
+    let all = all_below meaning (code.fill_below codec) level fill old c.requires.below (box_of c.in-Ok.all) c.in-Ok.ensures in
+    ok_always c.decode.result (above_some (meaning.decode_list level) (old.list under) (c.in-Ok-partial_decode.ensures.all ok filled all)
     (λ ys e. laws.decodes codec level fill ys c.requires.served (g.met.H.ArrayPartialDecoderTraits.counted c.args.handle.now under ys ok e ∙ ap count_of c.requires.below.shape)))
 
 pub returns-in-Ok-clause-failed : goal.returns-in-Ok-clause-failed

@@ -1,0 +1,13 @@
+pub mod FormLaws
+pub mod FixedLaws
+pub mod PlaceLaws
+pub mod MetLaws
+pub mod ChunkLaws
+pub mod ToldLaws
+pub mod FetchSteps
+pub mod ReadLaws
+pub mod DecodeLaws
+pub mod ReadSteps
+pub mod StoredLaws
+pub mod PartWayLaws
+pub mod WriteSteps

@@ -1,0 +1,69 @@
+-- The chunks that a region meets, by their numbers.
+use Rattle.std.proofs.Common.{◌≡◌, ℕ, zero, suc, ◌+◌, ◌<◌, true, List, [], ◌∷◌, length, get_or, slice_get, Some, nat_le, refl, sym, ap, ◌∙◌, subst, arith}
+use Rattle.std.proofs.lemmas.Bool.{and_parts}
+use Rattle.zarr_model.specs.Prelude.{Region, count, tuples, tuple_at, ends_within, Grid, IsChunk, chunks_meeting, CoversShape}
+use Rattle.zarr_model.proofs.RegionLaws.{length-tuples, get_or-tuples}
+use Rattle.zarr_model.proofs.FailureLaws.{meeting_is}
+use Rattle.zarrs_array_subset.specs.ArraySubset.{region as region_of_subset}
+use Rattle.zarr_array_parts.specs.Parts.{described}
+use Rattle.zarr_array_parts.specs.Sizes.{have_chunks}
+use Rattle.zarr_array_parts.proofs.ChunkLaws.{some_chunk}
+use Rattle.zarr_array_parts.proofs.ServedLaws.{described_covers}
+use Rattle.zarr_array_regions.specs.declared.region_chunks.RegionChunks.{RegionChunks}
+use Rattle.zarr_array_regions.specs.RegionChunks.{chunk_at, AreMet}
+
+-- a place of a list
+slice_get-at : {A : Type 0} (xs : List A) (k : ℕ) (x : A) → k < length xs → get_or xs k x ≡ x → slice_get xs k ≡ Some x
+slice_get-at [] k x h e = absurd (omega arith)
+slice_get-at (y ∷ ys) zero x h e = ap Some e
+slice_get-at (y ∷ ys) (suc k) x h e = slice_get-at ys k x (omega arith) e
+
+-- the chunk at a place of a box of chunks that lists those that a region meets
+pub met_at : (grid : Grid) (region chunks : Region) (number : ℕ) → tuples chunks ≡ chunks_meeting grid region → number < count chunks →
+    (slice_get (chunks_meeting grid region) number ≡ Some (tuple_at chunks number)) × IsChunk grid (tuple_at chunks number)
+met_at grid region chunks number listed below =
+    let here : slice_get (tuples chunks) number ≡ Some (tuple_at chunks number) =
+    slice_get-at (tuples chunks) number (tuple_at chunks number) (subst (λ n. number < n) (sym (length-tuples chunks)) below) (get_or-tuples chunks number (tuple_at chunks number) below) in
+    let met : slice_get (chunks_meeting grid region) number ≡ Some (tuple_at chunks number) = ap (λ l. slice_get l number) (sym listed) ∙ here in
+    (met, (meeting_is grid region number (tuple_at chunks number) met).0)
+
+rank_within : (region : Region) (shape : List ℕ) → ends_within region shape ≡ true → length region ≡ length shape
+rank_within [] [] e = refl
+rank_within [] (n ∷ shape) e = cc
+rank_within (span ∷ region) [] e = cc
+rank_within (span ∷ region) (n ∷ shape) e = ap suc (rank_within region shape (and_parts (nat_le (span.start + span.size) n) (ends_within region shape) e).1)
+
+pub met_rank : (shape : List ℕ) (grid : Grid) (region : Region) (chunk : List ℕ) → CoversShape shape grid → ends_within region shape ≡ true → IsChunk grid chunk →
+    length region ≡ length (grid.chunk_box chunk)
+met_rank shape grid region chunk covers inside is_chunk = rank_within region shape inside ∙ sym (covers.box_rank chunk is_chunk)
+
+pub count_met : (grid : Grid) (region chunks : Region) → tuples chunks ≡ chunks_meeting grid region → count chunks ≡ length (chunks_meeting grid region)
+count_met grid region chunks listed = sym (length-tuples chunks) ∙ ap length listed
+
+-- no chunk is met, or there is one
+no_items : {A : Type 0} (xs : List A) → length xs ≡ 0 → xs ≡ []
+no_items [] e = refl
+no_items (x ∷ xs) e = cc
+
+module _ (grid : Grid) (region chunks : Region) (listed : tuples chunks ≡ chunks_meeting grid region) where
+  pub none_met : count chunks ≡ 0 → chunks_meeting grid region ≡ []
+  none_met none = no_items (chunks_meeting grid region) (sym (count_met grid region chunks listed) ∙ none)
+
+  pub some_met : (count chunks ≡ 0 → ⊥) → have_chunks grid.grid_shape ≡ true
+  some_met some = some_chunk grid.grid_shape (tuple_at chunks 0) (met_at grid region chunks 0 listed (omega (arith, some))).1
+
+module _ (chunks : RegionChunks) (are : AreMet chunks) where
+  -- the number of the last one
+  pub num_met : count (region_of_subset chunks.chunks) ≡ length (chunks_meeting (described chunks.array.now).grid (region_of_subset chunks.subset.now))
+  num_met = count_met (described chunks.array.now).grid (region_of_subset chunks.subset.now) (region_of_subset chunks.chunks) are.listed
+
+  module _ (number : ℕ) (below : number < count (region_of_subset chunks.chunks)) where
+    pub met_here : slice_get (chunks_meeting (described chunks.array.now).grid (region_of_subset chunks.subset.now)) number ≡ Some (chunk_at chunks number)
+    met_here = (met_at (described chunks.array.now).grid (region_of_subset chunks.subset.now) (region_of_subset chunks.chunks) number are.listed below).0
+
+    pub met_chunk : IsChunk (described chunks.array.now).grid (chunk_at chunks number)
+    met_chunk = (met_at (described chunks.array.now).grid (region_of_subset chunks.subset.now) (region_of_subset chunks.chunks) number are.listed below).1
+
+    pub its_rank : length (region_of_subset chunks.subset.now) ≡ length ((described chunks.array.now).grid.chunk_box (chunk_at chunks number))
+    its_rank = met_rank (described chunks.array.now).shape (described chunks.array.now).grid (region_of_subset chunks.subset.now) (chunk_at chunks number)
+        (described_covers chunks.array.now) are.inside met_chunk

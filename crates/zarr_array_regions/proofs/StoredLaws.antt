@@ -1,0 +1,158 @@
+-- What is stored of a chunk's elements, and what it stands for.
+use Rattle.std.proofs.Common.{◌≡◌, ℕ, ◌<◌, ◌≤◌, ◌||◌, ◌&&◌, not, Bool, true, false, if◌then◌else◌, List, [], ◌∷◌, length, replicate, Option, Some, None, IsSome, is_some, get_or, refl, sym, ap, ap₂, ◌∙◌, subst, arith, ◌⊎◌, inl, inr, ⊎_elim}
+use Rattle.std.specs.List.{list_all}
+use Rattle.std.proofs.lemmas.Bool.{and_parts}
+use Rattle.std.proofs.lemmas.Slice.Eq.{bytes_eq-Decides}
+use Rattle.std.proofs.lemmas.List.{length-map, get_or-map, get_or_default, same_lists}
+use Rattle.zarr_model.specs.Prelude.{Region, count, sizes, contains, tuples, place, tuple_at, Element, of_bytes, null, some, same_element, Array, elements_in, written, Options, Content, Layout, box_content, chunk_content, Shown, Description, layout, ChunkHas, Rose}
+use Rattle.zarr_model.proofs.RegionLaws.{length-tuples, get_or-tuples}
+use Rattle.zarrs_storage.specs.Store.{IsFault, IsPlain}
+use Rattle.zarrs_storage.specs.declared.store.StorageError.{StorageError}
+use Rattle.zarrs_storage.specs.declared.store.StorageError.TheVariants as Storage
+use Rattle.zarrs_codec_bytes.specs.Overlap.{Copied}
+use Rattle.zarr_chain_stored.specs.Put.{HoldsList, IsPut, PutsChunk, MayPutChunk}
+use Rattle.zarr_array_regions.specs.Chunk.{is_dropped, storage_kind}
+use Rattle.zarr_array_regions.specs.Write.{ChangesChunk, FailsToChange}
+
+-- elements that are all the same
+same_is : (x y : Element) → same_element x y ≡ true → x ≡ y
+same_is (of_bytes value) (of_bytes other) e = ap of_bytes ((bytes_eq-Decides value other).0 e)
+same_is (of_bytes value) null e = cc
+same_is (of_bytes value) (some other) e = cc
+same_is null (of_bytes other) e = cc
+same_is null null e = refl
+same_is null (some other) e = cc
+same_is (some x) (of_bytes other) e = cc
+same_is (some x) null e = cc
+same_is (some x) (some y) e = ap some (same_is x y e)
+
+all_same : (fill : Element) (list : List Element) → list_all (same_element fill) list ≡ true → list ≡ replicate (length list) fill
+all_same fill [] e = refl
+all_same fill (x ∷ list) e =
+    let parts = and_parts (same_element fill x) (list_all (same_element fill) list) e in
+    ap₂ (λ a b. a ∷ b) (sym (same_is fill x parts.0)) (all_same fill list parts.1)
+
+-- the list that replaces a box's elements at a region's tuples is the box's part of the written array
+pub updated_box : {E : Type 0} (box region : Region) (list old new : List E) (array : Array E) → old ≡ elements_in box array → length new ≡ count box →
+    ((k : ℕ) (d : E) → k < count box → get_or new k d ≡ (if contains region (tuple_at box k) then get_or list (place region (tuple_at box k)) array.fill else get_or old k d)) →
+    new ≡ elements_in box (written region list array)
+updated_box {E} box region list old new array was full each =
+    let after : Array E = written region list array in
+    let long : length (elements_in box after) ≡ count box = length-map (tuples box) after.element ∙ length-tuples box in
+    same_lists new (elements_in box after) (full ∙ sym long) (λ k d h.
+    let below : k < count box = subst (λ n. k < n) full h in
+    let within : k < length (tuples box) = subst (λ n. k < n) (sym (length-tuples box)) below in
+    each k d below
+    ∙ (ap (λ e. if contains region (tuple_at box k) then get_or list (place region (tuple_at box k)) array.fill else e)
+    (ap (λ l. get_or l k d) was ∙ (get_or-map array.element (tuples box) k [] d within ∙ ap array.element (get_or-tuples box k [] below)))
+    ∙ (ap after.element (sym (get_or-tuples box k [] below)) ∙ sym (get_or-map after.element (tuples box) k [] d within))))
+
+-- a chunk's elements with a region's put in are those of the written array
+put-elements : {E : Type 0} (region box : Region) (elements old list : List E) (array : Array E) → length old ≡ count box → old ≡ elements_in box array → Copied box region elements old list →
+    list ≡ elements_in box (written region elements array)
+put-elements region box elements old list array long was copied =
+    let full : length list ≡ count box = copied.as_long ∙ long in
+    updated_box box region elements old list array was full (λ k d below.
+    get_or_default list k d array.fill (subst (λ m. k < m) (sym full) below)
+    ∙ (copied.each k array.fill below
+    ∙ ap (λ e. if contains region (tuple_at box k) then get_or elements (place region (tuple_at box k)) array.fill else e)
+    (get_or_default old k array.fill d (subst (λ m. k < m) (sym long) below))))
+
+some_one : {A : Type 0} {a b : A} → Some a ≡ Some b → a ≡ b
+some_one e = cc
+
+-- what was put stands for the elements, and is there exactly where it was not dropped
+put-content : (place : Layout Element) (box : Region) (drops : Bool) (list : List Element) (value : Option (List ℕ)) →
+    (drops ≡ true → list ≡ replicate (count box) place.fill) → IsPut (place.decode (sizes box)) drops list value → box_content place box value ≡ Some list
+put-content place box true list value all put = ap (box_content place box) put ∙ ap Some (sym (all refl))
+put-content place box false list None all put = absurd put
+put-content place box false list (Some value) all put = put
+
+put-there : (decode : List ℕ → Option (List Element)) (drops : Bool) (list : List Element) (value : Option (List ℕ)) → IsPut decode drops list value → is_some value ≡ not drops
+put-there decode true list value put = ap is_some put
+put-there decode false list None put = absurd put
+put-there decode false list (Some value) put = refl
+
+held-content : (place : Layout Element) (box : Region) (list : List Element) (value : Option (List ℕ)) → HoldsList (place.decode (sizes box)) list value → box_content place box value ≡ Some list
+held-content place box list None holds = absurd holds
+held-content place box list (Some value) holds = holds
+
+not_dropped : (keeps blank : Bool) → not (not keeps && blank) ≡ keeps || not blank
+not_dropped true blank = refl
+not_dropped false blank = refl
+
+dropped_blank : (keeps blank : Bool) → (not keeps && blank) ≡ true → blank ≡ true
+dropped_blank false blank e = e
+dropped_blank true blank e = cc
+
+-- a chunk's elements were fetched, a region's elements were put in, and they are to be stored
+module _ (description : Description) (options : Options) (region : Region) (chunk key : List ℕ) (elements old list : List Element) (before : Shown)
+    (its_key : key ≡ description.key chunk)
+    (fetched : chunk_content (layout description options) before.content chunk ≡ Some old)
+    (long : length old ≡ count (description.grid.chunk_box chunk))
+    (copied : Copied (description.grid.chunk_box chunk) region elements old list) where
+  abbrev place_of : Layout Element
+  place_of = layout description options
+
+  abbrev box : Region
+  box = description.grid.chunk_box chunk
+
+  abbrev change : Array Element → Array Element
+  change = written region elements
+
+  abbrev drops : Bool
+  drops = is_dropped description options list
+
+  was : (plain : Array Element) → ChunkHas place_of before.content plain chunk → old ≡ elements_in box plain
+  was plain has = some_one (sym fetched ∙ has)
+
+  now_is : (plain : Array Element) → ChunkHas place_of before.content plain chunk → list ≡ elements_in box (change plain)
+  now_is plain has = put-elements region box elements old list plain long (was plain has) copied
+
+  all_fill : drops ≡ true → list ≡ replicate (count box) description.fill
+  all_fill dropped =
+      all_same description.fill list (dropped_blank options.store_empty_chunks (list_all (same_element description.fill) list) dropped)
+      ∙ ap (λ n. replicate n description.fill) (copied.as_long ∙ long)
+
+  content_is : (after : Content) → IsPut (place_of.decode (sizes box)) drops list (after key) → chunk_content place_of after chunk ≡ Some list
+  content_is after put = ap (λ k. box_content place_of box (after k)) (sym its_key) ∙ put-content place_of box drops list (after key) all_fill put
+
+  has_held : (after : Content) (plain : Array Element) → HoldsList (place_of.decode (sizes box)) list (after key) → ChunkHas place_of before.content plain chunk →
+      ChunkHas place_of after (change plain) chunk
+  has_held after plain holds has =
+      ap (λ k. box_content place_of box (after k)) (sym its_key) ∙ (held-content place_of box list (after key) holds ∙ ap Some (now_is plain has))
+
+  pub chunk-changed : (mid after : Content) → ((other : List ℕ) → mid other ≡ before.content other) → PutsChunk (place_of.decode (sizes box)) drops list mid after key →
+      ChangesChunk description options change chunk before.content after
+  chunk-changed mid after same puts = record {
+    decoded = subst IsSome (sym fetched) refl;
+    mended = subst IsSome (sym (content_is after puts.here)) refl;
+    has = λ plain filler has. content_is after puts.here ∙ ap Some (now_is plain has);
+    present = λ plain filler has.
+        ap (λ k. is_some (after k)) (sym its_key)
+        ∙ (put-there (place_of.decode (sizes box)) drops list (after key) puts.here
+        ∙ (not_dropped options.store_empty_chunks (list_all (same_element description.fill) list)
+        ∙ ap (λ t. options.store_empty_chunks || not t)
+        (ap₂ (λ f l. list_all (same_element f) l) (sym filler) (now_is plain has))));
+    others = λ other apart. puts.others other (λ e. apart (e ∙ its_key)) ∙ same other;
+  }
+
+  pub chunk-stops : (mid now : Shown) (error : StorageError) → ((other : List ℕ) → mid.content other ≡ before.content other) →
+      MayPutChunk (place_of.decode (sizes box)) list mid.content now.content key →
+      (error ≡ Storage.OutOfMemory → (other : List ℕ) → now.content other ≡ mid.content other) → (IsFault error → Rose mid.faults now.faults) → before.faults ≤ mid.faults → IsPlain error →
+      FailsToChange description options change chunk before now (storage_kind error)
+  chunk-stops mid now (Storage.InvalidByteRange range) same puts memory rose later plain = absurd plain
+  chunk-stops mid now Storage.OutOfMemory same puts memory rose later plain = λ other. memory refl other ∙ same other
+  chunk-stops mid now Storage.Failed same puts memory rose later plain = (
+    omega (arith, rose tt),
+    record {
+      here = λ plain filler has. ⊎_elim
+          (λ (kept : now.content key ≡ mid.content key). inl (ap now.content (sym its_key) ∙ (kept ∙ (same key ∙ ap before.content its_key))))
+          (λ (other : HoldsList (place_of.decode (sizes box)) list (now.content key) ⊎ (now.content key ≡ None)). ⊎_elim
+          (λ (new : HoldsList (place_of.decode (sizes box)) list (now.content key)). inr (inl (has_held now.content plain new has)))
+          (λ (gone : now.content key ≡ None). inr (inr (ap now.content (sym its_key) ∙ gone)))
+          other)
+          puts.here;
+      others = λ other apart. puts.others other (λ e. apart (e ∙ its_key)) ∙ same other;
+    },
+  )

@@ -1,0 +1,108 @@
+-- The steps of writing to a region.
+use Rattle.std.proofs.Common.{◌≡◌, ℕ, ◌+◌, ◌-◌, ◌^◌, ◌≤◌, List, [], length, slice_get, Some, Result, Ok, Err, sym, ap, ◌∙◌, subst, subst₂, le_trans, inl, inr}
+use Rattle.zarr_model.specs.Prelude.{Region, count, Element, Array, chunks_meeting, Options, Shown, layout, chunk_content}
+use Rattle.zarrs_storage.specs.declared.store.StorageError.{StorageError}
+use Rattle.zarrs_codec_bytes.specs.Elements.{fixed_elements}
+use Rattle.zarrs_codec_bytes.specs.Overlap.{Copied}
+use Rattle.zarrs_codec_bytes.proofs.FixedLaws.{length-elements}
+use Rattle.zarr_array_parts.specs.Parts.{documented, described}
+use Rattle.zarr_array_parts.specs.declared.parts.ArrayParts.{ArrayParts}
+use Rattle.zarr_array_parts.proofs.ServedLaws.{described_sound}
+use Rattle.zarr_array_regions.specs.declared.error.SessionErrorKind.{SessionErrorKind}
+use Rattle.zarr_array_regions.specs.declared.error.SessionErrorKind.TheVariants.{NotOpened, ChunkDecode, Store, OutOfMemory}
+use Rattle.zarr_array_regions.specs.Chunk.{storage_kind, FailsToFetch}
+use Rattle.zarr_array_regions.specs.CommandError.{before_chunks}
+use Rattle.zarr_array_regions.specs.Fetch.{HasAsked, HasElements, NotFetched}
+use Rattle.zarr_array_regions.specs.Store.{StoresElements}
+use Rattle.zarr_array_regions.specs.Write.{change_of, FailsToChange, HasWrittenChunk, NotWrittenChunk}
+use Rattle.zarr_array_regions.specs.PartWay.{ChangedSome, HasWrittenRegion, NotWrittenRegion}
+use Rattle.zarr_array_regions.proofs.StoredLaws.{chunk-changed, chunk-stops}
+use Rattle.zarr_array_regions.proofs.ToldLaws.{told_of_storage}
+use Rattle.zarr_array_regions.proofs.PartWayLaws.{changed-start, changed-step, changed-fails, changed-starved, met-chunks, met-once}
+
+-- a call that ended so
+abbrev pub as_error : (T : Type 0) → StorageError → Result T StorageError
+as_error T error = Err error
+
+-- one chunk
+module _ (array : ArrayParts) (options : Options) (region : Region) (chunk bytes : List ℕ) where
+  abbrev change : Array Element → Array Element
+  change = change_of array region bytes
+
+  abbrev box : Region
+  box = (described array).grid.chunk_box chunk
+
+  -- what is not fetched is not changed
+  pub unfetched : (before now : Shown) (kind : SessionErrorKind) → NotFetched array options chunk before now kind → NotWrittenChunk array options change chunk before now kind
+  unfetched before now kind fails = record { failed = by_kind kind fails.failed; told = fails.told; asks = fails.asks; later = fails.later }
+    where
+      by_kind : (kind : SessionErrorKind) → FailsToFetch (chunk_content (layout (described array) options) before.content chunk) ((described array).key chunk) before now kind →
+          FailsToChange (described array) options change chunk before now kind
+      by_kind (NotOpened error) none = none
+      by_kind (ChunkDecode key error) (its_key, damaged) = (sym its_key, damaged, fails.same)
+      by_kind Store rose = (rose, record { here = λ plain filler has. inl (fails.same ((described array).key chunk)); others = λ other apart. fails.same other })
+      by_kind OutOfMemory none = fails.same
+
+  module _ (key value list : List ℕ) (before mid now : Shown) (its_key : key ≡ (described array).key chunk) (held : HasElements array options chunk before value) (asked : HasAsked before mid)
+      (copied : Copied box region (fixed_elements array.size bytes) (fixed_elements array.size value) (fixed_elements array.size list)) where
+    -- its elements with the region's in them were stored
+    pub is_written : {T : Type 0} (v : T) → StoresElements array options chunk (fixed_elements array.size list) key mid now (Ok v) → HasWrittenChunk array options change chunk before now
+    is_written v stores = record {
+      changed = chunk-changed (described array) options region chunk key (fixed_elements array.size bytes) (fixed_elements array.size value) (fixed_elements array.size list) before
+          its_key held.elements (length-elements array.size array.some (count box) value held.as_long) copied mid.content now.content asked.same stores.ok;
+      asks = stores.asks ∙ asked.asks;
+      later = le_trans asked.later stores.cause.later;
+    }
+
+    -- or were not
+    pub not_written : {T : Type 0} (error : StorageError) → StoresElements array options chunk (fixed_elements array.size list) key mid now (as_error T error) →
+        NotWrittenChunk array options change chunk before now (storage_kind error)
+    not_written error stores = record {
+      failed = chunk-stops (described array) options region chunk key (fixed_elements array.size bytes) (fixed_elements array.size value) (fixed_elements array.size list) before
+          its_key held.elements (length-elements array.size array.some (count box) value held.as_long) copied mid now error asked.same stores.failed (λ e. stores.memory (ap Err e)) stores.cause.failed asked.later stores.plain;
+      told = told_of_storage (documented array) options now error;
+      asks = inr (stores.asks ∙ asked.asks);
+      later = le_trans asked.later stores.cause.later;
+    }
+
+-- what was copied between the box that a chunk was found to have and the region
+pub copied_so : (array : ArrayParts) (region : Region) (chunk bytes : List ℕ) (own : Region) (size : ℕ) (value list : List ℕ) → own ≡ (described array).grid.chunk_box chunk → size ≡ array.size →
+    Copied own region (fixed_elements size bytes) (fixed_elements size value) (fixed_elements size list) →
+    Copied ((described array).grid.chunk_box chunk) region (fixed_elements array.size bytes) (fixed_elements array.size value) (fixed_elements array.size list)
+copied_so array region chunk bytes own size value list lies same copied =
+    subst₂ (λ b n. Copied b region (fixed_elements n bytes) (fixed_elements n value) (fixed_elements n list)) lies same copied
+
+-- those that a region meets
+module _ (array : ArrayParts) (options : Options) (region : Region) (bytes : List ℕ) where
+  abbrev met : List (List ℕ)
+  met = chunks_meeting (described array).grid region
+
+  abbrev all : Array Element → Array Element
+  all = change_of array region bytes
+
+  pub none_written : (store : Shown) → store.asks ≤ 2 ^ 64 - 1 → ChangedSome (described array) options all met 0 store store
+  none_written store fits = changed-start (described array) options (described_sound array options) all met (met-chunks (described array).grid region) store fits
+
+  pub one_written : (k : ℕ) (chunk : List ℕ) (before mid now : Shown) → slice_get met k ≡ Some chunk → ChangedSome (described array) options all met k before mid →
+      HasWrittenChunk array options all chunk mid now → ChangedSome (described array) options all met (k + 1) before now
+  one_written k chunk before mid now here so_far step = changed-step (described array) options (described_sound array options) all met (met-chunks (described array).grid region)
+      (met-once (described array) region) k before mid now chunk so_far here step.changed step.asks step.later
+
+  pub stops_written : (k : ℕ) (chunk : List ℕ) (before mid now : Shown) (kind : SessionErrorKind) → slice_get met k ≡ Some chunk → ChangedSome (described array) options all met k before mid →
+      NotWrittenChunk array options all chunk mid now kind → NotWrittenRegion array options region bytes before now (record { chunks_done = k; kind = kind })
+  stops_written k chunk before mid now kind here so_far stop = record {
+    failed = changed-fails (described array) options (described_sound array options) all met (met-chunks (described array).grid region)
+        k before mid now chunk kind so_far here stop.failed stop.asks stop.later;
+    told = stop.told;
+  }
+
+  -- a region that meets no chunk
+  pub none_to_write : (store : Shown) → met ≡ [] → store.asks ≤ 2 ^ 64 - 1 → HasWrittenRegion array options region bytes store store
+  none_to_write store none fits = subst (λ n. ChangedSome (described array) options all met n store store) (sym (ap length none)) (none_written store fits)
+
+  -- memory ran out before the first chunk
+  pub starved_writing : (store : Shown) → store.asks ≤ 2 ^ 64 - 1 → NotWrittenRegion array options region bytes store store before_chunks
+  starved_writing store fits = record {
+    failed = changed-starved (described array) options (described_sound array options) all met (met-chunks (described array).grid region) store fits;
+    told = tt;
+  }

@@ -1,0 +1,54 @@
+-- The codecs of an array with their levels, as those of the array that is described.
+use Rattle.std.specs.Prelude.{◌≡◌, ℕ, List, length, Option}
+use Rattle.zarr_model.specs.Prelude.{Element, Level, ArrayCodec, Options, Description, bytes_codec, decode_array_to_bytes, offset_codec, checksum_codec}
+use Rattle.zarrs_codec_error.specs.declared.error.CodecError.{CodecError}
+use Rattle.zarrs_codec_array_bytes.specs.Refusals.{told_by, wrong_length}
+use Rattle.zarr_chain.specs.declared.chain.CodecChain.{CodecChain}
+use Rattle.zarr_chain.specs.Levels.{Serving}
+use Rattle.zarr_chain.specs.Chain.{IsServed}
+use Rattle.zarr_array_parts.specs.ChunkChain.{DecodesChunks, HasForms}
+use Rattle.zarr_array_parts.specs.Document.{ArrayDocument, describe}
+use Rattle.zarr_codecs.specs.BytesCodec.{stored_order, bytes_unserved, bytes_size}
+use Rattle.zarr_codecs.specs.Sha256.{sha256_says}
+use Rattle.zarr_codecs_numbers.specs.Offset.{offset_unserved}
+use Rattle.zarr_codecs_kinds.specs.Basic.{basic_offset, basic_order}
+use Rattle.zarr_codecs_kinds.specs.declared.array_to_array.BasicArrayToArray.{BasicArrayToArray}
+use Rattle.zarr_codecs_kinds.specs.declared.array_to_bytes.BasicArrayToBytes.{BasicArrayToBytes}
+use Rattle.zarr_codecs_kinds.specs.declared.bytes_to_bytes.BasicBytesToBytes.{BasicBytesToBytes}
+
+-- a chain of the codecs of this project
+abbrev pub Codecs : Type 0
+Codecs = CodecChain BasicArrayToArray BasicArrayToBytes BasicBytesToBytes
+
+-- what they mean, what they do not serve, and which errors tell that they give nothing
+abbrev pub array_meaning : BasicArrayToArray → ArrayCodec
+array_meaning codec = offset_codec (basic_offset codec)
+
+abbrev pub array_unserved : Serving BasicArrayToArray
+array_unserved codec dims type fill = offset_unserved type
+
+abbrev pub list_meaning : BasicArrayToBytes → Options → Level → List ℕ → Option (List Element)
+list_meaning codec under level value =
+    decode_array_to_bytes under (bytes_codec (stored_order (basic_order codec))) level value
+
+abbrev pub list_unserved : Serving BasicArrayToBytes
+list_unserved codec dims type fill = bytes_unserved (basic_order codec) type
+
+abbrev pub list_says : BasicArrayToBytes → Options → Level → List ℕ → CodecError → Type 0
+list_says codec under level value e = told_by e ≡ wrong_length (length value) (bytes_size level)
+
+abbrev pub bytes_meaning : BasicBytesToBytes → Options → List ℕ → Option (List ℕ)
+bytes_meaning codec under value = checksum_codec under.validate_checksums value
+
+abbrev pub bytes_says : BasicBytesToBytes → Options → List ℕ → CodecError → Type 0
+bytes_says codec under value e = sha256_says value e
+
+-- a chain serves the chunks of an array, and decodes them as the array does
+pub record ServesChunks (array : Description) (chain : Codecs) : Type 0 where
+  pub served : IsServed array_meaning array_unserved list_unserved chain
+  pub chunks : DecodesChunks array_meaning list_meaning bytes_meaning array chain
+
+-- and it has the codecs that a document names
+pub record IsChainOf (document : ArrayDocument) (chain : Codecs) : Type 0 where
+  pub serves : ServesChunks (describe document) chain
+  pub forms : HasForms document chain

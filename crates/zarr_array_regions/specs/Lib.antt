@@ -1,0 +1,12 @@
+pub mod Size
+pub mod CommandError
+pub mod Codecs
+pub mod Chunk
+pub mod Told
+pub mod RegionChunks
+pub mod Fetch
+pub mod HeldChunk
+pub mod Store
+pub mod Read
+pub mod Write
+pub mod PartWay

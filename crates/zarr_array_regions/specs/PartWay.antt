@@ -1,0 +1,71 @@
+-- What changing some chunks, one after another, does to a store.
+use Rattle.std.specs.Prelude.{◌≡◌, ◌+◌, ◌<◌, ◌≤◌, ◌||◌, ◌⊎◌, not, ℕ, List, length, slice_get, Some, IsSome}
+use Rattle.zarr_model.specs.Prelude.{Region, Element, Array, Options, chunk_content, chunks_meeting, Shown, Description, layout, counted, present_in, is_blank, ChunkHas}
+use Rattle.zarr_array_parts.specs.Parts.{documented, described}
+use Rattle.zarr_array_parts.specs.declared.parts.ArrayParts.{ArrayParts}
+use Rattle.zarr_array_regions.specs.declared.error.CommandError.{CommandError}
+use Rattle.zarr_array_regions.specs.declared.error.SessionErrorKind.{SessionErrorKind}
+use Rattle.zarr_array_regions.specs.declared.error.SessionErrorKind.TheVariants.{OutOfMemory}
+use Rattle.zarr_array_regions.specs.Told.{TellsWhy}
+use Rattle.zarr_array_regions.specs.Write.{change_of, FailsToChange}
+
+-- the first k of some chunks were changed, with one reading call for each, and no other key was
+pub record ChangedSome (description : Description) (options : Options) (change : Array Element →
+    Array Element)
+    (chunks : List (List ℕ)) (k : ℕ) (before now : Shown) : Type 0 where
+  pub decoded : (place : ℕ) (chunk : List ℕ) → place < k → slice_get chunks place ≡ Some chunk →
+      IsSome (chunk_content (layout description options) before.content chunk)
+  pub mended : (place : ℕ) (chunk : List ℕ) → place < k → slice_get chunks place ≡ Some chunk →
+      IsSome (chunk_content (layout description options) now.content chunk)
+  pub has : (array : Array Element) (place : ℕ) (chunk : List ℕ) → array.fill ≡ description.fill →
+      place < k →
+      slice_get chunks place ≡ Some chunk →
+      ChunkHas (layout description options) before.content array chunk →
+      ChunkHas (layout description options) now.content (change array) chunk
+  pub present : (array : Array Element) (place : ℕ) (chunk : List ℕ) →
+      array.fill ≡ description.fill → place < k →
+      slice_get chunks place ≡ Some chunk →
+      ChunkHas (layout description options) before.content array chunk →
+      present_in description now.content chunk
+      ≡ (options.store_empty_chunks || not (is_blank description (change array) chunk))
+  pub others : (key : List ℕ) → ((place : ℕ) (chunk : List ℕ) → place < k →
+      slice_get chunks place ≡ Some chunk →
+      ¬ (key ≡ description.key chunk)) → now.content key ≡ before.content key
+  pub asks : now.asks ≡ counted before.asks k
+  pub later : before.faults ≤ now.faults
+
+-- why the next chunk after k was not changed: memory ran out before it, or it could not be changed
+abbrev pub StopsBefore : Description → Options → (Array Element → Array Element) → List (List ℕ) →
+    ℕ → Shown → Shown →
+    SessionErrorKind → Type 0
+StopsBefore description options change chunks k before now kind =
+    ((kind ≡ OutOfMemory) × ((key : List ℕ) → now.content key ≡ before.content key))
+    ⊎ ((chunk : List ℕ) × (slice_get chunks k ≡ Some chunk)
+    × FailsToChange description options change chunk before now kind)
+
+-- changing some chunks failed with k of them done
+pub record FailsPartWay (description : Description) (options : Options) (change : Array Element →
+    Array Element)
+    (chunks : List (List ℕ)) (k : ℕ) (before now : Shown) (kind : SessionErrorKind) : Type 0 where
+  -- the store once these were changed
+  pub mid : Shown
+  pub few : k ≤ length chunks
+  pub changed : ChangedSome description options change chunks k before mid
+  pub stops : StopsBefore description options change chunks k mid now kind
+  pub asks : (now.asks ≡ counted before.asks k)
+      ⊎ ((k < length chunks) × (now.asks ≡ counted before.asks (k + 1)))
+  pub later : mid.faults ≤ now.faults
+
+-- bytes were written to a region: each chunk that it meets was changed
+abbrev pub HasWrittenRegion : ArrayParts → Options → Region → List ℕ → Shown → Shown → Type 0
+HasWrittenRegion array options region bytes before now =
+    let chunks = chunks_meeting (described array).grid region in
+    ChangedSome (described array) options (change_of array region bytes) chunks (length chunks)
+    before now
+
+-- they were not: the chunks before the error's place were changed, and it tells why
+pub record NotWrittenRegion (array : ArrayParts) (options : Options) (region : Region)
+    (bytes : List ℕ) (before now : Shown) (error : CommandError) : Type 0 where
+  pub failed : FailsPartWay (described array) options (change_of array region bytes)
+      (chunks_meeting (described array).grid region) error.chunks_done before now error.kind
+  pub told : TellsWhy (documented array) options now error.kind

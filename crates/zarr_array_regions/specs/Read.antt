@@ -1,0 +1,70 @@
+-- What reading a region owes.
+use Rattle.std.specs.Prelude.{◌≡◌, ◌<◌, ◌≤◌, ◌+◌, ◌*◌, ◌⊎◌, ℕ, List, length, slice_get, Some, None, IsSome}
+use Rattle.zarr_model.specs.Prelude.{Region, count, Element, Array, elements_in, chunks_meeting, chunk_content, WhollyMeans, ChunkHas, Shown, Options, Description, layout, counted, Rose}
+use Rattle.zarrs_storage.specs.Store.{SameContent}
+use Rattle.zarrs_codec_bytes.specs.Elements.{fixed_elements}
+use Rattle.zarrs_codec_bytes.specs.Overlap.{Copied}
+use Rattle.zarr_array_parts.specs.Parts.{documented, described}
+use Rattle.zarr_array_parts.specs.declared.parts.ArrayParts.{ArrayParts}
+use Rattle.zarr_array_regions.specs.declared.error.CommandError.{CommandError}
+use Rattle.zarr_array_regions.specs.declared.error.SessionErrorKind.{SessionErrorKind}
+use Rattle.zarr_array_regions.specs.declared.error.SessionErrorKind.TheVariants.{NotOpened, ChunkDecode, Store, OutOfMemory}
+use Rattle.zarr_array_regions.specs.Fetch.{HasAsked}
+use Rattle.zarr_array_regions.specs.Told.{TellsWhy}
+
+-- the cause at the next chunk after k of the region's: its value does not decode, the store failed,
+-- or memory ran out
+abbrev pub HasReadCause : Description → Options → Region → ℕ → Shown → Shown → SessionErrorKind →
+    Type 0
+HasReadCause description options region k before now (ChunkDecode key error) =
+    (chunk : List ℕ) × (slice_get (chunks_meeting description.grid region) k ≡ Some chunk)
+    × (description.key chunk ≡ key) × (chunk_content (layout description options) before.content
+    chunk ≡ None)
+HasReadCause description options region k before now Store = Rose before.faults now.faults
+HasReadCause description options region k before now OutOfMemory = Unit {0}
+HasReadCause description options region k before now (NotOpened error) = ⊥
+
+-- a read of a region that failed with k of its chunks done
+pub record FailsToRead (description : Description) (options : Options) (region : Region) (k : ℕ)
+    (before now : Shown) (kind : SessionErrorKind) : Type 0 where
+  pub few : k ≤ length (chunks_meeting description.grid region)
+  pub asks : (now.asks ≡ counted before.asks k)
+      ⊎ ((k < length (chunks_meeting description.grid region))
+      × (now.asks ≡ counted before.asks (k + 1)))
+  pub cause : HasReadCause description options region k before now kind
+
+-- what a chunk and a region share was read into the region's bytes, by one reading call
+pub record HasReadChunk (array : ArrayParts) (options : Options) (region : Region)
+    (chunk old new : List ℕ) (before now : Shown) : Type 0 where
+  pub asked : HasAsked before now
+  pub decodes : IsSome (chunk_content (layout (described array) options) before.content chunk)
+  pub as_long : length new ≡ length old
+  pub copied : (plain : Array Element)
+      → ChunkHas (layout (described array) options) before.content plain chunk
+      → Copied region ((described array).grid.chunk_box chunk)
+      (elements_in ((described array).grid.chunk_box chunk) plain)
+      (fixed_elements array.size old) (fixed_elements array.size new)
+
+-- bytes are the elements of a region of the array that a store means, each of whose chunks decodes
+-- and was asked for once
+pub record HasReadRegion (array : ArrayParts) (options : Options) (region : Region)
+    (before now : Shown) (bytes : List ℕ) : Type 0 where
+  pub as_long : length bytes ≡ count region * array.size
+  pub elements : (plain : Array Element)
+      → WhollyMeans (layout (described array) options) before.content plain
+      → fixed_elements array.size bytes ≡ elements_in region plain
+  pub decodes : (k : ℕ) (chunk : List ℕ)
+      → slice_get (chunks_meeting (described array).grid region) k ≡ Some chunk
+      → IsSome (chunk_content (layout (described array) options) before.content chunk)
+  pub same : SameContent before now
+  pub asks : now.asks
+      ≡ counted before.asks (length (chunks_meeting (described array).grid region))
+  pub later : before.faults ≤ now.faults
+
+-- a region was not read: nothing was changed, and the error has its place and cause and tells why
+pub record NotReadRegion (array : ArrayParts) (options : Options) (region : Region)
+    (before now : Shown) (error : CommandError) : Type 0 where
+  pub same : SameContent before now
+  pub later : before.faults ≤ now.faults
+  pub failed : FailsToRead (described array) options region error.chunks_done before now error.kind
+  pub told : TellsWhy (documented array) options now error.kind

@@ -1,0 +1,23 @@
+-- What storing a chunk of an array owes.
+use Rattle.std.specs.Prelude.{◌≡◌, ℕ, List, Result, IfErr, OnOk, OnErr, IsErrOf}
+use Rattle.zarr_model.specs.Prelude.{Element, Options, Shown, HasCause}
+use Rattle.zarrs_storage.specs.Store.{IsFault, IsPlain, SameContent}
+use Rattle.zarrs_storage.specs.declared.store.StorageError.{StorageError}
+use Rattle.zarrs_storage.specs.declared.store.StorageError.TheVariants as Storage
+use Rattle.zarr_array_parts.specs.Parts.{described}
+use Rattle.zarr_array_parts.specs.declared.parts.ArrayParts.{ArrayParts}
+use Rattle.zarr_array_regions.specs.Chunk.{PutsElements, MayPutElements}
+
+-- a chunk's elements were put under a key, or may have been where the store failed; want of memory
+-- changes nothing
+pub record StoresElements (array : ArrayParts) (options : Options) (chunk : List ℕ)
+    (list : List Element) (key : List ℕ) (before now : Shown)
+    {T : Type 0} (result : Result T StorageError) : Type 0 where
+  pub ok : OnOk result
+      (PutsElements (described array) options chunk list before.content now.content key)
+  pub failed : OnErr result
+      (MayPutElements (described array) options chunk list before.content now.content key)
+  pub memory : IsErrOf result Storage.OutOfMemory → SameContent before now
+  pub asks : now.asks ≡ before.asks
+  pub plain : IfErr result IsPlain
+  pub cause : HasCause IsFault before.faults now.faults result

@@ -1,0 +1,58 @@
+-- Which errors tell that the value of a chunk does not decode.
+use Rattle.std.specs.Prelude.{◌≡◌, ℕ, List, [], ◌∷◌, length, map, Option, Some, None}
+use Rattle.zarr_model.specs.Prelude.{Level, Options, Shown, IsChunk, decode_bytes}
+use Rattle.zarrs_codec_error.specs.declared.error.CodecError.{CodecError}
+use Rattle.zarrs_codec_array_bytes.specs.Refusals.{told_by, wrong_length}
+use Rattle.zarr_chain.specs.Values.{said_at}
+use Rattle.zarr_codecs.specs.BytesCodec.{bytes_size}
+use Rattle.zarr_codecs.specs.Sha256.{sha256_says}
+use Rattle.zarr_array_parts.specs.Document.{ArrayDocument, ArrayToArray, ToBytes, bytes, vlen, optional, BytesToBytes, checksum, array_codec_of, byte_codec_of, describe}
+use Rattle.zarr_array_parts.specs.ChunkChain.{chunk_level}
+use Rattle.zarr_array_regions.specs.declared.error.SessionErrorKind.{SessionErrorKind}
+use Rattle.zarr_array_regions.specs.declared.error.SessionErrorKind.TheVariants.{NotOpened, ChunkDecode, Store, OutOfMemory}
+
+-- which errors tell that a bytes-to-bytes codec gives nothing for a value
+abbrev pub byte_codec_says : BytesToBytes → List ℕ → CodecError → Type 0
+byte_codec_says checksum value e = sha256_says value e
+
+-- the same of some codecs: those of the first one, from the last, that gives nothing
+abbrev pub byte_codecs_say : Options → List BytesToBytes → List ℕ → CodecError → Type 0
+byte_codecs_say options [] value e = ⊥
+byte_codecs_say options (c ∷ codecs) value e =
+    said_at (decode_bytes (map (byte_codec_of options) codecs) value)
+    (byte_codecs_say options codecs value) (byte_codec_says c) e
+
+-- the level below some array-to-array codecs
+abbrev pub level_under : List ArrayToArray → Level → Level
+level_under [] level = level
+level_under (c ∷ codecs) level = level_under codecs ((array_codec_of c).level_below level)
+
+-- the same of an array-to-bytes codec at its level; only `bytes` is served
+abbrev pub to_bytes_says : ToBytes → Level → List ℕ → CodecError → Type 0
+to_bytes_says (bytes order) level value e =
+    told_by e ≡ wrong_length (length value) (bytes_size level)
+to_bytes_says vlen level value e = ⊥
+to_bytes_says (optional inner) level value e = ⊥
+
+-- the same of a document's chain for the value of a chunk: those of the first codec, in the order of
+-- decoding, that gives nothing
+abbrev pub value_says : ArrayDocument → Options → List ℕ → List ℕ → CodecError → Type 0
+value_says document options chunk value e =
+    said_at (decode_bytes (map (byte_codec_of options) document.byte_codecs) value)
+    (byte_codecs_say options document.byte_codecs value)
+    (to_bytes_says document.to_bytes
+    (level_under document.array_codecs (chunk_level (describe document) chunk))) e
+
+-- the same of what stands under a key
+abbrev pub stored_says : ArrayDocument → Options → List ℕ → Option (List ℕ) → CodecError → Type 0
+stored_says document options chunk None e = ⊥
+stored_says document options chunk (Some value) e = value_says document options chunk value e
+
+-- an error of a chunk tells why the value that stands under the chunk's key does not decode
+abbrev pub TellsWhy : ArrayDocument → Options → Shown → SessionErrorKind → Type 0
+TellsWhy document options now (ChunkDecode key error) = (chunk : List ℕ)
+    × IsChunk (describe document).grid chunk × ((describe document).key chunk ≡ key)
+    × stored_says document options chunk (now.content key) error
+TellsWhy document options now (NotOpened error) = Unit {0}
+TellsWhy document options now Store = Unit {0}
+TellsWhy document options now OutOfMemory = Unit {0}

@@ -1,0 +1,72 @@
+-- What writing one chunk does to a store.
+use Rattle.std.specs.Prelude.{◌≡◌, ◌≤◌, ◌||◌, ◌⊎◌, not, ℕ, List, None, IsSome}
+use Rattle.zarr_model.specs.Prelude.{Element, Array, Options, Content, chunk_content, Shown, Description, layout, present_in, is_blank, ChunkHas, Rose, counted, Region, written}
+use Rattle.zarrs_codec_bytes.specs.Elements.{fixed_elements}
+use Rattle.zarr_array_parts.specs.Parts.{documented, described}
+use Rattle.zarr_array_parts.specs.declared.parts.ArrayParts.{ArrayParts}
+use Rattle.zarr_array_regions.specs.declared.error.SessionErrorKind.{SessionErrorKind}
+use Rattle.zarr_array_regions.specs.declared.error.SessionErrorKind.TheVariants.{NotOpened, ChunkDecode, Store, OutOfMemory}
+use Rattle.zarr_array_regions.specs.Told.{TellsWhy}
+
+-- A chunk was changed: it has the changed array's elements, for each array that it had, and is
+-- absent exactly where these are all fill and such chunks are not stored.
+pub record ChangesChunk (description : Description) (options : Options) (change : Array Element →
+    Array Element)
+    (chunk : List ℕ) (old new : Content) : Type 0 where
+  pub decoded : IsSome (chunk_content (layout description options) old chunk)
+  pub mended : IsSome (chunk_content (layout description options) new chunk)
+  pub has : (array : Array Element) → array.fill ≡ description.fill →
+      ChunkHas (layout description options) old array chunk →
+      ChunkHas (layout description options) new (change array) chunk
+  pub present : (array : Array Element) → array.fill ≡ description.fill →
+      ChunkHas (layout description options) old array chunk →
+      present_in description new chunk ≡ (options.store_empty_chunks
+      || not (is_blank description (change array) chunk))
+  pub others : (key : List ℕ) → ¬ (key ≡ description.key chunk) → new key ≡ old key
+
+-- the store failed while a chunk was changed: its key is old, new or absent
+pub record StopsChunk (description : Description) (options : Options) (change : Array Element →
+    Array Element)
+    (chunk : List ℕ) (old new : Content) : Type 0 where
+  pub here : (array : Array Element) → array.fill ≡ description.fill →
+      ChunkHas (layout description options) old array chunk →
+      (new (description.key chunk) ≡ old (description.key chunk))
+      ⊎ (ChunkHas (layout description options) new (change array) chunk
+      ⊎ (new (description.key chunk) ≡ None))
+  pub others : (key : List ℕ) → ¬ (key ≡ description.key chunk) → new key ≡ old key
+
+-- Why a chunk was not changed: its value does not decode, the store failed, or memory ran out. The
+-- store is changed by its own failure alone.
+abbrev pub FailsToChange : Description → Options → (Array Element → Array Element) → List ℕ →
+    Shown → Shown →
+    SessionErrorKind → Type 0
+FailsToChange description options change chunk before now (ChunkDecode key error) =
+    (description.key chunk ≡ key)
+    × (chunk_content (layout description options) before.content chunk ≡ None)
+    × ((other : List ℕ) → now.content other ≡ before.content other)
+FailsToChange description options change chunk before now Store =
+    Rose before.faults now.faults × StopsChunk description options change chunk before.content
+    now.content
+FailsToChange description options change chunk before now OutOfMemory =
+    (other : List ℕ) → now.content other ≡ before.content other
+FailsToChange description options change chunk before now (NotOpened error) = ⊥
+
+-- what writing bytes to a region does to an array
+abbrev pub change_of : ArrayParts → Region → List ℕ → Array Element → Array Element
+change_of array region bytes = written region (fixed_elements array.size bytes)
+
+-- a chunk was changed, by one reading call and one that writes
+pub record HasWrittenChunk (array : ArrayParts) (options : Options)
+    (change : Array Element → Array Element) (chunk : List ℕ) (before now : Shown) : Type 0 where
+  pub changed : ChangesChunk (described array) options change chunk before.content now.content
+  pub asks : now.asks ≡ counted before.asks 1
+  pub later : before.faults ≤ now.faults
+
+-- a chunk was not changed: the error has its cause and tells why
+pub record NotWrittenChunk (array : ArrayParts) (options : Options)
+    (change : Array Element → Array Element) (chunk : List ℕ) (before now : Shown)
+    (kind : SessionErrorKind) : Type 0 where
+  pub failed : FailsToChange (described array) options change chunk before now kind
+  pub told : TellsWhy (documented array) options now kind
+  pub asks : (now.asks ≡ before.asks) ⊎ (now.asks ≡ counted before.asks 1)
+  pub later : before.faults ≤ now.faults

@@ -1,0 +1,28 @@
+//! The chain of an array's codecs.
+
+ghost use Rattle.std.specs.Prelude.{◌≡◌, true, IfOk};
+ghost use Rattle.zarr_array_parts.specs.Parts.{documented, described};
+ghost use Rattle.zarr_array_parts.specs.Sizes.{have_chunks};
+ghost use Rattle.zarr_chain.specs.Levels.{above};
+ghost use Rattle.zarr_chain_stored.specs.Fetch.{HasFill};
+ghost use Rattle.zarr_array_regions.specs.Codecs.{IsChainOf};
+
+use std::alloc::{AllocError, Global};
+use zarr_array_parts::{ArrayParts, BasicChain};
+use zarr_codecs_kinds::BasicArrayToBytes;
+use zarrs_codec_traits::ArrayToBytesCodecTraits;
+
+/// The chain of the codecs of an array with their levels, which is one for all chunks. The array has a chunk.
+///
+/// # Errors
+/// [`AllocError`] where memory runs out.
+pub fn codec_chain(array: &ArrayParts, alloc: Global) -> Result<BasicChain, AllocError>
+    requires some { have_chunks (described array.now).grid.grid_shape ≡ true }
+    ensures codecs { IfOk result (IsChainOf (documented array.now)) }
+    ensures fill { IfOk result HasFill }
+    ensures takes { IfOk result (λ chain. ⟦<BasicArrayToBytes as ArrayToBytesCodecTraits>⟧.takes
+        chain.bottom.codec (above chain.bottom)) }
+{
+    let chain = array.chain(alloc)?;
+    Ok(chain)
+}

@@ -1,0 +1,83 @@
+//! The chunks that a region of an array meets.
+
+ghost use Rattle.std.specs.Prelude.{◌≡◌, ◌<◌, ◌^◌, true, IfOk};
+ghost use Rattle.zarr_model.specs.Prelude.{count, tuples, ends_within, chunks_meeting};
+ghost use Rattle.zarrs_array_subset.specs.ArraySubset.{region};
+ghost use Rattle.zarr_array_parts.specs.Parts.{described};
+
+use crate::chain::codec_chain;
+use std::alloc::{AllocError, Global};
+use zarr_array_parts::{ArrayParts, BasicChain};
+use zarrs_array_subset::ArraySubset;
+use zarrs_chunk_grid_traits::ChunkGridTraits;
+use zarrs_storage::store_key::StoreKey;
+
+/// The chunks that a region of an array meets, by their numbers in row-major order, with the chain of the array's
+/// codecs, which is one for all chunks.
+#[derive(Drop)]
+pub(crate) struct RegionChunks<'a> {
+    pub(crate) array: &'a ArrayParts,
+    // The region.
+    pub(crate) subset: &'a ArraySubset,
+    // The indices of its chunks, as a box of the grid's.
+    pub(crate) chunks: ArraySubset,
+    pub(crate) chain: BasicChain,
+}
+
+/// Where a chunk lies, and the key that its value stands under.
+#[derive(Drop)]
+pub(crate) struct ChunkPlace {
+    pub(crate) subset: ArraySubset,
+    pub(crate) key: StoreKey,
+}
+
+// The chunks that a region inside an array meets, as a box of chunk indices.
+fn chunks_of(
+    array: &ArrayParts,
+    alloc: Global,
+    subset: &ArraySubset,
+) -> Result<ArraySubset, AllocError>
+    requires inside { ends_within (region subset.now) (described array.now).shape ≡ true }
+    requires few { count (region subset.now) < 2 ^ 64 }
+    ensures listed { IfOk result (λ chunks. tuples (region chunks)
+        ≡ chunks_meeting (described array.now).grid (region subset.now)) }
+    ensures few { IfOk result (λ chunks. count (region chunks) < 2 ^ 64) }
+{
+    let chunks = array.grid().chunks_meeting(alloc, subset)?;
+    Ok(chunks)
+}
+
+impl<'a> RegionChunks<'a> {
+    ghost use Rattle.zarr_array_regions.specs.RegionChunks.{Meets};
+
+    /// The chunks that a region inside an array meets, if it meets one.
+    pub(crate) fn meeting(
+        array: &'a ArrayParts,
+        alloc: Global,
+        subset: &'a ArraySubset,
+    ) -> Result<Option<RegionChunks<'a>>, AllocError>
+        requires inside { ends_within (region subset.now) (described array.now).shape ≡ true }
+        requires few { count (region subset.now) < 2 ^ 64 }
+        ensures { IfOk result (Meets array.now subset.now) }
+    {
+        let chunks = chunks_of(array, alloc, subset)?;
+        if chunks.num_elements() == 0 {
+            return Ok(None);
+        }
+        let chain = codec_chain(array, alloc)?;
+        Ok(Some(RegionChunks {
+            array,
+            subset,
+            chunks,
+            chain,
+        }))
+    }
+
+    /// How many there are.
+    pub(crate) fn num_chunks(&self) -> u64
+        requires few { count (region self.now.chunks) < 2 ^ 64 }
+        ensures { result ≡ count (region self.now.chunks) }
+    {
+        self.chunks.num_elements()
+    }
+}

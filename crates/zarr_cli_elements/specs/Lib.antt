@@ -1,0 +1,5 @@
+pub mod Text
+pub mod Fixed
+pub mod Growing
+pub mod Put
+pub mod Place

@@ -1,0 +1,173 @@
+//! Elements of one size: `h` and two hexadecimal digits for each byte, and a space between two elements.
+
+ghost use Rattle.std.specs.Prelude.{◌≡◌, ◌<◌, ◌+◌, ◌*◌, ◌/◌, [], ◌∷◌, ◌++◌, length, None, IfOk, IfSome, IfNone, OnOk, option_map};
+ghost use Rattle.hex.specs.Hex.{encode_lower};
+ghost use Rattle.zarr_model.specs.Prelude.{fixed};
+ghost use Rattle.zarr_cli_elements.specs.Text.{split_at, words_left, element_of, hex_text};
+ghost use Rattle.zarr_cli_elements.specs.Fixed.{behind, IsElement, PushesElement, written_bytes, bytes_text};
+
+use crate::digits::push_room;
+use std::alloc::{AllocError, Global};
+
+// Digits at the front, two for each byte of an element, and what follows the space behind them.
+#[tactic(auto, using(crate::proofs::FixedLemmas::no_digits))]
+fn digits_first(text: &[u8], size: usize) -> Option<(&[u8], Option<&[u8]>)>
+    ensures text { IfSome result (λ first. text.now ≡ first.0.now ++ behind first.1) }
+    ensures digits { IfSome result (λ first. length first.0.now ≡ 2 * size) }
+    ensures none { IfNone result (written_bytes size (split_at 32 (104 ∷ text.now)) ≡ None) }
+{
+    let (digits, behind) = text.split_at_checked(size.saturating_mul(2))?;
+    match behind {
+        [] => Some((digits, None)),
+        [separator, rest @ ..] => {
+            if *separator == b' ' {
+                Some((digits, Some(rest)))
+            } else {
+                None
+            }
+        }
+    }
+}
+
+// The digits of an element at the front of a text, and what follows the space behind them.
+#[tactic(auto, using(crate::proofs::FixedLemmas::no_h))]
+fn first_digits(text: &[u8], size: usize) -> Option<(&[u8], Option<&[u8]>)>
+    ensures text { IfSome result (λ first. text.now ≡ 104 ∷ (first.0.now ++ behind first.1)) }
+    ensures digits { IfSome result (λ first. length first.0.now ≡ 2 * size) }
+    ensures none { IfNone result (written_bytes size (split_at 32 text.now) ≡ None) }
+{
+    match text {
+        [b'h', others @ ..] => digits_first(others, size),
+        _ => None,
+    }
+}
+
+// Decodes digits into as many bytes as they denote, if all are hexadecimal.
+#[tactic(auto, using(crate::proofs::FixedLemmas::element_of_decoded, crate::proofs::FixedLemmas::element_of_undecoded))]
+fn decode_into(digits: &[u8], bytes: &mut [u8]) -> bool
+    requires { length digits.now ≡ 2 * length bytes.old }
+    ensures { IsElement (element_of (fixed (length bytes.old)) (104 ∷ digits.now)) result
+        bytes.new }
+{
+    hex::decode_to_slice(digits, bytes).is_ok()
+}
+
+// Appends the byte that two digits denote, if both are hexadecimal. An error comes only for want of memory.
+fn push_byte(value: &mut Vec<u8>, digits: &[u8]) -> Result<bool, AllocError>
+    requires { length digits.now ≡ 2 }
+    ensures { IfOk result (λ pushed. PushesElement (element_of (fixed 1) (104 ∷ digits.now)) pushed
+        value.old.items value.new.items) }
+{
+    let mut byte = [0];
+    let decoded = decode_into(digits, &mut byte);
+    if decoded {
+        value.push(byte[0])?;
+    }
+    Ok(decoded)
+}
+
+// Appends the bytes that digits denote, if all are hexadecimal. An error comes only for want of memory.
+fn push_bytes(value: &mut Vec<u8>, digits: &[u8], size: usize) -> Result<bool, AllocError>
+    requires { length digits.now ≡ 2 * size }
+    ensures { IfOk result (λ pushed. PushesElement (element_of (fixed size)
+        (104 ∷ digits.now)) pushed value.old.items value.new.items) }
+{
+    // One byte needs no room before it is there.
+    if size == 1 {
+        return push_byte(value, digits);
+    }
+    let at = value.len();
+    value.resize(at + size, 0)?;
+    Ok(decode_into(digits, &mut value[at..]))
+}
+
+/// The bytes of elements of `size` bytes each, with one space between two. No text has no elements.
+///
+/// An error comes only for want of memory.
+#[tactic(auto, using(crate::proofs::FixedLemmas::of_words))]
+pub(crate) fn parse_fixed(
+    alloc: Global,
+    text: Option<&str>,
+    size: usize,
+) -> Result<Option<Vec<u8>>, AllocError>
+    ensures { IfOk result (λ value. option_map (λ v. v.items) value
+        ≡ written_bytes size (words_left text.entry)) }
+{
+    let room = text.map_or(0, |text| text.len() / 2);
+    let mut value = Vec::with_capacity(alloc, room)?;
+    let mut left = text.map(|text| text.as_bytes());
+    'elements: while let Some(text) = left {
+        let Some((digits, rest)) = first_digits(text, size) else {
+            return Ok(None);
+        };
+        if !push_bytes(&mut value, digits, size)? {
+            return Ok(None);
+        }
+        left = rest;
+    }
+    Ok(Some(value))
+}
+
+// The two lower-case digits of a byte.
+fn digits_of(byte: u8) -> [u8; 2]
+    ensures { result ≡ encode_lower (byte ∷ []) }
+{
+    let mut digits = [0; 2];
+    let Ok(()) = hex::encode_to_slice([byte], &mut digits) else {
+        unreachable!();
+    };
+    digits
+}
+
+// Writes a space and the text of an element.
+fn write_element(slot: &mut [u8], element: &[u8])
+    requires { length slot.old ≡ 2 + 2 * length element.now }
+    ensures { slot.new ≡ 32 ∷ hex_text element.now }
+{
+    // Elements of one byte are written in one piece.
+    if let [byte] = element {
+        let [high, low] = digits_of(*byte);
+        slot.copy_from_slice(&[b' ', b'h', high, low]);
+        return;
+    }
+    let (front, digits) = slot.split_at_mut(2);
+    front.copy_from_slice(b" h");
+    let Ok(()) = hex::encode_to_slice(element, digits) else {
+        unreachable!();
+    };
+}
+
+// Writes a space and the text of each element of `size` bytes, `width` bytes for each.
+#[tactic(auto, using(crate::proofs::TextLemmas::next_slot))]
+fn write_elements(slots: &mut [u8], elements: &[u8], size: usize, width: usize)
+    requires some { 0 < size }
+    requires wide { width ≡ 2 + 2 * size }
+    requires room { length slots.old ≡ length elements.now / size * width }
+    ensures { slots.new ≡ bytes_text size elements.now }
+{
+    for k in 0..elements.len() / size {
+        write_element(
+            &mut slots[k * width..k * width + width],
+            &elements[k * size..k * size + size],
+        );
+    }
+}
+
+/// Appends a space and the text of each element of `size` bytes. The room for them is taken first.
+///
+/// An error comes only for want of memory.
+pub(crate) fn push_fixed(text: &mut Vec<u8>, elements: &[u8], size: usize) -> Result<(), AllocError>
+    requires { 0 < size }
+    ensures { OnOk result (text.new.items ≡ text.old.items ++ bytes_text size elements.now) }
+{
+    let Some(digits) = size.checked_mul(2) else {
+        return Err(AllocError);
+    };
+    let Some(width) = digits.checked_add(2) else {
+        return Err(AllocError);
+    };
+    let before = text.len();
+    push_room(text, elements.len() / size, width)?;
+    write_elements(&mut text[before..], elements, size, width);
+    Ok(())
+}

@@ -1,0 +1,44 @@
+-- Commands that ran.
+use Rattle.std.proofs.Common.{◌≡◌, ℕ, List, map, Option, Some, None, IsSome, refl, sym, subst}
+use Rattle.std.specs.List.{AllZip}
+use Rattle.zarr_model.specs.Prelude.{Element, Array, Content, IsHonest, WhollyMeans, Command, Description, kind, layout, replies, Matches, all_asks, counted, LeavesKeys, ServesArray, RefusesRight, MeetsNoDamage, Shown, Options}
+use Rattle.zarr_model.proofs.FailureLaws.{undecoded-met}
+use Rattle.zarr_array.specs.OpenArray.{described}
+use Rattle.zarr_array.specs.Command.{answer_of}
+use Rattle.zarr_array.specs.Session.{HasSessionCause}
+use Rattle.zarr_array.specs.declared.open.OpenArray.{OpenArray}
+use Rattle.zarr_array.specs.declared.command.Reply.{Reply}
+use Rattle.zarr_array_regions.specs.declared.error.SessionErrorKind.{SessionErrorKind}
+use Rattle.zarr_array_regions.specs.declared.error.SessionErrorKind.TheVariants.{NotOpened, ChunkDecode}
+use Rattle.zarr_cli_runs.specs.Commands.{IsRunFault, session_status, RepliedBy}
+use Rattle.zarr_array_regions.specs.declared.error.SessionErrorKind.TheVariants as Kind
+
+wholly_honest : (description : Description) (options : Options) (store : Content) (array : Array Element) → WhollyMeans (layout description options) store array → IsHonest (layout description options) store
+wholly_honest description options store array meant chunk is_chunk = subst IsSome (sym (meant.each_chunk chunk is_chunk)) refl
+
+pub replied_by : (array : OpenArray) (options : Options) (commands : List Command) (before now : Shown) (held : List Reply) →
+    (IsHonest (layout (described array) options) before.content → ServesArray (described array) options commands before.content now.content (map answer_of held)) →
+    LeavesKeys (described array) options commands before.content now.content → MeetsNoDamage (described array) options commands before.content →
+    RefusesRight (described array) commands (map answer_of held) →
+    now.asks ≡ counted before.asks (all_asks (described array) commands) → RepliedBy (described array) options commands before now held
+replied_by array options commands before now held serves keys undamaged refusals asks = record {
+  matched = λ meant means. (serves means.honest).answers_match meant means;
+  left = record {
+    array_left = λ meant means. (serves means.honest).left.array_left meant means;
+    whole_chunks = λ meant means. (serves (wholly_honest (described array) options before.content meant means)).left.whole_chunks meant means;
+    presence = λ meant chunk means is_chunk. (serves (wholly_honest (described array) options before.content meant means)).left.presence meant chunk means is_chunk;
+    keys = keys;
+  };
+  undamaged = undamaged;
+  refusals = refusals;
+  asks = asks;
+}
+
+-- why commands ended early
+pub run_fault : (description : Description) (options : Options) (commands : List Command) (before now : Shown) (at : Option (ℕ × ℕ)) (kind : SessionErrorKind) →
+    HasSessionCause description options commands before now at kind → IsRunFault description options commands before now (session_status kind)
+run_fault description options commands before now at (NotOpened error) cause = absurd cause
+run_fault description options commands before now None (ChunkDecode key error) cause = absurd cause
+run_fault description options commands before now (Some place) (ChunkDecode key error) cause = (undecoded-met description options commands before.content now.content key place.0 place.1 cause, cause.6)
+run_fault description options commands before now at Kind.Store cause = cause.0
+run_fault description options commands before now at Kind.OutOfMemory cause = tt

@@ -1,0 +1,79 @@
+-- The made document, keys that were counted, and replies that were summed up.
+use Rattle.std.proofs.Common.{◌≡◌, ℕ, List, length, map, Option, Some, None, Result, Ok, Err, IfOk, IfErr, refl, sym, ap, ◌∙◌, subst}
+use Rattle.std.proofs.Math.Path.{fun_ext}
+use Rattle.std.specs.List.{AllZip}
+use Rattle.zarr_model.specs.Prelude.{fixed, Options, Matches, Description, Command, Shown, kind, all_asks, counted, LeavesArray}
+use Rattle.zarrs_storage.specs.Store.{ListsKeys, SameContent}
+use Rattle.zarr_array_parts.specs.Sizes.{sized_kind}
+use Rattle.zarr_array_parts.specs.Document.{ArrayDocument, describe}
+use Rattle.zarr_array_parts.specs.Opening.{OpenRefusal, OpenAnswer, opened}
+use Rattle.zarr_array_parts.specs.OpenError.{open_refusal_of}
+use Rattle.zarr_array.specs.OpenArray.{documented, described}
+use Rattle.zarr_array_parts.proofs.SizeLaws.{sized_is}
+use Rattle.zarr_array.specs.Command.{answer_of}
+use Rattle.zarr_array.specs.declared.open.OpenArray.{OpenArray}
+use Rattle.zarr_array.specs.declared.command.Reply.{Reply}
+use Rattle.zarr_cli_made.specs.Document.{made_document}
+use Rattle.zarr_cli_made.specs.Summary.{summary_text}
+use Rattle.zarr_cli_runs.specs.Opening.{IsRefusal, OpensLine}
+use Rattle.zarr_cli_runs.specs.Made.{made_array, SumsAll}
+use Rattle.zarr_cli_runs.specs.Commands.{RepliedBy}
+use Rattle.zarr_cli_made.specs.Tally.{summary_held}
+use Rattle.zarr_cli_runs.proofs.KeyLemmas.{counted_more}
+use Rattle.zarr_cli_runs.proofs.CountLemmas.{counts}
+use Rattle.zarr_cli_runs.specs.declared.status.Status.{Status}
+use Rattle.zarr_cli_runs.specs.declared.status.Status.TheVariants.{Done, BadWords, BadInput, Document, Chunk, Store, Read, Write, TooLong, OutOfMemory}
+use Rattle.zarr_model.specs.Command as Model
+
+-- the made document is opened as its array, but for want of memory
+one_document : (a b : ArrayDocument) → opened a ≡ opened b → a ≡ b
+one_document a b e = cc
+
+described_as : (array : OpenArray) → documented array ≡ made_document → described array ≡ made_array
+unfolding made_array
+described_as array same = ap describe same
+
+pub made_opened : (answer : OpenAnswer) (result : Result OpenArray Status) → answer ≡ opened made_document → OpensLine result answer → IfOk result (λ array. described array ≡ made_array)
+made_opened answer (Ok array) opens is = described_as array (one_document (documented array) made_document (sym is ∙ opens))
+made_opened answer (Err status) opens is = tt
+
+not_refused : (answer : OpenAnswer) (document : ArrayDocument) (why : Option OpenRefusal) → answer ≡ opened document → IsRefusal why answer → ⊥
+not_refused answer document None opens is = is
+not_refused answer document (Some why) opens is = cc
+
+only_memory : (answer : OpenAnswer) (document : ArrayDocument) (status : Status) → answer ≡ opened document → OpensLine (Err status) answer → status ≡ OutOfMemory
+only_memory answer document (Document error) opens is = absurd (not_refused answer document (open_refusal_of error) opens is)
+only_memory answer document OutOfMemory opens is = refl
+only_memory answer document Done opens is = absurd is
+only_memory answer document BadWords opens is = absurd is
+only_memory answer document (BadInput line) opens is = absurd is
+only_memory answer document (Chunk key) opens is = absurd is
+only_memory answer document Store opens is = absurd is
+only_memory answer document Read opens is = absurd is
+only_memory answer document Write opens is = absurd is
+only_memory answer document TooLong opens is = absurd is
+
+pub made_fails : (answer : OpenAnswer) (result : Result OpenArray Status) → answer ≡ opened made_document → OpensLine result answer → IfErr result (λ status. status ≡ OutOfMemory)
+made_fails answer (Ok array) opens is = tt
+made_fails answer (Err status) opens is = only_memory answer made_document status opens is
+
+-- keys that were counted
+pub keys_counted : (before now : Shown) (keys : List (List ℕ)) (n : ℕ) → ListsKeys before.content keys → SameContent before now → n ≡ length keys →
+    (all : List (List ℕ)) × ListsKeys now.content all × (n ≡ length all)
+keys_counted before now keys n lists same is = (keys, subst (λ content. ListsKeys content keys) (sym (fun_ext same)) lists, is)
+
+-- replies and keys that were summed up
+pub summed_up : (description : Description) (n count : ℕ) (options : Options) (commands : List Command) (before mid now : Shown) (held : List Reply) (text : List ℕ) →
+    sized_kind (kind description) ≡ Some n → RepliedBy description options commands before mid held →
+    (keys : List (List ℕ)) × ListsKeys now.content keys × (count ≡ length keys) → now.content ≡ mid.content → now.asks ≡ counted mid.asks 1 →
+    ((answers : List Model.Reply) → AllZip (Matches (fixed n)) (map answer_of held) answers → text ≡ summary_text answers count) →
+    (lines : List ℕ) × (text ≡ summary_held n held count lines) → SumsAll description options commands before now text
+summed_up description n count options commands before mid now held text sized ran keys same asks sums is = record {
+  sums = record {
+    summed = λ array means. (keys.0, keys.1, sums (Model.replies description commands array) (subst (λ k. AllZip (Matches k) (map answer_of held) (Model.replies description commands array)) (sized_is (kind description) n sized) (ran.matched array means)) ∙ ap (summary_text (Model.replies description commands array)) keys.2);
+    numbers = counts n count description commands held now.content text is.0 ran.refusals keys is.1;
+    left = subst (λ content. LeavesArray description options commands before.content content) (sym same) ran.left;
+    undamaged = ran.undamaged;
+  };
+  asks = (let first : mid.asks ≡ counted before.asks (all_asks description commands) = ran.asks in counted_more before.asks mid.asks now.asks (all_asks description commands) 1 first asks);
+}

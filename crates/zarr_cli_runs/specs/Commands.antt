@@ -1,0 +1,42 @@
+-- Commands that ran over a store: their replies, the keys that they may change, and why they ended early.
+use Rattle.std.specs.Prelude.{◌≡◌, ℕ, List, map, Some, true}
+use Rattle.std.specs.List.{AllZip, list_any}
+use Rattle.zarr_model.specs.Prelude.{Element, Array, Options, Means, Shown, Command, Description, kind, layout, replies, Matches, LeavesArray, MeetsNoDamage, RefusesRight, all_asks, counted, Rose, IsDamageMet, IsChunk, changes_chunk}
+use Rattle.zarr_array.specs.Command.{answer_of}
+use Rattle.zarr_array.specs.declared.command.Reply.{Reply}
+use Rattle.zarr_cli_runs.specs.declared.status.Status.{Status}
+use Rattle.zarr_cli_runs.specs.declared.status.Status.TheVariants.{OutOfMemory, Document, Chunk, Store}
+use Rattle.zarr_array_regions.specs.declared.error.SessionErrorKind.{SessionErrorKind}
+use Rattle.zarr_array_regions.specs.declared.error.SessionErrorKind.TheVariants.{NotOpened, ChunkDecode}
+use Rattle.zarr_array_regions.specs.declared.error.SessionErrorKind.TheVariants as Kind
+
+-- a key is that of a chunk that an accepted command writes or erases
+abbrev pub IsChangedKey : Description → List Command → List ℕ → Type 0
+IsChangedKey array commands key = (chunk : List ℕ) × IsChunk array.grid chunk
+    × (list_any (changes_chunk array chunk) commands ≡ true) × (array.key chunk ≡ key)
+
+-- commands were run over a store, and these are their replies
+pub record RepliedBy (description : Description) (options : Options) (commands : List Command)
+    (before now : Shown) (held : List Reply) : Type 0 where
+  pub matched : (array : Array Element) → Means (layout description options) before.content array →
+      AllZip (Matches (kind description)) (map answer_of held) (replies description commands array)
+  pub left : LeavesArray description options commands before.content now.content
+  pub undamaged : MeetsNoDamage description options commands before.content
+  pub refusals : RefusesRight description commands (map answer_of held)
+  pub asks : now.asks ≡ counted before.asks (all_asks description commands)
+
+-- commands ended early, and the value of a damaged chunk stands
+abbrev pub IsRunFault : Description → Options → List Command → Shown → Shown → Status → Type 0
+IsRunFault description options commands before now (Chunk key) =
+    IsDamageMet description options commands before.content key
+    × (now.content key ≡ before.content key)
+IsRunFault description options commands before now Store = Rose before.faults now.faults
+IsRunFault description options commands before now OutOfMemory = Unit {0}
+IsRunFault _ _ _ _ _ _ = ⊥
+
+-- the status of a session that ended early
+abbrev pub session_status : SessionErrorKind → Status
+session_status (NotOpened error) = Document error
+session_status (ChunkDecode key error) = Chunk key
+session_status Kind.Store = Store
+session_status Kind.OutOfMemory = OutOfMemory

@@ -1,0 +1,84 @@
+//! Commands run over a store, and the text of their replies.
+
+ghost use Rattle.std.specs.Prelude.{◌≡◌, ◌<◌, ◌≤◌, map, List, ℕ, IfOk, IfErr};
+ghost use Rattle.zarr_model.specs.Prelude.{fixed, Rose, IsHonest, layout, AreRefused, IsUntouched};
+ghost use Rattle.zarr_array.specs.OpenArray.{described};
+ghost use Rattle.zarr_array.specs.Command.{command_of};
+ghost use Rattle.zarrs_codec_traits.specs.Views.{options_of};
+ghost use Rattle.zarrs_codec_array_bytes.specs.Steps.{kind_seen};
+ghost use Rattle.zarr_cli_lines.specs.Parts.{IsTextOf};
+ghost use Rattle.zarr_cli_runs.specs.Commands.{IsChangedKey, RepliedBy, IsRunFault, session_status};
+
+use crate::status::Status;
+use std::alloc::{AllocError, Global};
+use zarr_array::CodecOptions;
+use zarr_array::command::{Command, Reply};
+use zarr_array::error::SessionErrorKind;
+use zarr_array::open::OpenArray;
+use zarr_cli_lines::reply_text::push_reply;
+use zarrs_data_type_names::DataType;
+use zarrs_storage::store::Store;
+
+/// The lines of replies, whose elements are of a data type.
+///
+/// # Errors
+/// Want of memory alone.
+pub fn text_of_replies(
+    alloc: Global,
+    replies: &[Reply],
+    data_type: &DataType,
+) -> Result<Vec<u8>, AllocError>
+    requires { (n : ℕ) → kind_seen data_type.now ≡ fixed n → 0 < n }
+    ensures { IfOk result (λ text. IsTextOf (kind_seen data_type.now) replies.now text.items) }
+{
+    let mut text = Vec::new(alloc);
+    for reply in replies {
+        push_reply(&mut text, reply, data_type)?;
+    }
+    Ok(text)
+}
+
+// The status of a session that ended early.
+fn session_status(kind: SessionErrorKind) -> Status
+    ensures { result ≡ session_status kind }
+{
+    match kind {
+        SessionErrorKind::NotOpened(error) => Status::Document(error),
+        SessionErrorKind::ChunkDecode { key, error: _ } => Status::Chunk { key },
+        SessionErrorKind::Store => Status::Store,
+        SessionErrorKind::OutOfMemory => Status::OutOfMemory,
+    }
+}
+
+/// Runs commands over a store, and gives their replies.
+///
+/// # Errors
+/// `Chunk` where a read or a write met a value that does not decode, `Store` where the store failed, and `OutOfMemory`.
+pub fn replies_of<S: Store>(
+    alloc: Global,
+    array: &OpenArray,
+    commands: &[Command],
+    store: &mut S,
+    options: &CodecOptions,
+) -> Result<Vec<Reply>, Status>
+    ensures ran { IfOk result (λ held. RepliedBy (described array.now) (options_of options.now)
+        (map command_of commands.now) (S.shown store.old) (S.shown store.new) held.items) }
+    ensures refused { AreRefused (described array.now) (map command_of commands.now) →
+        IsUntouched (S.shown store.old) (S.shown store.new) }
+    ensures unchanged { (key : List ℕ) →
+        ¬ IsChangedKey (described array.now) (map command_of commands.now) key →
+        (S.shown store.new).content key ≡ (S.shown store.old).content key }
+    ensures later { (S.shown store.old).faults ≤ (S.shown store.new).faults }
+    ensures fault { IfErr result (λ status.
+        IsRunFault (described array.now) (options_of options.now)
+        (map command_of commands.now) (S.shown store.old) (S.shown store.new) status) }
+    ensures complete { IsHonest (layout (described array.now) (options_of options.now))
+        (S.shown store.old).content →
+        ¬ Rose (S.shown store.old).faults (S.shown store.new).faults →
+        IfErr result (λ status. status ≡ Status.OutOfMemory) }
+{
+    match array.run_commands(alloc, commands, store, options) {
+        Ok(replies) => Ok(replies),
+        Err(error) => Err(session_status(error.kind)),
+    }
+}

@@ -1,0 +1,129 @@
+//! The keys of a store: their lines, and how many there are.
+
+ghost use Rattle.std.specs.Prelude.{◌≡◌, ◌++◌, ◌≤◌, ℕ, List, [], true, false, IsSome, IfOk, IfErr, OnOk, Contains, length, unwrap_or};
+ghost use Rattle.zarr_model.specs.Prelude.{counted, IsUntouched};
+ghost use Rattle.zarrs_storage.specs.Store.{ListsKeys};
+ghost use Rattle.zarr_cli_lines.specs.Text.{entry_text, entries_text, line_of};
+ghost use Rattle.zarr_cli_runs.specs.Keys.{Dumps, IsDumpFault, entries_at, storage_status};
+
+use crate::status::Status;
+use std::alloc::Global;
+use zarr_cli_lines::entry::push_entry;
+use zarrs_storage::store::{StorageError, Store};
+use zarrs_storage::store_key::StoreKey;
+
+/// The status of a call of the store that gave no answer.
+pub fn storage_status(error: StorageError) -> Status
+    ensures { result ≡ storage_status error }
+{
+    match error {
+        StorageError::Failed | StorageError::InvalidByteRange(_) => Status::Store,
+        StorageError::OutOfMemory => Status::OutOfMemory,
+    }
+}
+
+// Appends the line of a key that the store holds.
+fn push_key<S: Store>(
+    alloc: Global,
+    text: &mut Vec<u8>,
+    key: &StoreKey,
+    store: &mut S,
+) -> Result<(), Status>
+    requires { IsSome ((S.shown store.now).content key.now) }
+    ensures line { OnOk result (text.new.items ≡ text.old.items
+        ++ line_of (entry_text (key.now, unwrap_or ((S.shown store.old).content key.now) []))) }
+    ensures same { (S.shown store.new).content ≡ (S.shown store.old).content }
+    ensures asks { OnOk result ((S.shown store.new).asks ≡ counted (S.shown store.old).asks 1) }
+    ensures later { (S.shown store.old).faults ≤ (S.shown store.new).faults }
+    ensures fault { IfErr result (λ status.
+        IsDumpFault (S.shown store.old) (S.shown store.new) status) }
+{
+    match store.get(alloc, key) {
+        Ok(Some(value)) => Ok(push_entry(text, key, &value)?),
+        Ok(None) => unreachable!(),
+        Err(error) => Err(storage_status(error)),
+    }
+}
+
+// Appends the lines of keys that the store holds.
+fn push_keys<S: Store>(
+    alloc: Global,
+    text: &mut Vec<u8>,
+    keys: &[StoreKey],
+    store: &mut S,
+) -> Result<(), Status>
+    requires { (key : List ℕ) → Contains keys.now key → IsSome ((S.shown store.now).content key) }
+    ensures lines { OnOk result (text.new.items ≡ text.old.items
+        ++ entries_text (entries_at (S.shown store.old).content keys.now)) }
+    ensures same { (S.shown store.new).content ≡ (S.shown store.old).content }
+    ensures asks { OnOk result
+        ((S.shown store.new).asks ≡ counted (S.shown store.old).asks (length keys.now)) }
+    ensures later { (S.shown store.old).faults ≤ (S.shown store.new).faults }
+    ensures fault { IfErr result (λ status.
+        IsDumpFault (S.shown store.old) (S.shown store.new) status) }
+{
+    for key in keys {
+        push_key(alloc, text, key, store)?;
+    }
+    Ok(())
+}
+
+// Appends the lines of all keys of the store, in the order of the keys' bytes.
+fn push_store<S: Store>(alloc: Global, text: &mut Vec<u8>, store: &mut S) -> Result<(), Status>
+    ensures dumped { OnOk result (Dumps true (S.shown store.old) (S.shown store.new)
+        text.old.items text.new.items) }
+    ensures same { (S.shown store.new).content ≡ (S.shown store.old).content }
+    ensures later { (S.shown store.old).faults ≤ (S.shown store.new).faults }
+    ensures fault { IfErr result (λ status.
+        IsDumpFault (S.shown store.old) (S.shown store.new) status) }
+{
+    match store.list(alloc) {
+        Ok(keys) => push_keys(alloc, text, &keys, store),
+        Err(error) => Err(storage_status(error)),
+    }
+}
+
+/// Appends the lines of the keys that the store holds, where they are asked for: one reading call for the list, and
+/// one for each key.
+///
+/// # Errors
+/// `Store` where the store failed, and `OutOfMemory`; the text may then have some of the lines.
+pub fn push_dump<S: Store>(
+    alloc: Global,
+    dump: bool,
+    text: &mut Vec<u8>,
+    store: &mut S,
+) -> Result<(), Status>
+    ensures dumped { OnOk result (Dumps dump (S.shown store.old) (S.shown store.new)
+        text.old.items text.new.items) }
+    ensures same { (S.shown store.new).content ≡ (S.shown store.old).content }
+    ensures still { dump ≡ false → IsUntouched (S.shown store.old) (S.shown store.new) }
+    ensures later { (S.shown store.old).faults ≤ (S.shown store.new).faults }
+    ensures fault { IfErr result (λ status.
+        IsDumpFault (S.shown store.old) (S.shown store.new) status) }
+{
+    if dump {
+        push_store(alloc, text, store)
+    } else {
+        Ok(())
+    }
+}
+
+/// How many keys a store holds: one reading call.
+///
+/// # Errors
+/// `Store` where the store failed, and `OutOfMemory`.
+pub fn count_keys<S: Store>(alloc: Global, store: &mut S) -> Result<usize, Status>
+    ensures keys { IfOk result (λ count. (keys : List (List ℕ))
+        × ListsKeys (S.shown store.new).content keys × (count ≡ length keys)) }
+    ensures same { (S.shown store.new).content ≡ (S.shown store.old).content }
+    ensures asks { OnOk result ((S.shown store.new).asks ≡ counted (S.shown store.old).asks 1) }
+    ensures later { (S.shown store.old).faults ≤ (S.shown store.new).faults }
+    ensures fault { IfErr result (λ status.
+        IsDumpFault (S.shown store.old) (S.shown store.new) status) }
+{
+    match store.list(alloc) {
+        Ok(keys) => Ok(keys.len()),
+        Err(error) => Err(storage_status(error)),
+    }
+}

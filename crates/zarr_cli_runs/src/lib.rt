@@ -1,0 +1,11 @@
+//! Commands run over a store: the array of a first line, replies and their text, the lines of the keys, and a run that is
+//! made from a number; with the status that each ends with.
+#![tactic(auto)]
+
+pub mod commands;
+pub mod keys;
+pub mod made;
+pub mod opening;
+pub mod status;
+
+pub use status::Status;

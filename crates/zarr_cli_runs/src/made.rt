@@ -1,0 +1,144 @@
+//! A run that is made from a number.
+
+ghost use Rattle.std.specs.Prelude.{◌≡◌, ◌<◌, map, List, ℕ, IfOk, IfErr};
+ghost use Rattle.std.specs.List.{AllZip};
+ghost use Rattle.zarr_model.specs.Prelude.{Rose, IsHonest, layout, fixed, Matches};
+ghost use Rattle.zarr_model.specs.Command as Model;
+ghost use Rattle.zarr_array.specs.OpenArray.{described};
+ghost use Rattle.zarr_array.specs.Command.{command_of, answer_of};
+ghost use Rattle.zarrs_codec_traits.specs.Views.{options_of};
+ghost use Rattle.zarrs_codec_array_bytes.specs.Steps.{kind_seen};
+ghost use Rattle.zarr_cli_made.specs.Commands.{made_commands};
+ghost use Rattle.zarr_cli_made.specs.Summary.{summary_text};
+ghost use Rattle.zarr_cli_made.specs.Tally.{summary_held};
+ghost use Rattle.zarr_cli_runs.specs.Commands.{IsChangedKey, IsRunFault};
+ghost use Rattle.zarr_cli_runs.specs.Made.{made_array, SumsAll};
+
+use crate::commands::{replies_of, text_of_replies};
+use crate::keys::count_keys;
+use crate::opening::open_line;
+use crate::status::Status;
+use std::alloc::{AllocError, Global};
+use zarr_array::CodecOptions;
+use zarr_array::command::{Command, Reply};
+use zarr_array::open::OpenArray;
+use zarr_cli_made::{made_commands, made_document, push_summary};
+use zarrs_data_type_names::DataType;
+use zarrs_storage::store::Store;
+
+// The array that the commands are for.
+fn open_made(alloc: Global) -> Result<OpenArray, Status>
+    ensures array { IfOk result (λ array. described array ≡ made_array) }
+    ensures fault { IfErr result (λ status. status ≡ Status.OutOfMemory) }
+{
+    open_line(alloc, made_document())
+}
+
+// The summary of replies, whose elements are of a data type and have `size` bytes, and of a number of keys.
+fn summary_of(
+    alloc: Global,
+    replies: &[Reply],
+    data_type: &DataType,
+    size: usize,
+    keys: usize,
+) -> Result<Vec<u8>, AllocError>
+    requires some { 0 < size }
+    requires kind { kind_seen data_type.now ≡ fixed size }
+    ensures held { IfOk result (λ text. (lines : List ℕ)
+        × (text.items ≡ summary_held size replies.now keys lines)) }
+    ensures replies { IfOk result (λ text. (answers : List Model.Reply) →
+        AllZip (Matches (fixed size)) (map answer_of replies.now) answers →
+        text.items ≡ summary_text answers keys) }
+{
+    let lines = text_of_replies(alloc, replies, data_type)?;
+    let mut text = Vec::new(alloc);
+    push_summary(alloc, &mut text, replies, &lines, size, keys)?;
+    Ok(text)
+}
+
+// Runs commands over a store, and gives the summary of their replies and of the keys at the end.
+fn summary_of_commands<S: Store>(
+    alloc: Global,
+    array: &OpenArray,
+    commands: &[Command],
+    store: &mut S,
+    options: &CodecOptions,
+) -> Result<Vec<u8>, Status>
+    ensures ran { IfOk result (λ text. SumsAll (described array.now) (options_of options.now)
+        (map command_of commands.now) (S.shown store.old) (S.shown store.new) text.items) }
+    ensures unchanged { (key : List ℕ) →
+        ¬ IsChangedKey (described array.now) (map command_of commands.now) key →
+        (S.shown store.new).content key ≡ (S.shown store.old).content key }
+    ensures fault { IfErr result (λ status.
+        IsRunFault (described array.now) (options_of options.now)
+        (map command_of commands.now) (S.shown store.old) (S.shown store.new) status) }
+    ensures complete { IsHonest (layout (described array.now) (options_of options.now))
+        (S.shown store.old).content →
+        ¬ Rose (S.shown store.old).faults (S.shown store.new).faults →
+        IfErr result (λ status. status ≡ Status.OutOfMemory) }
+{
+    match replies_of(alloc, array, commands, store, options) {
+        Ok(replies) => match count_keys(alloc, store) {
+            Ok(keys) => Ok(summary_of(
+                alloc,
+                &replies,
+                array.data_type(),
+                array.element_size(),
+                keys,
+            )?),
+            Err(status) => Err(status),
+        },
+        Err(status) => Err(status),
+    }
+}
+
+// Runs the commands that are made from a number on an array.
+fn summary_from<S: Store>(
+    alloc: Global,
+    array: &OpenArray,
+    number: u64,
+    store: &mut S,
+    options: &CodecOptions,
+) -> Result<Vec<u8>, Status>
+    ensures ran { IfOk result (λ text. SumsAll (described array.now) (options_of options.now)
+        (made_commands number) (S.shown store.old) (S.shown store.new) text.items) }
+    ensures unchanged { (key : List ℕ) →
+        ¬ IsChangedKey (described array.now) (made_commands number) key →
+        (S.shown store.new).content key ≡ (S.shown store.old).content key }
+    ensures fault { IfErr result (λ status.
+        IsRunFault (described array.now) (options_of options.now)
+        (made_commands number) (S.shown store.old) (S.shown store.new) status) }
+    ensures complete { IsHonest (layout (described array.now) (options_of options.now))
+        (S.shown store.old).content →
+        ¬ Rose (S.shown store.old).faults (S.shown store.new).faults →
+        IfErr result (λ status. status ≡ Status.OutOfMemory) }
+{
+    let commands = made_commands(alloc, number)?;
+    summary_of_commands(alloc, array, &commands, store, options)
+}
+
+/// Runs the commands that are made from a number over a store, and gives the summary of their replies and of how many
+/// keys the store holds at the end.
+pub fn run_made<S: Store>(
+    alloc: Global,
+    options: &CodecOptions,
+    number: u64,
+    store: &mut S,
+) -> Result<Vec<u8>, Status>
+    ensures ran { IfOk result (λ text. SumsAll made_array (options_of options.now)
+        (made_commands number) (S.shown store.old) (S.shown store.new) text.items) }
+    ensures unchanged { (key : List ℕ) → ¬ IsChangedKey made_array (made_commands number) key →
+        (S.shown store.new).content key ≡ (S.shown store.old).content key }
+    ensures fault { IfErr result (λ status.
+        IsRunFault made_array (options_of options.now)
+        (made_commands number) (S.shown store.old) (S.shown store.new) status) }
+    ensures complete { IsHonest (layout made_array (options_of options.now))
+        (S.shown store.old).content →
+        ¬ Rose (S.shown store.old).faults (S.shown store.new).faults →
+        IfErr result (λ status. status ≡ Status.OutOfMemory) }
+{
+    match open_made(alloc) {
+        Ok(array) => summary_from(alloc, &array, number, store, options),
+        Err(status) => Err(status),
+    }
+}

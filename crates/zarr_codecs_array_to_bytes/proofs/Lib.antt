@@ -1,0 +1,2 @@
+pub mod OptionalLaws
+pub mod InnerLaws

@@ -1,0 +1,79 @@
+use Rattle.std.proofs.Common.{length}
+use Rattle.zarr_model.specs.Element.{kind_of}
+use Rattle.zarrs_codec_array_bytes.specs.Raw.{raw_of}
+use Rattle.zarrs_codec_traits.specs.Errors.{unserved_at}
+use Rattle.zarrs_codec_traits.specs.Views.{options_of}
+use Rattle.zarrs_codec_partial_arrays.specs.Above.{array_level, array_fill, raised_by}
+use Rattle.zarrs_codec_partial_traits.specs.Updates.{change_of}
+use Rattle.zarrs_codec_partial_traits.proofs.UpdateLaws.{updates_early, keeps_self, keeps_rest}
+use Rattle.zarrs_codec_partial.proofs.WriteLaws.{given_memory}
+use Rattle.zarrs_codec_partial_arrays.proofs.AboveLaws.{own_served}
+use Rattle.zarrs_codec_partial_arrays.proofs.level.ArrayLevel.encode_elements.Goals as goal
+
+pub returns-in-Ok-clause-updates : goal.returns-in-Ok-clause-updates
+returns-in-Ok-clause-updates g c =
+    let level = array_level c.args.self.now in
+    let fill = array_fill c.args.self.now in
+    let under = options_of c.args.options.now in
+    let code = g.C.ArrayToArrayCodecTraits in
+    let laws = g.met.C.ArrayToArrayCodecTraits in
+    let codec = c.args.self.now.codec in
+    let meaning = code.meaning codec in
+    let below = meaning.level_below level in
+    let unserved = unserved_at (g.C.ArrayCodecTraits.unserved codec) level fill in
+    let handle = g.H.ArrayPartialDecoderTraits in
+    let old = handle.seen c.args.handle.now in
+    let see = raised_by c.args.self.now (g.C.ArrayCodecTraits.unserved codec) meaning (code.region_below codec) in
+    let asked = g.I.Indexer.as_region c.args.indexer.now in
+    let places = g.I.Indexer.places c.args.indexer.now in
+    let change = change_of level (g.I.Indexer.fits c.args.indexer.now level.shape) asked places (raw_of c.args.bytes.now) in
+    updates_early under change _ _ _ (see old) c.in-Err-expect_served.error (λ given served filled fits means. c.in-Err-expect_served.ensures.memory (own_served _ _ _ served) filled)
+
+pub returns-in-Ok-clause-rest : goal.returns-in-Ok-clause-rest
+returns-in-Ok-clause-rest g c =
+    let level = array_level c.args.self.now in
+    let fill = array_fill c.args.self.now in
+    let under = options_of c.args.options.now in
+    let code = g.C.ArrayToArrayCodecTraits in
+    let laws = g.met.C.ArrayToArrayCodecTraits in
+    let codec = c.args.self.now.codec in
+    let meaning = code.meaning codec in
+    let below = meaning.level_below level in
+    let unserved = unserved_at (g.C.ArrayCodecTraits.unserved codec) level fill in
+    let handle = g.H.ArrayPartialDecoderTraits in
+    let old = handle.seen c.args.handle.now in
+    keeps_rest old old (keeps_self old)
+
+pub returns-clause-updates : goal.returns-clause-updates
+returns-clause-updates g c =
+    let level = array_level c.args.self.now in
+    let fill = array_fill c.args.self.now in
+    let under = options_of c.args.options.now in
+    let code = g.C.ArrayToArrayCodecTraits in
+    let laws = g.met.C.ArrayToArrayCodecTraits in
+    let codec = c.args.self.now.codec in
+    let meaning = code.meaning codec in
+    let below = meaning.level_below level in
+    let unserved = unserved_at (g.C.ArrayCodecTraits.unserved codec) level fill in
+    let handle = g.H.ArrayPartialDecoderTraits in
+    let old = handle.seen c.args.handle.now in
+    let see = raised_by c.args.self.now (g.C.ArrayCodecTraits.unserved codec) meaning (code.region_below codec) in
+    let asked = g.I.Indexer.as_region c.args.indexer.now in
+    let places = g.I.Indexer.places c.args.indexer.now in
+    let change = change_of level (g.I.Indexer.fits c.args.indexer.now level.shape) asked places (raw_of c.args.bytes.now) in
+    updates_early under change _ _ _ (see old) c.in-Err.error (λ given served filled fits means. given_memory (kind_of level.data_type) _ (length places) (raw_of c.args.bytes.now) given c.in-Err.error fits means (rw c.deref.ensures.value at c.in-Err.ensures.answer))
+
+pub returns-clause-rest : goal.returns-clause-rest
+returns-clause-rest g c =
+    let level = array_level c.args.self.now in
+    let fill = array_fill c.args.self.now in
+    let under = options_of c.args.options.now in
+    let code = g.C.ArrayToArrayCodecTraits in
+    let laws = g.met.C.ArrayToArrayCodecTraits in
+    let codec = c.args.self.now.codec in
+    let meaning = code.meaning codec in
+    let below = meaning.level_below level in
+    let unserved = unserved_at (g.C.ArrayCodecTraits.unserved codec) level fill in
+    let handle = g.H.ArrayPartialDecoderTraits in
+    let old = handle.seen c.args.handle.now in
+    keeps_rest old old (keeps_self old)

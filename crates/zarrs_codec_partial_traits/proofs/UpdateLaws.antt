@@ -1,0 +1,257 @@
+-- Elements that are put into those that a handle holds: the new ones are made, and then stored.
+use Rattle.std.proofs.Common.{◌≡◌, ◌⊎◌, ℕ, ◌≤◌, Bool, true, false, not, List, Option, Some, None, IsSome, Result, Ok, Err, IfErr, OnOk, OnErr, refl, sym, ap, ap₂, ◌∙◌, subst, arith, inl, inr, ⊎_elim}
+use Rattle.std.proofs.lemmas.Result.{on_err_weaker}
+use Rattle.zarr_model.specs.Region.{Region}
+use Rattle.zarr_model.specs.Element.{Element, fill_element, kind_of}
+use Rattle.zarr_model.specs.ArrayBytes.{ArrayBytes}
+use Rattle.zarr_model.specs.Codec.{Level, Options}
+use Rattle.zarr_model.specs.Command.{has_long_element}
+use Rattle.zarrs_codec_error.specs.declared.error.CodecError.{CodecError}
+use Rattle.zarrs_codec_error.specs.declared.error.CodecError.TheVariants as codec
+use Rattle.zarrs_codec_array_bytes.specs.declared.array_bytes.ArrayBytes as code
+use Rattle.zarrs_codec_array_bytes.specs.Raw.{raw_of}
+use Rattle.zarrs_codec_traits.specs.Words.{list_at, Gives}
+use Rattle.zarrs_codec_held.specs.Reads.{IsFault, IsHandleError}
+use Rattle.zarrs_codec_held.specs.Writes.{is_fault, Unless, UnlessFault, CountsIf}
+use Rattle.zarrs_codec_held.proofs.EditLaws.{fault_later}
+use Rattle.zarrs_codec_partial_traits.specs.Lists.{ListSeen, HasFill, HasShortFill, KeepsList, ReadsList}
+use Rattle.zarrs_codec_partial_traits.specs.ListWrites.{is_kept, is_stored, HoldsList, IsAbsent, PutsList, StaysList, KeepsRest, UnaskedList, MayPutList, MayCountIf, Rewrites, IsUnencoded}
+use Rattle.zarrs_codec_partial_traits.specs.Updates.{Change, given_by, made_by, ReadsListIf, GivesMade, Stores, Updates}
+
+-- what holds where no fault is told
+pub unless : {T P Q : Type 0} (r : Result T CodecError) → (P → Q) → UnlessFault r P → UnlessFault r Q
+unless (Ok v) f p = p
+unless {T} {P} {Q} (Err e) f p = go (is_fault e) p
+  where
+    go : (b : Bool) → Unless b P → Unless b Q
+    go true p = p
+    go false p = f p
+
+pub unless_of : {T P : Type 0} (r : Result T CodecError) → P → UnlessFault r P
+unless_of (Ok v) p = tt
+unless_of {T} {P} (Err e) p = go (is_fault e)
+  where
+    go : (b : Bool) → Unless b P
+    go true = tt
+    go false = p
+
+pub unless_fault : {T : Type 0} (P : Type 0) (r : Result T CodecError) (before now : ℕ) → IfErr r (IsFault before now) → UnlessFault r P
+unless_fault P (Ok v) before now is = tt
+unless_fault {T} P (Err e) before now is = subst (λ (x : CodecError). Unless (is_fault x) P) (sym is.0) tt
+
+pub was_ok : {T E P : Type 0} (r : Result T E) → P → OnOk r P
+was_ok (Ok v) p = p
+was_ok (Err e) p = tt
+
+pub was_err : {T E P : Type 0} (r : Result T E) → P → OnErr r P
+was_err (Ok v) p = tt
+was_err (Err e) p = p
+
+none_some : {A : Type 0} (o : Option A) → o ≡ None → IsSome o → ⊥
+none_some None is there = cc
+none_some (Some x) is there = cc
+
+pub keeps_self : (seen : ListSeen) → KeepsList seen seen
+keeps_self seen = record {
+  level = refl;
+  fill = refl;
+  short = refl;
+  unserved = refl;
+  there = refl;
+  list = λ under. refl;
+  content = λ key. refl;
+  key = refl;
+  place = refl;
+  cost = refl;
+  taking = λ asked. refl;
+  whole = λ asked. refl;
+  size = refl;
+  later = omega arith;
+}
+
+-- a read, and then a change
+module _ (first old new : ListSeen) (keeps : KeepsList first old) where
+  pub stays_after : StaysList old new → StaysList first new
+  stays_after stays = record { there = stays.there ∙ keeps.there; list = λ under. stays.list under ∙ keeps.list under; content = λ key. stays.content key ∙ keeps.content key }
+
+  pub rest_after : KeepsRest old new → KeepsRest first new
+  rest_after rest = record {
+    level = rest.level ∙ keeps.level;
+    fill = rest.fill ∙ keeps.fill;
+    short = rest.short ∙ keeps.short;
+    unserved = rest.unserved ∙ keeps.unserved;
+    others = λ other unlike. rest.others other (λ is. unlike (is ∙ keeps.key)) ∙ keeps.content other;
+    key = rest.key ∙ keeps.key;
+    place = rest.place ∙ keeps.place;
+    cost = rest.cost ∙ keeps.cost;
+    whole = λ asked. rest.whole asked ∙ keeps.whole asked;
+    later = let a : first.shown.faults ≤ old.shown.faults = keeps.later in let b : old.shown.faults ≤ new.shown.faults = rest.later in omega arith;
+  }
+
+  pub puts_after : {T : Type 0} (stored : Bool) (list : List Element) (result : Result T CodecError) → PutsList stored list old new result → PutsList stored list first new result
+  puts_after stored list result puts = record {
+    ok = puts.ok;
+    failed = on_err_weaker result (λ case. ⊎_elim (λ (same : (under : Options) → new.list under ≡ old.list under). inl (λ (under : Options). same under ∙ keeps.list under))
+        (λ (more : HoldsList true (Some list) new ⊎ IsAbsent new). inr more) case) puts.failed;
+  }
+
+  pub may_put : {T : Type 0} (stored : List Element → Bool) (list given : Option (List Element)) (result : Result T CodecError) → Gives given list → ((xs : List Element) → given ≡ Some xs → PutsList (stored xs) xs old new result)
+      → MayPutList stored list first new result
+  may_put stored None given result gives puts = absurd (none_some given gives.same gives.there)
+  may_put stored (Some list) given result gives puts = puts_after (stored list) list result (puts list gives.same)
+
+  may : (b : Bool) (before now more : ℕ) → CountsIf b before now more → MayCountIf b before now more
+  may true before now more is = inr is
+  may false before now more is = is
+
+  pub rewrites_after : {T U E : Type 0} (rereads : Bool) (read : U) (result : Result T CodecError) → ReadsListIf {E = E} rereads None first old (Ok read) → UnlessFault result (StaysList old new) → KeepsRest old new → UnaskedList old new
+      → Rewrites rereads first new result
+  rewrites_after rereads read result reads unchanged rest unasked =
+      let asks : CountsIf rereads first.shown.asks new.shown.asks first.cost = subst (λ (n : ℕ). CountsIf rereads first.shown.asks n first.cost) (sym unasked.asks) reads.asks in
+      let taken : CountsIf rereads first.shown.taken new.shown.taken (first.taking None) = subst (λ (n : ℕ). CountsIf rereads first.shown.taken n (first.taking None)) (sym unasked.taken) reads.taken in
+      record {
+        unchanged = unless result stays_after unchanged;
+        rest = rest_after rest;
+        asks = was_ok result asks;
+        asks_err = was_err result (may rereads _ _ _ asks);
+        taken = was_ok result taken;
+        taken_err = was_err result (may rereads _ _ _ taken);
+      }
+
+  same_fill : fill_element (kind_of old.level.data_type) old.fill ≡ fill_element (kind_of first.level.data_type) first.fill
+  same_fill = ap₂ (λ (level : Level) (fill : List ℕ). fill_element (kind_of level.data_type) fill) keeps.level keeps.fill
+
+  pub filled_after : HasFill first → HasFill old
+  filled_after filled = subst (λ (o : Option Element). IsSome o) (sym same_fill) filled
+
+  pub stored_after : (under : Options) (list : List Element) → is_stored under old list ≡ is_stored under first list
+  stored_after under list = ap (λ (o : Option Element). is_kept under o list) same_fill
+
+-- a read that failed
+pub keeps_rest : (old new : ListSeen) → KeepsList old new → KeepsRest old new
+keeps_rest old new keeps = record {
+  level = keeps.level;
+  fill = keeps.fill;
+  short = keeps.short;
+  unserved = keeps.unserved;
+  others = λ other unlike. keeps.content other;
+  key = keeps.key;
+  place = keeps.place;
+  cost = keeps.cost;
+  whole = keeps.whole;
+  later = keeps.later;
+}
+
+keeps_stays : (old new : ListSeen) → KeepsList old new → StaysList old new
+keeps_stays old new keeps = record { there = keeps.there; list = keeps.list; content = keeps.content }
+
+may_not : (T : Type 0) (stored : List Element → Bool) (list : Option (List Element)) (old new : ListSeen) (e : CodecError) → KeepsList old new → MayPutList {T = T} stored list old new (Err e)
+may_not T stored None old new e keeps = tt
+may_not T stored (Some list) old new e keeps = record { ok = tt; failed = inl keeps.list }
+
+rewrites_not : {T U : Type 0} (rereads : Bool) (old new : ListSeen) (e : CodecError) → ReadsListIf {T = U} rereads None old new (Err e) → Rewrites {T = T} rereads old new (Err e)
+rewrites_not {T} rereads old new e reads = record { unchanged = unless_of {T = T} (Err e) (keeps_stays old new reads.keeps); rest = keeps_rest old new reads.keeps; asks = tt; asks_err = reads.asks_err; taken = tt; taken_err = reads.taken_err }
+
+pub may_same : (b : Bool) (before more : ℕ) → MayCountIf b before before more
+may_same true before more = inl refl
+may_same false before more = refl
+
+-- a read of all elements, whatever comes after it
+pub reads_if_still : {T U E F : Type 0} (asked : Option Region) (old new : ListSeen) (v : U) (result : Result T E) → ReadsList {E = F} asked old new (Ok v) → ReadsListIf true asked old new result
+reads_if_still asked old new v result reads = record { keeps = reads.keeps; asks = was_ok result reads.asks; asks_err = was_err result (inr reads.asks); taken = was_ok result reads.taken; taken_err = was_err result (inr reads.taken) }
+
+pub reads_if_not : {T U E : Type 0} (asked : Option Region) (old new : ListSeen) (e : E) → ReadsList {T = T} asked old new (Err e) → ReadsListIf {T = U} true asked old new (Err e)
+reads_if_not asked old new e reads = record { keeps = reads.keeps; asks = tt; asks_err = reads.asks_err; taken = tt; taken_err = reads.taken_err }
+
+-- nothing was read
+pub reads_none : {T E : Type 0} (reads : Bool) (asked : Option Region) (seen : ListSeen) (result : Result T E) → reads ≡ false → ReadsListIf reads asked seen seen result
+reads_none reads asked seen result not_read =
+    subst (λ (b : Bool). ReadsListIf b asked seen seen result) (sym not_read)
+    (let none : ReadsListIf false asked seen seen result = record { keeps = keeps_self seen; asks = was_ok result refl; asks_err = was_err result refl; taken = was_ok result refl; taken_err = was_err result refl } in none)
+
+-- nothing was done
+pub unread_if : {T E : Type 0} (reads : Bool) (asked : Option Region) (seen : ListSeen) (e : E) → ReadsListIf {T = T} reads asked seen seen (Err e)
+unread_if reads asked seen e = record { keeps = keeps_self seen; asks = tt; asks_err = may_same reads _ _; taken = tt; taken_err = may_same reads _ _ }
+
+-- why elements are not stored
+stored_told : {T : Type 0} (given wanted : Option (List Element)) (U : CodecError → Type 0) (B : List Element → CodecError → Type 0) (first mid new : ℕ) (r : Result T CodecError) → Gives given wanted → first ≤ mid
+    → ((xs : List Element) → given ≡ Some xs → IfErr r (λ e. IsHandleError mid new e ⊎ B xs e)) → IfErr r (λ e. IsHandleError first new e ⊎ (U e ⊎ IsUnencoded wanted B e))
+stored_told given None U B first mid new r gives later told = absurd (none_some given gives.same gives.there)
+stored_told given (Some xs) U B first mid new (Ok v) gives later told = tt
+stored_told given (Some xs) U B first mid new (Err e) gives later told =
+    ⊎_elim (λ (h : IsHandleError mid new e). inl (fault_later first mid new e later h)) (λ (b : B xs e). inr (inr b)) (told xs gives.same)
+
+stored_short : {T : Type 0} (U : CodecError → Type 0) (first mid new : ℕ) (r : Result T CodecError) → first ≤ mid → IfErr r (IsHandleError mid new) → IfErr r (λ e. IsHandleError first new e ⊎ U e)
+stored_short U first mid new (Ok v) later told = tt
+stored_short U first mid new (Err e) later told = inl (fault_later first mid new e later told)
+
+told_before : {T : Type 0} (before now : ℕ) (A B : CodecError → Type 0) (r : Result T CodecError) → ((e : CodecError) → A e → B e) → IfErr r (λ e. IsHandleError before now e ⊎ A e) → IfErr r (λ e. IsHandleError before now e ⊎ B e)
+told_before before now A B (Ok v) to told = tt
+told_before before now A B (Err e) to told = ⊎_elim (λ (h : IsHandleError before now e). inl h) (λ (a : A e). inr (to e a)) told
+
+-- only what is below failed
+pub fault_told : {T : Type 0} (before now : ℕ) (P : CodecError → Type 0) (r : Result T CodecError) → IfErr r (IsFault before now) → IfErr r (λ e. IsHandleError before now e ⊎ P e)
+fault_told before now P (Ok v) told = tt
+fault_told before now P (Err e) told = inl (inr told)
+
+pub fault_only : {T : Type 0} (before now : ℕ) (r : Result T CodecError) → IfErr r (IsFault before now) → IfErr r (IsHandleError before now)
+fault_only before now (Ok v) told = tt
+fault_only before now (Err e) told = inr told
+
+pub handle_told : {T : Type 0} (before now : ℕ) (P : CodecError → Type 0) (r : Result T CodecError) → IfErr r (IsHandleError before now) → IfErr r (λ e. IsHandleError before now e ⊎ P e)
+handle_told before now P (Ok v) told = tt
+handle_told before now P (Err e) told = inl told
+
+-- elements were not stored
+pub stores_not : {T : Type 0} (under : Options) (bytes : ArrayBytes) (unencoded : List Element → CodecError → Type 0) (Short : Type 0) (seen : ListSeen) (e : CodecError)
+    → ((list : List Element) → seen.unserved ≡ None → HasFill seen → list_at seen.level bytes ≡ Some list → IsHandleError seen.shown.faults seen.shown.faults e ⊎ unencoded list e)
+    → (seen.unserved ≡ None → HasFill seen → HasShortFill seen → Short → IsSome (list_at seen.level bytes) → has_long_element bytes ≡ false → IsHandleError seen.shown.faults seen.shown.faults e)
+    → Stores {T = T} under bytes unencoded Short seen seen (Err e)
+stores_not {T} under bytes unencoded Short seen e cause encoded = record {
+  puts = λ list served filled means. let p : PutsList {T = T} (is_stored under seen list) list seen seen (Err e) = record { ok = tt; failed = inl (λ under. refl) } in p;
+  unchanged = unless_of {T = T} (Err e) (keeps_stays seen seen (keeps_self seen));
+  rest = keeps_rest seen seen (keeps_self seen);
+  unasked = record { asks = refl; taken = refl };
+  cause = cause;
+  encoded = encoded;
+}
+
+module _ (under : Options) (change : Change) (tells : CodecError → Type 0) (unencoded : List Element → CodecError → Type 0) (Short : Type 0) where
+  -- new elements were made, and then stored
+  pub updates_after : {T : Type 0} (unencoded_then : List Element → CodecError → Type 0) (ShortThen : Type 0) (first mid new : ListSeen) (elements : code.ArrayBytes) (result : Result T CodecError)
+      → GivesMade under change tells first mid (Ok elements) → ReadsListIf {E = CodecError} (not change.all) None first mid (Ok elements) → Stores under (raw_of elements) unencoded_then ShortThen mid new result
+      → ((list : List Element) (e : CodecError) → unencoded_then list e → unencoded list e) → (Short → ShortThen) → Updates under change tells unencoded Short first new result
+  updates_after unencoded_then ShortThen first mid new elements result made reads stores back to =
+      let keeps = reads.keeps in
+      let raw = raw_of elements in
+      let means = (λ (xs : List Element) (is : list_at first.level raw ≡ Some xs). ap (λ (level : Level). list_at level raw) keeps.level ∙ is) in
+      record {
+        puts = λ given served filled is. may_put first mid new keeps (is_stored under first) (made_by change given (first.list under)) (list_at first.level raw) result (made.gives given served filled is)
+            (λ xs here. subst (λ (b : Bool). PutsList b xs mid new result) (stored_after first mid new keeps under xs) (stores.puts xs (keeps.unserved ∙ served) (filled_after first mid new keeps filled) (means xs here)));
+        rewrites = rewrites_after first mid new keeps (not change.all) elements result reads stores.unchanged stores.rest stores.unasked;
+        cause = λ given served filled fits is. stored_told (list_at first.level raw) (made_by change given (first.list under)) _ unencoded _ _ _ result (made.gives given served filled is) keeps.later
+            (λ xs here. told_before _ _ (unencoded_then xs) (unencoded xs) result (back xs) (stores.cause xs (keeps.unserved ∙ served) (filled_after first mid new keeps filled) (means xs here)));
+        encoded = λ given served filled few takes short fits is.
+            let gives = made.gives given served filled is in
+            stored_short _ _ _ _ result keeps.later (stores.encoded (keeps.unserved ∙ served) (filled_after first mid new keeps filled) (keeps.short ∙ few) (to takes) (subst (λ (level : Level). IsSome (list_at level raw)) (sym keeps.level) gives.there)
+            (made.short served few short));
+      }
+
+  -- they were not made
+  pub updates_not : {T : Type 0} (first mid : ListSeen) (e : CodecError) → GivesMade under change tells first mid (Err e) → ReadsListIf {T = code.ArrayBytes} (not change.all) None first mid (Err e) → Updates {T = T} under change tells unencoded Short first mid (Err e)
+  updates_not {T} first mid e made reads = record {
+    puts = λ given served filled is. may_not T (is_stored under first) (made_by change given (first.list under)) first mid e reads.keeps;
+    rewrites = rewrites_not (not change.all) first mid e reads;
+    cause = λ given served filled fits is. ⊎_elim (λ h. inl h) (λ u. inr (inl u)) (made.failed given served filled is);
+    encoded = λ given served filled few takes short fits is. made.failed given served filled is;
+  }
+
+  -- nothing was done, for want of memory where the elements and their indexer are in order
+  pub updates_early : {T : Type 0} (seen : ListSeen) (e : CodecError) → ((given : List Element) → seen.unserved ≡ None → HasFill seen → change.fits ≡ true → given_by seen.level change ≡ Some given → e ≡ codec.OutOfMemory)
+      → Updates {T = T} under change tells unencoded Short seen seen (Err e)
+  updates_early {T} seen e memory = record {
+    puts = λ given served filled is. may_not T (is_stored under seen) (made_by change given (seen.list under)) seen seen e (keeps_self seen);
+    rewrites = rewrites_not {U = code.ArrayBytes} (not change.all) seen seen e (unread_if (not change.all) None seen e);
+    cause = λ given served filled fits is. inl (inl (memory given served filled fits is));
+    encoded = λ given served filled few takes short fits is. inl (inl (memory given served filled fits is));
+  }

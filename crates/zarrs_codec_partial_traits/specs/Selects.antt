@@ -1,0 +1,49 @@
+-- Elements at an indexer's indices, and a target that they are put into.
+use Rattle.std.specs.Prelude.{◌≡◌, ◌⊎◌, ℕ, Bool, true, List, length, Option, Some, None, IsSome, Result, IfOk, IfErr, OnOk}
+use Rattle.zarr_model.specs.Region.{Region}
+use Rattle.zarr_model.specs.Element.{Element, null, kind_of}
+use Rattle.zarr_model.specs.ArrayBytes.{meaning}
+use Rattle.zarr_model.specs.Codec.{Level, Options}
+use Rattle.zarrs_codec_bytes.specs.Picking.{picked}
+use Rattle.zarrs_codec_error.specs.declared.error.CodecError.{CodecError}
+use Rattle.zarrs_codec_array_bytes.specs.declared.array_bytes.ArrayBytes as code
+use Rattle.zarrs_codec_array_bytes.specs.Raw.{raw_of}
+use Rattle.zarrs_codec_array_bytes.specs.Refusals.{Told, fine, told_by}
+use Rattle.zarrs_codec_array_bytes.specs.Selection.{linear}
+use Rattle.zarrs_codec_partial_traits.specs.Boxes.{is_all}
+use Rattle.zarrs_codec_partial_traits.specs.Lists.{ListSeen, HasFill, ReadsList, IsListError}
+
+-- those of a level's list at some places
+abbrev pub chosen : Level → List (List ℕ) → List Element → List Element
+chosen level places list = picked null (linear level.shape places) list
+
+-- the elements at some places of what is held, where what was tested is in order
+pub record Selects (under : Options) (asked : Option Region) (places : List (List ℕ))
+    (in_order : Bool) (tells : CodecError → Type 0) (old new : ListSeen)
+    (result : Result code.ArrayBytes CodecError) : Type 0 where
+  pub value : (list : List Element) → old.unserved ≡ None → old.list under ≡ Some list
+      → IfOk result (λ v. meaning (kind_of old.level.data_type) (length places) (raw_of v)
+      ≡ Some (chosen old.level places list))
+  pub valid : old.unserved ≡ None → HasFill old → IfOk result
+      (λ v. IsSome (meaning (kind_of old.level.data_type) (length places) (raw_of v)))
+  pub failed : old.unserved ≡ None → in_order ≡ true → IfErr result
+      (IsListError old.there (old.list under) tells old.shown.faults new.shown.faults)
+  pub decodes : old.unserved ≡ None → old.there ≡ true → old.whole asked ≡ true
+      → OnOk result (IsSome (old.list under))
+  pub all : old.unserved ≡ None → HasFill old → is_all old.level.shape asked ≡ true
+      → OnOk result (IsSome (old.list under))
+  pub reads : ReadsList asked old new result
+
+-- the same for a target, which answers so to these elements
+pub record SelectsInto {T : Type 0} (under : Options) (asked : Option Region) (in_order : Bool)
+    (tells : CodecError → Type 0) (answer : Told) (old new : ListSeen)
+    (result : Result T CodecError) : Type 0 where
+  pub taken : old.unserved ≡ None → HasFill old → OnOk result (answer ≡ fine)
+  pub failed : old.unserved ≡ None → HasFill old → in_order ≡ true → IfErr result
+      (λ e. IsListError old.there (old.list under) tells old.shown.faults new.shown.faults e
+      ⊎ (told_by e ≡ answer))
+  pub decodes : old.unserved ≡ None → old.there ≡ true → old.whole asked ≡ true
+      → OnOk result (IsSome (old.list under))
+  pub all : old.unserved ≡ None → HasFill old → is_all old.level.shape asked ≡ true
+      → OnOk result (IsSome (old.list under))
+  pub reads : ReadsList asked old new result

@@ -1,0 +1,101 @@
+-- Elements that are put into those that a handle holds.
+use Rattle.std.specs.Prelude.{◌≡◌, ◌⊎◌, ℕ, Bool, true, false, not, List, length, Option, Some, None, IsSome, Result, IfOk, IfErr, OnOk, OnErr}
+use Rattle.zarr_model.specs.Region.{Region}
+use Rattle.zarr_model.specs.Element.{Element, kind_of}
+use Rattle.zarr_model.specs.ArrayBytes.{ArrayBytes, meaning}
+use Rattle.zarr_model.specs.Codec.{Level, Options}
+use Rattle.zarr_model.specs.Command.{has_long_element}
+use Rattle.zarrs_codec_error.specs.declared.error.CodecError.{CodecError}
+use Rattle.zarrs_codec_array_bytes.specs.declared.array_bytes.ArrayBytes as code
+use Rattle.zarrs_codec_array_bytes.specs.Raw.{raw_of}
+use Rattle.zarrs_codec_array_bytes.specs.Selection.{linear}
+use Rattle.zarrs_codec_traits.specs.Words.{list_at, Gives}
+use Rattle.zarrs_codec_held.specs.Reads.{IsHandleError}
+use Rattle.zarrs_codec_held.specs.Writes.{UnlessFault, CountsIf}
+use Rattle.zarrs_codec_partial_traits.specs.Boxes.{is_all}
+use Rattle.zarrs_codec_partial_traits.specs.Lists.{ListSeen, HasFill, HasShortFill, KeepsList}
+use Rattle.zarrs_codec_partial_traits.specs.ListWrites.{updated, is_stored, PutsList, StaysList, KeepsRest, UnaskedList, MayPutList, MayCountIf, Rewrites, IsUnencoded, IsUnreadList}
+
+-- elements that are put in: whether these are all, and whether their indexer fits; their linear
+-- indices, how many there are, and their bytes
+pub record Change : Type 0 where
+  pub all : Bool
+  pub fits : Bool
+  pub indices : List ℕ
+  pub number : ℕ
+  pub bytes : ArrayBytes
+
+abbrev pub change_of : Level → Bool → Option Region → List (List ℕ) → ArrayBytes → Change
+change_of level fits asked places bytes = record {
+  all = is_all level.shape asked;
+  fits = fits;
+  indices = linear level.shape places;
+  number = length places;
+  bytes = bytes;
+}
+
+-- the list that they mean, and the one that they make of an old one
+abbrev pub given_by : Level → Change → Option (List Element)
+given_by level change = meaning (kind_of level.data_type) change.number change.bytes
+
+abbrev pub made_by : Change → List Element → Option (List Element) → Option (List Element)
+made_by change given old = updated change.all change.indices given old
+
+-- a read of a box, or of all elements, or of nothing
+pub record ReadsListIf {T E : Type 0} (reads : Bool) (asked : Option Region) (old new : ListSeen)
+    (result : Result T E) : Type 0 where
+  pub keeps : KeepsList old new
+  pub asks : OnOk result (CountsIf reads old.shown.asks new.shown.asks old.cost)
+  pub asks_err : OnErr result (MayCountIf reads old.shown.asks new.shown.asks old.cost)
+  pub taken : OnOk result (CountsIf reads old.shown.taken new.shown.taken (old.taking asked))
+  pub taken_err : OnErr result
+      (MayCountIf reads old.shown.taken new.shown.taken (old.taking asked))
+
+-- the new elements, made of what is held and of those that are put in
+pub record GivesMade (under : Options) (change : Change) (tells : CodecError → Type 0)
+    (old new : ListSeen) (result : Result code.ArrayBytes CodecError) : Type 0 where
+  pub gives : (given : List Element) → old.unserved ≡ None → HasFill old
+      → given_by old.level change ≡ Some given → IfOk result
+      (λ v. Gives (list_at old.level (raw_of v)) (made_by change given (old.list under)))
+  pub failed : (given : List Element) → old.unserved ≡ None → HasFill old
+      → given_by old.level change ≡ Some given → IfErr result
+      (λ e. IsHandleError old.shown.faults new.shown.faults e
+      ⊎ IsUnreadList change.all old.there (old.list under) tells e)
+  pub short : old.unserved ≡ None → HasShortFill old → has_long_element change.bytes ≡ false
+      → IfOk result (λ v. has_long_element (raw_of v) ≡ false)
+
+-- a change of what is held to the elements of these bytes, with nothing read
+pub record Stores {T : Type 0} (under : Options) (bytes : ArrayBytes)
+    (unencoded : List Element → CodecError → Type 0) (Short : Type 0) (old new : ListSeen)
+    (result : Result T CodecError) : Type 0 where
+  pub puts : (list : List Element) → old.unserved ≡ None → HasFill old
+      → list_at old.level bytes ≡ Some list
+      → PutsList (is_stored under old list) list old new result
+  pub unchanged : UnlessFault result (StaysList old new)
+  pub rest : KeepsRest old new
+  pub unasked : UnaskedList old new
+  pub cause : (list : List Element) → old.unserved ≡ None → HasFill old
+      → list_at old.level bytes ≡ Some list → IfErr result
+      (λ e. IsHandleError old.shown.faults new.shown.faults e ⊎ unencoded list e)
+  pub encoded : old.unserved ≡ None → HasFill old → HasShortFill old → Short
+      → IsSome (list_at old.level bytes) → has_long_element bytes ≡ false
+      → IfErr result (IsHandleError old.shown.faults new.shown.faults)
+
+-- both: what is left, what is read, and why a call fails, also where all is short
+pub record Updates {T : Type 0} (under : Options) (change : Change) (tells : CodecError → Type 0)
+    (unencoded : List Element → CodecError → Type 0) (Short : Type 0) (old new : ListSeen)
+    (result : Result T CodecError) : Type 0 where
+  pub puts : (given : List Element) → old.unserved ≡ None → HasFill old
+      → given_by old.level change ≡ Some given → MayPutList (is_stored under old)
+      (made_by change given (old.list under)) old new result
+  pub rewrites : Rewrites (not change.all) old new result
+  pub cause : (given : List Element) → old.unserved ≡ None → HasFill old → change.fits ≡ true
+      → given_by old.level change ≡ Some given → IfErr result
+      (λ e. IsHandleError old.shown.faults new.shown.faults e
+      ⊎ (IsUnreadList change.all old.there (old.list under) tells e
+      ⊎ IsUnencoded (made_by change given (old.list under)) unencoded e))
+  pub encoded : (given : List Element) → old.unserved ≡ None → HasFill old → HasShortFill old
+      → Short → has_long_element change.bytes ≡ false → change.fits ≡ true
+      → given_by old.level change ≡ Some given → IfErr result
+      (λ e. IsHandleError old.shown.faults new.shown.faults e
+      ⊎ IsUnreadList change.all old.there (old.list under) tells e)

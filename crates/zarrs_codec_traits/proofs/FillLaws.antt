@@ -1,0 +1,32 @@
+-- The element that a fill value denotes.
+use Rattle.std.proofs.Common.{◌≡◌, ℕ, zero, suc, ◌<◌, Bool, true, false, ◌==◌, if◌then◌else◌, List, [], ◌∷◌, length, take, Option, Some, None, option_map, slice_index, refl, subst}
+use Rattle.std.specs.List.{AllByRecursion}
+use Rattle.zarr_model.specs.Element.{Element, of_bytes, null, some, Kind, fixed, variable, optional, fill_element, optional_fill}
+use Rattle.zarrs_codec_traits.specs.Words.{AreBytes}
+
+-- the first bytes of some are bytes
+bytes_taken : (n : ℕ) (bytes : List ℕ) → AllByRecursion (λ b. b < 256) bytes → AllByRecursion (λ b. b < 256) (take n bytes)
+bytes_taken zero bytes small = tt
+bytes_taken (suc n) [] small = tt
+bytes_taken (suc n) (b ∷ bytes) small = (small.0, bytes_taken n bytes small.1)
+
+-- the element that bytes denote has bytes in it
+fixed_bytes : (same : Bool) (fill : List ℕ) (x : Element) → AllByRecursion (λ b. b < 256) fill → (if same then Some (of_bytes fill) else None) ≡ Some x → AreBytes x
+fixed_bytes true fill x small is = let e : of_bytes fill ≡ x = cc in subst AreBytes e small
+fixed_bytes false fill x small is = cc
+
+some_bytes : (inner : Option Element) (x : Element) → ((y : Element) → inner ≡ Some y → AreBytes y) → option_map some inner ≡ Some x → AreBytes x
+some_bytes None x below is = cc
+some_bytes (Some y) x below is = let e : some y ≡ x = cc in subst AreBytes e (below y refl)
+
+optional_bytes : (last : ℕ) (inner : Option Element) (x : Element) → ((y : Element) → inner ≡ Some y → AreBytes y) → optional_fill last inner ≡ Some x → AreBytes x
+optional_bytes zero inner x below is = let e : null ≡ x = cc in subst AreBytes e tt
+optional_bytes (suc last) inner x below is = some_bytes inner x below is
+
+pub element_bytes : (kind : Kind) (fill : List ℕ) (x : Element) → AllByRecursion (λ b. b < 256) fill → fill_element kind fill ≡ Some x → AreBytes x
+element_bytes (fixed n) fill x small is = fixed_bytes (length fill == n) fill x small is
+element_bytes variable fill x small is = let e : of_bytes fill ≡ x = cc in subst AreBytes e small
+element_bytes (optional kind) [] x small is = cc
+element_bytes (optional kind) (b ∷ value) x small is =
+    optional_bytes (slice_index (b ∷ value) (length value)) (fill_element kind (take (length value) (b ∷ value))) x
+    (λ y inner. element_bytes kind (take (length value) (b ∷ value)) y (bytes_taken (length value) (b ∷ value) small) inner) is
