@@ -6,4 +6,5 @@ mod pairs;
 mod rows;
 mod update;
 
+pub use gather::gather;
 pub use update::update_array_bytes;
