@@ -1,10 +1,10 @@
 //! Elements put into array bytes.
 #![tactic(auto)]
 
-mod gather;
+mod gathering;
 mod pairs;
 mod rows;
 mod update;
 
-pub use gather::gather;
+pub use gathering::gather;
 pub use update::update_array_bytes;

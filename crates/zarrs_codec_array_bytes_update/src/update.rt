@@ -14,7 +14,7 @@ ghost use Rattle.zarrs_codec_array_bytes.specs.Refusals.{Answers, told, first_an
 ghost use Rattle.zarrs_codec_array_bytes_update.specs.Pairs.{update_answer, both_answer, are_alike};
 ghost use Rattle.zarrs_codec_array_bytes_update.specs.Picks.{update_picks};
 
-use crate::gather::gather;
+use crate::gathering::gather;
 use crate::pairs::expect_pair;
 use crate::rows::replace_rows;
 use std::alloc::Global;
