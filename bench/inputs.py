@@ -57,6 +57,21 @@ def write_and_read(shape, chunks, size=1, data_type="uint8", endian="little"):
     )
 
 
+def texts(shape, chunks, size):
+    """One write of a whole array of texts of `size` bytes, and one read of it."""
+    count = shape[0] * shape[1]
+    digits = [f"{n % 95 + 32:02x}" for n in range(count * size)]
+    elements = "".join(" h" + "".join(digits[k * size : k * size + size]) for k in range(count))
+    opened = document(shape, chunks, "string").replace('"fill_value":0', '"fill_value":""')
+    codec = opened.index('"codecs"')
+    return (
+        opened[:codec]
+        + '"codecs":["vlen-utf8"]}\n'
+        + f"write {box(shape)}{elements}\n"
+        + f"read {box(shape)}\n"
+    )
+
+
 def cases():
     """Each case: its group, its name, and a function that makes its input."""
     yield "read", "one read of 600 x 800 from 64 chunks of 128 x 128", one_read
@@ -88,6 +103,13 @@ def cases():
             lambda shape=shape, size=size, data_type=data_type, endian=endian: write_and_read(
                 shape, (128, 128 // size), size, data_type, endian
             ),
+        )
+    for scale in (1, 2, 4):
+        shape = (256 * scale, 256)
+        yield (
+            "texts",
+            f"write and read {shape[0]} x {shape[1]} texts of 16 bytes in chunks of 32 x 32",
+            lambda shape=shape: texts(shape, (32, 32), 16),
         )
 
 

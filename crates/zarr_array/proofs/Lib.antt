@@ -1,3 +1,4 @@
+pub mod RefusalLaws
 pub mod ReadCommand
 pub mod SessionSteps
 pub mod OpenedLaws
@@ -5,6 +6,6 @@ pub mod WriteLaws
 pub mod HasRun
 pub mod StepRuns
 pub mod EraseLaws
-pub mod FixedCommands
+pub mod Commands
 pub mod RunsLaws
 pub mod SizeLaws

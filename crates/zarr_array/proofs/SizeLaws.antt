@@ -1,14 +1,15 @@
--- The elements of an array have bytes.
-use Rattle.std.proofs.Common.{◌≡◌, ℕ, ◌<◌, Some, sym, ap, ◌∙◌, subst}
+-- The elements of an array have bytes where all have the same number.
+use Rattle.std.proofs.Common.{◌≡◌, ℕ, ◌<◌, sym, ap, ◌∙◌}
 use Rattle.zarr_model.specs.Prelude.{DataType, fixed, kind_of}
+use Rattle.zarrs_data_type.specs.DataType.{type_of}
+use Rattle.zarr_codecs_array_to_bytes.specs.Views.{plain_of}
+use Rattle.zarr_array_parts.specs.Chain.{chain_form}
 use Rattle.zarr_array_parts.specs.Parts.{documented}
-use Rattle.zarr_array_parts.specs.Sizes.{sized_kind}
 use Rattle.zarr_array_parts.specs.declared.parts.ArrayParts.{ArrayParts}
-
-same_number : (m n : ℕ) → Some m ≡ Some n → m ≡ n
-same_number m n e = cc
+use Rattle.zarr_array_parts.proofs.ServingLaws.{is_served-serves}
+use Rattle.zarr_array_parts.proofs.SizeLaws.{sized_some}
 
 pub some_size : (parts : ArrayParts) (type : DataType) (n : ℕ) → type ≡ (documented parts).data_type → kind_of type ≡ fixed n → 0 < n
 some_size parts type n same is =
-    let both : Some n ≡ Some parts.size = ap sized_kind (sym is) ∙ (ap (λ t. sized_kind (kind_of t)) same ∙ parts.sized) in
-    subst (λ m. 0 < m) (sym (same_number n parts.size both)) parts.some
+    let serves = is_served-serves (chain_form parts.array_codecs.items parts.to_bytes parts.byte_codecs.items) (type_of parts.data_type) parts.served in
+    sized_some (plain_of parts.to_bytes) (type_of parts.data_type) n serves.bytes parts.proper (ap kind_of (sym same) ∙ is)

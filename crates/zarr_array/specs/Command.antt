@@ -7,7 +7,7 @@ use Rattle.zarr_array.specs.declared.command.Command.TheVariants.{Read, Write, E
 use Rattle.zarr_array.specs.declared.command.Reply.{Reply}
 use Rattle.zarr_array.specs.declared.command.Reply.TheVariants.{Elements, Done, Refused}
 use Rattle.zarr_array.specs.declared.refusal.Refusal.{Refusal}
-use Rattle.zarr_array.specs.declared.refusal.Refusal.TheVariants.{IncompatibleDimensionality, SubsetOutOfBounds, RegionTooLarge, ExpectedFixedLengthBytes, UnexpectedChunkDecodedSize}
+use Rattle.zarr_array.specs.declared.refusal.Refusal.TheVariants.{IncompatibleDimensionality, SubsetOutOfBounds, RegionTooLarge, ExpectedFixedLengthBytes, ExpectedVariableLengthBytes, ExpectedOptionalBytes, InvalidMask, UnexpectedChunkDecodedSize, InvalidVariableSizedArrayOffsets, ElementTooLong}
 
 abbrev pub command_of : Command → Model.Command
 command_of (Read subset) = Model.read (region subset)
@@ -19,7 +19,12 @@ refusal_of IncompatibleDimensionality = Model.incompatible_dimensionality
 refusal_of SubsetOutOfBounds = Model.subset_out_of_bounds
 refusal_of RegionTooLarge = Model.region_too_large
 refusal_of ExpectedFixedLengthBytes = Model.expected_fixed_length_bytes
+refusal_of ExpectedVariableLengthBytes = Model.expected_variable_length_bytes
+refusal_of ExpectedOptionalBytes = Model.expected_optional_bytes
+refusal_of InvalidMask = Model.invalid_mask
 refusal_of UnexpectedChunkDecodedSize = Model.unexpected_chunk_decoded_size
+refusal_of InvalidVariableSizedArrayOffsets = Model.invalid_variable_sized_array_offsets
+refusal_of ElementTooLong = Model.element_too_long
 
 abbrev pub answer_of : Reply → Model.Answer
 answer_of (Elements bytes) = Model.answered (raw_of bytes)

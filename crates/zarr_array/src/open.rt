@@ -2,12 +2,12 @@
 //!
 //! See <https://zarr-specs.readthedocs.io/en/latest/v3/core/index.html#array-metadata>.
 
-ghost use Rattle.std.specs.Prelude.{◌≡◌, ◌<◌, ℕ, true, Some, IfOk};
+ghost use Rattle.std.specs.Prelude.{◌≡◌, ◌<◌, ℕ, true, IfOk};
 ghost use Rattle.zarr_model.specs.Prelude.{fixed, kind_of};
 ghost use Rattle.zarrs_data_type.specs.DataType.{type_of};
 ghost use Rattle.zarr_basics.specs.Registries.{names_of};
 ghost use Rattle.zarr_array_parts.specs.Opening.{open_document};
-ghost use Rattle.zarr_array_parts.specs.Sizes.{sized_kind, have_chunks};
+ghost use Rattle.zarr_array_parts.specs.Sizes.{have_chunks};
 ghost use Rattle.zarr_chain.specs.Levels.{above};
 ghost use Rattle.zarr_chain_stored.specs.Fetch.{HasFill};
 ghost use Rattle.zarr_array_regions.specs.Codecs.{IsChainOf};
@@ -31,10 +31,11 @@ impl OpenArray {
 
     /// Opens the array that a document describes, by the names of some registries.
     ///
-    /// Served are the types whose elements have one size: booleans, whole numbers and raw bits, at any rank and of any
-    /// length, under any chain of `zarr_basics.offset`, which serves whole numbers, then `bytes`, which has an order
-    /// where components have several bytes, then `zarr_basics.sha256`. Attributes, dimension names and fields that need
-    /// not be understood are read and left alone.
+    /// Served are all data types, at any rank and of any length, under any chain of `zarr_basics.offset`, which serves
+    /// whole numbers, then the codec of the elements, then `zarr_basics.sha256`: `bytes`, which has an order where
+    /// components have several bytes, for booleans, whole numbers and raw bits, `vlen-utf8` for texts, `vlen-bytes` for
+    /// byte strings, and `zarr_basics.optional` over one of them for optional types. Attributes, dimension names and
+    /// fields that need not be understood are read and left alone.
     ///
     /// # Errors
     /// The first of [`OpenError`] that applies, or `OutOfMemory`.
@@ -73,14 +74,6 @@ impl OpenArray {
         ensures sizes { (n : ℕ) → kind_of (type_of result.now) ≡ fixed n → 0 < n }
     {
         self.parts.data_type()
-    }
-
-    /// The size of an element in bytes.
-    pub fn element_size(&self) -> usize
-        ensures size { sized_kind (kind_of (documented self.now).data_type) ≡ Some result }
-        ensures some { 0 < result }
-    {
-        self.parts.element_size()
     }
 
     /// The shape of the array.

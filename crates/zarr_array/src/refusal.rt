@@ -1,15 +1,19 @@
 //! Why a command is refused.
 
-ghost use Rattle.std.specs.Prelude.{◌≡◌, ◌*◌, false, length, Some, option_map, IfNone};
-ghost use Rattle.zarr_model.specs.Prelude.{ArrayBytes, fixed_bytes, write, erase, region_refusal, refusal, refusal_name, is_too_large, count};
+ghost use Rattle.std.specs.Prelude.{◌≡◌, ℕ, Option, Some, option_map};
+ghost use Rattle.zarr_model.specs.Command as Model;
+ghost use Rattle.zarr_model.specs.Prelude.{write, erase, region_refusal, refusal, refusal_name, is_too_large, has_long_element, fixed_size, kind, count};
 ghost use Rattle.zarrs_array_subset.specs.ArraySubset.{region};
-ghost use Rattle.zarrs_codec_array_bytes.specs.Levels.{is_fixed};
-ghost use Rattle.zarr_array_regions.specs.Size.{size_of};
+ghost use Rattle.zarrs_codec_array_bytes.specs.Raw.{raw_of};
+ghost use Rattle.zarrs_codec_array_bytes.specs.Refusals.{told_by, sized_answer};
+ghost use Rattle.zarr_array.specs.Command.{refusal_of};
 
 use crate::open::OpenArray;
-use zarr_array_regions::element_size;
+use zarr_codecs_vlen::vlen_fits;
 use zarrs_array_subset::ArraySubset;
 use zarrs_chunk_grid_traits::ChunkGridTraits;
+use zarrs_codec_array_bytes::ArrayBytes;
+use zarrs_codec_error::CodecError;
 
 /// Why a command is refused, in the order in which it is tested. A refused command changes nothing and asks the store
 /// for nothing.
@@ -21,15 +25,24 @@ pub enum Refusal {
     SubsetOutOfBounds,
     /// The region has as many elements as the greatest number, or more, or their bytes are more than it.
     RegionTooLarge,
-    /// The bytes that are written are not those of elements of one size.
+    /// Elements of one size are to be written, and the bytes are of another kind.
     ExpectedFixedLengthBytes,
-    /// The bytes that are written are not those of as many elements as the region has.
+    /// Texts or byte strings are to be written, and the bytes are of another kind.
+    ExpectedVariableLengthBytes,
+    /// Optional elements are to be written, and the bytes are of another kind.
+    ExpectedOptionalBytes,
+    /// A mask has not a byte for each element of the region, or one that is neither 0 nor 1.
+    InvalidMask,
+    /// The bytes of elements of one size are not those of as many elements as the region has.
     UnexpectedChunkDecodedSize,
+    /// The offsets are not those of as many elements as the region has: they do not begin at 0, fall, or do not end where
+    /// the bytes end.
+    InvalidVariableSizedArrayOffsets,
+    /// An element, under a null or not, has so many bytes that their number can't be stored: 2^32 or more.
+    ElementTooLong,
 }
 
 impl Refusal {
-    ghost use Rattle.zarr_array.specs.Command.{refusal_of};
-
     /// The name of the refusal.
     pub fn name(&self) -> &'static str
         ensures { result.now ≡ refusal_name (refusal_of self.now) }
@@ -39,24 +52,58 @@ impl Refusal {
             Refusal::SubsetOutOfBounds => "SubsetOutOfBounds",
             Refusal::RegionTooLarge => "RegionTooLarge",
             Refusal::ExpectedFixedLengthBytes => "ExpectedFixedLengthBytes",
+            Refusal::ExpectedVariableLengthBytes => "ExpectedVariableLengthBytes",
+            Refusal::ExpectedOptionalBytes => "ExpectedOptionalBytes",
+            Refusal::InvalidMask => "InvalidMask",
             Refusal::UnexpectedChunkDecodedSize => "UnexpectedChunkDecodedSize",
+            Refusal::InvalidVariableSizedArrayOffsets => "InvalidVariableSizedArrayOffsets",
+            Refusal::ElementTooLong => "ElementTooLong",
         }
     }
 }
 
+// Why bytes are refused, by what is told of them.
+#[tactic(auto, using(crate::proofs::RefusalLaws::of_told))]
+fn refusal_by(error: CodecError) -> Refusal
+    ensures { (len expected : ℕ) (why : Option Model.Refusal)
+        → told_by error ≡ sized_answer len expected why → why ≡ Some (refusal_of result) }
+{
+    match error {
+        CodecError::ExpectedFixedLengthBytes(_) => Refusal::ExpectedFixedLengthBytes,
+        CodecError::ExpectedVariableLengthBytes(_) => Refusal::ExpectedVariableLengthBytes,
+        CodecError::ExpectedOptionalBytes(_) => Refusal::ExpectedOptionalBytes,
+        CodecError::InvalidMask => Refusal::InvalidMask,
+        CodecError::UnexpectedChunkDecodedSize(_) => Refusal::UnexpectedChunkDecodedSize,
+        // No other error is told of bytes.
+        _ => Refusal::InvalidVariableSizedArrayOffsets,
+    }
+}
+
+// Whether an element is too long for its length to be stored.
+fn has_long_element(bytes: &ArrayBytes<'_>) -> bool
+    ensures { result ≡ has_long_element (raw_of bytes.now) }
+{
+    match bytes {
+        ArrayBytes::Fixed(_) => false,
+        ArrayBytes::Variable(variable) => !vlen_fits(variable.numbers()),
+        ArrayBytes::Optional(optional) => has_long_element(optional.data()),
+    }
+}
+
 impl OpenArray {
-    ghost use Rattle.zarr_array.specs.Command.{refusal_of};
     ghost use Rattle.zarr_array.specs.OpenArray.{described};
 
     // Whether a region has too many elements, or too many bytes of them.
     fn is_too_large(&self, subset: &ArraySubset) -> bool
-        ensures { result ≡ is_too_large (Some (size_of self.now.parts)) (count (region subset.now)) }
+        ensures { result
+            ≡ is_too_large (fixed_size (kind (described self.now))) (count (region subset.now)) }
     {
         match subset.checked_num_elements() {
             None | Some(u64::MAX) => true,
-            Some(number) => number
-                .checked_mul(element_size(&self.parts) as u64)
-                .is_none(),
+            Some(number) => match self.data_type().fixed_size() {
+                Some(size) => number.checked_mul(size as u64).is_none(),
+                None => false,
+            },
         }
     }
 
@@ -78,32 +125,29 @@ impl OpenArray {
         None
     }
 
-    /// Why a write of bytes that are not those of elements of one size is refused: its region is tested first.
-    pub(crate) fn kind_refusal(&self, subset: &ArraySubset) -> Refusal
-        ensures { (bytes : ArrayBytes) → is_fixed bytes ≡ false → refusal (described self.now)
-            (write (region subset.now) bytes) ≡ Some (refusal_of result) }
-    {
-        match self.region_refusal(subset) {
-            Some(refusal) => refusal,
-            None => Refusal::ExpectedFixedLengthBytes,
-        }
-    }
-
-    /// Why a write is refused, if it is: its region is tested first, and then how many elements there are.
-    pub(crate) fn write_refusal(&self, subset: &ArraySubset, elements: &[u8]) -> Option<Refusal>
-        ensures why { option_map refusal_of result
-            ≡ refusal (described self.now) (write (region subset.now) (fixed_bytes elements.now)) }
-        ensures as_long { IfNone result
-            (length elements.now ≡ count (region subset.now) * size_of self.now.parts) }
+    /// Why a write is refused, if it is: its region is tested first, then its bytes as elements of the region, the
+    /// outermost level first, and last how long its elements are.
+    pub(crate) fn write_refusal(
+        &self,
+        subset: &ArraySubset,
+        bytes: &ArrayBytes<'_>,
+    ) -> Option<Refusal>
+        ensures { option_map refusal_of result
+            ≡ refusal (described self.now) (write (region subset.now) (raw_of bytes.now)) }
     {
         let refusal = self.region_refusal(subset);
         if refusal.is_some() {
             return refusal;
         }
-        if elements.len() != subset.num_elements() as usize * element_size(&self.parts) {
-            return Some(Refusal::UnexpectedChunkDecodedSize);
+        match bytes.validate(subset.num_elements(), self.data_type()) {
+            Ok(()) => {
+                if has_long_element(bytes) {
+                    return Some(Refusal::ElementTooLong);
+                }
+                None
+            }
+            Err(error) => Some(refusal_by(error)),
         }
-        None
     }
 
     /// Why an erase is refused, if it is: no chunk of the grid has these indices.

@@ -1,9 +1,8 @@
 //! One command of a session.
 
-ghost use Rattle.std.specs.Prelude.{IfErr, ◌≡◌, ℕ, List, [], ◌∷◌, false, IfSome, IfNone, IsOk};
+ghost use Rattle.std.specs.Prelude.{IfErr, ◌≡◌, ℕ, List, [], ◌∷◌, IsOk};
 ghost use Rattle.zarrs_codec_array_bytes.specs.Raw.{raw_of};
-ghost use Rattle.zarrs_codec_array_bytes.specs.Levels.{is_fixed};
-ghost use Rattle.zarr_model.specs.Prelude.{fixed_bytes, read, write, erase, AreRefused};
+ghost use Rattle.zarr_model.specs.Prelude.{read, write, erase, AreRefused};
 ghost use Rattle.zarrs_array_subset.specs.ArraySubset.{region};
 ghost use Rattle.zarr_array.specs.Command.{command_of};
 ghost use Rattle.zarrs_codec_traits.specs.Views.{options_of};
@@ -18,20 +17,8 @@ use std::alloc::Global;
 use zarr_array_regions::{CommandError, chunk_key, read_elements, write_elements};
 use zarrs_array_subset::ArraySubset;
 use zarrs_codec_array_bytes::ArrayBytes;
-use zarrs_codec_array_bytes::array_bytes::bytes_in;
 use zarrs_codec_options::CodecOptions;
 use zarrs_storage::store::{StorageError, Store};
-
-// The bytes of elements of one size.
-fn fixed_slice<'b>(bytes: &'b ArrayBytes<'_>) -> Option<&'b [u8]>
-    ensures some { IfSome result (λ elements. raw_of bytes.now ≡ fixed_bytes elements.now) }
-    ensures none { IfNone result (is_fixed (raw_of bytes.now) ≡ false) }
-{
-    match bytes {
-        ArrayBytes::Fixed(raw) => Some(bytes_in(raw)),
-        ArrayBytes::Variable(_) | ArrayBytes::Optional(_) => None,
-    }
-}
 
 impl OpenArray {
     ghost use Rattle.zarr_array.specs.OpenArray.{documented, described};
@@ -58,31 +45,7 @@ impl OpenArray {
             return Ok(Reply::Refused(refusal));
         }
         let elements = read_elements(&self.parts, alloc, subset, store, options)?;
-        Ok(Reply::Elements(ArrayBytes::from(elements)))
-    }
-
-    // Runs a write of elements of one size.
-    fn write_fixed<S: Store>(
-        &self,
-        alloc: Global,
-        subset: &ArraySubset,
-        elements: &[u8],
-        store: &mut S,
-        options: &CodecOptions,
-    ) -> Result<Reply, CommandError>
-        ensures runs { Runs (described self.now) (options_of options.now)
-            (write (region subset.now) (fixed_bytes elements.now) ∷ [])
-            (S.shown store.old) (S.shown store.new) (ended_step result) }
-        ensures answered { AreRefused (described self.now)
-            (write (region subset.now) (fixed_bytes elements.now) ∷ []) → IsOk result }
-        ensures told { IfErr result (λ error. TellsWhy (documented self.now)
-            (options_of options.now) (S.shown store.new) error.kind) }
-    {
-        if let Some(refusal) = self.write_refusal(subset, elements) {
-            return Ok(Reply::Refused(refusal));
-        }
-        write_elements(&self.parts, alloc, subset, elements, store, options)?;
-        Ok(Reply::Done)
+        Ok(Reply::Elements(elements))
     }
 
     /// Runs a write.
@@ -102,10 +65,11 @@ impl OpenArray {
         ensures told { IfErr result (λ error. TellsWhy (documented self.now)
             (options_of options.now) (S.shown store.new) error.kind) }
     {
-        match fixed_slice(bytes) {
-            Some(elements) => self.write_fixed(alloc, subset, elements, store, options),
-            None => Ok(Reply::Refused(self.kind_refusal(subset))),
+        if let Some(refusal) = self.write_refusal(subset, bytes) {
+            return Ok(Reply::Refused(refusal));
         }
+        write_elements(&self.parts, alloc, subset, bytes, store, options)?;
+        Ok(Reply::Done)
     }
 
     /// Runs an erase: one call on the store, which reads nothing.

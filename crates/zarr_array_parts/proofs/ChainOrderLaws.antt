@@ -6,7 +6,7 @@ use Rattle.zarrs_codec_metadata.specs.declared.codec.Codec.{Codec}
 use Rattle.zarrs_codec_metadata.specs.declared.codec.Codec.TheVariants as code
 use Rattle.zarr_codecs_kinds.specs.CodecForm.{CodecForm, sha256, form_of}
 use Rattle.zarr_codecs_kinds.specs.declared.array_to_array.BasicArrayToArray.{BasicArrayToArray}
-use Rattle.zarr_codecs_kinds.specs.declared.array_to_bytes.BasicArrayToBytes.{BasicArrayToBytes}
+use Rattle.zarr_codecs_array_to_bytes.specs.declared.codecs.BasicArrayToBytes.{BasicArrayToBytes}
 use Rattle.zarr_codecs_kinds.specs.declared.bytes_to_bytes.BasicBytesToBytes.{BasicBytesToBytes}
 use Rattle.zarr_codecs_kinds.specs.declared.bytes_to_bytes.BasicBytesToBytes.TheVariants.{Sha256}
 use Rattle.zarr_array_parts.specs.Document.{BytesToBytes}

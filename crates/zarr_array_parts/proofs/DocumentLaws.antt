@@ -5,8 +5,9 @@ use Rattle.std.proofs.lemmas.Bool.{and_parts, leb-true}
 use Rattle.zarr_model.specs.Prelude.{Options, KeepsCount, IsChunk, IsSound, layout}
 use Rattle.zarr_model.proofs.ChainLaws.{decode_chain-counted, array_to_bytes-counted, offset-keeps_count, transpose-keeps_count}
 use Rattle.zarr_basics.specs.Keys.{IsCountable}
+use Rattle.zarr_codecs_array_to_bytes.specs.Plain.{codec_of}
 use Rattle.zarr_array_parts.specs.Sizes.{are_countable}
-use Rattle.zarr_array_parts.specs.Document.{ArrayDocument, ArrayToArray, offset, transpose, array_codec_of, to_bytes_of, describe}
+use Rattle.zarr_array_parts.specs.Document.{ArrayDocument, ArrayToArray, offset, transpose, array_codec_of, describe}
 
 -- each number of chunks has a u64's range
 pub countable_is : (grid_shape : List ℕ) → are_countable grid_shape ≡ true → IsCountable grid_shape
@@ -26,7 +27,7 @@ pub describe-sound : (document : ArrayDocument) (options : Options) →
     IsSound (layout (describe document) options)
 describe-sound document options apart = record {
   count = λ chunk value elements is_chunk e.
-      decode_chain-counted ((describe document).chain options) (keep_count document.array_codecs) (array_to_bytes-counted options (to_bytes_of document.to_bytes))
+      decode_chain-counted ((describe document).chain options) (keep_count document.array_codecs) (array_to_bytes-counted options (codec_of document.to_bytes))
       _ value elements e;
   keys_apart = apart;
 }

@@ -1,9 +1,9 @@
 -- Documents, opened and refused, by computation.
-use Rattle.std.proofs.Common.{◌≡◌, ℕ, List, [], ◌∷◌, ◌++◌, Option, Some, None, pos, negsuc, refl, codes}
+use Rattle.std.proofs.Common.{◌≡◌, ℕ, true, false, List, [], ◌∷◌, ◌++◌, Option, Some, None, pos, negsuc, refl, codes}
 use Rattle.std.specs.Bool.{⊤}
 use Rattle.std.specs.Fmt.{digits}
 use Rattle.serde_json.proofs.OnLiterals.{serde_json_on_literals}
-use Rattle.zarr_model.specs.Prelude.{ByteOrder, DataType, default_keys, v2_keys, little, big, bool_type, int_type, uint_type}
+use Rattle.zarr_model.specs.Prelude.{DataType, default_keys, v2_keys, bool_type, int_type, uint_type, string_type, bytes_type, optional_type}
 use Rattle.zarrs_metadata_parts.specs.Reading.{object_or_empty, whole_numbers, is_number, is_text}
 use Rattle.zarrs_metadata_parts.specs.DataTypeV2.{data_type_v2_of}
 use Rattle.zarrs_metadata_parts.specs.MetadataV3.{object_extension, extension_of, extensions_of}
@@ -17,12 +17,16 @@ use Rattle.zarr_basics_grids.specs.GridForms.{regular}
 use Rattle.zarr_basics.specs.Configurations.{given_separator}
 use Rattle.zarr_codecs.specs.BytesCodec.{given_order}
 use Rattle.zarr_codecs_offset.specs.Offset.{offset_in}
-use Rattle.zarr_array_parts.specs.Document.{ArrayDocument, ArrayToArray, offset, bytes, BytesToBytes, checksum, ChainForm, fixed_document}
-use Rattle.zarr_array_parts.specs.Opening.{opened, not_opened, invalid_json, float_number, invalid_metadata, unsupported_version, unsupported_field, plugin_unsupported, plugin_create, invalid_fill, chain_order, unsupported_data_type, endianness_missing, document_of, open_builtin}
+use Rattle.zarrs_metadata_parts.specs.declared.array.endianness.Endianness.{Endianness}
+use Rattle.zarrs_metadata_parts.specs.declared.array.endianness.Endianness.TheVariants.{Little, Big}
+use Rattle.zarr_codecs_array_to_bytes.specs.Plain.{Plain, plain_bytes, plain_vlen, plain_optional}
+use Rattle.zarr_codecs_array_to_bytes.specs.Inner.{inner_in}
+use Rattle.zarr_array_parts.specs.Document.{ArrayDocument, ArrayToArray, offset, BytesToBytes, checksum, ChainForm, document_with}
+use Rattle.zarr_array_parts.specs.Opening.{opened, not_opened, invalid_json, float_number, invalid_metadata, unsupported_version, unsupported_field, plugin_unsupported, plugin_create, invalid_fill, chain_order, unsupported_data_type, endianness_missing, chunk_too_large, document_of, open_builtin}
 
 -- what opening a text computes by
 unfoldable pub opening : ⊤
-unfolding serde_json_on_literals object_or_empty whole_numbers is_number is_text object_extension extension_of extensions_of is_array_key dimension_names extensions_or_none is_array named_fields required_fields optional_fields with_optional_fields array_members chunk_shape_in given_separator given_order offset_in document_of
+unfolding serde_json_on_literals object_or_empty whole_numbers is_number is_text object_extension extension_of extensions_of is_array_key dimension_names extensions_or_none is_array named_fields required_fields optional_fields with_optional_fields array_members chunk_shape_in given_separator given_order offset_in inner_in document_of
 opening = tt
 
 -- a document line of a shape, a chunk shape and a fill
@@ -32,12 +36,12 @@ document_text dims chunk_shape filler =
     ++ (codes "}},\"chunk_key_encoding\":\"default\",\"fill_value\":" ++ (filler ++ codes ",\"codecs\":[\"bytes\"]}")))))
 
 -- the codec `bytes` alone
-abbrev pub only_bytes : Option ByteOrder → ChainForm
-only_bytes order = record { array_codecs = []; to_bytes = bytes order; byte_codecs = [] }
+abbrev pub only_bytes : Option Endianness → ChainForm
+only_bytes order = record { array_codecs = []; to_bytes = plain_bytes order; byte_codecs = [] }
 
 -- what such a line describes: keys with slashes
 abbrev pub plain_document : List ℕ → List ℕ → ℕ → ArrayDocument
-plain_document dims chunk_shape filler = fixed_document (default_keys 47) (only_bytes None) (uint_type 1) dims (regular chunk_shape) (filler ∷ [])
+plain_document dims chunk_shape filler = document_with (default_keys 47) (only_bytes None) (uint_type 1) dims (regular chunk_shape) (filler ∷ [])
 
 pub square_opens : open_builtin (document_text (codes "[4,4]") (codes "[2,2]") (codes "0")) ≡ opened (plain_document (4 ∷ 4 ∷ []) (2 ∷ 2 ∷ []) 0)
 unfolding opening
@@ -85,8 +89,8 @@ chain_text keys codecs =
 
 -- keys with dots, a byte order, an unknown name before a bad configuration, and the order of a chain after all names
 chains : (open_builtin (chain_text (codes "{\"name\":\"default\",\"configuration\":{\"separator\":\".\"}}") (codes "[{\"name\":\"bytes\",\"configuration\":{\"endian\":\"big\"}}]"))
-    ≡ opened (fixed_document (default_keys 46) (only_bytes (Some big)) (uint_type 1) (4 ∷ []) (regular (2 ∷ [])) (0 ∷ [])))
-    × (open_builtin (chain_text (codes "\"v2\"") (codes "[\"bytes\"]")) ≡ opened (fixed_document (v2_keys 46) (only_bytes None) (uint_type 1) (4 ∷ []) (regular (2 ∷ [])) (0 ∷ [])))
+    ≡ opened (document_with (default_keys 46) (only_bytes (Some Big)) (uint_type 1) (4 ∷ []) (regular (2 ∷ [])) (0 ∷ [])))
+    × (open_builtin (chain_text (codes "\"v2\"") (codes "[\"bytes\"]")) ≡ opened (document_with (v2_keys 46) (only_bytes None) (uint_type 1) (4 ∷ []) (regular (2 ∷ [])) (0 ∷ [])))
     × (open_builtin (chain_text (codes "\"v3\"") (codes "[]")) ≡ not_opened plugin_unsupported)
     × (open_builtin (chain_text (codes "\"default\"") (codes "[{\"name\":\"zstd\",\"configuration\":{\"x\":1}}]")) ≡ not_opened plugin_unsupported)
     × (open_builtin (chain_text (codes "\"default\"") (codes "[{\"name\":\"bytes\",\"configuration\":{\"x\":1}},\"zstd\"]")) ≡ not_opened plugin_create)
@@ -101,9 +105,9 @@ codecs_text type filler codecs =
     ++ (filler ++ (codes ",\"codecs\":" ++ (codecs ++ codes "}")))))
 
 -- and what it describes
-abbrev codecs_document : DataType → List ℕ → List ArrayToArray → Option ByteOrder → List BytesToBytes → ArrayDocument
+abbrev codecs_document : DataType → List ℕ → List ArrayToArray → Option Endianness → List BytesToBytes → ArrayDocument
 codecs_document type filler array_codecs order byte_codecs =
-    fixed_document (default_keys 47) (record { array_codecs = array_codecs; to_bytes = bytes order; byte_codecs = byte_codecs }) type (4 ∷ []) (regular (2 ∷ [])) filler
+    document_with (default_keys 47) (record { array_codecs = array_codecs; to_bytes = plain_bytes order; byte_codecs = byte_codecs }) type (4 ∷ []) (regular (2 ∷ [])) filler
 
 -- three offsets; two digests; an offset, an order of bytes and a digest
 longer_chains : (open_builtin (codecs_text (codes "\"uint8\"") (codes "0")
@@ -112,7 +116,7 @@ longer_chains : (open_builtin (codecs_text (codes "\"uint8\"") (codes "0")
     × (open_builtin (codecs_text (codes "\"bool\"") (codes "true") (codes "[\"bytes\",\"zarr_basics.sha256\",{\"name\":\"zarr_basics.sha256\",\"configuration\":{}}]"))
     ≡ opened (codecs_document bool_type (1 ∷ []) [] None (checksum ∷ checksum ∷ [])))
     × (open_builtin (codecs_text (codes "\"int16\"") (codes "-2") (codes "[{\"name\":\"zarr_basics.offset\",\"configuration\":{\"offset\":7}},{\"name\":\"bytes\",\"configuration\":{\"endian\":\"little\"}},\"zarr_basics.sha256\"]"))
-    ≡ opened (codecs_document (int_type 2) (254 ∷ 255 ∷ []) (offset (pos 7) ∷ []) (Some little) (checksum ∷ [])))
+    ≡ opened (codecs_document (int_type 2) (254 ∷ 255 ∷ []) (offset (pos 7) ∷ []) (Some Little) (checksum ∷ [])))
 unfolding opening
 longer_chains = (refl, refl, refl)
 
@@ -141,6 +145,58 @@ codecs_refused : (open_builtin (codecs_text (codes "\"bool\"") (codes "true") (c
     × (open_builtin (codecs_text (codes "\"uint8\"") (codes "0") (codes "[\"bytes\",{\"name\":\"zarr_basics.sha256\",\"configuration\":{\"x\":1}}]")) ≡ not_opened plugin_create)
 unfolding opening digits
 codecs_refused = (refl, refl, refl, refl, refl, refl, refl)
+
+-- a document of texts, byte strings or optional elements, with its array-to-bytes codec
+abbrev variable_document : DataType → List ℕ → Plain → ArrayDocument
+variable_document type filler codec =
+    document_with (default_keys 47) (record { array_codecs = []; to_bytes = codec; byte_codecs = [] }) type (4 ∷ []) (regular (2 ∷ [])) filler
+
+abbrev optional_text : List ℕ → List ℕ
+optional_text inner = codes "{\"name\":\"zarr_basics.optional\",\"configuration\":{\"inner\":" ++ (inner ++ codes "}}")
+
+abbrev optional_type_text : List ℕ → List ℕ
+optional_type_text inner = codes "{\"name\":\"zarrs.optional\",\"configuration\":{\"configuration\":{},\"name\":\"" ++ (inner ++ codes "\"}}")
+
+-- texts, byte strings, optional texts that are null, and optional numbers that are not
+variable_open : (open_builtin (codecs_text (codes "\"string\"") (codes "\"ab\"") (codes "[\"vlen-utf8\"]")) ≡ opened (variable_document string_type (97 ∷ 98 ∷ []) (plain_vlen true)))
+    × (open_builtin (codecs_text (codes "\"bytes\"") (codes "[7]") (codes "[\"vlen-bytes\"]")) ≡ opened (variable_document bytes_type (7 ∷ []) (plain_vlen false)))
+    × (open_builtin (codecs_text (optional_type_text (codes "string")) (codes "null") (codes "[" ++ (optional_text (codes "\"vlen-utf8\"") ++ codes "]"))) ≡ opened (variable_document (optional_type string_type) (0 ∷ []) (plain_optional (plain_vlen true))))
+    × (open_builtin (codecs_text (optional_type_text (codes "int16")) (codes "[3]") (codes "[" ++ (optional_text (codes "{\"name\":\"bytes\",\"configuration\":{\"endian\":\"big\"}}") ++ codes "]")))
+    ≡ opened (variable_document (optional_type (int_type 2)) (3 ∷ 0 ∷ 1 ∷ []) (plain_optional (plain_bytes (Some Big)))))
+unfolding opening
+variable_open = (refl, refl, refl, refl)
+
+-- texts under the codec of byte strings, and byte strings under that of texts; optional texts without a mask, and texts with one; optional numbers without an order of bytes
+types_refused : (open_builtin (codecs_text (codes "\"string\"") (codes "\"\"") (codes "[\"vlen-bytes\"]")) ≡ not_opened unsupported_data_type)
+    × (open_builtin (codecs_text (codes "\"bytes\"") (codes "\"\"") (codes "[\"vlen-utf8\"]")) ≡ not_opened unsupported_data_type)
+    × (open_builtin (codecs_text (optional_type_text (codes "string")) (codes "null") (codes "[\"vlen-utf8\"]")) ≡ not_opened unsupported_data_type)
+    × (open_builtin (codecs_text (codes "\"string\"") (codes "\"\"") (codes "[" ++ (optional_text (codes "\"vlen-utf8\"") ++ codes "]"))) ≡ not_opened unsupported_data_type)
+    × (open_builtin (codecs_text (optional_type_text (codes "int16")) (codes "null") (codes "[" ++ (optional_text (codes "\"bytes\"") ++ codes "]"))) ≡ not_opened endianness_missing)
+unfolding opening
+types_refused = (refl, refl, refl, refl, refl)
+
+-- an unknown codec inside, also behind a codec that is no array-to-bytes one; a codec inside with a bad configuration; one that is no array-to-bytes codec; no codec inside, and something beside it
+inner_refused : (open_builtin (codecs_text (codes "\"uint8\"") (codes "0") (codes "[" ++ (optional_text (codes "\"zstd\"") ++ codes "]"))) ≡ not_opened plugin_unsupported)
+    × (open_builtin (codecs_text (codes "\"uint8\"") (codes "0") (codes "[" ++ (optional_text (optional_text (codes "\"zstd\"")) ++ codes "]"))) ≡ not_opened plugin_unsupported)
+    × (open_builtin (codecs_text (codes "\"uint8\"") (codes "0") (codes "[" ++ (optional_text (codes "{\"name\":\"bytes\",\"configuration\":{\"x\":1}}") ++ codes "]"))) ≡ not_opened plugin_create)
+    × (open_builtin (codecs_text (codes "\"uint8\"") (codes "0") (codes "[" ++ (optional_text (codes "\"zarr_basics.sha256\"") ++ codes "]"))) ≡ not_opened plugin_create)
+    × (open_builtin (codecs_text (codes "\"uint8\"") (codes "0") (codes "[\"zarr_basics.optional\"]")) ≡ not_opened plugin_create)
+    × (open_builtin (codecs_text (codes "\"uint8\"") (codes "0") (codes "[{\"name\":\"zarr_basics.optional\",\"configuration\":{\"inner\":\"bytes\",\"x\":1}}]")) ≡ not_opened plugin_create)
+    × (open_builtin (codecs_text (codes "\"string\"") (codes "\"\"") (codes "[{\"name\":\"vlen-utf8\",\"configuration\":{\"x\":1}}]")) ≡ not_opened plugin_create)
+unfolding opening
+inner_refused = (refl, refl, refl, refl, refl, refl, refl)
+
+-- a chunk of texts whose number does not fit 4 bytes, and one whose number does
+abbrev long_text : List ℕ → List ℕ
+long_text chunk_shape =
+    codes "{\"zarr_format\":3,\"node_type\":\"array\",\"shape\":[1],\"data_type\":\"string\",\"chunk_grid\":{\"name\":\"regular\",\"configuration\":{\"chunk_shape\":"
+    ++ (chunk_shape ++ codes "}},\"chunk_key_encoding\":\"default\",\"fill_value\":\"\",\"codecs\":[\"vlen-utf8\"]}")
+
+long_refused : (open_builtin (long_text (codes "[4294967296]")) ≡ not_opened chunk_too_large)
+    × (open_builtin (long_text (codes "[4294967295]"))
+    ≡ opened (document_with (default_keys 47) (record { array_codecs = []; to_bytes = plain_vlen true; byte_codecs = [] }) string_type (1 ∷ []) (regular (4294967295 ∷ [])) []))
+unfolding opening
+long_refused = (refl, refl)
 
 -- what a document of version 2 computes by
 unfoldable pub opening_2 : ⊤

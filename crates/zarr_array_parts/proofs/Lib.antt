@@ -6,5 +6,6 @@ pub mod ChainOrderLaws
 pub mod ChunkLaws
 pub mod ChainLaws
 pub mod DocumentLaws
+pub mod LimitLaws
 pub mod ServedLaws
 pub mod Documents

@@ -1,45 +1,34 @@
 -- What a chain that serves a data type says of its codecs.
-use Rattle.std.proofs.Common.{◌≡◌, ◌⊎◌, inl, inr, ℕ, ℤ, zero, suc, ◌+◌, ◌<◌, nat_lt, not, Bool, true, false, if◌then◌else◌, List, [], ◌∷◌, length, map, drop, Option, Some, None, option_map, Result, Ok, Err, refl, sym, ap, ◌∙◌, subst, arith}
-use Rattle.std.proofs.lemmas.Bool.{true≢false, le-leb}
+use Rattle.std.proofs.Common.{◌≡◌, ◌⊎◌, inl, inr, ℕ, ℤ, ◌+◌, ◌<◌, Bool, true, false, if◌then◌else◌, List, [], ◌∷◌, length, map, drop, Option, Some, None, Result, Ok, Err, refl, sym, ap, ◌∙◌, subst, arith}
 use Rattle.std.proofs.lemmas.List.{at_drop_more}
 use Rattle.std.specs.Bool.{⊤}
-use Rattle.zarr_model.specs.Prelude.{DataType, bool_type, int_type, uint_type, raw_type, string_type, bytes_type, optional_type, kind_of, fixed_size, component_size, null, Level, offset_codec, opposite}
-use Rattle.zarrs_data_type_elements.specs.CodecSupport.{at_least_one}
-use Rattle.zarrs_metadata_parts.specs.declared.array.endianness.Endianness.{Endianness}
+use Rattle.zarr_model.specs.Prelude.{DataType, bool_type, int_type, uint_type, raw_type, string_type, bytes_type, optional_type, null, Level, offset_codec, opposite}
 use Rattle.zarrs_data_type_elements.specs.declared.codec_support.CodecName.TheVariants as names
 use Rattle.zarrs_data_type_names.specs.DataType.{type_of}
 use Rattle.zarrs_data_type_names.specs.declared.data_type.DataType as types
 use Rattle.zarrs_codec_error.specs.declared.error.CodecError.{CodecError}
 use Rattle.zarrs_codec_error.specs.declared.error.CodecError.TheVariants as codec
 use Rattle.zarrs_codec_traits.specs.Errors.{Unserved, RefusesBy, unserved_error, unsupported}
-use Rattle.zarr_codecs.specs.BytesCodec.{component_unserved, bytes_unserved}
 use Rattle.zarr_codecs_numbers.specs.Numbers.{bytes_less}
 use Rattle.zarr_codecs_numbers.specs.Offset.{offset_unserved}
-use Rattle.zarr_codecs_kinds.specs.Basic.{basic_offset, basic_order}
+use Rattle.zarr_codecs_array_to_bytes.specs.Plain.{unserved_by, plain_unserved}
+use Rattle.zarr_codecs_array_to_bytes.specs.Views.{plain_of}
+use Rattle.zarr_codecs_array_to_bytes.specs.declared.codecs.BasicArrayToBytes.{BasicArrayToBytes}
+use Rattle.zarr_codecs_kinds.specs.Basic.{basic_offset}
 use Rattle.zarr_codecs_kinds.specs.declared.array_to_array.BasicArrayToArray.{BasicArrayToArray}
-use Rattle.zarr_codecs_kinds.specs.declared.array_to_bytes.BasicArrayToBytes.{BasicArrayToBytes}
 use Rattle.zarr_codecs_kinds.specs.declared.bytes_to_bytes.BasicBytesToBytes.{BasicBytesToBytes}
 use Rattle.zarr_chain.specs.Building.{chain_unserved, IsReason, FailsToBuild}
-use Rattle.zarr_array_parts.specs.Document.{ArrayToArray, offset, bytes, ChainForm, order_of}
-use Rattle.zarr_array_parts.specs.Chain.{array_form, bytes_form, chain_form}
+use Rattle.zarr_array_parts.specs.Document.{ArrayToArray, offset, ChainForm}
+use Rattle.zarr_array_parts.specs.Chain.{array_form, chain_form}
 use Rattle.zarr_array_parts.specs.OpenError.{open_refusal_of, unserved_as}
 use Rattle.zarr_array_parts.specs.Parts.{StopsBy}
-use Rattle.zarr_array_parts.specs.Sizes.{sized_kind}
 use Rattle.zarr_array_parts.proofs.OpeningLaws.{fails_after}
-use Rattle.zarr_array_parts.proofs.SizeLaws.{served_sized, served_some}
-use Rattle.zarr_array_parts.specs.Opening.{OpenRefusal, ◌>>=◌, is_opened, is_whole_number, serves_type, type_below, bottom_type, serves_to_bytes, has_order, expect_order, expect_bytes, expect_chain, is_served, unsupported_data_type, endianness_missing}
+use Rattle.zarr_array_parts.specs.Opening.{OpenRefusal, ◌>>=◌, is_opened, is_whole_number, serves_type, type_below, bottom_type, unless_unserved, expect_bytes, expect_chain, is_served, unsupported_data_type}
 
 -- a test that is passed
 test_passed : {A B : Type 0} (b : Bool) (x : A) (y : B) (why : OpenRefusal) (f : A → Result B OpenRefusal) → ((if b then Ok x else Err why) >>= f) ≡ Ok y → (b ≡ true) × (f x ≡ Ok y)
 test_passed true x y why f e = (refl, e)
 test_passed false x y why f e = absurd cc
-
-abbrev test_answer : Bool → OpenRefusal → Result ⊤ OpenRefusal
-test_answer b why = if b then Ok tt else Err why
-
-last_passed : (b : Bool) (why : OpenRefusal) → test_answer b why ≡ Ok tt → b ≡ true
-last_passed true why e = refl
-last_passed false why e = absurd cc
 
 step_passed : {A B : Type 0} (o : Result A OpenRefusal) (y : B) (f : A → Result B OpenRefusal) → (o >>= f) ≡ Ok y → (x : A) × (o ≡ Ok x) × (f x ≡ Ok y)
 step_passed (Ok x) y f e = (x, refl, e)
@@ -58,18 +47,19 @@ bottom_kept (codec ∷ codecs) type bottom e = bottom_kept codecs type bottom (t
 
 pub record IsServed (chain : ChainForm) (type : DataType) : Type 0 where
   pub arrays : bottom_type chain.array_codecs type ≡ Ok type
-  pub bytes : serves_to_bytes chain.to_bytes type ≡ true
-  pub order : has_order chain.to_bytes type ≡ true
+  pub bytes : unserved_by chain.to_bytes type ≡ None
+
+none_unserved : (why : Option Unserved) → unless_unserved why ≡ Ok tt → why ≡ None
+none_unserved None e = refl
+none_unserved (Some why) e = absurd cc
 
 pub chain_serves : (chain : ChainForm) (type : DataType) → expect_chain chain type ≡ Ok tt → IsServed chain type
 chain_serves chain type e =
     let down = step_passed (bottom_type chain.array_codecs type) tt (expect_bytes chain.to_bytes) e in
     let kept : down.0 ≡ type = bottom_kept chain.array_codecs type down.0 down.1 in
-    let ends = test_passed (serves_to_bytes chain.to_bytes down.0) tt tt unsupported_data_type (λ _. expect_order chain.to_bytes down.0) down.2 in
     record {
       arrays = down.1 ∙ ap Ok kept;
-      bytes = ap (serves_to_bytes chain.to_bytes) (sym kept) ∙ ends.0;
-      order = ap (has_order chain.to_bytes) (sym kept) ∙ last_passed (has_order chain.to_bytes down.0) endianness_missing ends.1;
+      bytes = ap (unserved_by chain.to_bytes) (sym kept) ∙ none_unserved (unserved_by chain.to_bytes down.0) down.2;
     }
 
 -- by the test that an opened array keeps
@@ -79,6 +69,10 @@ opened_is (Err why) e = absurd cc
 
 pub is_served-serves : (chain : ChainForm) (type : DataType) → is_served chain type ≡ true → IsServed chain type
 is_served-serves chain type e = chain_serves chain type (opened_is (expect_chain chain type) e)
+
+-- an answer for want of memory
+no_memory : (e : CodecError) (answer : Result DataType OpenRefusal) → e ≡ codec.OutOfMemory → StopsBy (open_refusal_of (unserved_as e)) answer
+no_memory e answer is = subst (λ e. StopsBy (open_refusal_of (unserved_as e)) answer) (sym is) tt
 
 -- the codecs of the code serve what these say
 offset_serves : (type : DataType) → is_whole_number type ≡ true → offset_unserved (Some type) ≡ None
@@ -90,31 +84,15 @@ offset_serves string_type e = cc
 offset_serves bytes_type e = cc
 offset_serves (optional_type inner) e = cc
 
-named_order_serves : (order : Endianness) (n : ℕ) → nat_lt 0 n ≡ true → component_unserved (Some order) (at_least_one n) ≡ None
-named_order_serves order zero some = cc
-named_order_serves order (suc n) some = refl
-
-no_order_serves : (n : ℕ) → nat_lt 0 n ≡ true → not (nat_lt 1 n) ≡ true → component_unserved None (at_least_one n) ≡ None
-no_order_serves zero some one = cc
-no_order_serves (suc zero) some one = refl
-no_order_serves (suc (suc n)) some one = absurd (true≢false (sym one ∙ ap not (le-leb 2 (suc (suc n)) (omega arith))))
-
-order_serves : (order : Option Endianness) (type : DataType) → nat_lt 0 (component_size type) ≡ true → has_order (bytes (option_map order_of order)) type ≡ true → bytes_unserved order (Some type) ≡ None
-order_serves (Some order) type some e = named_order_serves order (component_size type) some
-order_serves None type some e = no_order_serves (component_size type) some e
-
-bytes_serve : (codec : BasicArrayToBytes) (type : DataType) → serves_to_bytes (bytes_form codec) type ≡ true → has_order (bytes_form codec) type ≡ true → bytes_unserved (basic_order codec) (Some type) ≡ None
-bytes_serve codec type serves orders = order_serves (basic_order codec) type serves orders
-
 -- so no codec of a chain refuses its level
 pub none_refuses : (codecs : List BasicArrayToArray) (codec : BasicArrayToBytes) (level : Level) (fill : List ℕ) → bottom_type (map array_form codecs) level.data_type ≡ Ok level.data_type
-    → serves_to_bytes (bytes_form codec) level.data_type ≡ true → has_order (bytes_form codec) level.data_type ≡ true
+    → unserved_by (plain_of codec) level.data_type ≡ None
     → chain_unserved (λ (c : BasicArrayToArray). offset_codec (basic_offset c)) (λ c _ data_type _. offset_unserved data_type) (λ c _ fill. bytes_less (opposite (basic_offset c)) fill)
-    (λ (c : BasicArrayToBytes) _ data_type _. bytes_unserved (basic_order c) data_type) codecs codec level fill ≡ None
-none_refuses [] codec level fill arrays serves orders = bytes_serve codec level.data_type serves orders
-none_refuses (first ∷ codecs) codec level fill arrays serves orders =
+    (λ (c : BasicArrayToBytes) _ data_type _. plain_unserved (plain_of c) data_type) codecs codec level fill ≡ None
+none_refuses [] codec level fill arrays serves = serves
+none_refuses (first ∷ codecs) codec level fill arrays serves =
     let ends = test_passed (is_whole_number level.data_type) level.data_type level.data_type unsupported_data_type (bottom_type (map array_form codecs)) arrays in
-    rw (offset_serves level.data_type ends.0) (none_refuses codecs codec ((offset_codec (basic_offset first)).level_below level) (bytes_less (opposite (basic_offset first)) fill) ends.1 serves orders)
+    rw (offset_serves level.data_type ends.0) (none_refuses codecs codec ((offset_codec (basic_offset first)).level_below level) (bytes_less (opposite (basic_offset first)) fill) ends.1 serves)
 
 -- the type below an offset, and why there is none
 pub below_made : (number : ℤ) (type : DataType) (t : types.DataType) → RefusesBy {T = types.DataType} (offset_unserved (Some type)) (Ok t)
@@ -127,9 +105,6 @@ below_made number (raw_type n) t refused value = absurd refused
 below_made number string_type t refused value = absurd refused
 below_made number bytes_type t refused value = absurd refused
 below_made number (optional_type inner) t refused value = absurd refused
-
-no_memory : (e : CodecError) (answer : Result DataType OpenRefusal) → e ≡ codec.OutOfMemory → StopsBy (open_refusal_of (unserved_as e)) answer
-no_memory e answer is = subst (λ e. StopsBy (open_refusal_of (unserved_as e)) answer) (sym is) tt
 
 unserved_type : (e : CodecError) → (e ≡ codec.OutOfMemory) ⊎ (e ≡ unserved_error (unsupported names.Offset)) → StopsBy {Y = DataType} (open_refusal_of (unserved_as e)) (Err unsupported_data_type)
 unserved_type e (inl is) = no_memory e (Err unsupported_data_type) is
@@ -163,27 +138,18 @@ bottom_fails (first ∷ codecs) at number type all why less so_far fails =
     subst (StopsBy why) (sym (at_drop_more (λ cs. bottom_type (map array_form cs) type) (first ∷ codecs) at first less) ∙ so_far)
     (fails_after why (type_below (offset number) type) (bottom_type (map array_form (drop (at + 1) (first ∷ codecs)))) fails)
 
--- the size of elements that a chain serves
-pub chain_sized : (array_codecs : List BasicArrayToArray) (to_bytes : BasicArrayToBytes) (byte_codecs : List BasicBytesToBytes) (type : DataType) (n : ℕ)
-    → expect_chain (chain_form array_codecs to_bytes byte_codecs) type ≡ Ok tt → fixed_size (kind_of type) ≡ Some n → sized_kind (kind_of type) ≡ Some n
-chain_sized array_codecs to_bytes byte_codecs type n serves has = served_sized type n (chain_serves (chain_form array_codecs to_bytes byte_codecs) type serves).bytes has
-
-pub chain_some : (array_codecs : List BasicArrayToArray) (to_bytes : BasicArrayToBytes) (byte_codecs : List BasicBytesToBytes) (type : DataType)
-    → expect_chain (chain_form array_codecs to_bytes byte_codecs) type ≡ Ok tt → fixed_size (kind_of type) ≡ None → ⊥
-chain_some array_codecs to_bytes byte_codecs type serves none = served_some type (chain_serves (chain_form array_codecs to_bytes byte_codecs) type serves).bytes none
-
 -- a chain that serves its levels is not built for want of memory alone
 only_memory : (reason : Option Unserved) (e : CodecError) → FailsToBuild reason e → reason ≡ None → e ≡ codec.OutOfMemory
 only_memory reason e (inl memory) none = memory
 only_memory reason e (inr why) none = absurd (subst (λ r. IsReason r e) none why)
 
-pub not_built : (array_codecs codecs : List BasicArrayToArray) (to_bytes : BasicArrayToBytes) (byte_codecs : List BasicBytesToBytes) (level : Level) (fill : List ℕ) (e : CodecError)
-    → is_served (chain_form array_codecs to_bytes byte_codecs) level.data_type ≡ true → codecs ≡ array_codecs
+pub not_built : (array_codecs codecs : List BasicArrayToArray) (to_bytes copy : BasicArrayToBytes) (byte_codecs : List BasicBytesToBytes) (level : Level) (fill : List ℕ) (e : CodecError)
+    → is_served (chain_form array_codecs to_bytes byte_codecs) level.data_type ≡ true → codecs ≡ array_codecs → plain_of copy ≡ plain_of to_bytes
     → FailsToBuild (chain_unserved (λ (c : BasicArrayToArray). offset_codec (basic_offset c)) (λ c _ data_type _. offset_unserved data_type) (λ c _ fill. bytes_less (opposite (basic_offset c)) fill)
-    (λ (c : BasicArrayToBytes) _ data_type _. bytes_unserved (basic_order c) data_type) codecs to_bytes level fill) e → e ≡ codec.OutOfMemory
-not_built array_codecs codecs to_bytes byte_codecs level fill e served same fails =
+    (λ (c : BasicArrayToBytes) _ data_type _. plain_unserved (plain_of c) data_type) codecs copy level fill) e → e ≡ codec.OutOfMemory
+not_built array_codecs codecs to_bytes copy byte_codecs level fill e served same copied fails =
     let serves = is_served-serves (chain_form array_codecs to_bytes byte_codecs) level.data_type served in
     only_memory _ e fails
     (ap (λ cs. chain_unserved (λ (c : BasicArrayToArray). offset_codec (basic_offset c)) (λ c _ data_type _. offset_unserved data_type) (λ c _ fill. bytes_less (opposite (basic_offset c)) fill)
-    (λ (c : BasicArrayToBytes) _ data_type _. bytes_unserved (basic_order c) data_type) cs to_bytes level fill) same
-    ∙ none_refuses array_codecs to_bytes level fill serves.arrays serves.bytes serves.order)
+    (λ (c : BasicArrayToBytes) _ data_type _. plain_unserved (plain_of c) data_type) cs copy level fill) same
+    ∙ none_refuses array_codecs copy level fill serves.arrays (ap (λ p. unserved_by p level.data_type) copied ∙ serves.bytes))

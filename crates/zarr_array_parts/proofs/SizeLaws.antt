@@ -1,52 +1,104 @@
--- The sizes of elements that `bytes` serves.
-use Rattle.std.proofs.Common.{◌≡◌, ℕ, ◌<◌, ◌≤◌, nat_lt, Bool, true, false, ◌==◌, if◌then◌else◌, List, length, Some, None, is_some, refl, sym, ap, ◌∙◌, arith, eqb-true}
+-- Sizes and lengths of the elements that an array-to-bytes codec serves.
+use Rattle.std.proofs.Common.{◌≡◌, ℕ, zero, suc, ◌^◌, ◌<◌, ◌≤◌, Bool, true, false, List, length, Option, Some, None, refl, sym, ap, ◌∙◌, arith}
 use Rattle.std.proofs.lemmas.Bool.{leb-true}
-use Rattle.zarr_model.specs.Prelude.{DataType, bool_type, int_type, uint_type, raw_type, string_type, bytes_type, optional_type, Kind, fixed, variable, optional, of_bytes, kind_of, fixed_size, component_size, fill_element}
-use Rattle.zarrs_data_type_names.specs.DataType.{is_type}
-use Rattle.zarr_array_parts.specs.Sizes.{sized_kind}
+use Rattle.zarr_model.specs.Prelude.{DataType, bool_type, int_type, uint_type, raw_type, string_type, bytes_type, optional_type, Kind, fixed, variable, optional, kind_of, fixed_size, has_long_element}
+use Rattle.zarrs_metadata_parts.specs.declared.array.endianness.Endianness.{Endianness}
+use Rattle.zarrs_data_type_elements.specs.CodecSupport.{at_least_one, bytes_table}
+use Rattle.zarrs_data_type_names.specs.DataType.{is_type, inner_of}
+use Rattle.zarrs_codec_bytes.specs.Filling.{inner_fill, innermost_fill, filled_with}
+use Rattle.zarrs_codec_bytes.proofs.FilledLaws.{filled_short}
+use Rattle.zarr_codecs.specs.BytesCodec.{component_unserved}
+use Rattle.zarr_codecs_array_to_bytes.specs.Plain.{Plain, plain_bytes, plain_vlen, plain_optional, unserved_by, takes_by, stores_lengths}
+use Rattle.zarr_codecs_vlen.specs.Vlen.{type_unserved}
 
-pub sized_is : (kind : Kind) (n : ℕ) → sized_kind kind ≡ Some n → kind ≡ fixed n
-sized_is (fixed m) n e = let same : m ≡ n = cc in ap fixed same
-sized_is variable n e = cc
-sized_is (optional kind) n e = cc
+-- only elements of no fixed size have their lengths stored
+vlen_unsized : (text : Bool) (type : DataType) → type_unserved text type ≡ None → fixed_size (kind_of type) ≡ None
+vlen_unsized text bool_type e = cc
+vlen_unsized text (int_type n) e = cc
+vlen_unsized text (uint_type n) e = cc
+vlen_unsized text (raw_type n) e = cc
+vlen_unsized text string_type e = refl
+vlen_unsized text bytes_type e = refl
+vlen_unsized text (optional_type inner) e = cc
 
--- a type whose elements have components has elements of one size
-pub served_sized : (type : DataType) (n : ℕ) → nat_lt 0 (component_size type) ≡ true → fixed_size (kind_of type) ≡ Some n → sized_kind (kind_of type) ≡ Some n
-served_sized bool_type n some has = has
-served_sized (int_type m) n some has = has
-served_sized (uint_type m) n some has = has
-served_sized (raw_type m) n some has = has
-served_sized string_type n some has = absurd cc
-served_sized bytes_type n some has = absurd cc
-served_sized (optional_type inner) n some has = absurd cc
+pub stored_unsized : (codec : Plain) (type : DataType) → stores_lengths codec ≡ true → unserved_by codec type ≡ None → fixed_size (kind_of type) ≡ None
+stored_unsized (plain_bytes order) type stores served = cc
+stored_unsized (plain_vlen text) type stores served = vlen_unsized text type served
+stored_unsized (plain_optional inner) bool_type stores served = cc
+stored_unsized (plain_optional inner) (int_type n) stores served = cc
+stored_unsized (plain_optional inner) (uint_type n) stores served = cc
+stored_unsized (plain_optional inner) (raw_type n) stores served = cc
+stored_unsized (plain_optional inner) string_type stores served = cc
+stored_unsized (plain_optional inner) bytes_type stores served = cc
+stored_unsized (plain_optional inner) (optional_type held) stores served = stored_unsized inner held stores served
 
-pub served_some : (type : DataType) → nat_lt 0 (component_size type) ≡ true → fixed_size (kind_of type) ≡ None → ⊥
-served_some bool_type some none = cc
-served_some (int_type m) some none = cc
-served_some (uint_type m) some none = cc
-served_some (raw_type m) some none = cc
-served_some string_type some none = cc
-served_some bytes_type some none = cc
-served_some (optional_type inner) some none = cc
+-- and each codec that stores none serves elements of a fixed size alone
+pub unstored_sized : (codec : Plain) (type : DataType) → stores_lengths codec ≡ false → unserved_by codec type ≡ None → fixed_size (kind_of type) ≡ None → ⊥
+unstored_sized (plain_bytes order) bool_type stores served none = cc
+unstored_sized (plain_bytes order) (int_type n) stores served none = cc
+unstored_sized (plain_bytes order) (uint_type n) stores served none = cc
+unstored_sized (plain_bytes order) (raw_type n) stores served none = cc
+unstored_sized (plain_bytes order) string_type stores served none = absurd cc
+unstored_sized (plain_bytes order) bytes_type stores served none = absurd cc
+unstored_sized (plain_bytes order) (optional_type inner) stores served none = absurd cc
+unstored_sized (plain_vlen text) type stores served none = absurd cc
+unstored_sized (plain_optional inner) bool_type stores served none = absurd cc
+unstored_sized (plain_optional inner) (int_type n) stores served none = absurd cc
+unstored_sized (plain_optional inner) (uint_type n) stores served none = absurd cc
+unstored_sized (plain_optional inner) (raw_type n) stores served none = absurd cc
+unstored_sized (plain_optional inner) string_type stores served none = absurd cc
+unstored_sized (plain_optional inner) bytes_type stores served none = absurd cc
+unstored_sized (plain_optional inner) (optional_type held) stores served none = unstored_sized inner held stores served none
 
-same_number : (m n : ℕ) → Some m ≡ Some n → m ≡ n
-same_number m n e = cc
+-- the numbers of elements that are taken
+pub taken : (codec : Plain) (number : ℕ) → (stores_lengths codec ≡ true → number < 2 ^ 32) → takes_by codec number
+taken (plain_bytes order) number few = tt
+taken (plain_vlen text) number few = few refl
+taken (plain_optional inner) number few = taken inner number few
 
--- which is some
-pub positive_size : (type : DataType) (n : ℕ) → nat_lt 0 (component_size type) ≡ true → is_type type ≡ true → sized_kind (kind_of type) ≡ Some n → 0 < n
-positive_size bool_type n some proper has = let same = same_number 1 n has in omega (arith, same)
-positive_size (int_type m) n some proper has = let same = same_number m n has in let least : 1 ≤ m = leb-true 1 m some in omega (arith, same)
-positive_size (uint_type m) n some proper has = let same = same_number m n has in let least : 1 ≤ m = leb-true 1 m some in omega (arith, same)
-positive_size (raw_type m) n some proper has = let same = same_number m n has in let least : 1 ≤ m = leb-true 1 m proper in omega (arith, same)
-positive_size string_type n some proper has = absurd cc
-positive_size bytes_type n some proper has = absurd cc
-positive_size (optional_type inner) n some proper has = absurd cc
+-- elements of a fixed size are never too long, nor are others where the fill value is not
+sized_short : (kind : Kind) (n number : ℕ) (filler : List ℕ) → fixed_size kind ≡ Some n → has_long_element (filled_with kind number filler) ≡ false
+sized_short (fixed m) n number filler e = refl
+sized_short variable n number filler e = cc
+sized_short (optional kind) n number filler e = sized_short kind n number (inner_fill kind filler) e
 
--- a fill value that denotes an element has as many bytes
-pub filled_size : (type : DataType) (n : ℕ) (bytes : List ℕ) → sized_kind (kind_of type) ≡ Some n → is_some (fill_element (kind_of type) bytes) ≡ true → length bytes ≡ n
-filled_size type n bytes has denotes =
-    go (length bytes == n) refl (ap (λ k. is_some (fill_element k bytes)) (sym (sized_is (kind_of type) n has)) ∙ denotes)
+pub short_fill : (kind : Kind) (number : ℕ) (filler : List ℕ) → (fixed_size kind ≡ None → length (innermost_fill kind filler) < 2 ^ 32) → has_long_element (filled_with kind number filler) ≡ false
+short_fill kind number filler short = go (fixed_size kind) refl
   where
-    go : (b : Bool) → (length bytes == n) ≡ b → is_some (if b then Some (of_bytes bytes) else None) ≡ true → length bytes ≡ n
-    go true is_long e = eqb-true (length bytes) n is_long
-    go false is_long e = cc
+    go : (size : Option ℕ) → fixed_size kind ≡ size → has_long_element (filled_with kind number filler) ≡ false
+    go None is = filled_short kind number filler (short is)
+    go (Some n) is = sized_short kind n number filler is
+
+-- elements of one size, where that is served, are not empty
+component_some : (order : Option Endianness) (n : ℕ) → component_unserved order (at_least_one n) ≡ None → 0 < n
+component_some order zero served = cc
+component_some order (suc n) served = omega arith
+
+number_some : (codec : Plain) (type : DataType) (m : ℕ) → bytes_table type ≡ at_least_one m → ((text : Bool) → type_unserved text type ≡ None → ⊥) → inner_of type ≡ None → unserved_by codec type ≡ None → 0 < m
+number_some (plain_bytes order) type m is other plain served = component_some order m (ap (component_unserved order) (sym is) ∙ served)
+number_some (plain_vlen text) type m is other plain served = absurd (other text served)
+number_some (plain_optional inner) bool_type m is other plain served = cc
+number_some (plain_optional inner) (int_type n) m is other plain served = cc
+number_some (plain_optional inner) (uint_type n) m is other plain served = cc
+number_some (plain_optional inner) (raw_type n) m is other plain served = cc
+number_some (plain_optional inner) string_type m is other plain served = cc
+number_some (plain_optional inner) bytes_type m is other plain served = cc
+number_some (plain_optional inner) (optional_type held) m is other plain served = cc
+
+size_is : (m n : ℕ) → fixed m ≡ fixed n → m ≡ n
+size_is m n e = cc
+
+pub sized_some : (codec : Plain) (type : DataType) (n : ℕ) → unserved_by codec type ≡ None → is_type type ≡ true → kind_of type ≡ fixed n → 0 < n
+sized_some codec bool_type n served proper is = let same = size_is 1 n is in omega (arith, same)
+sized_some codec (int_type m) n served proper is =
+    let same = size_is m n is in
+    let some = number_some codec (int_type m) m refl (λ text e. absurd cc) refl served in
+    omega (arith, same, some)
+sized_some codec (uint_type m) n served proper is =
+    let same = size_is m n is in
+    let some = number_some codec (uint_type m) m refl (λ text e. absurd cc) refl served in
+    omega (arith, same, some)
+sized_some codec (raw_type m) n served proper is = let same = size_is m n is in let least : 1 ≤ m = leb-true 1 m proper in omega (arith, same, least)
+sized_some codec string_type n served proper is = cc
+sized_some codec bytes_type n served proper is = cc
+sized_some codec (optional_type inner) n served proper is = cc

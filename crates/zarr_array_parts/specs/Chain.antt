@@ -2,32 +2,33 @@
 use Rattle.std.specs.Prelude.{List, [], ◌∷◌, map, Option, Some, None, option_map}
 use Rattle.zarr_codecs_kinds.specs.CodecForm.{CodecForm}
 use Rattle.zarr_codecs_kinds.specs.CodecForm as code
-use Rattle.zarr_codecs_kinds.specs.Basic.{basic_offset, basic_order}
+use Rattle.zarr_codecs_kinds.specs.Basic.{basic_offset}
 use Rattle.zarr_codecs_kinds.specs.declared.array_to_array.BasicArrayToArray.{BasicArrayToArray}
-use Rattle.zarr_codecs_kinds.specs.declared.array_to_bytes.BasicArrayToBytes.{BasicArrayToBytes}
+use Rattle.zarr_codecs_array_to_bytes.specs.Views.{plain_of}
+use Rattle.zarr_codecs_array_to_bytes.specs.declared.codecs.BasicArrayToBytes.{BasicArrayToBytes}
 use Rattle.zarr_codecs_kinds.specs.declared.bytes_to_bytes.BasicBytesToBytes.{BasicBytesToBytes}
 use Rattle.zarr_codecs_kinds.specs.declared.bytes_to_bytes.BasicBytesToBytes.TheVariants.{Sha256}
-use Rattle.zarr_array_parts.specs.Document.{ArrayToArray, offset, ToBytes, bytes, BytesToBytes, checksum, ChainForm, order_of}
+use Rattle.zarr_array_parts.specs.Document.{ArrayToArray, offset, BytesToBytes, checksum, ChainForm}
 
 -- the array-to-array codecs that a list begins with
 abbrev pub leading : List CodecForm → List ArrayToArray
 leading [] = []
 leading (code.offset number ∷ codecs) = offset number ∷ leading codecs
-leading (code.bytes order ∷ codecs) = []
+leading (code.to_bytes codec ∷ codecs) = []
 leading (code.sha256 ∷ codecs) = []
 
 -- the codecs behind them
 abbrev pub behind : List CodecForm → List CodecForm
 behind [] = []
 behind (code.offset number ∷ codecs) = behind codecs
-behind (code.bytes order ∷ codecs) = code.bytes order ∷ codecs
+behind (code.to_bytes codec ∷ codecs) = code.to_bytes codec ∷ codecs
 behind (code.sha256 ∷ codecs) = code.sha256 ∷ codecs
 
 -- bytes-to-bytes codecs, if all are
 abbrev pub all_byte_codecs : List CodecForm → Option (List BytesToBytes)
 all_byte_codecs [] = Some []
 all_byte_codecs (code.offset number ∷ codecs) = None
-all_byte_codecs (code.bytes order ∷ codecs) = None
+all_byte_codecs (code.to_bytes codec ∷ codecs) = None
 all_byte_codecs (code.sha256 ∷ codecs) =
     option_map (λ others. checksum ∷ others) (all_byte_codecs codecs)
 
@@ -35,9 +36,9 @@ all_byte_codecs (code.sha256 ∷ codecs) =
 abbrev pub chain_behind : List ArrayToArray → List CodecForm → Option ChainForm
 chain_behind array_codecs [] = None
 chain_behind array_codecs (code.offset number ∷ codecs) = None
-chain_behind array_codecs (code.bytes order ∷ codecs) = option_map (λ byte_codecs. record {
+chain_behind array_codecs (code.to_bytes codec ∷ codecs) = option_map (λ byte_codecs. record {
   array_codecs = array_codecs;
-  to_bytes = bytes (option_map order_of order);
+  to_bytes = codec;
   byte_codecs = byte_codecs;
 }) (all_byte_codecs codecs)
 chain_behind array_codecs (code.sha256 ∷ codecs) = None
@@ -50,9 +51,6 @@ chain_in codecs = chain_behind (leading codecs) (behind codecs)
 abbrev pub array_form : BasicArrayToArray → ArrayToArray
 array_form codec = offset (basic_offset codec)
 
-abbrev pub bytes_form : BasicArrayToBytes → ToBytes
-bytes_form codec = bytes (option_map order_of (basic_order codec))
-
 abbrev pub byte_form : BasicBytesToBytes → BytesToBytes
 byte_form (Sha256 codec) = checksum
 
@@ -60,6 +58,6 @@ abbrev pub chain_form : List BasicArrayToArray → BasicArrayToBytes → List Ba
     ChainForm
 chain_form array_codecs to_bytes byte_codecs = record {
   array_codecs = map array_form array_codecs;
-  to_bytes = bytes_form to_bytes;
+  to_bytes = plain_of to_bytes;
   byte_codecs = map byte_form byte_codecs;
 }

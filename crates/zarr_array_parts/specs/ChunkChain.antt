@@ -1,14 +1,16 @@
 -- The chain of an array's chunks.
-use Rattle.std.specs.Prelude.{◌≡◌, ℕ, List, map}
-use Rattle.zarr_model.specs.Prelude.{of_bytes, sizes, Level, ArrayCodec, Options, IsChunk, Description, layout}
+use Rattle.std.specs.Prelude.{◌≡◌, ℕ, false, List, map, Some}
+use Rattle.zarr_model.specs.Prelude.{sizes, count, Level, ArrayCodec, Options, IsChunk, Description, kind, fill_element, has_long_element, layout}
+use Rattle.zarrs_codec_bytes.specs.Filling.{filled_with}
 use Rattle.zarr_basics_grids.specs.RegularGrid.{nonzeros}
 use Rattle.zarr_basics_grids.specs.declared.basic_grid.BasicGrid.{BasicGrid}
 use Rattle.zarr_basics_grids.specs.declared.basic_grid.BasicGrid.TheVariants.{Regular}
 use Rattle.zarr_codecs_kinds.specs.declared.array_to_array.BasicArrayToArray.{BasicArrayToArray}
-use Rattle.zarr_codecs_kinds.specs.declared.array_to_bytes.BasicArrayToBytes.{BasicArrayToBytes}
+use Rattle.zarr_codecs_array_to_bytes.specs.Views.{plain_of}
+use Rattle.zarr_codecs_array_to_bytes.specs.declared.codecs.BasicArrayToBytes.{BasicArrayToBytes}
 use Rattle.zarr_codecs_kinds.specs.declared.bytes_to_bytes.BasicBytesToBytes.{BasicBytesToBytes}
 use Rattle.zarr_array_parts.specs.Document.{ArrayDocument}
-use Rattle.zarr_array_parts.specs.Chain.{array_form, bytes_form, byte_form}
+use Rattle.zarr_array_parts.specs.Chain.{array_form, byte_form}
 use Rattle.zarr_chain.specs.Chain.{Listing, Opening, first_level, first_fill, decoded}
 use Rattle.zarr_chain.specs.declared.chain.CodecChain.{CodecChain}
 
@@ -24,20 +26,27 @@ chunk_level description chunk = record {
   fill = description.fill;
 }
 
--- a chain has the level of each chunk of an array, with the bytes of its fill value, and decodes
--- each value as the array does
+-- a chain has the level of each chunk of an array, and decodes each value as the array does
 pub record DecodesChunks {A B C : Type 0} (array : A → ArrayCodec) (to_list : Listing B)
     (opens : Opening C) (description : Description) (chain : CodecChain A B C) : Type 0 where
   pub level : (chunk : List ℕ) → IsChunk description.grid chunk
       → first_level chain ≡ chunk_level description chunk
-  pub fill : of_bytes (first_fill chain) ≡ description.fill
   pub values : (options : Options) (chunk value : List ℕ) → IsChunk description.grid chunk
       → decoded array to_list opens chain options value
       ≡ (layout description options).decode (sizes (description.grid.chunk_box chunk)) value
+
+-- the bytes of the fill value of a chain denote the fill of each chunk, and a chunk of it has no
+-- element that is too long to be stored
+pub record FillsChunks {A B C : Type 0} (description : Description) (chain : CodecChain A B C)
+    : Type 0 where
+  pub denotes : fill_element (kind description) (first_fill chain) ≡ Some description.fill
+  pub short : (chunk : List ℕ) → IsChunk description.grid chunk
+      → has_long_element (filled_with (kind description) (count (description.grid.chunk_box chunk))
+      (first_fill chain)) ≡ false
 
 -- a chain has the codecs that a document names, in its order
 pub record HasForms (document : ArrayDocument)
     (chain : CodecChain BasicArrayToArray BasicArrayToBytes BasicBytesToBytes) : Type 0 where
   pub levels : map (λ level. array_form level.codec) chain.levels.items ≡ document.array_codecs
-  pub bottom : bytes_form chain.bottom.codec ≡ document.to_bytes
+  pub bottom : plain_of chain.bottom.codec ≡ document.to_bytes
   pub codecs : map byte_form chain.codecs.items ≡ document.byte_codecs

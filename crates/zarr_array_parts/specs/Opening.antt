@@ -1,10 +1,10 @@
 -- Opening a document: what its text describes by the names that some registries know, or the first
 -- reason why it is refused.
-use Rattle.std.specs.Prelude.{ℕ, ⊤, codes, Bool, true, false, not, ◌||◌, nat_lt, if◌then◌else◌, List, [], ◌∷◌, Option, Some, None, Result, Ok, Err}
+use Rattle.std.specs.Prelude.{ℕ, ⊤, codes, Bool, true, false, ◌||◌, ◌&&◌, if◌then◌else◌, List, [], ◌∷◌, Option, Some, None, Result, Ok, Err}
 use Rattle.serde_json.specs.Data.{Data}
 use Rattle.serde_json.specs.Read.{read as read_json}
 use Rattle.serde_json.specs.Written.{has_float}
-use Rattle.zarr_model.specs.Prelude.{DataType, bool_type, int_type, uint_type, raw_type, string_type, bytes_type, optional_type, kind_of, fixed_size, component_size, KeyEncoding}
+use Rattle.zarr_model.specs.Prelude.{DataType, bool_type, int_type, uint_type, raw_type, string_type, bytes_type, optional_type, kind_of, fixed_size, KeyEncoding, Grid}
 use Rattle.zarrs_plugin.specs.Registry.{Names, find}
 use Rattle.zarrs_metadata_parts.specs.AdditionalField.{AdditionalField}
 use Rattle.zarrs_metadata_parts.specs.MetadataV3.{Extension}
@@ -20,10 +20,15 @@ use Rattle.zarr_basics_grids.specs.GridForms.{ChunkGrid, grid_of}
 use Rattle.zarr_basics.specs.Registries.{KnownNames, builtin_names}
 use Rattle.zarr_basics_grids.specs.declared.grid_kind.GridKind.{GridKind}
 use Rattle.zarr_basics.specs.declared.registries.ChunkKeyKind.{ChunkKeyKind}
-use Rattle.zarr_codecs_kinds.specs.CodecForm.{CodecForm, codec_form}
+use Rattle.zarrs_codec_bytes.specs.Filling.{innermost_fill}
+use Rattle.zarrs_codec_traits.specs.Errors.{Unserved}
+use Rattle.zarrs_codec_traits.specs.Errors as reason
+use Rattle.zarr_codecs_array_to_bytes.specs.Plain.{Plain, unserved_by, stores_lengths}
+use Rattle.zarr_codecs_kinds.specs.CodecForm.{CodecForm, codec_named}
 use Rattle.zarr_codecs_kinds.specs.declared.codec_kind.CodecKind.{CodecKind}
-use Rattle.zarr_array_parts.specs.Document.{ArrayDocument, ArrayToArray, offset, transpose, ToBytes, bytes, vlen, optional, ChainForm, fixed_document}
+use Rattle.zarr_array_parts.specs.Document.{ArrayDocument, ArrayToArray, offset, transpose, ChainForm, document_with}
 use Rattle.zarr_array_parts.specs.Chain.{chain_in}
+use Rattle.zarr_array_parts.specs.Sizes.{has_long_chunk}
 
 -- why a document is refused
 pub data OpenRefusal : Type 0 where
@@ -101,19 +106,19 @@ abbrev pub made : {K A : Type 0} → Option K → (K → Option A) → Result A 
 made None grammar = Err plugin_unsupported
 made (Some kind) grammar = or_refused plugin_create (grammar kind)
 
--- why there is no data type
-abbrev pub type_refusal : Unmade → OpenRefusal
-type_refusal (unsupported name) = plugin_unsupported
-type_refusal config = plugin_create
-type_refusal other = plugin_create
+-- why an extension is not made
+abbrev pub unmade_refusal : Unmade → OpenRefusal
+unmade_refusal (unsupported name) = plugin_unsupported
+unmade_refusal config = plugin_create
+unmade_refusal other = plugin_create
 
-abbrev pub type_or_refused : Result DataType Unmade → Result DataType OpenRefusal
-type_or_refused (Ok type) = Ok type
-type_or_refused (Err why) = Err (type_refusal why)
+abbrev pub or_unmade : {A : Type 0} → Result A Unmade → Result A OpenRefusal
+or_unmade (Ok x) = Ok x
+or_unmade (Err why) = Err (unmade_refusal why)
 
 -- the data type must be understood, which is tested before its name
 abbrev pub data_type_by : Names DataTypeKind → Extension → Result DataType OpenRefusal
-data_type_by names e = type_or_refused (type_by names e)
+data_type_by names e = or_unmade (type_by names e)
 
 abbrev pub grid_by : Names GridKind → List ℕ → Extension → Result ChunkGrid OpenRefusal
 grid_by names dims e = made (find e.name names) (λ kind. grid_form dims kind e.configuration)
@@ -121,9 +126,9 @@ grid_by names dims e = made (find e.name names) (λ kind. grid_form dims kind e.
 abbrev pub keys_by : Names ChunkKeyKind → Extension → Result KeyEncoding OpenRefusal
 keys_by names e = made (find e.name names) (λ kind. keys_form kind e.configuration)
 
--- a codec by its name, and the codecs of a document in its order
+-- a codec by its name, with the codecs inside by theirs, and the codecs of a document in its order
 abbrev pub codec_by : Names CodecKind → Extension → Result CodecForm OpenRefusal
-codec_by names e = made (find e.name names) (λ kind. codec_form kind e.configuration)
+codec_by names e = or_unmade (codec_named names e)
 
 abbrev pub codecs_by : Names CodecKind → List Extension → Result (List CodecForm) OpenRefusal
 codecs_by names [] = Ok []
@@ -153,34 +158,17 @@ abbrev pub bottom_type : List ArrayToArray → DataType → Result DataType Open
 bottom_type [] type = Ok type
 bottom_type (codec ∷ codecs) type = type_below codec type >>= bottom_type codecs
 
--- `bytes` serves the types whose elements have components of one size, `vlen` texts and byte
--- strings, and `optional` the optional types whose inner type its inner codec serves
-abbrev pub serves_to_bytes : ToBytes → DataType → Bool
-serves_to_bytes (bytes order) type = nat_lt 0 (component_size type)
-serves_to_bytes vlen string_type = true
-serves_to_bytes vlen bytes_type = true
-serves_to_bytes vlen _ = false
-serves_to_bytes (optional codec) (optional_type inner) = serves_to_bytes codec inner
-serves_to_bytes (optional codec) _ = false
+-- an array-to-bytes codec serves a type; the first reason why the innermost codec does not decides
+abbrev pub unserved_refusal : Unserved → OpenRefusal
+unserved_refusal (reason.unsupported name) = unsupported_data_type
+unserved_refusal reason.endianness_missing = endianness_missing
 
-abbrev pub expect_served : ToBytes → DataType → Result ⊤ OpenRefusal
-expect_served codec type =
-    if serves_to_bytes codec type then Ok tt else Err unsupported_data_type
+abbrev pub unless_unserved : Option Unserved → Result ⊤ OpenRefusal
+unless_unserved None = Ok tt
+unless_unserved (Some why) = Err (unserved_refusal why)
 
--- components of several bytes need an order
-abbrev pub has_order : ToBytes → DataType → Bool
-has_order (bytes (Some order)) type = true
-has_order (bytes None) type = not (nat_lt 1 (component_size type))
-has_order vlen type = true
-has_order (optional codec) (optional_type inner) = has_order codec inner
-has_order (optional codec) _ = true
-
-abbrev pub expect_order : ToBytes → DataType → Result ⊤ OpenRefusal
-expect_order codec type = if has_order codec type then Ok tt else Err endianness_missing
-
--- an array-to-bytes codec serves a type, and then has an order if it needs one
-abbrev pub expect_bytes : ToBytes → DataType → Result ⊤ OpenRefusal
-expect_bytes codec type = expect_served codec type >>= λ _. expect_order codec type
+abbrev pub expect_bytes : Plain → DataType → Result ⊤ OpenRefusal
+expect_bytes codec type = unless_unserved (unserved_by codec type)
 
 -- each array-to-array codec of a chain serves the type that comes to it, and so does the
 -- array-to-bytes codec
@@ -190,18 +178,22 @@ expect_chain chain type = bottom_type chain.array_codecs type >>= expect_bytes c
 abbrev pub is_served : ChainForm → DataType → Bool
 is_served chain type = is_opened (expect_chain chain type)
 
--- each chunk can be held and addressed
-abbrev pub expect_small_chunks : List ℕ → ChunkGrid → DataType → Result ⊤ OpenRefusal
-expect_small_chunks dims grid type =
-    if has_large_chunk (grid_of dims grid) (fixed_size (kind_of type)) then Err chunk_too_large
-    else Ok tt
+-- a chunk can't be held or addressed, or its lengths can't be stored where they have to be
+abbrev pub is_large : Plain → DataType → List ℕ → Grid → Bool
+is_large codec type filler grid = has_large_chunk grid (fixed_size (kind_of type))
+    || (stores_lengths codec && has_long_chunk grid (innermost_fill (kind_of type) filler))
+
+abbrev pub expect_small_chunks : Plain → DataType → List ℕ → Grid → Result ⊤ OpenRefusal
+expect_small_chunks codec type filler grid =
+    if is_large codec type filler grid then Err chunk_too_large else Ok tt
 
 -- the document of these parts, if the codecs serve them
 abbrev pub served_document : KeyEncoding → ChainForm → DataType → List ℕ → ChunkGrid → List ℕ →
     Result ArrayDocument OpenRefusal
 served_document keys chain type dims grid filler =
-    expect_chain chain type >>= λ _. expect_small_chunks dims grid type >>= λ _.
-    Ok (fixed_document keys chain type dims grid filler)
+    expect_chain chain type >>= λ _.
+    expect_small_chunks chain.to_bytes type filler (grid_of dims grid) >>= λ _.
+    Ok (document_with keys chain type dims grid filler)
 
 -- the array that the fields of a document describe; the first step that refuses decides
 unfoldable pub document_of : KnownNames → ArrayFields → Result ArrayDocument OpenRefusal

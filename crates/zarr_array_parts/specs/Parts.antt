@@ -6,7 +6,7 @@ use Rattle.zarrs_data_type.specs.DataType.{type_of}
 use Rattle.zarr_basics_grids.specs.BasicGrid.{basic_shape, basic_form}
 use Rattle.zarr_basics.specs.Keys.{keys_of}
 use Rattle.zarr_array_parts.specs.Chain.{chain_form}
-use Rattle.zarr_array_parts.specs.Document.{ArrayDocument, fixed_document, describe}
+use Rattle.zarr_array_parts.specs.Document.{ArrayDocument, document_with, describe}
 use Rattle.zarr_array_parts.specs.Opening.{OpenRefusal, OpenAnswer, opened}
 use Rattle.zarr_array_parts.specs.OpenError.{open_refusal_of, IsRefusedBy}
 use Rattle.zarr_array_parts.specs.declared.parts.ArrayParts.{ArrayParts}
@@ -14,7 +14,7 @@ use Rattle.zarr_array_parts.specs.declared.open_error.OpenError.{OpenError}
 
 -- its document
 abbrev pub documented : ArrayParts → ArrayDocument
-documented array = fixed_document (keys_of array.keys)
+documented array = document_with (keys_of array.keys)
     (chain_form array.array_codecs.items array.to_bytes array.byte_codecs.items)
     (type_of array.data_type) (basic_shape array.grid) (basic_form array.grid)
     (fill_bytes array.fill)

@@ -2,20 +2,17 @@
 
 ghost use Rattle.std.specs.Prelude.{◌≡◌, true, IfOk};
 ghost use Rattle.zarrs_codec_error.specs.declared.error.CodecError.TheVariants as codec;
-ghost use Rattle.zarrs_codec_traits.specs.Views.{lengths};
 ghost use Rattle.zarr_chain.specs.Chain.{IsServed};
 ghost use Rattle.zarr_chain.specs.Levels.{above};
-ghost use Rattle.zarr_array_parts.specs.ChunkChain.{HasForms, DecodesChunks, basic_lengths};
+ghost use Rattle.zarr_array_parts.specs.ChunkChain.{HasForms, DecodesChunks, FillsChunks};
 ghost use Rattle.zarr_array_parts.specs.Parts.{documented, described};
 ghost use Rattle.zarr_array_parts.specs.Sizes.{have_chunks};
 
+use crate::limits::{chunk_shape, has_chunks};
 use crate::parts::ArrayParts;
 use std::alloc::{AllocError, Global};
-use std::num::NonZeroU64;
-use zarr_basics::BasicGrid;
 use zarr_chain::CodecChain;
 use zarr_codecs_kinds::{BasicArrayToArray, BasicArrayToBytes, BasicBytesToBytes};
-use zarrs_chunk_grid_traits::ChunkGridTraits;
 use zarrs_codec_error::CodecError;
 use zarrs_codec_traits::{
     ArrayCodecTraits, ArrayToArrayCodecTraits, ArrayToBytesCodecTraits, BytesToBytesCodecTraits,
@@ -23,15 +20,6 @@ use zarrs_codec_traits::{
 
 /// A chain of this project's codecs.
 pub type BasicChain = CodecChain<BasicArrayToArray, BasicArrayToBytes, BasicBytesToBytes>;
-
-// The shape of the chunks of a grid, which all have one.
-fn chunk_shape(grid: &BasicGrid) -> &[NonZeroU64]
-    ensures { lengths result.now ≡ basic_lengths grid.now }
-{
-    match grid {
-        BasicGrid::Regular(grid) => &grid.chunk_shape,
-    }
-}
 
 // The same items.
 fn copies<T: Copy>(alloc: Global, items: &[T]) -> Result<Vec<T>, AllocError>
@@ -56,7 +44,7 @@ impl ArrayParts {
     pub fn has_chunks(&self) -> bool
         ensures { result ≡ have_chunks (described self.now).grid.grid_shape }
     {
-        self.grid.grid_shape().iter().all(|n| 0 < *n)
+        has_chunks(&self.grid)
     }
 
     /// The chain of the array's codecs with their levels, which is one for all chunks.
@@ -76,14 +64,16 @@ impl ArrayParts {
             ⟦<BasicArrayToBytes as ArrayToBytesCodecTraits>⟧.meaning
             ⟦<BasicBytesToBytes as BytesToBytesCodecTraits>⟧.meaning
             (described self.now)) }
+        ensures fill { IfOk result (FillsChunks (described self.now)) }
         ensures forms { IfOk result (HasForms (documented self.now)) }
     {
         let array_codecs = copies(alloc, &self.array_codecs)?;
+        let to_bytes = self.to_bytes.try_clone(alloc)?;
         let byte_codecs = copies(alloc, &self.byte_codecs)?;
         let built = CodecChain::build(
             alloc,
             array_codecs,
-            self.to_bytes,
+            to_bytes,
             byte_codecs,
             chunk_shape(&self.grid),
             &self.data_type,

@@ -62,7 +62,7 @@ pub(crate) fn chain_of(alloc: Global, codecs: &[BasicCodec]) -> Result<ChainCode
             let byte_codecs = byte_codecs(alloc, rest)?;
             Ok(ChainCodecs {
                 array_codecs,
-                to_bytes: *to_bytes,
+                to_bytes: to_bytes.try_clone(alloc)?,
                 byte_codecs,
             })
         }

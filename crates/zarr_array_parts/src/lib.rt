@@ -5,6 +5,7 @@ mod chain;
 mod codecs;
 mod document;
 mod extensions;
+mod limits;
 mod open_error;
 pub mod parts;
 mod served;

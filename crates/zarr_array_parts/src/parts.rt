@@ -2,27 +2,28 @@
 //!
 //! See <https://zarr-specs.readthedocs.io/en/latest/v3/core/index.html#array-metadata>.
 
-ghost use Rattle.std.specs.Prelude.{◌≡◌, ◌<◌, Some, true, false, length, is_some};
+ghost use Rattle.std.specs.Prelude.{◌≡◌, Some, true, false, is_some};
 ghost use Rattle.serde_json.specs.Read.{read as read_json};
-ghost use Rattle.zarr_model.specs.Prelude.{fill_element, kind_of, of_bytes};
+ghost use Rattle.zarr_model.specs.Prelude.{fill_element, kind_of};
 ghost use Rattle.zarrs_metadata.specs.ArrayMetadata.{array_seen};
 ghost use Rattle.zarrs_data_type_elements.specs.FillValue.{fill_bytes};
 ghost use Rattle.zarrs_data_type.specs.DataType.{type_of, is_type};
 ghost use Rattle.zarr_basics_grids.specs.BasicGrid.{basic_shape, basic_grid, basic_form};
-ghost use Rattle.zarr_basics_grids.specs.Limits.{has_large_chunk};
 ghost use Rattle.zarr_basics.specs.Keys.{keys_of};
 ghost use Rattle.zarr_basics.specs.Registries.{names_of};
+ghost use Rattle.zarr_codecs_array_to_bytes.specs.Views.{plain_of};
 ghost use Rattle.zarr_array_parts.specs.Chain.{chain_form};
-ghost use Rattle.zarr_array_parts.specs.Sizes.{sized_kind, are_countable};
-ghost use Rattle.zarr_array_parts.specs.Opening.{is_served, served_document, document_of, document_read, open_document};
+ghost use Rattle.zarr_array_parts.specs.Sizes.{are_countable};
+ghost use Rattle.zarr_array_parts.specs.Opening.{is_large, is_served, served_document, document_of, document_read, open_document};
 
 use crate::codecs::{ChainCodecs, chain_of};
 use crate::document::read_document;
 use crate::extensions::{
     codecs_by, data_type_by, expect_known_fields, fill_value_of, grid_by, keys_by,
 };
+use crate::limits::is_large;
 use crate::open_error::OpenError;
-use crate::served::served_size;
+use crate::served::expect_chain;
 use std::alloc::Global;
 use zarr_basics::{BasicGrid, ChunkKeyEncoding, Registries};
 use zarr_codecs_kinds::{BasicArrayToArray, BasicArrayToBytes, BasicBytesToBytes};
@@ -41,13 +42,11 @@ pub struct ArrayParts {
     pub(crate) array_codecs: Vec<BasicArrayToArray>,
     pub(crate) to_bytes: BasicArrayToBytes,
     pub(crate) byte_codecs: Vec<BasicBytesToBytes>,
-    // The size of an element in bytes.
-    pub(crate) size: usize,
-    ghost sized: { sized_kind (kind_of (type_of data_type)) ≡ Some size },
-    ghost some: { 0 < size },
-    ghost filled: { length (fill_bytes fill) ≡ size },
+    ghost proper: { is_type (type_of data_type) ≡ true },
+    ghost filled: { is_some (fill_element (kind_of (type_of data_type)) (fill_bytes fill)) ≡ true },
     ghost countable: { are_countable (basic_grid grid).grid_shape ≡ true },
-    ghost fits: { has_large_chunk (basic_grid grid) (Some size) ≡ false },
+    ghost fits: { is_large (plain_of to_bytes) (type_of data_type) (fill_bytes fill)
+        (basic_grid grid) ≡ false },
     ghost served: { is_served (chain_form array_codecs.items to_bytes byte_codecs.items)
         (type_of data_type) ≡ true },
 }
@@ -79,8 +78,8 @@ impl ArrayParts {
             (type_of data_type) (basic_shape grid) (basic_form grid) (fill_bytes fill)) }
     {
         countable(grid.grid_shape());
-        let size = served_size(alloc, &codecs, &data_type)?;
-        if grid.has_large_chunk(Some(size)) {
+        expect_chain(alloc, &codecs, &data_type)?;
+        if is_large(&codecs.to_bytes, &data_type, &fill, &grid) {
             return Err(OpenError::ChunkTooLarge);
         }
         let ChainCodecs {
@@ -96,7 +95,6 @@ impl ArrayParts {
             array_codecs,
             to_bytes,
             byte_codecs,
-            size,
         })
     }
 
@@ -145,10 +143,11 @@ impl ArrayParts {
 
     /// Opens the array that a document describes, by the names of some registries.
     ///
-    /// Served are the types whose elements have one size: booleans, whole numbers and raw bits, with any chain of
-    /// `zarr_basics.offset`, which serves whole numbers, then `bytes` in either byte order, then `zarr_basics.sha256`,
-    /// at any rank and of any length. Attributes, dimension names and fields that need not be understood are read and
-    /// left alone.
+    /// Served are all data types, with any chain of `zarr_basics.offset`, which serves whole numbers, then the codec of the
+    /// elements, then `zarr_basics.sha256`, at any rank and of any length: `bytes` in either byte order for booleans,
+    /// whole numbers and raw bits, `vlen-utf8` for texts, `vlen-bytes` for byte strings, and `zarr_basics.optional` over one
+    /// of them for optional types. Attributes, dimension names and fields that need not be understood are read and left
+    /// alone.
     ///
     /// # Errors
     /// The first of [`OpenError`] that applies, or `OutOfMemory`.
@@ -168,19 +167,10 @@ impl ArrayParts {
 
     /// The fill value.
     pub fn fill_value(&self) -> &FillValue
-        ensures element { of_bytes (fill_bytes result.now) ≡ (documented self.now).fill }
-        ensures sized { sized_kind (kind_of (documented self.now).data_type)
-            ≡ Some (length (fill_bytes result.now)) }
+        ensures { fill_element (kind_of (documented self.now).data_type) (fill_bytes result.now)
+            ≡ Some (documented self.now).fill }
     {
         &self.fill
-    }
-
-    /// The size of an element in bytes.
-    pub fn element_size(&self) -> usize
-        ensures size { sized_kind (kind_of (documented self.now).data_type) ≡ Some result }
-        ensures some { 0 < result }
-    {
-        self.size
     }
 
     /// The shape of the array.

@@ -1,14 +1,9 @@
 -- The chunks of an array: what stands under their keys.
-use Rattle.std.proofs.Common.{◌≡◌, ℕ, ◌*◌, ◌⊎◌, ◌==◌, eq-eqb, inl, inr, ⊎_elim, Bool, true, false, List, [], ◌∷◌, length, nat_le, replicate, Option, Some, None, IsSome, Result, Ok, Err, OnOk, OnErr, refl, sym, ap, ◌∙◌, subst}
-use Rattle.std.proofs.lemmas.Bool.{cond-true}
-use Rattle.zarr_model.specs.Prelude.{Element, of_bytes, fill_element, Region, count, count_of, Options, Level, decode_bytes, kind, kind_of, meaning, Content, Rose, Shown, Description, IsChunk, box_content, chunk_content, layout, ArrayBytes, fixed_bytes, has_long_element}
-use Rattle.zarrs_codec_bytes.specs.Elements.{fixed_elements}
-use Rattle.zarrs_codec_array_bytes.specs.Levels.{is_fixed}
+use Rattle.std.proofs.Common.{◌≡◌, ℕ, ◌⊎◌, inl, inr, ⊎_elim, Bool, true, false, List, [], ◌∷◌, length, take, drop, nat_le, replicate, Option, Some, None, IsSome, unwrap_or, Result, Ok, Err, OnOk, OnErr, refl, sym, ap, ◌∙◌, subst}
+use Rattle.zarr_model.specs.Prelude.{Element, DataType, fill_element, Region, count, count_of, Options, Level, decode_bytes, kind, kind_of, meaning, is_mask, Content, Rose, Shown, Description, IsChunk, box_content, chunk_content, layout, ArrayBytes, has_long_element}
 use Rattle.zarrs_codec_traits.specs.Words.{list_at, Gives}
 use Rattle.zarrs_codec_error.specs.declared.error.CodecError.{CodecError}
 use Rattle.zarrs_codec_error.specs.declared.error.CodecError.TheVariants as codec
-use Rattle.zarrs_codec_bytes.specs.Filling.{filled_with}
-use Rattle.zarrs_data_type_elements.specs.FillValue.{fill_bytes}
 use Rattle.zarrs_storage.specs.declared.store.StorageError.{StorageError}
 use Rattle.zarrs_storage.specs.declared.store.StorageError.TheVariants as storage
 use Rattle.zarrs_codec_held.specs.Reads.{IsHandleError}
@@ -19,15 +14,16 @@ use Rattle.zarr_chain.specs.Values as values
 use Rattle.zarr_chain_stored.specs.Fetch as stored
 use Rattle.zarr_chain_stored.specs.Put as put
 use Rattle.zarr_codecs.specs.Sha256.{says_digest, sha256_says}
+use Rattle.zarr_codecs_array_to_bytes.specs.Plain.{Plain, plain_bytes, plain_vlen, plain_optional, held_type, says_by, says_optional}
+use Rattle.zarr_codecs_array_to_bytes.specs.Views.{plain_of}
 use Rattle.zarr_codecs_kinds.specs.declared.bytes_to_bytes.BasicBytesToBytes.{BasicBytesToBytes}
 use Rattle.zarr_array_regions.specs.Codecs.{Codecs, array_meaning, list_meaning, list_says, bytes_meaning, bytes_says, ServesChunks}
 use Rattle.zarr_array_regions.specs.Chunk.{storage_kind, is_dropped, decode_at, PutsElements, MayPutElements, chunk_kind, FailsToFetch}
+use Rattle.zarr_array_regions.specs.Fetch.{chunk_list, MeanChunk}
 use Rattle.zarr_array_regions.specs.declared.error.SessionErrorKind.{SessionErrorKind}
 use Rattle.zarr_array_regions.specs.declared.error.SessionErrorKind.TheVariants.{ChunkDecode, OutOfMemory}
 use Rattle.zarr_array_parts.specs.Parts.{described}
 use Rattle.zarr_array_parts.specs.declared.parts.ArrayParts.{ArrayParts}
-use Rattle.zarr_array_regions.proofs.FormLaws.{kind_is, fill_long}
-use Rattle.zarr_array_regions.proofs.FixedLaws.{meaning-bytes, meaning-fixed, meaning-as_long}
 
 -- what holds where a call ended so, and what follows from it
 pub on_ok : {T E P Q : Type 0} (r : Result T E) → (P → Q) → OnOk r P → OnOk r Q
@@ -119,10 +115,23 @@ module _ (array : Description) (chain : Codecs) (serves : ServesChunks array cha
   bytes_say (c ∷ codecs) value error says =
       said (decode_bytes (byte_codecs bytes_meaning options codecs) value) (values.bytes_says bytes_meaning bytes_says options codecs value) error (bytes_say codecs value error) says
 
+  -- nor does an array-to-bytes codec
+  plain_say : (plain : Plain) (number : ℕ) (type : DataType) (value : List ℕ) (error : StorageError) → says_by plain number type value (codec.StorageError error) → ⊥
+  plain_say (plain_bytes order) number type value error says = cc
+  plain_say (plain_vlen text) number type value error says = cc
+  plain_say (plain_optional inner) number type value error says =
+      go (plain_say inner number (held_type type) (drop number value) error) (nat_le number (length value)) (is_mask number (take number value)) says
+    where
+      go : (says_by inner number (held_type type) (drop number value) (codec.StorageError error) → ⊥) → (long valid : Bool) →
+          says_optional long valid (says_by inner number (held_type type) (drop number value)) (length value) number (codec.StorageError error) → ⊥
+      go rest false valid says = cc
+      go rest true false says = cc
+      go rest true true says = rest says
+
   list_say : (before : Option (List ℕ)) (earlier : CodecError → Type 0) (error : StorageError) → (earlier (codec.StorageError error) → ⊥) →
       values.said_at before earlier (list_says chain.bottom.codec options (above chain.bottom)) (codec.StorageError error) → ⊥
   list_say None earlier error none says = none says
-  list_say (Some before) earlier error none says = cc
+  list_say (Some before) earlier error none says = plain_say (plain_of chain.bottom.codec) (count_of (above chain.bottom).shape) (above chain.bottom).data_type before error says
 
   pub chunk_say : (value : Option (List ℕ)) (error : StorageError) → stored.chunk_says list_says bytes_meaning bytes_says chain options value (codec.StorageError error) → ⊥
   chunk_say None error says = says
@@ -160,7 +169,12 @@ module _ (array : Description) (chain : Codecs) (serves : ServesChunks array cha
       subst (λ k. FailsToFetch (box_content (layout array options) (array.grid.chunk_box chunk) (before.content k)) k before now (chunk_kind key error)) its_key
       (fetch_fails key before now (before.content key) error fails)
 
--- the elements of a chunk of one size
+-- what is there
+pub some_list : (o : Option (List Element)) → IsSome o → o ≡ Some (unwrap_or o [])
+some_list (Some list) h = refl
+some_list None h = cc
+
+-- the elements of a chunk
 module _ (array : ArrayParts) (chain : Codecs) (serves : ServesChunks (described array) chain) (options : Options) (chunk : List ℕ) (is_chunk : IsChunk (described array).grid chunk) where
   abbrev box : Region
   box = (described array).grid.chunk_box chunk
@@ -168,45 +182,28 @@ module _ (array : ArrayParts) (chain : Codecs) (serves : ServesChunks (described
   at_level : (bytes : ArrayBytes) → list_at (first_level chain) bytes ≡ meaning (kind (described array)) (count box) bytes
   at_level bytes = ap (λ (l : Level). meaning (kind_of l.data_type) (count_of l.shape) bytes) (serves.chunks.level chunk is_chunk)
 
-  pub given_fixed : (bytes : ArrayBytes) (content : Option (List Element)) → Gives (list_at (first_level chain) bytes) content → is_fixed bytes ≡ true
-  given_fixed bytes content gives = meaning-fixed array (count box) bytes (subst IsSome (at_level bytes) gives.there)
+  pub given_mean : (bytes : ArrayBytes) (content : Option (List Element)) → Gives (list_at (first_level chain) bytes) content → has_long_element bytes ≡ false → MeanChunk array chunk bytes
+  given_mean bytes content gives short = record { means = subst IsSome (at_level bytes) gives.there; short = short }
 
-  pub given_long : (bytes : ArrayBytes) (value : List ℕ) (content : Option (List Element)) → Gives (list_at (first_level chain) bytes) content → bytes ≡ fixed_bytes value → length value ≡ count box * array.size
-  given_long bytes value content gives is = meaning-as_long array (count box) value (subst IsSome (at_level bytes ∙ ap (meaning (kind (described array)) (count box)) is) gives.there)
+  pub fetched_elements : (bytes : ArrayBytes) (key : List ℕ) (before : Shown) → key ≡ (described array).key chunk →
+      Gives (list_at (first_level chain) bytes) (stored.chunk_content array_meaning list_meaning bytes_meaning chain options (before.content key)) →
+      chunk_content (layout (described array) options) before.content chunk ≡ Some (chunk_list array chunk bytes)
+  fetched_elements bytes key before its_key gives =
+      ap (λ k. box_content (layout (described array) options) box (before.content k)) (sym its_key)
+      ∙ (sym (content_as (described array) chain serves options chunk is_chunk (before.content key))
+      ∙ (sym gives.same ∙ (at_level bytes ∙ some_list (meaning (kind (described array)) (count box) bytes) (subst IsSome (at_level bytes) gives.there))))
 
-  pub given_elements : (bytes : ArrayBytes) (value : List ℕ) (content : Option (List ℕ)) →
-      Gives (list_at (first_level chain) bytes) (stored.chunk_content array_meaning list_meaning bytes_meaning chain options content) → bytes ≡ fixed_bytes value →
-      box_content (layout (described array) options) box content ≡ Some (fixed_elements array.size value)
-  given_elements bytes value content gives is =
-      sym (content_as (described array) chain serves options chunk is_chunk content)
-      ∙ (sym gives.same ∙ (at_level bytes ∙ (ap (meaning (kind (described array)) (count box)) is
-      ∙ meaning-bytes array (count box) value (given_long bytes value _ gives is))))
-
-  pub fetched_elements : (bytes : ArrayBytes) (value key : List ℕ) (before : Shown) → key ≡ (described array).key chunk →
-      Gives (list_at (first_level chain) bytes) (stored.chunk_content array_meaning list_meaning bytes_meaning chain options (before.content key)) → bytes ≡ fixed_bytes value →
-      chunk_content (layout (described array) options) before.content chunk ≡ Some (fixed_elements array.size value)
-  fetched_elements bytes value key before its_key gives is =
-      ap (λ k. box_content (layout (described array) options) box (before.content k)) (sym its_key) ∙ given_elements bytes value (before.content key) gives is
-
-  -- and bytes as many as they have
-  pub taken_elements : (bytes : ArrayBytes) (value : List ℕ) → bytes ≡ fixed_bytes value → length value ≡ count box * array.size → list_at (first_level chain) bytes ≡ Some (fixed_elements array.size value)
-  taken_elements bytes value is long = at_level bytes ∙ (ap (meaning (kind (described array)) (count box)) is ∙ meaning-bytes array (count box) value long)
+  -- and bytes that mean as many
+  pub taken_elements : (bytes : ArrayBytes) → MeanChunk array chunk bytes → list_at (first_level chain) bytes ≡ Some (chunk_list array chunk bytes)
+  taken_elements bytes mean = at_level bytes ∙ some_list (meaning (kind (described array)) (count box) bytes) mean.means
 
   -- the fill value's bytes denote the fill, and are not too long to be stored
-  same_bytes : (a b : List ℕ) → of_bytes a ≡ of_bytes b → a ≡ b
-  same_bytes a b e = cc
-
-  filler : first_fill chain ≡ fill_bytes array.fill
-  filler = same_bytes (first_fill chain) (fill_bytes array.fill) serves.chunks.fill
-
   pub has_fill : stored.HasFill chain
   has_fill = record {
     denotes =
         ap (λ (l : Level). fill_element (kind_of l.data_type) (first_fill chain)) (serves.chunks.level chunk is_chunk)
-        ∙ (ap (λ k. fill_element k (first_fill chain)) (kind_is array)
-        ∙ (cond-true (length (first_fill chain) == array.size) (Some (of_bytes (first_fill chain))) None (eq-eqb (length (first_fill chain)) array.size (ap length filler ∙ fill_long array))
-        ∙ ap Some (serves.chunks.fill ∙ sym (ap (λ (l : Level). l.fill) (serves.chunks.level chunk is_chunk)))));
+        ∙ (serves.fill.denotes ∙ ap Some (sym (ap (λ (l : Level). l.fill) (serves.chunks.level chunk is_chunk))));
     short =
         ap (λ (l : Level). has_long_element (stored.blank_chunk l (first_fill chain))) (serves.chunks.level chunk is_chunk)
-        ∙ ap (λ k. has_long_element (filled_with k (count box) (first_fill chain))) (kind_is array);
+        ∙ serves.fill.short chunk is_chunk;
   }

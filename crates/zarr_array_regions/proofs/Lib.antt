@@ -1,5 +1,3 @@
-pub mod FormLaws
-pub mod FixedLaws
 pub mod PlaceLaws
 pub mod MetLaws
 pub mod ChunkLaws

@@ -1,5 +1,5 @@
 -- A region is read chunk by chunk.
-use Rattle.std.proofs.Common.{◌≡◌, ℕ, zero, suc, ◌+◌, ◌*◌, ◌<◌, true, false, List, [], ◌∷◌, length, get_or, slice_get, Some, sym, ap, ◌∙◌, subst, subst₂, arith, ⊎_elim}
+use Rattle.std.proofs.Common.{◌≡◌, ℕ, zero, suc, ◌+◌, ◌<◌, true, false, List, [], ◌∷◌, length, get_or, slice_get, Some, sym, ap, ◌∙◌, subst, arith, ⊎_elim}
 use Rattle.std.proofs.lemmas.Bool.{cases_Bool, cases_eq, cond-true, cond-false, true≢false}
 use Rattle.std.proofs.lemmas.List.{length-map, get_or-map, same_lists}
 use Rattle.zarr_model.specs.Prelude.{Region, count, contains, tuples, place, tuple_at, ends_within, Array, elements_in, Grid, IsChunk, chunks_meeting, CoversShape, Element, Content, Layout, chunk_content}
@@ -7,9 +7,7 @@ use Rattle.zarr_model.proofs.RegionLaws.{length-tuples, get_or-tuples, contains-
 use Rattle.zarr_model.proofs.ArrayLaws.{inside_shape}
 use Rattle.zarr_model.proofs.SessionLaws.{share_tuple-from}
 use Rattle.zarr_model.proofs.FailureLaws.{meets_at}
-use Rattle.zarrs_codec_bytes.specs.Elements.{fixed_elements}
 use Rattle.zarrs_codec_bytes.specs.Overlap.{Copied}
-use Rattle.zarrs_codec_bytes.proofs.FixedLaws.{length-elements}
 
 -- the list of a region has the array's elements in the boxes of the first chunks of a list
 pub record HasRead {E : Type 0} (grid : Grid) (region : Region) (chunks : List (List ℕ)) (done : ℕ) (array : Array E) (list : List E) : Type 0 where
@@ -46,11 +44,6 @@ module _ {E : Type 0} (grid : Grid) (region : Region) (chunks : List (List ℕ))
         (cases_Bool (contains (grid.chunk_box chunk) (tuple_at region k)));
   }
 
--- the region's bytes have room before the first chunk
-pub read_begun : (n : ℕ) (grid : Grid) (region : Region) (chunks : List (List ℕ)) (array : Array Element) (bytes : List ℕ) → 0 < n → length bytes ≡ count region * n →
-    HasRead grid region chunks 0 array (fixed_elements n bytes)
-read_begun n grid region chunks array bytes some long = read-start grid region chunks array (fixed_elements n bytes) (length-elements n some (count region) bytes long)
-
 -- once all chunks that the region meets are read, it is the region of the array
 pub read-end : {E : Type 0} (shape : List ℕ) (grid : Grid) (region : Region) (chunks : List (List ℕ)) (array : Array E) (list : List E) → CoversShape shape grid → ends_within region shape ≡ true →
     chunks ≡ chunks_meeting grid region → HasRead grid region chunks (length chunks) array list → list ≡ elements_in region array
@@ -72,13 +65,12 @@ read-end {E} shape grid region chunks array list covers inside are read =
         listed_below (y ∷ ys) zero x e = omega arith
         listed_below (y ∷ ys) (suc n) x e = let rest : n < length ys = listed_below ys n x e in omega arith
 
--- what a chunk's value gives to a region is the array's part, for each array that the chunk has
-pub chunk_copied : (place : Layout Element) (store : Content) (region box : Region) (chunk value part old new : List ℕ) (n : ℕ) (array : Array Element) →
-    box ≡ place.grid.chunk_box chunk → chunk_content place store chunk ≡ Some (fixed_elements n value) → part ≡ value →
-    Copied region box (fixed_elements n part) (fixed_elements n old) (fixed_elements n new) →
+-- what a chunk's elements give to a region is the array's part, for each array that the chunk has
+pub chunk_copied : (place : Layout Element) (store : Content) (region : Region) (chunk : List ℕ) (list old new : List Element) (array : Array Element) →
+    chunk_content place store chunk ≡ Some list → Copied region (place.grid.chunk_box chunk) list old new →
     chunk_content place store chunk ≡ Some (elements_in (place.grid.chunk_box chunk) array) →
-    Copied region (place.grid.chunk_box chunk) (elements_in (place.grid.chunk_box chunk) array) (fixed_elements n old) (fixed_elements n new)
-chunk_copied place store region box chunk value part old new n array box_is decoded part_is copied has =
-    let both : Some (fixed_elements n value) ≡ Some (elements_in (place.grid.chunk_box chunk) array) = sym decoded ∙ has in
-    let same : fixed_elements n part ≡ elements_in (place.grid.chunk_box chunk) array = ap (fixed_elements n) part_is ∙ cc in
-    subst₂ (λ b xs. Copied region b xs (fixed_elements n old) (fixed_elements n new)) box_is same copied
+    Copied region (place.grid.chunk_box chunk) (elements_in (place.grid.chunk_box chunk) array) old new
+chunk_copied place store region chunk list old new array decoded copied has =
+    let both : Some list ≡ Some (elements_in (place.grid.chunk_box chunk) array) = sym decoded ∙ has in
+    let same : list ≡ elements_in (place.grid.chunk_box chunk) array = cc in
+    subst (λ xs. Copied region (place.grid.chunk_box chunk) xs old new) same copied

@@ -1,12 +1,10 @@
 -- The steps of reading a region.
-use Rattle.std.proofs.Common.{◌≡◌, ℕ, ◌+◌, ◌-◌, ◌*◌, ◌^◌, ◌<◌, ◌≤◌, ◌⊎◌, true, List, [], length, slice_get, Some, IsSome, refl, sym, ap, ◌∙◌, ◌++◌, take, drop, subst, subst₂, arith, le_trans, inl, inr, ⊎_elim}
-use Rattle.std.proofs.lemmas.Grind.{common_steps}
+use Rattle.std.proofs.Common.{◌≡◌, ℕ, ◌+◌, ◌-◌, ◌^◌, ◌<◌, ◌≤◌, ◌⊎◌, true, List, [], length, slice_get, Some, IsSome, unwrap_or, refl, sym, ap, ◌∙◌, subst, subst₂, arith, le_trans, inl, inr, ⊎_elim}
 use Rattle.std.proofs.lemmas.Option.{slice_get_within}
-use Rattle.zarr_model.specs.Prelude.{Region, count, ends_within, Element, Array, IsChunk, chunks_meeting, WhollyMeans, Options, box_content, chunk_content, Shown, Description, layout, counted, Rose}
-use Rattle.zarrs_array_subset.specs.ArraySubset.{region as region_of_subset}
-use Rattle.zarrs_array_subset.specs.declared.array_subset.ArraySubset.{ArraySubset}
+use Rattle.zarr_model.specs.Prelude.{Region, count, ends_within, Element, Kind, kind, ArrayBytes, meaning, Array, IsChunk, chunks_meeting, WhollyMeans, Options, box_content, chunk_content, Shown, Description, layout, counted, Rose}
 use Rattle.zarrs_storage.specs.Store.{SameContent}
-use Rattle.zarrs_codec_bytes.specs.Elements.{fixed_elements}
+use Rattle.zarrs_codec_bytes.specs.Overlap.{Copied}
+use Rattle.zarr_array_elements.specs.Elements.{list_in}
 use Rattle.zarr_array_parts.specs.Parts.{described}
 use Rattle.zarr_array_parts.specs.declared.parts.ArrayParts.{ArrayParts}
 use Rattle.zarr_array_parts.proofs.ServedLaws.{described_covers}
@@ -14,9 +12,9 @@ use Rattle.zarr_array_regions.specs.declared.error.SessionErrorKind.{SessionErro
 use Rattle.zarr_array_regions.specs.declared.error.SessionErrorKind.TheVariants.{NotOpened, ChunkDecode, Store, OutOfMemory}
 use Rattle.zarr_array_regions.specs.Chunk.{FailsToFetch}
 use Rattle.zarr_array_regions.specs.CommandError.{before_chunks}
-use Rattle.zarr_array_regions.specs.Fetch.{NotFetched}
-use Rattle.zarr_array_regions.specs.Read.{HasReadCause, FailsToRead, HasReadChunk, HasReadRegion, NotReadRegion}
-use Rattle.zarr_array_regions.proofs.ReadLaws.{HasRead, read_begun, read-step, read-end}
+use Rattle.zarr_array_regions.specs.Fetch.{HasAsked, chunk_list, HasElements, NotFetched}
+use Rattle.zarr_array_regions.specs.Read.{HasReadCause, FailsToRead, HasReadChunk, HasReadList, HasReadRegion, NotReadRegion}
+use Rattle.zarr_array_regions.proofs.ReadLaws.{HasRead, read-start, read-step, read-end, chunk_copied}
 use Rattle.zarr_array_regions.proofs.DecodeLaws.{decode-step, decode-all}
 
 -- counts that stop at the greatest number
@@ -45,33 +43,48 @@ stops_reading description options region k old mid new chunk kind here few same 
     by_kind Store fails = rose_later old.faults mid.faults new.faults later fails
     by_kind OutOfMemory fails = tt
 
--- the first k of the chunks that a region meets were read into the region's bytes, each by one
+-- the first k of the chunks that a region meets were read into the region's elements, each by one
 -- reading call
-pub record HasReadSome (array : ArrayParts) (options : Options) (region : Region) (k : ℕ) (bytes : List ℕ) (before now : Shown) : Type 0 where
-  pub as_long : length bytes ≡ count region * array.size
+pub record HasReadSome (array : ArrayParts) (options : Options) (region : Region) (k : ℕ) (list : List Element) (before now : Shown) : Type 0 where
+  pub as_long : length list ≡ count region
   pub same : SameContent before now
   pub asks : now.asks ≡ counted before.asks k
   pub later : before.faults ≤ now.faults
   pub decode : (place : ℕ) (chunk : List ℕ) → place < k → slice_get (chunks_meeting (described array).grid region) place ≡ Some chunk →
       IsSome (chunk_content (layout (described array) options) before.content chunk)
   pub read : (plain : Array Element) → WhollyMeans (layout (described array) options) before.content plain →
-      HasRead (described array).grid region (chunks_meeting (described array).grid region) k plain (fixed_elements array.size bytes)
+      HasRead (described array).grid region (chunks_meeting (described array).grid region) k plain list
 
 module _ (array : ArrayParts) (options : Options) (region : Region) where
   abbrev met : List (List ℕ)
   met = chunks_meeting (described array).grid region
 
-  pub none_read : (bytes : List ℕ) (store : Shown) → length bytes ≡ count region * array.size → store.asks ≤ 2 ^ 64 - 1 → HasReadSome array options region 0 bytes store store
-  none_read bytes store long fits = record {
+  -- a chunk that was fetched was put into the region's elements
+  pub chunk_put : (chunk : List ℕ) (bytes : ArrayBytes) (of_kind : Kind) (over own : Region) (old new : List Element) (before now : Shown) → HasAsked before now → HasElements array options chunk before bytes →
+      of_kind ≡ kind (described array) → over ≡ region → own ≡ (described array).grid.chunk_box chunk → Copied over own (list_in of_kind own bytes) old new →
+      HasReadChunk array options region chunk old new before now
+  chunk_put chunk bytes of_kind over own old new before now asked held kind_is over_is own_is put =
+      let moved : Copied region ((described array).grid.chunk_box chunk) (chunk_list array chunk bytes) old new =
+      subst (λ b. Copied region b (list_in (kind (described array)) b bytes) old new) own_is
+      (subst₂ (λ k r. Copied r own (list_in k own bytes) old new) kind_is over_is put) in
+      record {
+        asked = asked;
+        decodes = subst IsSome (sym held.elements) refl;
+        copied = λ plain has. chunk_copied (layout (described array) options) before.content region chunk (chunk_list array chunk bytes) old new plain held.elements moved has;
+        as_long = moved.as_long;
+      }
+
+  pub none_read : (list : List Element) (store : Shown) → length list ≡ count region → store.asks ≤ 2 ^ 64 - 1 → HasReadSome array options region 0 list store store
+  none_read list store long fits = record {
     as_long = long;
     same = λ key. refl;
     asks = omega (arith, fits);
     later = omega arith;
     decode = λ place chunk below e. absurd (omega (arith, below));
-    read = λ plain meant. read_begun array.size (described array).grid region met plain bytes array.some long;
+    read = λ plain meant. read-start (described array).grid region met plain list long;
   }
 
-  pub one_read : (k : ℕ) (chunk old new : List ℕ) (before mid now : Shown) → slice_get met k ≡ Some chunk → IsChunk (described array).grid chunk →
+  pub one_read : (k : ℕ) (chunk : List ℕ) (old new : List Element) (before mid now : Shown) → slice_get met k ≡ Some chunk → IsChunk (described array).grid chunk →
       HasReadSome array options region k old before mid → HasReadChunk array options region chunk old new mid now → HasReadSome array options region (k + 1) new before now
   one_read k chunk old new before mid now here is_chunk so_far step = record {
     as_long = step.as_long ∙ so_far.as_long;
@@ -79,14 +92,14 @@ module _ (array : ArrayParts) (options : Options) (region : Region) where
     asks = counted_more before.asks mid.asks now.asks k 1 so_far.asks step.asked.asks;
     later = le_trans so_far.later step.asked.later;
     decode = decode-step (layout (described array) options) met before.content mid.content k chunk here so_far.same so_far.decode step.decodes;
-    read = λ plain meant. read-step (described array).grid region met plain k chunk (fixed_elements array.size old) (fixed_elements array.size new) here (so_far.read plain meant)
+    read = λ plain meant. read-step (described array).grid region met plain k chunk old new here (so_far.read plain meant)
         (step.copied plain (ap (box_content (layout (described array) options) ((described array).grid.chunk_box chunk)) (so_far.same ((described array).key chunk)) ∙ meant.each_chunk chunk is_chunk));
   }
 
-  pub stops_read : (k : ℕ) (chunk bytes : List ℕ) (before mid now : Shown) (kind : SessionErrorKind) → slice_get met k ≡ Some chunk →
-      HasReadSome array options region k bytes before mid → NotFetched array options chunk mid now kind →
+  pub stops_read : (k : ℕ) (chunk : List ℕ) (list : List Element) (before mid now : Shown) (kind : SessionErrorKind) → slice_get met k ≡ Some chunk →
+      HasReadSome array options region k list before mid → NotFetched array options chunk mid now kind →
       NotReadRegion array options region before now (record { chunks_done = k; kind = kind })
-  stops_read k chunk bytes before mid now kind here so_far stop = record {
+  stops_read k chunk list before mid now kind here so_far stop = record {
     same = λ key. stop.same key ∙ so_far.same key;
     later = le_trans so_far.later stop.later;
     failed =
@@ -95,11 +108,11 @@ module _ (array : ArrayParts) (options : Options) (region : Region) where
     told = stop.told;
   }
 
-  pub all_read : (bytes : List ℕ) (before now : Shown) → ends_within region (described array).shape ≡ true → HasReadSome array options region (length met) bytes before now →
-      HasReadRegion array options region before now bytes
-  all_read bytes before now inside all = record {
+  pub all_read : (list : List Element) (before now : Shown) → ends_within region (described array).shape ≡ true → HasReadSome array options region (length met) list before now →
+      HasReadList array options region before now list
+  all_read list before now inside all = record {
     as_long = all.as_long;
-    elements = λ plain meant. read-end (described array).shape (described array).grid region met plain (fixed_elements array.size bytes) (described_covers array) inside refl (all.read plain meant);
+    elements = λ plain meant. read-end (described array).shape (described array).grid region met plain list (described_covers array) inside refl (all.read plain meant);
     decodes = decode-all (layout (described array) options) met before.content (length met) (omega arith) all.decode;
     same = all.same;
     asks = all.asks;
@@ -107,10 +120,29 @@ module _ (array : ArrayParts) (options : Options) (region : Region) where
   }
 
   -- a region that meets no chunk
-  pub none_to_read : (bytes : List ℕ) (store : Shown) → ends_within region (described array).shape ≡ true → met ≡ [] → length bytes ≡ count region * array.size → store.asks ≤ 2 ^ 64 - 1 →
-      HasReadRegion array options region store store bytes
-  none_to_read bytes store inside none long fits =
-      all_read bytes store store inside (subst (λ n. HasReadSome array options region n bytes store store) (sym (ap length none)) (none_read bytes store long fits))
+  pub none_to_read : (list : List Element) (store : Shown) → ends_within region (described array).shape ≡ true → met ≡ [] → length list ≡ count region → store.asks ≤ 2 ^ 64 - 1 →
+      HasReadList array options region store store list
+  none_to_read list store inside none long fits =
+      all_read list store store inside (subst (λ n. HasReadSome array options region n list store store) (sym (ap length none)) (none_read list store long fits))
+
+  -- array bytes that mean what was read
+  pub read_bytes : (bytes : ArrayBytes) (of_kind : Kind) (over : Region) (list : List Element) (before now : Shown) → of_kind ≡ kind (described array) → over ≡ region → meaning of_kind (count over) bytes ≡ Some list →
+      HasReadList array options region before now list → HasReadRegion array options region before now bytes
+  read_bytes bytes of_kind over list before now kind_is over_is means read =
+      let here : meaning (kind (described array)) (count region) bytes ≡ Some list = subst₂ (λ k r. meaning k (count r) bytes ≡ Some list) kind_is over_is means in
+      record {
+        means = subst IsSome (sym here) refl;
+        read = subst (HasReadList array options region before now) (sym (ap (λ o. unwrap_or o []) here)) read;
+      }
+
+  -- memory ran out once all chunks were read
+  pub starved_read : (list : List Element) (before now : Shown) (k : ℕ) → k ≡ length met → HasReadList array options region before now list → NotReadRegion array options region before now (record { chunks_done = k; kind = OutOfMemory })
+  starved_read list before now k all read = record {
+    same = read.same;
+    later = read.later;
+    failed = record { few = omega (arith, all); asks = inl (read.asks ∙ ap (counted before.asks) (sym all)); cause = tt };
+    told = tt;
+  }
 
   -- memory ran out before the first chunk
   pub starved_reading : (store : Shown) → store.asks ≤ 2 ^ 64 - 1 → NotReadRegion array options region store store before_chunks
@@ -120,15 +152,3 @@ module _ (array : ArrayParts) (options : Options) (region : Region) where
     failed = record { few = omega arith; asks = inl (omega (arith, fits)); cause = tt };
     told = tt;
   }
-
--- bytes that a slice gave back whole
-given_back : (new items : List ℕ) (len : ℕ) → len ≡ length items → length new ≡ length items → take len (new ++ drop (length new) items) ≡ new
-given_back new items len whole long = grind (arith, common_steps)
-
--- what was read for the chunks that a region meets was read for the region
-pub read_for : (options : Options) (of array : ArrayParts) (asked subset : ArraySubset) (before now : Shown) (new items : List ℕ) (len : ℕ) → of ≡ array → asked ≡ subset → len ≡ length items →
-    length items ≡ count (region_of_subset subset) * array.size → HasReadRegion of options (region_of_subset asked) before now new →
-    HasReadRegion array options (region_of_subset subset) before now (take len (new ++ drop (length new) items))
-read_for options of array asked subset before now new items len same_array same_subset whole long has =
-    let read : HasReadRegion array options (region_of_subset subset) before now new = subst₂ (λ a s. HasReadRegion a options (region_of_subset s) before now new) same_array same_subset has in
-    subst (HasReadRegion array options (region_of_subset subset) before now) (sym (given_back new items len whole (read.as_long ∙ sym long))) read

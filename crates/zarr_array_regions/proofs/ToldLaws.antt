@@ -13,11 +13,10 @@ use Rattle.zarr_chain.specs.Values.{byte_codecs, said_at}
 use Rattle.zarr_chain.specs.Values as values
 use Rattle.zarr_chain_stored.specs.Fetch as stored
 use Rattle.zarr_codecs_kinds.specs.declared.array_to_array.BasicArrayToArray.{BasicArrayToArray}
-use Rattle.zarr_codecs_kinds.specs.declared.array_to_bytes.BasicArrayToBytes.{BasicArrayToBytes}
-use Rattle.zarr_codecs_kinds.specs.declared.array_to_bytes.BasicArrayToBytes.TheVariants.{Bytes}
+use Rattle.zarr_codecs_array_to_bytes.specs.Plain.{Plain}
 use Rattle.zarr_codecs_kinds.specs.declared.bytes_to_bytes.BasicBytesToBytes.{BasicBytesToBytes}
 use Rattle.zarr_codecs_kinds.specs.declared.bytes_to_bytes.BasicBytesToBytes.TheVariants.{Sha256}
-use Rattle.zarr_array_parts.specs.Chain.{array_form, bytes_form, byte_form}
+use Rattle.zarr_array_parts.specs.Chain.{array_form, byte_form}
 use Rattle.zarr_array_parts.specs.ChunkChain.{chunk_level}
 use Rattle.zarr_array_parts.specs.Document.{ArrayDocument, byte_codec_of, describe}
 use Rattle.zarr_array_regions.specs.Chunk.{storage_kind, chunk_kind}
@@ -57,9 +56,6 @@ level_is [] bottom linked = refl
 level_is (step ∷ steps) bottom linked =
     level_is steps bottom linked.1 ∙ ap (level_under (map (λ s. array_form s.codec) steps)) (sym linked.0.below)
 
-list_tells : (c : BasicArrayToBytes) (options : Options) (level : Level) (value : List ℕ) (e : CodecError) → list_says c options level value e → to_bytes_says (bytes_form c) level value e
-list_tells (Bytes c) options level value e says = says
-
 -- an error of the store tells nothing of a value
 pub told_of_storage : (document : ArrayDocument) (options : Options) (now : Shown) (fault : StorageError) → TellsWhy document options now (storage_kind fault)
 told_of_storage document options now storage.Failed = tt
@@ -82,7 +78,7 @@ module _ (document : ArrayDocument) (chain : Codecs) (is_chain : IsChainOf docum
       (either_says (decode_bytes (byte_codecs bytes_meaning options chain.codecs.items) value) (values.bytes_says bytes_meaning bytes_says options chain.codecs.items value) (byte_codecs_say options (map byte_form chain.codecs.items) value)
       (list_says chain.bottom.codec options (above chain.bottom)) (to_bytes_says document.to_bytes (level_under document.array_codecs (chunk_level (describe document) chunk))) e
       (codecs_say options chain.codecs.items value e)
-      (λ v said. subst₂ (λ codec level. to_bytes_says codec level v e) is_chain.forms.bottom bottom_is (list_tells chain.bottom.codec options (above chain.bottom) v e said)) says))
+      (λ v said. subst₂ (λ (codec : Plain) level. to_bytes_says codec level v e) is_chain.forms.bottom bottom_is said) says))
 
   says_stored : (value : Option (List ℕ)) (e : CodecError) → stored.chunk_says list_says bytes_meaning bytes_says chain options value e → stored_says document options chunk value e
   says_stored None e says = says

@@ -1,10 +1,10 @@
 -- The steps of writing to a region.
-use Rattle.std.proofs.Common.{◌≡◌, ℕ, ◌+◌, ◌-◌, ◌^◌, ◌≤◌, List, [], length, slice_get, Some, Result, Ok, Err, sym, ap, ◌∙◌, subst, subst₂, le_trans, inl, inr}
-use Rattle.zarr_model.specs.Prelude.{Region, count, Element, Array, chunks_meeting, Options, Shown, layout, chunk_content}
+use Rattle.std.proofs.Common.{◌≡◌, ℕ, ◌+◌, ◌-◌, ◌^◌, ◌≤◌, false, List, [], length, slice_get, Some, IsSome, Result, Ok, Err, refl, sym, ap, ◌∙◌, subst, subst₂, le_trans, inl, inr}
+use Rattle.zarr_model.specs.Prelude.{Region, count, Element, Kind, kind, ArrayBytes, meaning, has_long_element, written_elements, Array, chunks_meeting, Options, Shown, layout, chunk_content}
+use Rattle.zarr_model.proofs.BytesLaws.{length-meaning}
 use Rattle.zarrs_storage.specs.declared.store.StorageError.{StorageError}
-use Rattle.zarrs_codec_bytes.specs.Elements.{fixed_elements}
 use Rattle.zarrs_codec_bytes.specs.Overlap.{Copied}
-use Rattle.zarrs_codec_bytes.proofs.FixedLaws.{length-elements}
+use Rattle.zarr_array_elements.specs.Elements.{list_in}
 use Rattle.zarr_array_parts.specs.Parts.{documented, described}
 use Rattle.zarr_array_parts.specs.declared.parts.ArrayParts.{ArrayParts}
 use Rattle.zarr_array_parts.proofs.ServedLaws.{described_sound}
@@ -12,10 +12,11 @@ use Rattle.zarr_array_regions.specs.declared.error.SessionErrorKind.{SessionErro
 use Rattle.zarr_array_regions.specs.declared.error.SessionErrorKind.TheVariants.{NotOpened, ChunkDecode, Store, OutOfMemory}
 use Rattle.zarr_array_regions.specs.Chunk.{storage_kind, FailsToFetch}
 use Rattle.zarr_array_regions.specs.CommandError.{before_chunks}
-use Rattle.zarr_array_regions.specs.Fetch.{HasAsked, HasElements, NotFetched}
+use Rattle.zarr_array_regions.specs.Fetch.{HasAsked, chunk_list, MeanChunk, HasElements, NotFetched}
 use Rattle.zarr_array_regions.specs.Store.{StoresElements}
 use Rattle.zarr_array_regions.specs.Write.{change_of, FailsToChange, HasWrittenChunk, NotWrittenChunk}
 use Rattle.zarr_array_regions.specs.PartWay.{ChangedSome, HasWrittenRegion, NotWrittenRegion}
+use Rattle.zarr_array_regions.proofs.ChunkLaws.{some_list}
 use Rattle.zarr_array_regions.proofs.StoredLaws.{chunk-changed, chunk-stops}
 use Rattle.zarr_array_regions.proofs.ToldLaws.{told_of_storage}
 use Rattle.zarr_array_regions.proofs.PartWayLaws.{changed-start, changed-step, changed-fails, changed-starved, met-chunks, met-once}
@@ -25,7 +26,7 @@ abbrev pub as_error : (T : Type 0) → StorageError → Result T StorageError
 as_error T error = Err error
 
 -- one chunk
-module _ (array : ArrayParts) (options : Options) (region : Region) (chunk bytes : List ℕ) where
+module _ (array : ArrayParts) (options : Options) (region : Region) (chunk : List ℕ) (bytes : ArrayBytes) where
   abbrev change : Array Element → Array Element
   change = change_of array region bytes
 
@@ -43,37 +44,47 @@ module _ (array : ArrayParts) (options : Options) (region : Region) (chunk bytes
       by_kind Store rose = (rose, record { here = λ plain filler has. inl (fails.same ((described array).key chunk)); others = λ other apart. fails.same other })
       by_kind OutOfMemory none = fails.same
 
-  module _ (key value list : List ℕ) (before mid now : Shown) (its_key : key ≡ (described array).key chunk) (held : HasElements array options chunk before value) (asked : HasAsked before mid)
-      (copied : Copied box region (fixed_elements array.size bytes) (fixed_elements array.size value) (fixed_elements array.size list)) where
+  module _ (key : List ℕ) (value list : ArrayBytes) (before mid now : Shown) (its_key : key ≡ (described array).key chunk) (held : HasElements array options chunk before value) (asked : HasAsked before mid)
+      (copied : Copied box region (written_elements (described array) region bytes) (chunk_list array chunk value) (chunk_list array chunk list)) where
+    long : length (chunk_list array chunk value) ≡ count box
+    long = length-meaning (kind (described array)) (count box) value (chunk_list array chunk value) (some_list (meaning (kind (described array)) (count box) value) held.mean.means)
+
     -- its elements with the region's in them were stored
-    pub is_written : {T : Type 0} (v : T) → StoresElements array options chunk (fixed_elements array.size list) key mid now (Ok v) → HasWrittenChunk array options change chunk before now
+    pub is_written : {T : Type 0} (v : T) → StoresElements array options chunk (chunk_list array chunk list) key mid now (Ok v) → HasWrittenChunk array options change chunk before now
     is_written v stores = record {
-      changed = chunk-changed (described array) options region chunk key (fixed_elements array.size bytes) (fixed_elements array.size value) (fixed_elements array.size list) before
-          its_key held.elements (length-elements array.size array.some (count box) value held.as_long) copied mid.content now.content asked.same stores.ok;
+      changed = chunk-changed (described array) options region chunk key (written_elements (described array) region bytes) (chunk_list array chunk value) (chunk_list array chunk list) before
+          its_key held.elements long copied mid.content now.content asked.same stores.ok;
       asks = stores.asks ∙ asked.asks;
       later = le_trans asked.later stores.cause.later;
     }
 
     -- or were not
-    pub not_written : {T : Type 0} (error : StorageError) → StoresElements array options chunk (fixed_elements array.size list) key mid now (as_error T error) →
+    pub not_written : {T : Type 0} (error : StorageError) → StoresElements array options chunk (chunk_list array chunk list) key mid now (as_error T error) →
         NotWrittenChunk array options change chunk before now (storage_kind error)
     not_written error stores = record {
-      failed = chunk-stops (described array) options region chunk key (fixed_elements array.size bytes) (fixed_elements array.size value) (fixed_elements array.size list) before
-          its_key held.elements (length-elements array.size array.some (count box) value held.as_long) copied mid now error asked.same stores.failed (λ e. stores.memory (ap Err e)) stores.cause.failed asked.later stores.plain;
+      failed = chunk-stops (described array) options region chunk key (written_elements (described array) region bytes) (chunk_list array chunk value) (chunk_list array chunk list) before
+          its_key held.elements long copied mid now error asked.same stores.failed (λ e. stores.memory (ap Err e)) stores.cause.failed asked.later stores.plain;
       told = told_of_storage (documented array) options now error;
       asks = inr (stores.asks ∙ asked.asks);
       later = le_trans asked.later stores.cause.later;
     }
 
 -- what was copied between the box that a chunk was found to have and the region
-pub copied_so : (array : ArrayParts) (region : Region) (chunk bytes : List ℕ) (own : Region) (size : ℕ) (value list : List ℕ) → own ≡ (described array).grid.chunk_box chunk → size ≡ array.size →
-    Copied own region (fixed_elements size bytes) (fixed_elements size value) (fixed_elements size list) →
-    Copied ((described array).grid.chunk_box chunk) region (fixed_elements array.size bytes) (fixed_elements array.size value) (fixed_elements array.size list)
-copied_so array region chunk bytes own size value list lies same copied =
-    subst₂ (λ b n. Copied b region (fixed_elements n bytes) (fixed_elements n value) (fixed_elements n list)) lies same copied
+module _ (array : ArrayParts) (region : Region) (chunk : List ℕ) (of_kind : Kind) (own : Region) (kind_is : of_kind ≡ kind (described array)) (lies : own ≡ (described array).grid.chunk_box chunk) where
+  pub copied_so : (bytes value list : ArrayBytes) → Copied own region (list_in of_kind region bytes) (list_in of_kind own value) (list_in of_kind own list) →
+      Copied ((described array).grid.chunk_box chunk) region (written_elements (described array) region bytes) (chunk_list array chunk value) (chunk_list array chunk list)
+  copied_so bytes value list copied =
+      subst₂ (λ k b. Copied b region (list_in k region bytes) (list_in k b value) (list_in k b list)) kind_is lies copied
+
+  -- what the chunk has become can be stored
+  pub mean_so : (list : ArrayBytes) (elements : List Element) → meaning of_kind (count own) list ≡ Some elements → has_long_element list ≡ false → MeanChunk array chunk list
+  mean_so list elements means short = record {
+    means = subst IsSome (sym (subst₂ (λ k b. meaning k (count b) list ≡ Some elements) kind_is lies means)) refl;
+    short = short;
+  }
 
 -- those that a region meets
-module _ (array : ArrayParts) (options : Options) (region : Region) (bytes : List ℕ) where
+module _ (array : ArrayParts) (options : Options) (region : Region) (bytes : ArrayBytes) where
   abbrev met : List (List ℕ)
   met = chunks_meeting (described array).grid region
 

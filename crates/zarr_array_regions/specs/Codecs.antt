@@ -1,19 +1,19 @@
 -- The codecs of an array with their levels, as those of the array that is described.
-use Rattle.std.specs.Prelude.{◌≡◌, ℕ, List, length, Option}
-use Rattle.zarr_model.specs.Prelude.{Element, Level, ArrayCodec, Options, Description, bytes_codec, decode_array_to_bytes, offset_codec, checksum_codec}
+use Rattle.std.specs.Prelude.{ℕ, List, Option}
+use Rattle.zarr_model.specs.Prelude.{count_of, Element, Level, ArrayCodec, Options, Description, decode_array_to_bytes, offset_codec, checksum_codec}
 use Rattle.zarrs_codec_error.specs.declared.error.CodecError.{CodecError}
-use Rattle.zarrs_codec_array_bytes.specs.Refusals.{told_by, wrong_length}
 use Rattle.zarr_chain.specs.declared.chain.CodecChain.{CodecChain}
-use Rattle.zarr_chain.specs.Levels.{Serving}
+use Rattle.zarr_chain.specs.Levels.{Serving, above}
 use Rattle.zarr_chain.specs.Chain.{IsServed}
-use Rattle.zarr_array_parts.specs.ChunkChain.{DecodesChunks, HasForms}
+use Rattle.zarr_array_parts.specs.ChunkChain.{DecodesChunks, FillsChunks, HasForms}
 use Rattle.zarr_array_parts.specs.Document.{ArrayDocument, describe}
-use Rattle.zarr_codecs.specs.BytesCodec.{stored_order, bytes_unserved, bytes_size}
 use Rattle.zarr_codecs.specs.Sha256.{sha256_says}
 use Rattle.zarr_codecs_numbers.specs.Offset.{offset_unserved}
-use Rattle.zarr_codecs_kinds.specs.Basic.{basic_offset, basic_order}
+use Rattle.zarr_codecs_array_to_bytes.specs.Plain.{codec_of, plain_unserved, says_by, takes_by}
+use Rattle.zarr_codecs_array_to_bytes.specs.Views.{plain_of}
+use Rattle.zarr_codecs_array_to_bytes.specs.declared.codecs.BasicArrayToBytes.{BasicArrayToBytes}
+use Rattle.zarr_codecs_kinds.specs.Basic.{basic_offset}
 use Rattle.zarr_codecs_kinds.specs.declared.array_to_array.BasicArrayToArray.{BasicArrayToArray}
-use Rattle.zarr_codecs_kinds.specs.declared.array_to_bytes.BasicArrayToBytes.{BasicArrayToBytes}
 use Rattle.zarr_codecs_kinds.specs.declared.bytes_to_bytes.BasicBytesToBytes.{BasicBytesToBytes}
 
 -- a chain of the codecs of this project
@@ -29,13 +29,14 @@ array_unserved codec dims type fill = offset_unserved type
 
 abbrev pub list_meaning : BasicArrayToBytes → Options → Level → List ℕ → Option (List Element)
 list_meaning codec under level value =
-    decode_array_to_bytes under (bytes_codec (stored_order (basic_order codec))) level value
+    decode_array_to_bytes under (codec_of (plain_of codec)) level value
 
 abbrev pub list_unserved : Serving BasicArrayToBytes
-list_unserved codec dims type fill = bytes_unserved (basic_order codec) type
+list_unserved codec dims type fill = plain_unserved (plain_of codec) type
 
 abbrev pub list_says : BasicArrayToBytes → Options → Level → List ℕ → CodecError → Type 0
-list_says codec under level value e = told_by e ≡ wrong_length (length value) (bytes_size level)
+list_says codec under level value e =
+    says_by (plain_of codec) (count_of level.shape) level.data_type value e
 
 abbrev pub bytes_meaning : BasicBytesToBytes → Options → List ℕ → Option (List ℕ)
 bytes_meaning codec under value = checksum_codec under.validate_checksums value
@@ -43,10 +44,13 @@ bytes_meaning codec under value = checksum_codec under.validate_checksums value
 abbrev pub bytes_says : BasicBytesToBytes → Options → List ℕ → CodecError → Type 0
 bytes_says codec under value e = sha256_says value e
 
--- a chain serves the chunks of an array, and decodes them as the array does
+-- a chain serves the chunks of an array, decodes them as the array does, has its fill value, and
+-- takes as many elements as a chunk has
 pub record ServesChunks (array : Description) (chain : Codecs) : Type 0 where
   pub served : IsServed array_meaning array_unserved list_unserved chain
   pub chunks : DecodesChunks array_meaning list_meaning bytes_meaning array chain
+  pub fill : FillsChunks array chain
+  pub takes : takes_by (plain_of chain.bottom.codec) (count_of (above chain.bottom).shape)
 
 -- and it has the codecs that a document names
 pub record IsChainOf (document : ArrayDocument) (chain : Codecs) : Type 0 where

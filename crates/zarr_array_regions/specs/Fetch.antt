@@ -1,10 +1,10 @@
 -- What fetching a chunk of an array owes.
-use Rattle.std.specs.Prelude.{◌≡◌, ◌≤◌, ◌*◌, ◌⊎◌, ℕ, List, length, Some}
-use Rattle.zarr_model.specs.Prelude.{count, Options, Shown, chunk_content, layout, counted}
+use Rattle.std.specs.Prelude.{◌≡◌, ◌≤◌, ◌⊎◌, ℕ, false, List, Some, IsSome}
+use Rattle.zarr_model.specs.Prelude.{count, Element, kind, ArrayBytes, meaning, has_long_element, Options, Shown, chunk_content, layout, counted}
 use Rattle.zarrs_storage.specs.Store.{SameContent}
-use Rattle.zarrs_codec_bytes.specs.Elements.{fixed_elements}
 use Rattle.zarr_array_parts.specs.Parts.{documented, described}
 use Rattle.zarr_array_parts.specs.declared.parts.ArrayParts.{ArrayParts}
+use Rattle.zarr_array_elements.specs.Elements.{list_in}
 use Rattle.zarr_array_regions.specs.declared.error.SessionErrorKind.{SessionErrorKind}
 use Rattle.zarr_array_regions.specs.Chunk.{FailsToFetch}
 use Rattle.zarr_array_regions.specs.Told.{TellsWhy}
@@ -15,12 +15,23 @@ pub record HasAsked (before now : Shown) : Type 0 where
   pub asks : now.asks ≡ counted before.asks 1
   pub later : before.faults ≤ now.faults
 
--- bytes are the elements of a chunk: those of its value, or the fill value where its key is absent
+-- the elements of a chunk that array bytes mean
+abbrev pub chunk_list : ArrayParts → List ℕ → ArrayBytes → List Element
+chunk_list array chunk bytes =
+    list_in (kind (described array)) ((described array).grid.chunk_box chunk) bytes
+
+-- they mean a list of them, none of which is too long to be stored
+pub record MeanChunk (array : ArrayParts) (chunk : List ℕ) (bytes : ArrayBytes) : Type 0 where
+  pub means : IsSome (meaning (kind (described array))
+      (count ((described array).grid.chunk_box chunk)) bytes)
+  pub short : has_long_element bytes ≡ false
+
+-- these are the elements of a chunk: those of its value, or the fill value where its key is absent
 pub record HasElements (array : ArrayParts) (options : Options) (chunk : List ℕ) (before : Shown)
-    (value : List ℕ) : Type 0 where
+    (bytes : ArrayBytes) : Type 0 where
+  pub mean : MeanChunk array chunk bytes
   pub elements : chunk_content (layout (described array) options) before.content chunk
-      ≡ Some (fixed_elements array.size value)
-  pub as_long : length value ≡ count ((described array).grid.chunk_box chunk) * array.size
+      ≡ Some (chunk_list array chunk bytes)
 
 -- a chunk was not fetched: nothing was changed, and the error has its cause and tells why
 pub record NotFetched (array : ArrayParts) (options : Options) (chunk : List ℕ)

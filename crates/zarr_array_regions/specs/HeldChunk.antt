@@ -1,6 +1,7 @@
 -- A chunk that is held with its elements.
 use Rattle.std.specs.Prelude.{ℕ, List}
 use Rattle.zarr_model.specs.Prelude.{Options, Shown}
+use Rattle.zarrs_codec_array_bytes.specs.Raw.{raw_of}
 use Rattle.zarr_array_parts.specs.Parts.{described}
 use Rattle.zarr_array_parts.specs.declared.parts.ArrayParts.{ArrayParts}
 use Rattle.zarr_array_regions.specs.declared.chunk.HeldChunk.{HeldChunk}
@@ -11,4 +12,4 @@ use Rattle.zarr_array_regions.specs.Fetch.{HasElements}
 pub record IsHeld (array : ArrayParts) (options : Options) (chunk : List ℕ) (before : Shown)
     (held : HeldChunk) : Type 0 where
   pub place : IsPlaceOf (described array) chunk held.place
-  pub elements : HasElements array options chunk before held.elements.items
+  pub elements : HasElements array options chunk before (raw_of held.elements)

@@ -1,4 +1,3 @@
-pub mod Size
 pub mod CommandError
 pub mod Codecs
 pub mod Chunk

@@ -1,6 +1,6 @@
 -- What changing some chunks, one after another, does to a store.
 use Rattle.std.specs.Prelude.{◌≡◌, ◌+◌, ◌<◌, ◌≤◌, ◌||◌, ◌⊎◌, not, ℕ, List, length, slice_get, Some, IsSome}
-use Rattle.zarr_model.specs.Prelude.{Region, Element, Array, Options, chunk_content, chunks_meeting, Shown, Description, layout, counted, present_in, is_blank, ChunkHas}
+use Rattle.zarr_model.specs.Prelude.{Region, Element, ArrayBytes, Array, Options, chunk_content, chunks_meeting, Shown, Description, layout, counted, present_in, is_blank, ChunkHas}
 use Rattle.zarr_array_parts.specs.Parts.{documented, described}
 use Rattle.zarr_array_parts.specs.declared.parts.ArrayParts.{ArrayParts}
 use Rattle.zarr_array_regions.specs.declared.error.CommandError.{CommandError}
@@ -57,7 +57,7 @@ pub record FailsPartWay (description : Description) (options : Options) (change 
   pub later : mid.faults ≤ now.faults
 
 -- bytes were written to a region: each chunk that it meets was changed
-abbrev pub HasWrittenRegion : ArrayParts → Options → Region → List ℕ → Shown → Shown → Type 0
+abbrev pub HasWrittenRegion : ArrayParts → Options → Region → ArrayBytes → Shown → Shown → Type 0
 HasWrittenRegion array options region bytes before now =
     let chunks = chunks_meeting (described array).grid region in
     ChangedSome (described array) options (change_of array region bytes) chunks (length chunks)
@@ -65,7 +65,7 @@ HasWrittenRegion array options region bytes before now =
 
 -- they were not: the chunks before the error's place were changed, and it tells why
 pub record NotWrittenRegion (array : ArrayParts) (options : Options) (region : Region)
-    (bytes : List ℕ) (before now : Shown) (error : CommandError) : Type 0 where
+    (bytes : ArrayBytes) (before now : Shown) (error : CommandError) : Type 0 where
   pub failed : FailsPartWay (described array) options (change_of array region bytes)
       (chunks_meeting (described array).grid region) error.chunks_done before now error.kind
   pub told : TellsWhy (documented array) options now error.kind

@@ -1,9 +1,11 @@
 -- What reading a region owes.
-use Rattle.std.specs.Prelude.{◌≡◌, ◌<◌, ◌≤◌, ◌+◌, ◌*◌, ◌⊎◌, ℕ, List, length, slice_get, Some, None, IsSome}
-use Rattle.zarr_model.specs.Prelude.{Region, count, Element, Array, elements_in, chunks_meeting, chunk_content, WhollyMeans, ChunkHas, Shown, Options, Description, layout, counted, Rose}
+use Rattle.std.specs.Prelude.{◌≡◌, ◌<◌, ◌≤◌, ◌+◌, ◌⊎◌, ℕ, List, length, slice_get, Some, None, IsSome}
+use Rattle.zarr_model.specs.Prelude.{Region, count, Element, Array, kind, ArrayBytes, meaning, elements_in, chunks_meeting, chunk_content, WhollyMeans, ChunkHas, Shown, Options, Description, layout, counted, Rose}
 use Rattle.zarrs_storage.specs.Store.{SameContent}
-use Rattle.zarrs_codec_bytes.specs.Elements.{fixed_elements}
 use Rattle.zarrs_codec_bytes.specs.Overlap.{Copied}
+use Rattle.zarr_array_elements.specs.Elements.{list_in}
+use Rattle.zarr_array_elements.specs.BoxElements.{kind_held, box_held}
+use Rattle.zarr_array_elements.specs.declared.box_elements.BoxElements.{BoxElements}
 use Rattle.zarr_array_parts.specs.Parts.{documented, described}
 use Rattle.zarr_array_parts.specs.declared.parts.ArrayParts.{ArrayParts}
 use Rattle.zarr_array_regions.specs.declared.error.CommandError.{CommandError}
@@ -33,26 +35,31 @@ pub record FailsToRead (description : Description) (options : Options) (region :
       × (now.asks ≡ counted before.asks (k + 1)))
   pub cause : HasReadCause description options region k before now kind
 
--- what a chunk and a region share was read into the region's bytes, by one reading call
+-- elements are held over a region of an array, one for each of its places
+pub record HoldsRegion (array : ArrayParts) (region : Region) (elements : BoxElements) : Type 0
+  where
+    pub of_kind : kind_held elements ≡ kind (described array)
+    pub over : box_held elements ≡ region
+
+-- what a chunk and a region share was read into the region's elements, by one reading call
 pub record HasReadChunk (array : ArrayParts) (options : Options) (region : Region)
-    (chunk old new : List ℕ) (before now : Shown) : Type 0 where
+    (chunk : List ℕ) (old new : List Element) (before now : Shown) : Type 0 where
   pub asked : HasAsked before now
   pub decodes : IsSome (chunk_content (layout (described array) options) before.content chunk)
-  pub as_long : length new ≡ length old
   pub copied : (plain : Array Element)
       → ChunkHas (layout (described array) options) before.content plain chunk
       → Copied region ((described array).grid.chunk_box chunk)
-      (elements_in ((described array).grid.chunk_box chunk) plain)
-      (fixed_elements array.size old) (fixed_elements array.size new)
+      (elements_in ((described array).grid.chunk_box chunk) plain) old new
+  pub as_long : length new ≡ length old
 
--- bytes are the elements of a region of the array that a store means, each of whose chunks decodes
--- and was asked for once
-pub record HasReadRegion (array : ArrayParts) (options : Options) (region : Region)
-    (before now : Shown) (bytes : List ℕ) : Type 0 where
-  pub as_long : length bytes ≡ count region * array.size
+-- elements are those of a region of the array that a store means, each of whose chunks decodes and
+-- was asked for once
+pub record HasReadList (array : ArrayParts) (options : Options) (region : Region)
+    (before now : Shown) (list : List Element) : Type 0 where
+  pub as_long : length list ≡ count region
   pub elements : (plain : Array Element)
       → WhollyMeans (layout (described array) options) before.content plain
-      → fixed_elements array.size bytes ≡ elements_in region plain
+      → list ≡ elements_in region plain
   pub decodes : (k : ℕ) (chunk : List ℕ)
       → slice_get (chunks_meeting (described array).grid region) k ≡ Some chunk
       → IsSome (chunk_content (layout (described array) options) before.content chunk)
@@ -60,6 +67,13 @@ pub record HasReadRegion (array : ArrayParts) (options : Options) (region : Regi
   pub asks : now.asks
       ≡ counted before.asks (length (chunks_meeting (described array).grid region))
   pub later : before.faults ≤ now.faults
+
+-- array bytes mean such elements
+pub record HasReadRegion (array : ArrayParts) (options : Options) (region : Region)
+    (before now : Shown) (bytes : ArrayBytes) : Type 0 where
+  pub means : IsSome (meaning (kind (described array)) (count region) bytes)
+  pub read : HasReadList array options region before now
+      (list_in (kind (described array)) region bytes)
 
 -- a region was not read: nothing was changed, and the error has its place and cause and tells why
 pub record NotReadRegion (array : ArrayParts) (options : Options) (region : Region)

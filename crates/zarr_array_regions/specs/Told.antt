@@ -1,12 +1,11 @@
 -- Which errors tell that the value of a chunk does not decode.
-use Rattle.std.specs.Prelude.{◌≡◌, ℕ, List, [], ◌∷◌, length, map, Option, Some, None}
-use Rattle.zarr_model.specs.Prelude.{Level, Options, Shown, IsChunk, decode_bytes}
+use Rattle.std.specs.Prelude.{◌≡◌, ℕ, List, [], ◌∷◌, map, Option, Some, None}
+use Rattle.zarr_model.specs.Prelude.{count_of, Level, Options, Shown, IsChunk, decode_bytes}
 use Rattle.zarrs_codec_error.specs.declared.error.CodecError.{CodecError}
-use Rattle.zarrs_codec_array_bytes.specs.Refusals.{told_by, wrong_length}
 use Rattle.zarr_chain.specs.Values.{said_at}
-use Rattle.zarr_codecs.specs.BytesCodec.{bytes_size}
 use Rattle.zarr_codecs.specs.Sha256.{sha256_says}
-use Rattle.zarr_array_parts.specs.Document.{ArrayDocument, ArrayToArray, ToBytes, bytes, vlen, optional, BytesToBytes, checksum, array_codec_of, byte_codec_of, describe}
+use Rattle.zarr_codecs_array_to_bytes.specs.Plain.{Plain, says_by}
+use Rattle.zarr_array_parts.specs.Document.{ArrayDocument, ArrayToArray, BytesToBytes, checksum, array_codec_of, byte_codec_of, describe}
 use Rattle.zarr_array_parts.specs.ChunkChain.{chunk_level}
 use Rattle.zarr_array_regions.specs.declared.error.SessionErrorKind.{SessionErrorKind}
 use Rattle.zarr_array_regions.specs.declared.error.SessionErrorKind.TheVariants.{NotOpened, ChunkDecode, Store, OutOfMemory}
@@ -27,12 +26,9 @@ abbrev pub level_under : List ArrayToArray → Level → Level
 level_under [] level = level
 level_under (c ∷ codecs) level = level_under codecs ((array_codec_of c).level_below level)
 
--- the same of an array-to-bytes codec at its level; only `bytes` is served
-abbrev pub to_bytes_says : ToBytes → Level → List ℕ → CodecError → Type 0
-to_bytes_says (bytes order) level value e =
-    told_by e ≡ wrong_length (length value) (bytes_size level)
-to_bytes_says vlen level value e = ⊥
-to_bytes_says (optional inner) level value e = ⊥
+-- the same of an array-to-bytes codec at its level
+abbrev pub to_bytes_says : Plain → Level → List ℕ → CodecError → Type 0
+to_bytes_says codec level value e = says_by codec (count_of level.shape) level.data_type value e
 
 -- the same of a document's chain for the value of a chunk: those of the first codec, in the order of
 -- decoding, that gives nothing

@@ -1,7 +1,7 @@
 -- What writing one chunk does to a store.
-use Rattle.std.specs.Prelude.{◌≡◌, ◌≤◌, ◌||◌, ◌⊎◌, not, ℕ, List, None, IsSome}
-use Rattle.zarr_model.specs.Prelude.{Element, Array, Options, Content, chunk_content, Shown, Description, layout, present_in, is_blank, ChunkHas, Rose, counted, Region, written}
-use Rattle.zarrs_codec_bytes.specs.Elements.{fixed_elements}
+use Rattle.std.specs.Prelude.{◌≡◌, ◌+◌, ◌*◌, ◌^◌, ◌<◌, ◌≤◌, ◌||◌, ◌⊎◌, not, false, ℕ, List, None, IsSome}
+use Rattle.zarr_model.specs.Prelude.{Element, Array, Options, Content, chunk_content, Shown, Description, layout, present_in, is_blank, ChunkHas, Rose, counted, Region, count, written, written_elements, kind, fixed_size, ArrayBytes, meaning, has_long_element}
+use Rattle.zarrs_codec_bytes.specs.Picking.{size_in}
 use Rattle.zarr_array_parts.specs.Parts.{documented, described}
 use Rattle.zarr_array_parts.specs.declared.parts.ArrayParts.{ArrayParts}
 use Rattle.zarr_array_regions.specs.declared.error.SessionErrorKind.{SessionErrorKind}
@@ -51,9 +51,17 @@ FailsToChange description options change chunk before now OutOfMemory =
     (other : List ℕ) → now.content other ≡ before.content other
 FailsToChange description options change chunk before now (NotOpened error) = ⊥
 
--- what writing bytes to a region does to an array
-abbrev pub change_of : ArrayParts → Region → List ℕ → Array Element → Array Element
-change_of array region bytes = written region (fixed_elements array.size bytes)
+-- what writing array bytes to a region does to an array
+abbrev pub change_of : ArrayParts → Region → ArrayBytes → Array Element → Array Element
+change_of array region bytes = written region (written_elements (described array) region bytes)
+
+-- array bytes mean elements of a region, which can be counted and addressed, and none of which is
+-- too long to be stored
+pub record IsWritable (array : ArrayParts) (region : Region) (bytes : ArrayBytes) : Type 0 where
+  pub means : IsSome (meaning (kind (described array)) (count region) bytes)
+  pub short : has_long_element bytes ≡ false
+  pub few : count region + 1 < 2 ^ 64
+  pub room : count region * size_in (fixed_size (kind (described array))) < 2 ^ 64
 
 -- a chunk was changed, by one reading call and one that writes
 pub record HasWrittenChunk (array : ArrayParts) (options : Options)

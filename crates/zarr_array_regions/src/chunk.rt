@@ -1,15 +1,14 @@
 //! The elements of the chunks that a region meets: fetched from a store, and put into it.
 
-ghost use Rattle.std.specs.Prelude.{◌≡◌, ◌<◌, ◌*◌, length, MatchResult};
+ghost use Rattle.std.specs.Prelude.{◌≡◌, ◌<◌, MatchResult};
 ghost use Rattle.zarr_model.specs.Prelude.{count};
 ghost use Rattle.zarrs_array_subset.specs.ArraySubset.{region};
-ghost use Rattle.zarrs_codec_bytes.specs.Elements.{fixed_elements};
+ghost use Rattle.zarrs_codec_array_bytes.specs.Raw.{raw_of};
 ghost use Rattle.zarrs_codec_traits.specs.Views.{options_of};
 ghost use Rattle.zarr_array_parts.specs.Parts.{described};
 ghost use Rattle.zarr_array_regions.specs.Chunk.{chunk_kind};
-ghost use Rattle.zarr_array_regions.specs.Size.{size_of};
 ghost use Rattle.zarr_array_regions.specs.RegionChunks.{chunk_at, AreMet};
-ghost use Rattle.zarr_array_regions.specs.Fetch.{HasAsked, HasElements, NotFetched};
+ghost use Rattle.zarr_array_regions.specs.Fetch.{HasAsked, chunk_list, MeanChunk, HasElements, NotFetched};
 ghost use Rattle.zarr_array_regions.specs.Store.{StoresElements};
 
 use crate::error::{SessionErrorKind, chunk_error};
@@ -19,7 +18,6 @@ use zarr_chain_stored::{fetch, put};
 use zarrs_codec_array_bytes::ArrayBytes;
 use zarrs_codec_error::CodecError;
 use zarrs_codec_options::CodecOptions;
-use zarrs_codec_traits::fixed_value;
 use zarrs_storage::store::{StorageError, Store};
 use zarrs_storage::store_key::StoreKey;
 
@@ -27,7 +25,7 @@ use zarrs_storage::store_key::StoreKey;
 #[derive(Drop)]
 pub(crate) struct HeldChunk {
     pub(crate) place: ChunkPlace,
-    pub(crate) elements: Vec<u8>,
+    pub(crate) elements: ArrayBytes<'static>,
 }
 
 impl RegionChunks<'_> {
@@ -42,21 +40,20 @@ impl RegionChunks<'_> {
         key: &StoreKey,
         store: &mut S,
         options: &CodecOptions,
-    ) -> Result<Vec<u8>, CodecError>
+    ) -> Result<ArrayBytes<'static>, CodecError>
         requires met { AreMet self.now }
         requires below { number < count (region self.now.chunks) }
         requires key { key.now ≡ (described self.now.array.now).key (chunk_at self.now number) }
         ensures { MatchResult result
             (λ v. HasAsked (S.shown store.old) (S.shown store.new)
             × HasElements self.now.array.now (options_of options.now) (chunk_at self.now number)
-            (S.shown store.old) v.items)
+            (S.shown store.old) (raw_of v))
             (λ error. NotFetched self.now.array.now (options_of options.now)
             (chunk_at self.now number) (S.shown store.old) (S.shown store.new)
             (chunk_kind key.now error)) }
     {
         let bytes = fetch(&self.chain, alloc, key, store, options)?;
-        let value = fixed_value(alloc, bytes)?;
-        Ok(value)
+        Ok(bytes)
     }
 
     /// The chunk of a number, by one reading call.
@@ -90,21 +87,19 @@ impl RegionChunks<'_> {
         alloc: Global,
         number: u64,
         key: &StoreKey,
-        elements: Vec<u8>,
+        elements: ArrayBytes<'static>,
         store: &mut S,
         options: &CodecOptions,
     ) -> Result<(), StorageError>
         requires met { AreMet self.now }
         requires below { number < count (region self.now.chunks) }
-        requires as_long { length elements.items
-            ≡ count ((described self.now.array.now).grid.chunk_box (chunk_at self.now number))
-            * size_of self.now.array.now }
-        ensures { StoresElements self.now.array.now (options_of options.now)
-            (chunk_at self.now number)
-            (fixed_elements (size_of self.now.array.now) elements.items) key.now
+        requires mean { MeanChunk self.now.array.now (chunk_at self.now number)
+            (raw_of elements) }
+        ensures { let chunk = chunk_at self.now number in StoresElements self.now.array.now
+            (options_of options.now) chunk
+            (chunk_list self.now.array.now chunk (raw_of elements.entry)) key.now
             (S.shown store.old) (S.shown store.new) result }
     {
-        let chunk = ArrayBytes::from(elements);
-        put(&self.chain, alloc, key, chunk, store, options)
+        put(&self.chain, alloc, key, elements, store, options)
     }
 }

@@ -7,12 +7,10 @@ mod error;
 mod place;
 mod read;
 mod region_chunks;
-mod size;
 mod write;
 
 pub use chain::codec_chain;
 pub use error::{CommandError, SessionErrorKind};
 pub use place::chunk_key;
 pub use read::read_elements;
-pub use size::element_size;
 pub use write::write_elements;

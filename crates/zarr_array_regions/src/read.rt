@@ -1,95 +1,75 @@
 //! Reading a region, chunk by chunk.
 
-ghost use Rattle.std.specs.Prelude.{◌≡◌, ◌<◌, ◌*◌, ◌^◌, true, length, IfOk, MatchResult};
-ghost use Rattle.zarr_model.specs.Prelude.{count, ends_within};
+ghost use Rattle.std.specs.Prelude.{◌≡◌, ◌+◌, ◌<◌, ◌*◌, ◌^◌, true, length, MatchResult};
+ghost use Rattle.zarr_model.specs.Prelude.{count, ends_within, kind, fixed_size};
 ghost use Rattle.zarrs_array_subset.specs.ArraySubset.{region};
+ghost use Rattle.zarrs_codec_bytes.specs.Picking.{size_in};
+ghost use Rattle.zarrs_codec_array_bytes.specs.Raw.{raw_of};
 ghost use Rattle.zarrs_codec_traits.specs.Views.{options_of};
+ghost use Rattle.zarr_array_elements.specs.BoxElements.{list_held};
 ghost use Rattle.zarr_array_parts.specs.Parts.{described};
-ghost use Rattle.zarr_array_regions.specs.Size.{size_of};
 ghost use Rattle.zarr_array_regions.specs.RegionChunks.{chunk_at, AreMet};
 ghost use Rattle.zarr_array_regions.specs.Fetch.{NotFetched};
-ghost use Rattle.zarr_array_regions.specs.Read.{HasReadChunk, HasReadRegion, NotReadRegion};
+ghost use Rattle.zarr_array_regions.specs.Read.{HoldsRegion, HasReadChunk, HasReadList, HasReadRegion, NotReadRegion};
 
 use crate::error::{CommandError, SessionErrorKind};
 use crate::region_chunks::RegionChunks;
-use crate::size::element_size;
-use std::alloc::{AllocError, Global};
+use std::alloc::Global;
+use zarr_array_elements::BoxElements;
 use zarr_array_parts::ArrayParts;
 use zarrs_array_subset::ArraySubset;
-use zarrs_codec_bytes::fill::filled;
-use zarrs_codec_bytes::overlap::copy_elements;
+use zarrs_codec_array_bytes::ArrayBytes;
 use zarrs_codec_options::CodecOptions;
 use zarrs_storage::store::Store;
 
-// The elements of a region that are all the fill value.
-#[tactic(auto, using(crate::proofs::PlaceLaws::blank_long))]
-fn blank(array: &ArrayParts, alloc: Global, subset: &ArraySubset) -> Result<Vec<u8>, AllocError>
-    requires few { count (region subset.now) < 2 ^ 64 }
-    requires room { count (region subset.now) * size_of array.now < 2 ^ 64 }
-    ensures { IfOk result (λ bytes.
-        length bytes.items ≡ count (region subset.now) * size_of array.now) }
-{
-    let bytes = filled(
-        alloc,
-        array.fill_value().as_ne_bytes(),
-        subset.num_elements() as usize,
-    )?;
-    Ok(bytes)
-}
-
 impl RegionChunks<'_> {
-    // Puts the elements that the chunk of a number shares with the region into the region's bytes.
+    // Takes the elements that the chunk of a number shares with the region.
     fn read_chunk<S: Store>(
         &self,
         alloc: Global,
         number: u64,
-        elements: &mut [u8],
+        elements: &mut BoxElements<'_>,
         store: &mut S,
         options: &CodecOptions,
     ) -> Result<(), SessionErrorKind>
         requires met { AreMet self.now }
         requires below { number < count (region self.now.chunks) }
-        requires as_long { length elements.old
-            ≡ count (region self.now.subset.now) * size_of self.now.array.now }
-        ensures { MatchResult result
+        requires holds { HoldsRegion self.now.array.now (region self.now.subset.now) elements.old }
+        ensures read { MatchResult result
             (λ _. HasReadChunk self.now.array.now (options_of options.now)
-            (region self.now.subset.now) (chunk_at self.now number) elements.old elements.new
-            (S.shown store.old) (S.shown store.new))
+            (region self.now.subset.now) (chunk_at self.now number) (list_held elements.old)
+            (list_held elements.new) (S.shown store.old) (S.shown store.new))
             (NotFetched self.now.array.now (options_of options.now) (chunk_at self.now number)
             (S.shown store.old) (S.shown store.new)) }
+        ensures holds { HoldsRegion self.now.array.now (region self.now.subset.now) elements.new }
     {
         match self.fetch_chunk(alloc, number, store, options) {
-            Ok(chunk) => {
-                let size = element_size(self.array);
-                copy_elements(
-                    elements,
-                    self.subset,
-                    &chunk.elements,
-                    &chunk.place.subset,
-                    size,
-                );
-                Ok(())
-            }
+            Ok(chunk) => match elements.put(alloc, &chunk.elements, &chunk.place.subset) {
+                Ok(()) => Ok(()),
+                Err(_) => Err(SessionErrorKind::OutOfMemory),
+            },
             Err(kind) => Err(kind),
         }
     }
 
-    // Reads each chunk, once, into the region's bytes.
+    // Reads each chunk, once, into the region's elements.
     fn read_chunks<S: Store>(
         &self,
         alloc: Global,
-        elements: &mut [u8],
+        elements: &mut BoxElements<'_>,
         store: &mut S,
         options: &CodecOptions,
     ) -> Result<(), CommandError>
         requires met { AreMet self.now }
-        requires as_long { length elements.old
-            ≡ count (region self.now.subset.now) * size_of self.now.array.now }
-        ensures { MatchResult result
-            (λ _. HasReadRegion self.now.array.now (options_of options.now)
-            (region self.now.subset.now) (S.shown store.old) (S.shown store.new) elements.new)
+        requires holds { HoldsRegion self.now.array.now (region self.now.subset.now) elements.old }
+        requires as_long { length (list_held elements.old) ≡ count (region self.now.subset.now) }
+        ensures read { MatchResult result
+            (λ _. HasReadList self.now.array.now (options_of options.now)
+            (region self.now.subset.now) (S.shown store.old) (S.shown store.new)
+            (list_held elements.new))
             (NotReadRegion self.now.array.now (options_of options.now)
             (region self.now.subset.now) (S.shown store.old) (S.shown store.new)) }
+        ensures holds { HoldsRegion self.now.array.now (region self.now.subset.now) elements.new }
     {
         for number in 0..self.num_chunks() {
             if let Err(kind) = self.read_chunk(alloc, number, elements, store, options) {
@@ -100,6 +80,36 @@ impl RegionChunks<'_> {
             }
         }
         Ok(())
+    }
+
+    // The elements of the region, once all its chunks are read.
+    fn read_all<S: Store>(
+        &self,
+        alloc: Global,
+        elements: BoxElements<'_>,
+        store: &mut S,
+        options: &CodecOptions,
+    ) -> Result<ArrayBytes<'static>, CommandError>
+        requires met { AreMet self.now }
+        requires holds { HoldsRegion self.now.array.now (region self.now.subset.now) elements }
+        requires as_long { length (list_held elements) ≡ count (region self.now.subset.now) }
+        ensures { MatchResult result
+            (λ v. HasReadRegion self.now.array.now (options_of options.now)
+            (region self.now.subset.now) (S.shown store.old) (S.shown store.new) (raw_of v))
+            (NotReadRegion self.now.array.now (options_of options.now)
+            (region self.now.subset.now) (S.shown store.old) (S.shown store.new)) }
+    {
+        let mut elements = elements;
+        match self.read_chunks(alloc, &mut elements, store, options) {
+            Ok(()) => match elements.into_bytes(alloc) {
+                Ok(bytes) => Ok(bytes),
+                Err(_) => Err(CommandError {
+                    chunks_done: self.num_chunks(),
+                    kind: SessionErrorKind::OutOfMemory,
+                }),
+            },
+            Err(error) => Err(error),
+        }
     }
 }
 
@@ -114,22 +124,23 @@ pub fn read_elements<S: Store>(
     subset: &ArraySubset,
     store: &mut S,
     options: &CodecOptions,
-) -> Result<Vec<u8>, CommandError>
+) -> Result<ArrayBytes<'static>, CommandError>
     requires inside { ends_within (region subset.now) (described array.now).shape ≡ true }
-    requires few { count (region subset.now) < 2 ^ 64 }
-    requires room { count (region subset.now) * size_of array.now < 2 ^ 64 }
+    requires few { count (region subset.now) + 1 < 2 ^ 64 }
+    requires room { count (region subset.now) * size_in (fixed_size (kind (described array.now)))
+        < 2 ^ 64 }
     ensures { MatchResult result
         (λ v. HasReadRegion array.now (options_of options.now) (region subset.now)
-        (S.shown store.old) (S.shown store.new) v.items)
+        (S.shown store.old) (S.shown store.new) (raw_of v))
         (NotReadRegion array.now (options_of options.now) (region subset.now)
         (S.shown store.old) (S.shown store.new)) }
 {
-    let mut elements = blank(array, alloc, subset)?;
-    let Some(met) = RegionChunks::meeting(array, alloc, subset)? else {
-        return Ok(elements);
-    };
-    match met.read_chunks(alloc, elements.as_mut_slice(), store, options) {
-        Ok(()) => Ok(elements),
-        Err(error) => Err(error),
+    let elements = BoxElements::filled(alloc, array.data_type(), array.fill_value(), subset)?;
+    match RegionChunks::meeting(array, alloc, subset)? {
+        Some(met) => met.read_all(alloc, elements, store, options),
+        None => {
+            let bytes = elements.into_bytes(alloc)?;
+            Ok(bytes)
+        }
     }
 }

@@ -94,7 +94,7 @@ fn an_array_is_written_read_and_erased(rt: HostRuntime) -> Result<(), Fail> {
     let array = opened(rt.alloc(), LINE)?;
     let mut store = MemoryStore::new(rt.alloc());
     assert_eq!(rt; array.shape(), [5].as_slice());
-    assert_eq!(rt; array.element_size(), 2);
+    assert_eq!(rt; array.data_type().fixed_size(), Some(2));
     assert!(rt; writes(rt.alloc(), &array, &mut store)?);
     assert!(rt; reads(rt.alloc(), &array, &mut store)?);
     assert!(rt; erases(rt.alloc(), &array, &mut store)?);

@@ -6,6 +6,8 @@ mod calls;
 #[cfg(test)]
 mod chains;
 #[cfg(test)]
+mod kinds;
+#[cfg(test)]
 mod made;
 #[cfg(test)]
 mod registries;

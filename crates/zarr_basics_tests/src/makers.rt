@@ -1,10 +1,10 @@
-//! What the kinds of extensions make, and the metadata of grids.
+//! What the kinds of extensions make, the metadata of grids, and the kinds of codecs by their names.
 
-use crate::texts::metadata;
-use std::alloc::Global;
+use crate::texts::{cut, is_text, metadata};
+use std::alloc::{AllocError, Global};
 use std::process::Abort;
 use std::test::Fail;
-use zarr_basics::{BasicGrid, RegularGrid, builtin_registries};
+use zarr_basics::{BasicGrid, Registries, RegularGrid, builtin_registries};
 use zarrs_chunk_grid::{ChunkGrid, ChunkGridTraits};
 
 // The metadata of the grid that metadata makes over an array of shape [5, 4].
@@ -35,6 +35,32 @@ fn created<G: ChunkGridTraits + Drop>(alloc: Global, text: &str) -> Result<Strin
     let grid = G::create(alloc, &metadata, &[5, 4]).ok().ok_or("a grid")?;
     let text = format!(in alloc; "{:?}", grid.grid_shape())?;
     Ok(text)
+}
+
+const CODECS: &str = r#"
+bytes -> Some(Bytes)
+vlen-utf8 -> Some(VlenUtf8)
+vlen-bytes -> Some(VlenBytes)
+zarr_basics.optional -> Some(Optional)
+zarr_basics.offset -> Some(Offset)
+zarr_basics.sha256 -> Some(Sha256)
+vlen-utf16 -> None
+"#;
+
+// The kind of the codec that goes by a name.
+fn kind_text(alloc: Global, registries: &Registries, name: &str) -> Result<String, AllocError> {
+    let kind = registries.codecs.find(name);
+    format!(in alloc; "{kind:?}")
+}
+
+#[test]
+fn codecs_are_built_in(rt: HostRuntime) -> Result<(), Fail> {
+    let registries = builtin_registries(rt.alloc())?;
+    for row in CODECS.trim().lines() {
+        let (name, want) = cut(row);
+        is_text(&rt, kind_text(rt.alloc(), &registries, name), want);
+    }
+    Ok(())
 }
 
 #[test]

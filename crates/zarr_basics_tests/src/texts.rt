@@ -6,6 +6,14 @@ use std::process::Abort;
 use std::test::Fail;
 use zarrs_metadata_parts::MetadataV3;
 
+// A row's first part, and what is behind its arrow.
+pub fn cut(row: &str) -> (&str, &str) {
+    match row.split_once(" -> ") {
+        Some((first, rest)) => (first.trim(), rest.trim()),
+        None => (row, ""),
+    }
+}
+
 // The text was made, and is this.
 pub fn is_text(rt: &impl Abort, text: Result<String, AllocError>, want: &str) {
     let text = match &text {

@@ -11,7 +11,8 @@ use Rattle.zarr_cli_runs.specs.Ending.{bad_input, refused_document, damaged_chun
 use Rattle.zarr_cli_lines.specs.Text.{input_lines, first_entries, line_command, replies_text, good_lines}
 use Rattle.zarr_basics_grids.specs.GridForms.{boundaries}
 use Rattle.zarr_array_parts.specs.Document.{offset, transpose, checksum, describe}
-use Rattle.zarr_array_parts.specs.Document as Doc
+use Rattle.zarrs_metadata_parts.specs.declared.array.endianness.Endianness.TheVariants.{Little, Big}
+use Rattle.zarr_codecs_array_to_bytes.specs.Plain.{plain_bytes, plain_vlen, plain_optional}
 use Rattle.zarr_array_parts.proofs.Documents.{plain_document}
 use Rattle.zarr_cli.proofs.Worked.{reply_lines, left_in_chunks, kept_in_chunks, left_chunks, kept_chunks, its_commands, first_array, empty_store, store_of, holding}
 
@@ -86,7 +87,7 @@ empty_dimension = record { texts = refl; elements = refl; present = refl }
 
 -- strings
 abbrev strings : Description
-strings = describe (record (plain_document (2 ∷ []) (2 ∷ []) 0) { data_type = string_type; fill = of_bytes (97 ∷ []); to_bytes = Doc.vlen })
+strings = describe (record (plain_document (2 ∷ []) (2 ∷ []) 0) { data_type = string_type; fill = of_bytes (97 ∷ []); to_bytes = plain_vlen true })
 
 texts_stored : Example strings plain_options (codes "write 0..2 h6161 h\nread 0..2") (codes "done\nok h6161 h\n") (codes "key c/0 h0200000002000000616100000000")
 unfolding digits encode_with decode_pairs
@@ -105,7 +106,7 @@ abbrev optionals : Description
 optionals = describe (record (plain_document (3 ∷ []) (3 ∷ []) 0) {
   data_type = optional_type (optional_type (uint_type 1));
   fill = null;
-  to_bytes = Doc.optional (Doc.optional (Doc.bytes (Some little)));
+  to_bytes = plain_optional (plain_optional (plain_bytes (Some Little)));
 })
 
 nested_optionals : Example optionals plain_options (codes "write 0..3 - +- ++h2a\nread 0..3") (codes "done\nok - +- ++h2a\n") (codes "key c/0 h00010100000100002a")
@@ -132,12 +133,12 @@ unfolding digits encode_with decode_pairs
 blank_chunk_stored = record { texts = refl; elements = refl; present = refl }
 
 -- big-endian numbers
-big_endian : Example (describe (record (plain_document (1 ∷ []) (1 ∷ []) 0) { data_type = int_type 2; fill = of_bytes (0 ∷ 0 ∷ []); to_bytes = Doc.bytes (Some big) }))
+big_endian : Example (describe (record (plain_document (1 ∷ []) (1 ∷ []) 0) { data_type = int_type 2; fill = of_bytes (0 ∷ 0 ∷ []); to_bytes = plain_bytes (Some Big) }))
     plain_options (codes "write 0..1 h0100") (codes "done\n") (codes "key c/0 h0001")
 unfolding digits encode_with decode_pairs
 big_endian = record { texts = refl; elements = refl; present = refl }
 
-big_endian_line : Example (describe (record (plain_document (3 ∷ []) (2 ∷ []) 0) { data_type = int_type 2; fill = of_bytes (7 ∷ 0 ∷ []); to_bytes = Doc.bytes (Some big) }))
+big_endian_line : Example (describe (record (plain_document (3 ∷ []) (2 ∷ []) 0) { data_type = int_type 2; fill = of_bytes (7 ∷ 0 ∷ []); to_bytes = plain_bytes (Some Big) }))
     plain_options (codes "write 1..2 h0203\nread 0..3") (codes "done\nok h0700 h0203 h0700\n") (codes "key c/0 h00070302")
 unfolding digits encode_with decode_pairs
 big_endian_line = record { texts = refl; elements = refl; present = refl }

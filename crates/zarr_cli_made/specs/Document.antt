@@ -1,8 +1,10 @@
 -- The document of the array that the commands are for.
 use Rattle.std.specs.Prelude.{List, ℕ, [], ◌∷◌, ◌++◌, codes, Some}
-use Rattle.zarr_model.specs.Prelude.{default_keys, big, uint_type}
+use Rattle.zarr_model.specs.Prelude.{default_keys, uint_type}
+use Rattle.zarrs_metadata_parts.specs.declared.array.endianness.Endianness.TheVariants.{Big}
 use Rattle.zarr_basics_grids.specs.GridForms.{regular}
-use Rattle.zarr_array_parts.specs.Document.{ArrayDocument, bytes, checksum, fixed_document}
+use Rattle.zarr_codecs_array_to_bytes.specs.Plain.{plain_bytes}
+use Rattle.zarr_array_parts.specs.Document.{ArrayDocument, checksum, document_with}
 
 -- its text
 abbrev pub document_text : List ℕ
@@ -17,6 +19,6 @@ document_text =
 -- what it describes: 256 rows and columns of two bytes in chunks of 48 rows and 40 columns, fill 7,
 -- keys with slashes, high byte first in the store, and a digest behind each chunk
 abbrev pub made_document : ArrayDocument
-made_document = fixed_document (default_keys 47)
-    (record { array_codecs = []; to_bytes = bytes (Some big); byte_codecs = checksum ∷ [] })
+made_document = document_with (default_keys 47)
+    (record { array_codecs = []; to_bytes = plain_bytes (Some Big); byte_codecs = checksum ∷ [] })
     (uint_type 2) (256 ∷ 256 ∷ []) (regular (48 ∷ 40 ∷ [])) (7 ∷ 0 ∷ [])

@@ -4,12 +4,10 @@ use Rattle.std.proofs.Math.Path.{fun_ext}
 use Rattle.std.specs.List.{AllZip}
 use Rattle.zarr_model.specs.Prelude.{fixed, Options, Matches, Description, Command, Shown, kind, all_asks, counted, LeavesArray}
 use Rattle.zarrs_storage.specs.Store.{ListsKeys, SameContent}
-use Rattle.zarr_array_parts.specs.Sizes.{sized_kind}
 use Rattle.zarr_array_parts.specs.Document.{ArrayDocument, describe}
 use Rattle.zarr_array_parts.specs.Opening.{OpenRefusal, OpenAnswer, opened}
 use Rattle.zarr_array_parts.specs.OpenError.{open_refusal_of}
 use Rattle.zarr_array.specs.OpenArray.{documented, described}
-use Rattle.zarr_array_parts.proofs.SizeLaws.{sized_is}
 use Rattle.zarr_array.specs.Command.{answer_of}
 use Rattle.zarr_array.specs.declared.open.OpenArray.{OpenArray}
 use Rattle.zarr_array.specs.declared.command.Reply.{Reply}
@@ -32,6 +30,15 @@ one_document a b e = cc
 described_as : (array : OpenArray) → documented array ≡ made_document → described array ≡ made_array
 unfolding made_array
 described_as array same = ap describe same
+
+-- whose elements have two bytes
+pub made_kind : kind made_array ≡ fixed 2
+unfolding made_array
+made_kind = refl
+
+pub made_sized : (result : Result OpenArray Status) → IfOk result (λ array. described array ≡ made_array) → IfOk result (λ array. kind (described array) ≡ fixed 2)
+made_sized (Ok array) is = ap kind is ∙ made_kind
+made_sized (Err status) is = tt
 
 pub made_opened : (answer : OpenAnswer) (result : Result OpenArray Status) → answer ≡ opened made_document → OpensLine result answer → IfOk result (λ array. described array ≡ made_array)
 made_opened answer (Ok array) opens is = described_as array (one_document (documented array) made_document (sym is ∙ opens))
@@ -64,13 +71,13 @@ keys_counted before now keys n lists same is = (keys, subst (λ content. ListsKe
 
 -- replies and keys that were summed up
 pub summed_up : (description : Description) (n count : ℕ) (options : Options) (commands : List Command) (before mid now : Shown) (held : List Reply) (text : List ℕ) →
-    sized_kind (kind description) ≡ Some n → RepliedBy description options commands before mid held →
+    kind description ≡ fixed n → RepliedBy description options commands before mid held →
     (keys : List (List ℕ)) × ListsKeys now.content keys × (count ≡ length keys) → now.content ≡ mid.content → now.asks ≡ counted mid.asks 1 →
     ((answers : List Model.Reply) → AllZip (Matches (fixed n)) (map answer_of held) answers → text ≡ summary_text answers count) →
     (lines : List ℕ) × (text ≡ summary_held n held count lines) → SumsAll description options commands before now text
 summed_up description n count options commands before mid now held text sized ran keys same asks sums is = record {
   sums = record {
-    summed = λ array means. (keys.0, keys.1, sums (Model.replies description commands array) (subst (λ k. AllZip (Matches k) (map answer_of held) (Model.replies description commands array)) (sized_is (kind description) n sized) (ran.matched array means)) ∙ ap (summary_text (Model.replies description commands array)) keys.2);
+    summed = λ array means. (keys.0, keys.1, sums (Model.replies description commands array) (subst (λ k. AllZip (Matches k) (map answer_of held) (Model.replies description commands array)) sized (ran.matched array means)) ∙ ap (summary_text (Model.replies description commands array)) keys.2);
     numbers = counts n count description commands held now.content text is.0 ran.refusals keys is.1;
     left = subst (λ content. LeavesArray description options commands before.content content) (sym same) ran.left;
     undamaged = ran.undamaged;

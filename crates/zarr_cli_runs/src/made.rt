@@ -2,7 +2,7 @@
 
 ghost use Rattle.std.specs.Prelude.{◌≡◌, ◌<◌, map, List, ℕ, IfOk, IfErr};
 ghost use Rattle.std.specs.List.{AllZip};
-ghost use Rattle.zarr_model.specs.Prelude.{Rose, IsHonest, layout, fixed, Matches};
+ghost use Rattle.zarr_model.specs.Prelude.{Rose, IsHonest, layout, kind, fixed, Matches};
 ghost use Rattle.zarr_model.specs.Command as Model;
 ghost use Rattle.zarr_array.specs.OpenArray.{described};
 ghost use Rattle.zarr_array.specs.Command.{command_of, answer_of};
@@ -26,9 +26,13 @@ use zarr_cli_made::{made_commands, made_document, push_summary};
 use zarrs_data_type_names::DataType;
 use zarrs_storage::store::Store;
 
+// The size of an element of the array that the commands are for, in bytes.
+const ELEMENT_SIZE: usize = 2;
+
 // The array that the commands are for.
 fn open_made(alloc: Global) -> Result<OpenArray, Status>
     ensures array { IfOk result (λ array. described array ≡ made_array) }
+    ensures sized { IfOk result (λ array. kind (described array) ≡ fixed 2) }
     ensures fault { IfErr result (λ status. status ≡ Status.OutOfMemory) }
 {
     open_line(alloc, made_document())
@@ -64,6 +68,7 @@ fn summary_of_commands<S: Store>(
     store: &mut S,
     options: &CodecOptions,
 ) -> Result<Vec<u8>, Status>
+    requires sized { kind (described array.now) ≡ fixed 2 }
     ensures ran { IfOk result (λ text. SumsAll (described array.now) (options_of options.now)
         (map command_of commands.now) (S.shown store.old) (S.shown store.new) text.items) }
     ensures unchanged { (key : List ℕ) →
@@ -79,13 +84,7 @@ fn summary_of_commands<S: Store>(
 {
     match replies_of(alloc, array, commands, store, options) {
         Ok(replies) => match count_keys(alloc, store) {
-            Ok(keys) => Ok(summary_of(
-                alloc,
-                &replies,
-                array.data_type(),
-                array.element_size(),
-                keys,
-            )?),
+            Ok(keys) => Ok(summary_of(alloc, &replies, array.data_type(), ELEMENT_SIZE, keys)?),
             Err(status) => Err(status),
         },
         Err(status) => Err(status),
@@ -100,6 +99,7 @@ fn summary_from<S: Store>(
     store: &mut S,
     options: &CodecOptions,
 ) -> Result<Vec<u8>, Status>
+    requires sized { kind (described array.now) ≡ fixed 2 }
     ensures ran { IfOk result (λ text. SumsAll (described array.now) (options_of options.now)
         (made_commands number) (S.shown store.old) (S.shown store.new) text.items) }
     ensures unchanged { (key : List ℕ) →

@@ -53,6 +53,12 @@ takes_by (plain_bytes order) number = Unit {0}
 takes_by (plain_vlen text) number = number < 2 ^ 32
 takes_by (plain_optional inner) number = takes_by inner number
 
+-- whether the number of elements and the length of each are stored, in 4 bytes each
+abbrev pub stores_lengths : Plain → Bool
+stores_lengths (plain_bytes order) = false
+stores_lengths (plain_vlen text) = true
+stores_lengths (plain_optional inner) = stores_lengths inner
+
 -- what is refused of valid array bytes
 abbrev pub beyond_by : Plain → ℕ → ArrayBytes → Told
 beyond_by (plain_bytes order) number bytes = fine

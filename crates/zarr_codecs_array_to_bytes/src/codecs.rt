@@ -1,7 +1,7 @@
 //! The array-to-bytes codecs as one type.
 
 ghost use Rattle.std.specs.Prelude.{◌≡◌, IfOk};
-ghost use Rattle.zarr_codecs_array_to_bytes.specs.Plain.{plain_optional};
+ghost use Rattle.zarr_codecs_array_to_bytes.specs.Plain.{plain_optional, stores_lengths};
 ghost use Rattle.zarr_codecs_array_to_bytes.specs.Views.{plain_of, optional_plain};
 
 use std::alloc::{AllocError, Global};
@@ -38,6 +38,13 @@ impl BasicArrayToBytes {
     {
         copied(alloc, self)
     }
+
+    /// Whether the number of the elements and the length of each are stored, in 4 bytes each.
+    pub fn stores_lengths(&self) -> bool
+        ensures { result ≡ stores_lengths (plain_of self.now) }
+    {
+        stores_lengths(self)
+    }
 }
 
 impl OptionalCodec {
@@ -65,6 +72,17 @@ impl OptionalCodec {
         let inner = copied(alloc, &self.inner)?;
         let inner = Box::new(alloc, inner)?;
         Ok(OptionalCodec { inner })
+    }
+}
+
+// Whether lengths are stored.
+fn stores_lengths(codec: &BasicArrayToBytes) -> bool
+    ensures { result ≡ stores_lengths (plain_of codec.now) }
+{
+    match codec {
+        BasicArrayToBytes::Bytes(_) => false,
+        BasicArrayToBytes::Vlen(_) => true,
+        BasicArrayToBytes::Optional(codec) => stores_lengths(&codec.inner),
     }
 }
 

@@ -1,1 +1,2 @@
 mod KindLaws
+mod InnerLaws

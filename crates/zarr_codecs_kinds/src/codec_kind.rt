@@ -1,19 +1,24 @@
 //! Codecs by their metadata.
 
-ghost use Rattle.std.specs.Prelude.{option_map};
+ghost use Rattle.std.specs.Prelude.{Result, option_map};
+ghost use Rattle.zarrs_metadata_parts.specs.MetadataV3.{extension_seen};
 ghost use Rattle.zarrs_metadata_values.specs.Configuration.{configuration_seen};
-ghost use Rattle.zarr_codecs_kinds.specs.CodecForm.{MakesForm, codec_form};
+ghost use Rattle.zarrs_plugin.specs.Registry.{registry_of};
+ghost use Rattle.zarrs_plugin.specs.Making.{Unmade};
+ghost use Rattle.zarr_codecs_array_to_bytes.specs.Plain.{plain_vlen};
+ghost use Rattle.zarr_codecs_kinds.specs.CodecForm.{CodecForm, to_bytes, sha256, bytes_form, offset_form, if_none, optional_over, MakesForm, codec_form, codec_named};
 ghost use Rattle.zarr_codecs_kinds.specs.declared.codec_kind.CodecKind.TheVariants as named;
 ghost use Rattle.zarrs_codec_metadata.specs.CodecMetadata.{configuration_of};
 
 use crate::array_to_array::BasicArrayToArray;
-use crate::array_to_bytes::BasicArrayToBytes;
 use crate::bytes_to_bytes::BasicBytesToBytes;
 use std::alloc::Global;
 use zarr_codecs::{BytesCodec, Sha256Codec};
+use zarr_codecs_array_to_bytes::{BasicArrayToBytes, OptionalCodec, inner_metadata};
 use zarr_codecs_offset::OffsetCodec;
-use zarrs_codec_metadata::{Codec, CodecMaker, CodecMetadata};
-use zarrs_metadata_parts::Configuration;
+use zarr_codecs_vlen::VlenCodec;
+use zarrs_codec_metadata::{Codec, CodecMaker, CodecMetadata, unsupported_codec};
+use zarrs_metadata_parts::{Configuration, MetadataV3};
 use zarrs_plugin::{PluginCreateError, Registry};
 
 /// The kinds of codecs.
@@ -21,6 +26,12 @@ use zarrs_plugin::{PluginCreateError, Registry};
 pub enum CodecKind {
     /// The elements one after another.
     Bytes,
+    /// Texts, each behind its length.
+    VlenUtf8,
+    /// Byte strings, each behind its length.
+    VlenBytes,
+    /// A mask of what is null, and the elements of the inner type.
+    Optional,
     /// Numbers with an offset added.
     Offset,
     /// A value with its digest behind it.
@@ -32,7 +43,7 @@ pub type BasicCodec = Codec<BasicArrayToArray, BasicArrayToBytes, BasicBytesToBy
 
 #[tactic(auto, using(crate::proofs::KindLaws::of_kinds))]
 fn bytes_by(configuration: Option<&Configuration>) -> Result<BasicCodec, PluginCreateError>
-    ensures { MakesForm result (codec_form named.Bytes
+    ensures { MakesForm result (bytes_form
         (option_map (λ c. configuration_seen c.now) configuration.entry)) }
 {
     match BytesCodec::from_configuration(configuration) {
@@ -42,8 +53,22 @@ fn bytes_by(configuration: Option<&Configuration>) -> Result<BasicCodec, PluginC
 }
 
 #[tactic(auto, using(crate::proofs::KindLaws::of_kinds))]
+fn vlen_by(
+    text: bool,
+    configuration: Option<&Configuration>,
+) -> Result<BasicCodec, PluginCreateError>
+    ensures { MakesForm result (if_none (to_bytes (plain_vlen text))
+        (option_map (λ c. configuration_seen c.now) configuration.entry)) }
+{
+    match VlenCodec::from_configuration(text, configuration) {
+        Ok(codec) => Ok(Codec::ArrayToBytes(BasicArrayToBytes::Vlen(codec))),
+        Err(error) => Err(error),
+    }
+}
+
+#[tactic(auto, using(crate::proofs::KindLaws::of_kinds))]
 fn offset_by(configuration: Option<&Configuration>) -> Result<BasicCodec, PluginCreateError>
-    ensures { MakesForm result (codec_form named.Offset
+    ensures { MakesForm result (offset_form
         (option_map (λ c. configuration_seen c.now) configuration.entry)) }
 {
     match OffsetCodec::from_configuration(configuration) {
@@ -54,12 +79,82 @@ fn offset_by(configuration: Option<&Configuration>) -> Result<BasicCodec, Plugin
 
 #[tactic(auto, using(crate::proofs::KindLaws::of_kinds))]
 fn sha256_by(configuration: Option<&Configuration>) -> Result<BasicCodec, PluginCreateError>
-    ensures { MakesForm result (codec_form named.Sha256
+    ensures { MakesForm result (if_none sha256
         (option_map (λ c. configuration_seen c.now) configuration.entry)) }
 {
     match Sha256Codec::from_configuration(configuration) {
         Ok(codec) => Ok(Codec::BytesToBytes(BasicBytesToBytes::Sha256(codec))),
         Err(error) => Err(error),
+    }
+}
+
+// The codec of optional elements over the codec inside, if that is an array-to-bytes one.
+fn optional_over(
+    alloc: Global,
+    inner: Result<BasicCodec, PluginCreateError>,
+) -> Result<BasicCodec, PluginCreateError>
+    ensures { (form : Result CodecForm Unmade) → MakesForm inner form
+        → MakesForm result (optional_over form) }
+{
+    match inner {
+        Ok(Codec::ArrayToBytes(inner)) => {
+            let inner = Box::new(alloc, inner)?;
+            Ok(Codec::ArrayToBytes(BasicArrayToBytes::Optional(OptionalCodec::new(inner))))
+        }
+        Ok(_) => Err(PluginCreateError::Config),
+        Err(error) => Err(error),
+    }
+}
+
+// The codec of optional elements, whose inner codec is made by its name.
+#[cycle(codec)]
+fn optional_by(
+    alloc: Global,
+    configuration: Option<&Configuration>,
+    registry: &Registry<CodecKind>,
+) -> Result<BasicCodec, PluginCreateError>
+    ensures { MakesForm result (codec_form (registry_of registry.now) named.Optional
+        (option_map (λ c. configuration_seen c.now) configuration.entry)) }
+{
+    let inner = inner_metadata(alloc, configuration)?;
+    let made = codec_by_name(alloc, &inner, registry);
+    optional_over(alloc, made)
+}
+
+// The codec of an extension, by the first kind that goes by its name.
+#[cycle(codec)]
+fn codec_by_name(
+    alloc: Global,
+    metadata: &MetadataV3,
+    registry: &Registry<CodecKind>,
+) -> Result<BasicCodec, PluginCreateError>
+    ensures { MakesForm result (codec_named (registry_of registry.now)
+        (extension_seen metadata.now)) }
+{
+    match registry.find(metadata.name()) {
+        Some(kind) => codec_by(alloc, *kind, metadata.configuration(), registry),
+        None => Err(unsupported_codec(alloc, metadata.name())),
+    }
+}
+
+// The codec of a kind with a configuration.
+#[cycle(codec)]
+fn codec_by(
+    alloc: Global,
+    kind: CodecKind,
+    configuration: Option<&Configuration>,
+    registry: &Registry<CodecKind>,
+) -> Result<BasicCodec, PluginCreateError>
+    ensures { MakesForm result (codec_form (registry_of registry.now) kind
+        (option_map (λ c. configuration_seen c.now) configuration.entry)) }
+{
+    match kind {
+        CodecKind::Bytes => bytes_by(configuration),
+        CodecKind::VlenUtf8 => vlen_by(true, configuration),
+        CodecKind::VlenBytes => vlen_by(false, configuration),
+        CodecKind::Optional => optional_by(alloc, configuration, registry),
+        CodecKind::Offset => offset_by(configuration),
+        CodecKind::Sha256 => sha256_by(configuration),
     }
 }
 
@@ -71,18 +166,14 @@ impl CodecMaker for CodecKind {
     type C = BasicBytesToBytes;
 
     ghost gives = { λ kind names metadata made.
-        MakesForm made (codec_form kind (configuration_of metadata)) };
+        MakesForm made (codec_form names kind (configuration_of metadata)) };
 
     fn make(
         &self,
-        _alloc: Global,
+        alloc: Global,
         metadata: CodecMetadata<'_>,
-        _registry: &Registry<CodecKind>,
+        registry: &Registry<CodecKind>,
     ) -> Result<Codec<BasicArrayToArray, BasicArrayToBytes, BasicBytesToBytes>, PluginCreateError> {
-        match self {
-            CodecKind::Bytes => bytes_by(metadata.configuration()),
-            CodecKind::Offset => offset_by(metadata.configuration()),
-            CodecKind::Sha256 => sha256_by(metadata.configuration()),
-        }
+        codec_by(alloc, *self, metadata.configuration(), registry)
     }
 }

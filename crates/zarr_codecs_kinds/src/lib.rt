@@ -2,11 +2,10 @@
 #![tactic(auto)]
 
 mod array_to_array;
-mod array_to_bytes;
 mod bytes_to_bytes;
 mod codec_kind;
 
 pub use array_to_array::BasicArrayToArray;
-pub use array_to_bytes::BasicArrayToBytes;
 pub use bytes_to_bytes::BasicBytesToBytes;
 pub use codec_kind::{BasicCodec, CodecKind};
+pub use zarr_codecs_array_to_bytes::{BasicArrayToBytes, OptionalCodec};

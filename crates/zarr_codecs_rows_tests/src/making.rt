@@ -25,6 +25,18 @@ const VERSION_3: &str = r#"
 {"name":"zarr_basics.offset","configuration":{}} -> Config
 "zarr_basics.offset" -> Config
 "zstd" -> Unsupported(PluginUnsupportedError { name: "zstd", kind: Codec })
+"vlen-utf8" -> vlen-utf8 {}
+{"name":"vlen-bytes","configuration":{}} -> vlen-bytes {}
+{"name":"vlen-utf8","configuration":{"a":1}} -> Config
+{"name":"zarr_basics.optional","configuration":{"inner":"vlen-utf8"}} -> zarr_basics.optional {"inner":{"name":"vlen-utf8"}}
+{"name":"zarr_basics.optional","configuration":{"inner":{"name":"zarr_basics.optional","configuration":{"inner":{"name":"bytes","configuration":{"endian":"big"}}}}}} -> zarr_basics.optional {"inner":{"configuration":{"inner":{"configuration":{"endian":"big"},"name":"bytes"}},"name":"zarr_basics.optional"}}
+{"name":"zarr_basics.optional","configuration":{"inner":"zstd"}} -> Unsupported(PluginUnsupportedError { name: "zstd", kind: Codec })
+{"name":"zarr_basics.optional","configuration":{"inner":"zarr_basics.sha256"}} -> Config
+{"name":"zarr_basics.optional","configuration":{"inner":{"name":"zarr_basics.offset","configuration":{"offset":1}}}} -> Config
+{"name":"zarr_basics.optional","configuration":{"inner":{"name":"bytes","configuration":{"a":1}}}} -> Config
+{"name":"zarr_basics.optional","configuration":{"inner":"bytes","more":1}} -> Config
+{"name":"zarr_basics.optional","configuration":{"inner":7}} -> Config
+"zarr_basics.optional" -> Config
 "#;
 
 const VERSION_2: &str = r#"
@@ -32,22 +44,38 @@ const VERSION_2: &str = r#"
 {"id":"bytes","endian":"little"} -> bytes {"endian":"little"}
 {"id":"zarr_basics.sha256"} -> zarr_basics.sha256 {}
 {"id":"zarr_basics.offset","offset":1,"more":2} -> Config
+{"id":"vlen-utf8"} -> vlen-utf8 {}
+{"id":"vlen-bytes","a":1} -> Config
+{"id":"zarr_basics.optional","inner":"vlen-bytes"} -> zarr_basics.optional {"inner":{"name":"vlen-bytes"}}
+{"id":"zarr_basics.optional"} -> Config
 {"id":"blosc"} -> Unsupported(PluginUnsupportedError { name: "blosc", kind: Codec })
 "#;
 
-fn entry(
+// Entries that go by these names.
+fn named(
     alloc: Global,
-    name: &str,
-    kind: CodecKind,
-) -> Result<(NamePattern, CodecKind), AllocError> {
-    Ok((NamePattern::Exact(String::from_str(alloc, name)?), kind))
+    names: &[(&str, CodecKind)],
+) -> Result<Vec<(NamePattern, CodecKind)>, AllocError> {
+    let mut entries = Vec::with_capacity(alloc, names.len())?;
+    for entry in names {
+        let name = String::from_str(alloc, entry.0)?;
+        entries.push((NamePattern::Exact(name), entry.1))?;
+    }
+    Ok(entries)
 }
 
 fn codecs(alloc: Global) -> Result<Registry<CodecKind>, AllocError> {
-    let mut entries = Vec::new(alloc);
-    entries.push(entry(alloc, "bytes", CodecKind::Bytes)?)?;
-    entries.push(entry(alloc, "zarr_basics.offset", CodecKind::Offset)?)?;
-    entries.push(entry(alloc, "zarr_basics.sha256", CodecKind::Sha256)?)?;
+    let entries = named(
+        alloc,
+        &[
+            ("bytes", CodecKind::Bytes),
+            ("vlen-utf8", CodecKind::VlenUtf8),
+            ("vlen-bytes", CodecKind::VlenBytes),
+            ("zarr_basics.optional", CodecKind::Optional),
+            ("zarr_basics.offset", CodecKind::Offset),
+            ("zarr_basics.sha256", CodecKind::Sha256),
+        ],
+    )?;
     Ok(Registry::with_builtin(alloc, entries))
 }
 

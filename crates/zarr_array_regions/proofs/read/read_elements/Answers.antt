@@ -1,17 +1,24 @@
-use Rattle.std.proofs.Common.{subst}
+use Rattle.std.proofs.Common.{sym, ap, ◌∙◌, subst}
+use Rattle.zarr_model.specs.Prelude.{count, kind_of}
 use Rattle.zarrs_array_subset.specs.ArraySubset.{region}
+use Rattle.zarrs_codec_array_bytes.specs.Raw.{raw_of}
 use Rattle.zarrs_codec_traits.specs.Views.{options_of}
+use Rattle.zarr_array_elements.specs.BoxElements.{kind_held, box_held, list_held}
+use Rattle.zarr_array_elements.proofs.HeldLaws.{length-list_held}
 use Rattle.zarr_array_regions.specs.RegionChunks.{Meets}
-use Rattle.zarr_array_regions.proofs.ReadSteps.{none_to_read, read_for}
+use Rattle.zarr_array_regions.proofs.ReadSteps.{none_to_read, read_bytes}
 use Rattle.zarr_array_regions.proofs.read.read_elements.Goals as goal
 
-pub returns-in_default : goal.returns-in_default
-returns-in_default g c =
-    none_to_read c.args.array.now (options_of c.args.options.now) (region c.args.subset.now) c.in_ok-elements.elements.items (g.S.Store.shown c.args.store.now) c.requires.inside
-    (subst (Meets c.args.array.now c.args.subset.now) c.in_default.is c.in_ok-met.ensures) c.in_ok-elements.ensures (g.met.S.Store.counts_fit c.args.store.now).1
-
-pub returns-in-Ok : goal.returns-in-Ok
-returns-in-Ok g c =
+pub read_all-requires-clause-as_long : goal.read_all-requires-clause-as_long
+read_all-requires-clause-as_long g c =
     let are = subst (Meets c.args.array.now c.args.subset.now) c.in-Some.is c.in_ok-met.ensures in
-    read_for (options_of c.args.options.now) c.in-Some.met.array.now c.args.array.now c.in-Some.met.subset.now c.args.subset.now (g.S.Store.shown c.args.store.now) (g.S.Store.shown c.read_chunks.new.store)
-    c.read_chunks.new.elements c.in_ok-elements.elements.items c.in_ok-elements.elements.len are.of_array are.of_subset c.in_ok-elements.elements.ok.0 c.in_ok-elements.ensures (c.in-Ok.ensures)
+    length-list_held c.in_ok-elements.elements ∙ (ap count c.in_ok-elements.ensures.subset ∙ ap (λ s. count (region s)) (sym are.of_subset))
+
+pub returns-in_ok-bytes-in-None : goal.returns-in_ok-bytes-in-None
+returns-in_ok-bytes-in-None g c =
+    let elements = c.in_ok-elements.elements in
+    let store = g.S.Store.shown c.args.store.now in
+    read_bytes c.args.array.now (options_of c.args.options.now) (region c.args.subset.now) (raw_of c.in_ok-bytes-in-None.bytes) (kind_held elements) (box_held elements) (list_held elements) store store
+    (c.in_ok-elements.ensures.kind ∙ ap kind_of c.data_type.ensures) c.in_ok-elements.ensures.subset c.in_ok-bytes-in-None.ensures
+    (none_to_read c.args.array.now (options_of c.args.options.now) (region c.args.subset.now) (list_held elements) store c.requires.inside
+    (subst (Meets c.args.array.now c.args.subset.now) c.in-None.is c.in_ok-met.ensures) (length-list_held elements ∙ ap count c.in_ok-elements.ensures.subset) (g.met.S.Store.counts_fit c.args.store.now).1)

@@ -1,7 +1,6 @@
 use Rattle.std.proofs.Common.{◌≡◌, ℕ, List, map, ap, ◌∙◌, subst}
 use Rattle.std.specs.List.{AllZip}
 use Rattle.zarr_model.specs.Prelude.{fixed, Matches, kind_of}
-use Rattle.zarr_array_parts.proofs.SizeLaws.{sized_is}
 use Rattle.zarr_model.specs.Command as Model
 use Rattle.zarr_array.specs.OpenArray.{described}
 use Rattle.zarr_array.specs.Command.{command_of, answer_of}
@@ -13,14 +12,14 @@ use Rattle.zarr_cli_runs.proofs.made.summary_of_commands.Goals as goal
 
 pub returns-in-Ok-count_keys-clause-ran : goal.returns-in-Ok-count_keys-clause-ran
 returns-in-Ok-count_keys-clause-ran g c =
-    let n = c.element_size.result in
+    let n : ℕ = 2 in
     let count = c.in-Ok-count_keys.keys in
     let text = c.in_ok-summary_of-in-Ok-count_keys.field-0.items in
     summed_up (described c.args.array.now) n count (options_of c.args.options.now) (map command_of c.args.commands.now)
     (g.S.Store.shown c.args.store.now) (g.S.Store.shown c.replies_of.new.store) (g.S.Store.shown c.count_keys.new.store) c.in-Ok.replies.items text
-    c.element_size.ensures.size c.in-Ok.ensures.ran c.in-Ok-count_keys.ensures.keys c.count_keys.ensures.same c.in-Ok-count_keys.ensures.asks
+    c.requires.sized c.in-Ok.ensures.ran c.in-Ok-count_keys.ensures.keys c.count_keys.ensures.same c.in-Ok-count_keys.ensures.asks
     (subst (λ held. (answers : List Model.Reply) → AllZip (Matches (fixed n)) (map answer_of held) answers → text ≡ summary_text answers count) c.deref.ensures.value c.in_ok-summary_of-in-Ok-count_keys.ensures.replies)
     (subst (λ held. (lines : List ℕ) × (text ≡ summary_held n held count lines)) c.deref.ensures.value c.in_ok-summary_of-in-Ok-count_keys.ensures.held)
 
 pub summary_of-requires-clause-kind : goal.summary_of-requires-clause-kind
-summary_of-requires-clause-kind g c = ap kind_of c.data_type.ensures.data_type ∙ sized_is (kind_of (described c.args.array.now).data_type) c.element_size.result c.element_size.ensures.size
+summary_of-requires-clause-kind g c = ap kind_of c.data_type.ensures.data_type ∙ c.requires.sized

@@ -1,14 +1,14 @@
-use Rattle.std.proofs.Common.{rules, [], ◌∷◌, Ok, sym, subst}
+use Rattle.std.proofs.Common.{rules, [], ◌∷◌}
 use Rattle.std.proofs.lemmas.Result.{err_from_is_err_and}
-use Rattle.zarr_model.specs.Prelude.{read, answered}
+use Rattle.zarr_model.specs.Prelude.{read}
 use Rattle.zarrs_array_subset.specs.ArraySubset.{region}
 use Rattle.zarr_array.specs.OpenArray.{described}
 use Rattle.zarrs_codec_traits.specs.Views.{options_of}
-use Rattle.zarr_array.specs.Runs.{Runs}
+use Rattle.zarrs_codec_array_bytes.specs.Raw.{raw_of}
 use Rattle.zarr_array_parts.proofs.ServedLaws.{described_covers, described_sound}
 use Rattle.zarr_array.proofs.RunsLaws.{ran_gives, failed_gives}
 use Rattle.zarr_array.proofs.ReadCommand.{read-fails}
-use Rattle.zarr_array.proofs.FixedCommands.{bytes-read}
+use Rattle.zarr_array.proofs.Commands.{bytes-read}
 use Rattle.zarr_array.proofs.open.OpenArray.run_read.Goals as goal
 
 pub returns-in_err-elements-clause-runs : goal.returns-in_err-elements-clause-runs
@@ -20,7 +20,6 @@ returns-in_err-elements-clause-runs g c =
     (search rules) (search rules) c.in_err-elements.ensures.later)
 
 pub returns-clause-runs : goal.returns-clause-runs
-returns-clause-runs g c = subst (λ raw. Runs (described c.args.self.now) (options_of c.args.options.now) (read (region c.args.subset.now) ∷ []) (g.S.Store.shown c.args.store.now) (g.S.Store.shown c.read_elements.new.store) (Ok (answered raw ∷ [])))
-    (sym c.from.ensures) (ran_gives (described c.args.self.now) (options_of c.args.options.now) (described_covers c.args.self.now.parts) (described_sound c.args.self.now.parts (options_of c.args.options.now)) (read (region c.args.subset.now) ∷ []) (g.S.Store.shown c.args.store.now) (g.S.Store.shown c.read_elements.new.store) _
-    (bytes-read c.args.self.now.parts (options_of c.args.options.now) (region c.args.subset.now) (g.S.Store.shown c.args.store.now) (g.S.Store.shown c.read_elements.new.store) c.in_ok-elements.elements.items
-    (search rules) c.in_ok-elements.ensures))
+returns-clause-runs g c = ran_gives (described c.args.self.now) (options_of c.args.options.now) (described_covers c.args.self.now.parts) (described_sound c.args.self.now.parts (options_of c.args.options.now)) (read (region c.args.subset.now) ∷ []) (g.S.Store.shown c.args.store.now) (g.S.Store.shown c.read_elements.new.store) _
+    (bytes-read c.args.self.now.parts (options_of c.args.options.now) (region c.args.subset.now) (g.S.Store.shown c.args.store.now) (g.S.Store.shown c.read_elements.new.store) (raw_of c.in_ok-elements.elements)
+    (search rules) c.in_ok-elements.ensures)

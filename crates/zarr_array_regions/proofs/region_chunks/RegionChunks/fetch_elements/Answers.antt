@@ -2,7 +2,7 @@ use Rattle.std.proofs.lemmas.Result.{err_from_is_err_and}
 use Rattle.zarrs_codec_array_bytes.specs.Raw.{raw_of}
 use Rattle.zarrs_codec_traits.specs.Views.{options_of}
 use Rattle.zarr_array_regions.specs.RegionChunks.{chunk_at}
-use Rattle.zarr_array_regions.proofs.ChunkLaws.{fetched_elements, given_long, has_fill}
+use Rattle.zarr_array_regions.proofs.ChunkLaws.{fetched_elements, given_mean, has_fill}
 use Rattle.zarr_array_regions.proofs.FetchSteps.{fetch_failed}
 use Rattle.zarr_array_regions.proofs.MetLaws.{met_chunk}
 use Rattle.zarr_array_regions.proofs.region_chunks.RegionChunks.fetch_elements.Goals as goal
@@ -28,9 +28,8 @@ returns g c =
     let is_chunk = met_chunk met c.requires.met c.args.number c.requires.below in (
       record { same = c.fetch.ensures.same; asks = c.fetch.ensures.asks; later = c.fetch.ensures.later },
       record {
+        mean = given_mean met.array.now met.chain c.requires.met.codecs.serves options chunk is_chunk (raw_of c.in_ok-bytes.bytes) _ c.in_ok-bytes.ensures.value c.in_ok-bytes.ensures.short;
         elements = fetched_elements met.array.now met.chain c.requires.met.codecs.serves options chunk is_chunk
-            (raw_of c.in_ok-bytes.bytes) c.in_ok-value.value.items c.args.key.now (g.S.Store.shown c.args.store.now) c.requires.key c.in_ok-bytes.ensures.value c.in_ok-value.ensures.value;
-        as_long = given_long met.array.now met.chain c.requires.met.codecs.serves options chunk is_chunk
-            (raw_of c.in_ok-bytes.bytes) c.in_ok-value.value.items _ c.in_ok-bytes.ensures.value c.in_ok-value.ensures.value;
+            (raw_of c.in_ok-bytes.bytes) c.args.key.now (g.S.Store.shown c.args.store.now) c.requires.key c.in_ok-bytes.ensures.value;
       },
     )

@@ -2,6 +2,7 @@ use Rattle.std.proofs.Common.{◌≡◌, ◌<◌, length, arith, subst}
 use Rattle.zarr_model.specs.Prelude.{count, chunks_meeting}
 use Rattle.zarrs_array_subset.specs.ArraySubset.{region}
 use Rattle.zarrs_codec_traits.specs.Views.{options_of}
+use Rattle.zarr_array_elements.specs.BoxElements.{list_held}
 use Rattle.zarr_array_parts.specs.Parts.{described}
 use Rattle.zarr_array_regions.specs.RegionChunks.{chunk_at}
 use Rattle.zarr_array_regions.proofs.MetLaws.{num_met, met_here, met_chunk}
@@ -10,31 +11,35 @@ use Rattle.zarr_array_regions.proofs.region_chunks.RegionChunks.read_chunks.Goal
 
 pub loop-number-init : goal.loop-number-init
 loop-number-init g c =
-    let met = c.args.self.now in
-    none_read met.array.now (options_of c.args.options.now) (region met.subset.now) c.args.elements.now (g.S.Store.shown c.args.store.now) c.requires.as_long
-    (g.met.S.Store.counts_fit c.args.store.now).1
+    let met = c.args.self.now in (
+      c.requires.holds,
+      none_read met.array.now (options_of c.args.options.now) (region met.subset.now) (list_held c.args.elements.now) (g.S.Store.shown c.args.store.now) c.requires.as_long
+          (g.met.S.Store.counts_fit c.args.store.now).1,
+    )
 
-pub returns-in-Err : goal.returns-in-Err
-returns-in-Err g c =
+pub returns-in-Err-clause-read : goal.returns-in-Err-clause-read
+returns-in-Err-clause-read g c =
     let met = c.args.self.now in
     let below : c.loop-number.number < count (region c.args.self.now.chunks) = omega arith in
-    stops_read met.array.now (options_of c.args.options.now) (region met.subset.now) c.loop-number.number (chunk_at met c.loop-number.number) c.loop-number.elements
+    stops_read met.array.now (options_of c.args.options.now) (region met.subset.now) c.loop-number.number (chunk_at met c.loop-number.number) (list_held c.loop-number.elements)
     (g.S.Store.shown c.args.store.now) (g.S.Store.shown c.loop-number.store) (g.S.Store.shown c.read_chunk.new.store) c.in-Err.kind
-    (met_here met c.requires.met c.loop-number.number below) c.loop-number.invariant c.in-Err.ensures
+    (met_here met c.requires.met c.loop-number.number below) c.loop-number.invariant.1 c.in-Err.ensures.read
 
 pub loop-number-preserved : goal.loop-number-preserved
 loop-number-preserved g c =
     let met = c.args.self.now in
-    let below : c.loop-number.number < count (region c.args.self.now.chunks) = omega arith in
-    one_read met.array.now (options_of c.args.options.now) (region met.subset.now) c.loop-number.number (chunk_at met c.loop-number.number) c.loop-number.elements c.read_chunk.new.elements
-    (g.S.Store.shown c.args.store.now) (g.S.Store.shown c.loop-number.store) (g.S.Store.shown c.read_chunk.new.store)
-    (met_here met c.requires.met c.loop-number.number below) (met_chunk met c.requires.met c.loop-number.number below) c.loop-number.invariant c.in_default.ensures
+    let below : c.loop-number.number < count (region c.args.self.now.chunks) = omega arith in (
+      c.read_chunk.ensures.holds,
+      one_read met.array.now (options_of c.args.options.now) (region met.subset.now) c.loop-number.number (chunk_at met c.loop-number.number) (list_held c.loop-number.elements) (list_held c.read_chunk.new.elements)
+          (g.S.Store.shown c.args.store.now) (g.S.Store.shown c.loop-number.store) (g.S.Store.shown c.read_chunk.new.store)
+          (met_here met c.requires.met c.loop-number.number below) (met_chunk met c.requires.met c.loop-number.number below) c.loop-number.invariant.1 c.in_default.ensures.read,
+    )
 
-pub returns : goal.returns
-returns g c =
+pub returns-clause-read : goal.returns-clause-read
+returns-clause-read g c =
     let met = c.args.self.now in
     let num = num_met met c.requires.met in
     let all : c.loop-number.number ≡ length (chunks_meeting (described c.args.self.now.array.now).grid (region c.args.self.now.subset.now)) = omega (arith, num) in
-    all_read met.array.now (options_of c.args.options.now) (region met.subset.now) c.loop-number.elements (g.S.Store.shown c.args.store.now) (g.S.Store.shown c.loop-number.store) c.requires.met.inside
-    (subst (λ n. HasReadSome met.array.now (options_of c.args.options.now) (region met.subset.now) n c.loop-number.elements (g.S.Store.shown c.args.store.now) (g.S.Store.shown c.loop-number.store)) all
-    c.loop-number.invariant)
+    all_read met.array.now (options_of c.args.options.now) (region met.subset.now) (list_held c.loop-number.elements) (g.S.Store.shown c.args.store.now) (g.S.Store.shown c.loop-number.store) c.requires.met.inside
+    (subst (λ n. HasReadSome met.array.now (options_of c.args.options.now) (region met.subset.now) n (list_held c.loop-number.elements) (g.S.Store.shown c.args.store.now) (g.S.Store.shown c.loop-number.store)) all
+    c.loop-number.invariant.1)

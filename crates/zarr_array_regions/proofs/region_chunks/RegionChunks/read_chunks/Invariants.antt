@@ -1,8 +1,11 @@
 use Rattle.zarrs_array_subset.specs.ArraySubset.{region}
 use Rattle.zarrs_codec_traits.specs.Views.{options_of}
+use Rattle.zarr_array_elements.specs.BoxElements.{list_held}
+use Rattle.zarr_array_regions.specs.Read.{HoldsRegion}
 use Rattle.zarr_array_regions.proofs.ReadSteps.{HasReadSome}
 use Rattle.zarr_array_regions.proofs.region_chunks.RegionChunks.read_chunks.Given as goal
 
 abbrev pub invariant-loop-number : goal.invariant-loop-number
 invariant-loop-number g l =
-    HasReadSome l.self.array.now (options_of l.options) (region l.self.subset.now) l.number l.elements (g.S.Store.shown l.fn.store) (g.S.Store.shown l.store)
+    HoldsRegion l.self.array.now (region l.self.subset.now) l.elements
+    × HasReadSome l.self.array.now (options_of l.options) (region l.self.subset.now) l.number (list_held l.elements) (g.S.Store.shown l.fn.store) (g.S.Store.shown l.store)

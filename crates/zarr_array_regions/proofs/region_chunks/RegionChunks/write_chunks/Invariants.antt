@@ -1,5 +1,6 @@
 use Rattle.zarr_model.specs.Prelude.{chunks_meeting}
 use Rattle.zarrs_array_subset.specs.ArraySubset.{region}
+use Rattle.zarrs_codec_array_bytes.specs.Raw.{raw_of}
 use Rattle.zarrs_codec_traits.specs.Views.{options_of}
 use Rattle.zarr_array_parts.specs.Parts.{described}
 use Rattle.zarr_array_regions.specs.Write.{change_of}
@@ -8,5 +9,5 @@ use Rattle.zarr_array_regions.proofs.region_chunks.RegionChunks.write_chunks.Giv
 
 abbrev pub invariant-loop-number : goal.invariant-loop-number
 invariant-loop-number g l =
-    ChangedSome (described l.self.array.now) (options_of l.options) (change_of l.self.array.now (region l.self.subset.now) l.elements)
+    ChangedSome (described l.self.array.now) (options_of l.options) (change_of l.self.array.now (region l.self.subset.now) (raw_of l.bytes))
     (chunks_meeting (described l.self.array.now).grid (region l.self.subset.now)) l.number (g.S.Store.shown l.fn.store) (g.S.Store.shown l.store)

@@ -1,0 +1,60 @@
+-- Reads and writes of an array as commands of the model.
+use Rattle.std.proofs.Common.{◌≡◌, Bool, true, false, [], ◌∷◌, length, Option, Some, None, refl, sym, ap, ◌∙◌}
+use Rattle.zarr_model.specs.Prelude.{Region, count, kind, ArrayBytes, meaning, bytes_refusal, has_long_element, ends_within, Options, Shown, read, write, Refusal, refusal, region_refusal, refused_if, or_then, element_too_long, answered, answered_done, LeavesKeys}
+use Rattle.zarr_model.proofs.BytesLaws.{refusal-meaning}
+use Rattle.zarr_array_parts.specs.Parts.{described}
+use Rattle.zarr_array_parts.specs.declared.parts.ArrayParts.{ArrayParts}
+use Rattle.zarr_array_parts.proofs.ServedLaws.{described_covers, described_sound, accepted}
+use Rattle.zarr_array_regions.specs.declared.error.CommandError.{CommandError}
+use Rattle.zarr_array_regions.specs.Read.{HasReadRegion}
+use Rattle.zarr_array_regions.specs.Write.{IsWritable}
+use Rattle.zarr_array_regions.specs.PartWay.{HasWrittenRegion, NotWrittenRegion}
+use Rattle.zarr_array_regions.proofs.ChunkLaws.{some_list}
+use Rattle.zarr_array.specs.Session.{FailsAt}
+use Rattle.zarr_array.proofs.HasRun.{HasRun}
+use Rattle.zarr_array.proofs.WriteLaws.{write-ran, write-fails, write-fails-keys}
+use Rattle.zarr_array.proofs.StepRuns.{read-ran}
+
+-- array bytes that mean the region of each array that the store means answer a read
+pub bytes-read : (array : ArrayParts) (options : Options) (region : Region) (old new : Shown) (bytes : ArrayBytes) → refusal (described array) (read region) ≡ None →
+    HasReadRegion array options region old new bytes → HasRun (described array) options (read region ∷ []) old new (answered bytes ∷ [])
+bytes-read array options region old new bytes none has =
+    read-ran (described array) options region old new bytes none has.read.same has.read.decodes (λ a meant.
+    let is = has.read.elements a meant in
+    ap (λ n. meaning (kind (described array)) n bytes) (ap length (sym is) ∙ has.read.as_long)
+    ∙ (some_list (meaning (kind (described array)) (count region) bytes) has.means ∙ ap Some is)) has.read.asks has.read.later
+
+-- what is not refused can be written
+none_then : (o : Option Refusal) (next : Option Refusal) → or_then o next ≡ None → (o ≡ None) × (next ≡ None)
+none_then None next e = (refl, e)
+none_then (Some why) next e = cc
+
+not_refused : (b : Bool) (why : Refusal) → refused_if b why ≡ None → b ≡ false
+not_refused false why e = refl
+not_refused true why e = cc
+
+pub writable : (array : ArrayParts) (region : Region) (bytes : ArrayBytes) → refusal (described array) (write region bytes) ≡ None → IsWritable array region bytes
+writable array region bytes none =
+    let first = none_then (region_refusal (described array) region) _ none in
+    let then = none_then (bytes_refusal (kind (described array)) (count region) bytes) (refused_if (has_long_element bytes) element_too_long) first.1 in
+    let room = accepted array region first.0 in
+    record {
+      means = (refusal-meaning (kind (described array)) (count region) bytes).0 then.0;
+      short = not_refused (has_long_element bytes) element_too_long then.1;
+      few = room.few;
+      room = room.room;
+    }
+
+pub inside : (array : ArrayParts) (region : Region) (bytes : ArrayBytes) → refusal (described array) (write region bytes) ≡ None → ends_within region (described array).shape ≡ true
+inside array region bytes none = (accepted array region (none_then (region_refusal (described array) region) _ none).0).inside
+
+module _ (array : ArrayParts) (options : Options) (region : Region) (bytes : ArrayBytes) (none : refusal (described array) (write region bytes) ≡ None) (old new : Shown) where
+  pub bytes-written : HasWrittenRegion array options region bytes old new → HasRun (described array) options (write region bytes ∷ []) old new (answered_done ∷ [])
+  bytes-written changed = write-ran (described array) (described_covers array) options (described_sound array options) region bytes none old new changed
+
+  module _ (error : CommandError) (fails : NotWrittenRegion array options region bytes old new error) where
+    pub bytes-fail : FailsAt (described array) options (write region bytes ∷ []) old new (Some (0, error.chunks_done)) error.kind
+    bytes-fail = write-fails (described array) (described_covers array) options (described_sound array options) region bytes none error.chunks_done old new error.kind fails.failed
+
+    pub bytes-fail-keys : LeavesKeys (described array) options (write region bytes ∷ []) old.content new.content
+    bytes-fail-keys = write-fails-keys (described array) (described_covers array) options (described_sound array options) region bytes none error.chunks_done old new error.kind fails.failed

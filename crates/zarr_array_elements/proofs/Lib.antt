@@ -1,0 +1,7 @@
+pub mod ShareLaws
+pub mod JoinLaws
+pub mod MeansLaws
+pub mod PutLaws
+pub mod FixedLemmas
+pub mod GatherLemmas
+pub mod HeldLaws

@@ -1,0 +1,165 @@
+-- Pieces that are put in their places.
+use Rattle.std.proofs.Common.{◌≡◌, ℕ, ◌-◌, ◌<◌, ◌≤◌, true, List, [], ◌∷◌, ◌++◌, length, set, get_or, replicate, Option, Some, None, IsSome, is_some, unwrap_or, arith, ap, ap₂, sym, refl, ◌∙◌, subst, inl, inr, ◌⊎◌}
+use Rattle.std.proofs.lemmas.Bool.{cases_lt}
+use Rattle.std.proofs.lemmas.List.{length-append, length-map, get_or_append_left, get_or-append_right}
+use Rattle.zarr_model.specs.Region.{Region, count, count_of, starts, sizes, tuples, place, linear_index}
+use Rattle.zarr_model.specs.Element.{Element, null, Kind}
+use Rattle.zarr_model.specs.ArrayBytes.{ArrayBytes, meaning}
+use Rattle.zarr_model.proofs.BytesLaws.{length-meaning}
+use Rattle.zarrs_array_subset.specs.Boxes.{overlap_of, moved_back}
+use Rattle.zarrs_codec_bytes.specs.Overlap.{Copied}
+use Rattle.zarrs_codec_bytes.specs.Picking.{AllBelow, picked, replaced}
+use Rattle.zarrs_codec_bytes.proofs.ReplaceLaws.{length-replaced}
+use Rattle.zarrs_codec_array_bytes.specs.Selection.{linear}
+use Rattle.zarr_array_elements.specs.Elements.{list_in, PutsOverlap}
+use Rattle.zarr_array_elements.specs.Shared.{shared_in}
+use Rattle.zarr_array_elements.specs.Joined.{joined}
+use Rattle.zarr_array_elements.specs.Grown.{grown_bytes}
+use Rattle.zarr_array_elements.specs.Given.{given_indices, given_meaning, given_list, given_alike, given_joined}
+use Rattle.zarr_array_elements.specs.declared.given.Given.{Given}
+use Rattle.zarr_array_elements.proofs.ShareLaws.{places-moved, shares_first, shares_second, shared_copied}
+use Rattle.zarr_array_elements.proofs.JoinLaws.{joined_means}
+use Rattle.zarr_array_elements.proofs.MeansLaws.{some_list, alike_means}
+
+-- as many places in the one box as in the other
+pub shared_long : (target source : Region) → length target ≡ length source → length (shared_in target (overlap_of target source)) ≡ length (shared_in source (overlap_of target source))
+shared_long target source rank =
+    let part = overlap_of target source in
+    ap length (places-moved target part (shares_first target source rank)) ∙ (length-map (tuples part) (place target)
+    ∙ sym (ap length (places-moved source part (shares_second target source rank)) ∙ length-map (tuples part) (place source)))
+
+pub list_long : (kind : Kind) (box : Region) (bytes : ArrayBytes) → IsSome (meaning kind (count box) bytes) → length (list_in kind box bytes) ≡ count box
+list_long kind box bytes h = length-meaning kind (count box) bytes (list_in kind box bytes) (some_list (meaning kind (count box) bytes) h)
+
+-- what new array bytes that mean the replaced list are
+pub puts_overlap : (kind : Kind) (target source : Region) (bytes old new : ArrayBytes) → length target ≡ length source →
+    IsSome (meaning kind (count source) bytes) → IsSome (meaning kind (count target) old) →
+    meaning kind (count target) new ≡ Some (replaced (shared_in target (overlap_of target source)) (picked null (shared_in source (overlap_of target source)) (list_in kind source bytes)) (list_in kind target old)) →
+    PutsOverlap kind target source bytes old new
+puts_overlap kind target source bytes old new rank means was is =
+    let listed : list_in kind target new ≡ replaced (shared_in target (overlap_of target source)) (picked null (shared_in source (overlap_of target source)) (list_in kind source bytes)) (list_in kind target old) =
+    ap (λ o. unwrap_or o []) is in
+    record {
+      held = is ∙ ap Some (sym listed);
+      copied = subst (λ l. Copied target source (list_in kind source bytes) (list_in kind target old) l) (sym listed)
+          (shared_copied target source rank null (list_in kind source bytes) (list_in kind target old) (list_long kind source bytes means) (list_long kind target old was));
+    }
+
+-- what was given before, and more behind it
+pub given_long : (kind : Kind) (given : Option Given) → IsSome (given_meaning kind given) → length (given_list kind given) ≡ length (given_indices given)
+given_long kind None h = refl
+given_long kind (Some given) h = length-meaning kind (length given.indices.items) (grown_bytes given.grown) (given_list kind (Some given)) (some_list (given_meaning kind (Some given)) h)
+
+pub given_alike_means : (kind : Kind) (given : Option Given) (m : ℕ) (piece : ArrayBytes) (ys : List Element) → IsSome (given_meaning kind given) → meaning kind m piece ≡ Some ys → given_alike given piece ≡ true
+given_alike_means kind None m piece ys h e = refl
+given_alike_means kind (Some given) m piece ys h e =
+    alike_means kind (length given.indices.items) m (grown_bytes given.grown) piece (given_list kind (Some given)) ys (some_list (given_meaning kind (Some given)) h) e
+
+pub given_more : (kind : Kind) (given : Option Given) (indices more : List ℕ) (bytes piece : ArrayBytes) (ys : List Element) → IsSome (given_meaning kind given) →
+    meaning kind (length more) piece ≡ Some ys → indices ≡ given_indices given ++ more → bytes ≡ given_joined given piece →
+    meaning kind (length indices) bytes ≡ Some (given_list kind given ++ ys)
+given_more kind None indices more bytes piece ys h means is joins = ap₂ (λ i b. meaning kind (length i) b) is joins ∙ means
+given_more kind (Some given) indices more bytes piece ys h means is joins =
+    ap₂ (λ i b. meaning kind (length i) b) is joins
+    ∙ (ap (λ n. meaning kind n (joined (grown_bytes given.grown) piece)) (length-append given.indices.items more)
+    ∙ joined_means kind (length given.indices.items) (length more) (grown_bytes given.grown) piece (given_list kind (Some given)) ys (some_list (given_meaning kind (Some given)) h) means)
+
+replaced-append : {A : Type 0} (indices more : List ℕ) (xs ys list : List A) → length indices ≡ length xs → replaced (indices ++ more) (xs ++ ys) list ≡ replaced more ys (replaced indices xs list)
+replaced-append [] more [] ys list e = refl
+replaced-append [] more (x ∷ xs) ys list e = absurd (omega (arith, e))
+replaced-append (i ∷ indices) more [] ys list e = absurd (omega (arith, e))
+replaced-append (i ∷ indices) more (x ∷ xs) ys list e = replaced-append indices more xs ys (set list i x) (omega (arith, e))
+
+pub below_append : (limit : ℕ) (indices more all : List ℕ) → AllBelow limit indices → AllBelow limit more → all ≡ indices ++ more → AllBelow limit all
+below_append limit indices more all a b is = subst (AllBelow limit) (sym is) at
+  where
+    at : AllBelow limit (indices ++ more)
+    at k h = go (cases_lt k (length indices))
+      where
+        go : (k < length indices) ⊎ (length indices ≤ k) → get_or (indices ++ more) k 0 < limit
+        go (inl low) = subst (λ n. n < limit) (sym (get_or_append_left indices more 0 k low)) (a k low)
+        go (inr high) = subst (λ n. n < limit) (sym (get_or-append_right indices more (length indices) k 0 refl high)) (b (k - length indices) (omega (arith, h, high, length-append indices more)))
+
+-- so the list of a box took what the piece's box shares with it
+module _ (kind : Kind) (box source : Region) (blank bytes piece : ArrayBytes) (given : Option Given) (new : Given) (rank : length box ≡ length source)
+    (blank_means : IsSome (meaning kind (count box) blank)) (given_means : IsSome (given_meaning kind given)) (means : IsSome (meaning kind (count source) bytes))
+    (piece_means : meaning kind (length (shared_in source (overlap_of box source))) piece ≡ Some (picked null (shared_in source (overlap_of box source)) (list_in kind source bytes)))
+    (places : new.indices.items ≡ given_indices given ++ shared_in box (overlap_of box source)) (joins : grown_bytes new.grown ≡ given_joined given piece) where
+  abbrev taken : List Element
+  taken = picked null (shared_in source (overlap_of box source)) (list_in kind source bytes)
+
+  pub new_means : given_meaning kind (Some new) ≡ Some (given_list kind given ++ taken)
+  new_means = given_more kind given new.indices.items (shared_in box (overlap_of box source)) (grown_bytes new.grown) piece taken given_means
+      (ap (λ n. meaning kind n piece) (shared_long box source rank) ∙ piece_means) places joins
+
+  pub listed_copied : Copied box source (list_in kind source bytes) (replaced (given_indices given) (given_list kind given) (list_in kind box blank))
+      (replaced (given_indices (Some new)) (given_list kind (Some new)) (list_in kind box blank))
+  listed_copied =
+      let before = replaced (given_indices given) (given_list kind given) (list_in kind box blank) in
+      let after : replaced (given_indices (Some new)) (given_list kind (Some new)) (list_in kind box blank) ≡ replaced (shared_in box (overlap_of box source)) taken before =
+      ap₂ (λ i l. replaced i l (list_in kind box blank)) places (ap (λ o. unwrap_or o []) new_means)
+      ∙ replaced-append (given_indices given) (shared_in box (overlap_of box source)) (given_list kind given) taken (list_in kind box blank) (sym (given_long kind given given_means)) in
+      subst (λ l. Copied box source (list_in kind source bytes) before l) (sym after)
+      (shared_copied box source rank null (list_in kind source bytes) before (list_long kind source bytes means)
+      (length-replaced (given_indices given) (given_list kind given) (list_in kind box blank) ∙ list_long kind box blank blank_means))
+
+-- the same by the steps that find the part, its place in the box, and the piece
+record IsPiece (kind : Kind) (source part : Region) (bytes piece : ArrayBytes) : Type 0 where
+  pub means : meaning kind (length (shared_in source part)) piece ≡ Some (picked null (shared_in source part) (list_in kind source bytes))
+
+piece_of : (kind : Kind) (box source part : Region) (bytes piece : ArrayBytes) → IsSome (meaning kind (count source) bytes) → part ≡ overlap_of box source →
+    ((xs : List Element) → meaning kind (count source) bytes ≡ Some xs → meaning kind (length (shared_in source part)) piece ≡ Some (picked null (shared_in source part) xs)) →
+    IsPiece kind source (overlap_of box source) bytes piece
+piece_of kind box source part bytes piece means part_is selected =
+    subst (λ p. IsPiece kind source p bytes piece) part_is (record { means = selected (list_in kind source bytes) (some_list (meaning kind (count source) bytes) means) })
+
+place_in : (box source part at : Region) → part ≡ overlap_of box source → at ≡ moved_back part (starts box) → at ≡ moved_back (overlap_of box source) (starts box)
+place_in box source part at part_is at_is = at_is ∙ ap (λ p. moved_back p (starts box)) part_is
+
+pub record Took (kind : Kind) (box source : Region) (blank bytes : ArrayBytes) (given : Option Given) (new : Given) : Type 0 where
+  pub means : IsSome (given_meaning kind (Some new))
+  pub below : AllBelow (count box) (given_indices (Some new))
+  pub copied : Copied box source (list_in kind source bytes) (replaced (given_indices given) (given_list kind given) (list_in kind box blank))
+      (replaced (given_indices (Some new)) (given_list kind (Some new)) (list_in kind box blank))
+
+pub took : (kind : Kind) (box source part at : Region) (shape : List ℕ) (blank bytes piece : ArrayBytes) (before given : Option Given) (new : Given) → length box ≡ length source →
+    IsSome (meaning kind (count box) blank) → IsSome (given_meaning kind given) → AllBelow (count box) (given_indices given) → IsSome (meaning kind (count source) bytes) →
+    part ≡ overlap_of box source → at ≡ moved_back part (starts box) → shape ≡ sizes box → before ≡ given →
+    ((xs : List Element) → meaning kind (count source) bytes ≡ Some xs → meaning kind (length (shared_in source part)) piece ≡ Some (picked null (shared_in source part) xs)) →
+    new.indices.items ≡ given_indices before ++ linear shape (tuples at) → AllBelow (count_of shape) (linear shape (tuples at)) → grown_bytes new.grown ≡ given_joined before piece →
+    Took kind box source blank bytes given new
+took kind box source part at shape blank bytes piece before given new rank blank_means given_means below means part_is at_is shape_is before_is selected places within joins =
+    let taken = piece_of kind box source part bytes piece means part_is selected in
+    let at_box : at ≡ moved_back (overlap_of box source) (starts box) = place_in box source part at part_is at_is in
+    let new_places : new.indices.items ≡ given_indices given ++ shared_in box (overlap_of box source) =
+    places ∙ (ap (λ g. given_indices g ++ linear shape (tuples at)) before_is ∙ ap₂ (λ s a. given_indices given ++ linear s (tuples a)) shape_is at_box) in
+    let new_joins : grown_bytes new.grown ≡ given_joined given piece = joins ∙ ap (λ g. given_joined g piece) before_is in
+    let new_within : AllBelow (count box) (shared_in box (overlap_of box source)) =
+    subst (λ a. AllBelow (count_of (sizes box)) (linear (sizes box) (tuples a))) at_box (subst (λ s. AllBelow (count_of s) (linear s (tuples at))) shape_is within) in
+    record {
+      means = ap is_some (new_means kind box source blank bytes piece given new rank blank_means given_means means taken.means new_places new_joins);
+      below = below_append (count box) (given_indices given) (shared_in box (overlap_of box source)) new.indices.items below new_within new_places;
+      copied = listed_copied kind box source blank bytes piece given new rank blank_means given_means means taken.means new_places new_joins;
+    }
+
+pub updated_puts : (kind : Kind) (box source part at : Region) (shape : List ℕ) (bytes old piece new : ArrayBytes) → length box ≡ length source →
+    IsSome (meaning kind (count source) bytes) → IsSome (meaning kind (count box) old) → part ≡ overlap_of box source → at ≡ moved_back part (starts box) → shape ≡ sizes box →
+    ((xs : List Element) → meaning kind (count source) bytes ≡ Some xs → meaning kind (length (shared_in source part)) piece ≡ Some (picked null (shared_in source part) xs)) →
+    ((xs ys : List Element) → meaning kind (count_of shape) old ≡ Some xs → meaning kind (length (tuples at)) piece ≡ Some ys → meaning kind (count_of shape) new ≡ Some (replaced (linear shape (tuples at)) ys xs)) →
+    PutsOverlap kind box source bytes old new
+updated_puts kind box source part at shape bytes old piece new rank means was part_is at_is shape_is selected updated =
+    let taken = piece_of kind box source part bytes piece means part_is selected in
+    let at_box : at ≡ moved_back (overlap_of box source) (starts box) = place_in box source part at part_is at_is in
+    let xs = list_in kind box old in
+    let ys = picked null (shared_in source (overlap_of box source)) (list_in kind source bytes) in
+    let old_is : meaning kind (count_of shape) old ≡ Some xs = ap (λ s. meaning kind (count_of s) old) shape_is ∙ some_list (meaning kind (count box) old) was in
+    let as_many : length (tuples at) ≡ length (shared_in source (overlap_of box source)) =
+    ap (λ a. length (tuples a)) at_box ∙ (sym (length-map (tuples (moved_back (overlap_of box source) (starts box))) (linear_index (sizes box))) ∙ shared_long box source rank) in
+    let piece_is : meaning kind (length (tuples at)) piece ≡ Some ys = ap (λ n. meaning kind n piece) as_many ∙ taken.means in
+    puts_overlap kind box source bytes old new rank means was
+    (ap (λ s. meaning kind (count_of s) new) (sym shape_is) ∙ (updated xs ys old_is piece_is ∙ ap₂ (λ s a. Some (replaced (linear s (tuples a)) ys xs)) shape_is at_box))
+
+-- elements that are all the fill value mean a list
+pub blank_some : (fill : Option Element) (kind : Kind) (number : ℕ) (raw : ArrayBytes) → IsSome fill → ((x : Element) → fill ≡ Some x → meaning kind number raw ≡ Some (replicate number x)) → IsSome (meaning kind number raw)
+blank_some None kind number raw h filled = cc
+blank_some (Some x) kind number raw h filled = ap is_some (filled x refl)

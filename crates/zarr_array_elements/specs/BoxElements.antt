@@ -1,0 +1,55 @@
+-- What a box of elements holds.
+use Rattle.std.specs.Prelude.{List}
+use Rattle.zarr_model.specs.Region.{Region}
+use Rattle.zarr_model.specs.Element.{Element, Kind, fixed}
+use Rattle.zarrs_array_subset.specs.ArraySubset.{region}
+use Rattle.zarrs_codec_bytes.specs.Elements.{fixed_elements}
+use Rattle.zarrs_codec_bytes.specs.Picking.{replaced}
+use Rattle.zarrs_codec_array_bytes.specs.Raw.{raw_of}
+use Rattle.zarrs_codec_array_bytes.specs.Steps.{kind_seen}
+use Rattle.zarr_array_elements.specs.Elements.{list_in}
+use Rattle.zarr_array_elements.specs.Given.{given_indices, given_list}
+use Rattle.zarr_array_elements.specs.declared.fixed.FixedBox.{FixedBox}
+use Rattle.zarr_array_elements.specs.declared.listed.ListedBox.{ListedBox}
+use Rattle.zarr_array_elements.specs.declared.box_elements.Held.{Held}
+use Rattle.zarr_array_elements.specs.declared.box_elements.Held.TheVariants as held
+use Rattle.zarr_array_elements.specs.declared.box_elements.BoxElements.{BoxElements}
+
+-- elements of one size
+abbrev pub fixed_list : FixedBox → List Element
+fixed_list elements = fixed_elements elements.size elements.bytes.items
+
+-- the kind, the box and the list of elements of any kind
+abbrev pub listed_kind : ListedBox → Kind
+listed_kind elements = kind_seen elements.data_type.now
+
+abbrev pub listed_box : ListedBox → Region
+listed_box elements = region elements.subset.now
+
+abbrev pub listed_list : ListedBox → List Element
+listed_list elements =
+    replaced (given_indices elements.given) (given_list (listed_kind elements) elements.given)
+    (list_in (listed_kind elements) (listed_box elements) (raw_of elements.blank))
+
+-- the same of either
+abbrev pub held_kind : Held → Kind
+held_kind (held.Fixed elements) = fixed elements.size
+held_kind (held.Listed elements) = listed_kind elements
+
+abbrev pub held_box : Held → Region
+held_box (held.Fixed elements) = region elements.subset.now
+held_box (held.Listed elements) = listed_box elements
+
+abbrev pub held_list : Held → List Element
+held_list (held.Fixed elements) = fixed_list elements
+held_list (held.Listed elements) = listed_list elements
+
+-- the kind, the box and the list of a box of elements
+abbrev pub kind_held : BoxElements → Kind
+kind_held elements = held_kind elements.held
+
+abbrev pub box_held : BoxElements → Region
+box_held elements = held_box elements.held
+
+abbrev pub list_held : BoxElements → List Element
+list_held elements = held_list elements.held

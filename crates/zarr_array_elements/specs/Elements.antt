@@ -1,0 +1,17 @@
+-- The elements that array bytes hold over a box, and what putting some of them into others does.
+use Rattle.std.specs.Prelude.{◌≡◌, List, [], Some, unwrap_or}
+use Rattle.zarr_model.specs.Region.{Region, count}
+use Rattle.zarr_model.specs.Element.{Element, Kind}
+use Rattle.zarr_model.specs.ArrayBytes.{ArrayBytes, meaning}
+use Rattle.zarrs_codec_bytes.specs.Overlap.{Copied}
+
+-- the elements that array bytes mean over a box
+abbrev pub list_in : Kind → Region → ArrayBytes → List Element
+list_in kind box bytes = unwrap_or (meaning kind (count box) bytes) []
+
+-- array bytes over a box that took what bytes over another one share with it
+pub record PutsOverlap (kind : Kind) (target source : Region) (bytes old new : ArrayBytes)
+    : Type 0 where
+  pub held : meaning kind (count target) new ≡ Some (list_in kind target new)
+  pub copied : Copied target source (list_in kind source bytes) (list_in kind target old)
+      (list_in kind target new)

@@ -1,0 +1,32 @@
+-- What was given to places of a box.
+use Rattle.std.specs.Prelude.{ℕ, Bool, true, List, [], length, Option, Some, None, unwrap_or}
+use Rattle.zarr_model.specs.Element.{Element, Kind}
+use Rattle.zarr_model.specs.ArrayBytes.{ArrayBytes, meaning}
+use Rattle.zarrs_codec_array_bytes_update.specs.Pairs.{are_alike}
+use Rattle.zarr_array_elements.specs.Joined.{joined}
+use Rattle.zarr_array_elements.specs.Grown.{grown_bytes}
+use Rattle.zarr_array_elements.specs.declared.given.Given.{Given}
+
+-- the linear indices of the places
+abbrev pub given_indices : Option Given → List ℕ
+given_indices None = []
+given_indices (Some given) = given.indices.items
+
+-- the elements, of a kind
+abbrev pub given_meaning : Kind → Option Given → Option (List Element)
+given_meaning kind None = Some []
+given_meaning kind (Some given) =
+    meaning kind (length given.indices.items) (grown_bytes given.grown)
+
+abbrev pub given_list : Kind → Option Given → List Element
+given_list kind given = unwrap_or (given_meaning kind given) []
+
+-- a piece is of the kind of what was given before it
+abbrev pub given_alike : Option Given → ArrayBytes → Bool
+given_alike None piece = true
+given_alike (Some given) piece = are_alike (grown_bytes given.grown) piece
+
+-- what was given, and a piece behind it
+abbrev pub given_joined : Option Given → ArrayBytes → ArrayBytes
+given_joined None piece = piece
+given_joined (Some given) piece = joined (grown_bytes given.grown) piece

@@ -1,0 +1,6 @@
+pub mod Elements
+pub mod Shared
+pub mod Joined
+pub mod Grown
+pub mod Given
+pub mod BoxElements

@@ -1,0 +1,14 @@
+//! Elements of any data type over boxes: a box of elements that grows by pieces of chunks, and a chunk into which the
+//! elements are put that a box shares with it.
+#![tactic(auto)]
+
+mod box_elements;
+mod fixed;
+mod given;
+mod grown;
+mod listed;
+mod overlap;
+mod shared;
+
+pub use box_elements::BoxElements;
+pub use overlap::put_overlap;

@@ -1,0 +1,171 @@
+//! Elements of any kind over a box.
+
+ghost use Rattle.std.specs.Prelude.{◌≡◌, ◌+◌, ◌*◌, ◌<◌, ◌^◌, List, Some, IsSome, length, replicate, IfOk, OnOk};
+ghost use Rattle.zarr_model.specs.Region.{count};
+ghost use Rattle.zarr_model.specs.Element.{Element, fill_element, fixed_size};
+ghost use Rattle.zarr_model.specs.ArrayBytes.{meaning};
+ghost use Rattle.zarrs_array_subset.specs.ArraySubset.{region};
+ghost use Rattle.zarrs_data_type_elements.specs.FillValue.{fill_bytes};
+ghost use Rattle.zarrs_codec_bytes.specs.Overlap.{Copied};
+ghost use Rattle.zarrs_codec_bytes.specs.Picking.{AllBelow, replaced, size_in};
+ghost use Rattle.zarrs_codec_array_bytes.specs.Raw.{raw_of};
+ghost use Rattle.zarrs_codec_array_bytes.specs.Steps.{kind_seen, bytes_seen};
+ghost use Rattle.zarr_array_elements.specs.Elements.{list_in};
+ghost use Rattle.zarr_array_elements.specs.Given.{given_indices, given_meaning, given_list};
+
+use crate::given::{Given, with_piece};
+use crate::grown::into_array_bytes;
+use crate::shared::{part_in, piece_in, shared_part};
+use std::alloc::{AllocError, Global};
+use zarrs_array_subset::ArraySubset;
+use zarrs_codec_array_bytes::ArrayBytes;
+use zarrs_codec_array_bytes::array_bytes::step::element_size;
+use zarrs_codec_array_bytes_update::gather;
+use zarrs_codec_bytes::picks::picks_of;
+use zarrs_data_type_elements::FillValue;
+use zarrs_data_type_names::DataType;
+
+/// Elements of any kind over a box: blank ones at all its places, and those that were given to some of them since, of
+/// which the last one at a place counts.
+#[derive(Drop)]
+pub(crate) struct ListedBox<'a> {
+    pub(crate) data_type: &'a DataType,
+    pub(crate) subset: &'a ArraySubset,
+    pub(crate) blank: ArrayBytes<'static>,
+    pub(crate) given: Option<Given>,
+    ghost few: { count (region subset.now) + 1 < 2 ^ 64 },
+    ghost blank_means: { IsSome
+        (meaning (kind_seen data_type.now) (count (region subset.now)) (raw_of blank)) },
+    ghost given_means: { IsSome (given_meaning (kind_seen data_type.now) given) },
+    ghost below: { AllBelow (count (region subset.now)) (given_indices given) },
+}
+
+// So many elements that are all the fill value.
+fn blank_elements(
+    alloc: Global,
+    data_type: &DataType,
+    subset: &ArraySubset,
+    fill_value: &FillValue,
+) -> Result<ArrayBytes<'static>, AllocError>
+    requires count { count (region subset.now) + 1 < 2 ^ 64 }
+    requires bytes { count (region subset.now) * bytes_seen data_type.now < 2 ^ 64 }
+    ensures { (x : Element)
+        → fill_element (kind_seen data_type.now) (fill_bytes fill_value.now) ≡ Some x
+        → IfOk result (λ v. meaning (kind_seen data_type.now) (count (region subset.now)) (raw_of v)
+        ≡ Some (replicate (count (region subset.now)) x)) }
+{
+    let count = subset.num_elements();
+    match ArrayBytes::new_fill_value(alloc, data_type, count, fill_value) {
+        Ok(blank) => Ok(blank),
+        Err(_) => Err(AllocError),
+    }
+}
+
+// The blank elements with those that were given in their places.
+fn with_given(
+    alloc: Global,
+    data_type: &DataType,
+    count: u64,
+    blank: &ArrayBytes<'_>,
+    given: Given,
+) -> Result<ArrayBytes<'static>, AllocError>
+    requires blank { IsSome (meaning (kind_seen data_type.now) count (raw_of blank.now)) }
+    requires given { IsSome (given_meaning (kind_seen data_type.now) (Some given)) }
+    requires below { AllBelow count (given_indices (Some given)) }
+    ensures { (xs : List Element) → meaning (kind_seen data_type.now) count (raw_of blank.now)
+        ≡ Some xs → IfOk result (λ v. meaning (kind_seen data_type.now) count (raw_of v)
+        ≡ Some (replaced (given_indices (Some given))
+        (given_list (kind_seen data_type.now) (Some given)) xs)) }
+{
+    let Given { indices, grown } = given;
+    let new = into_array_bytes(grown, alloc)?;
+    let picks = picks_of(alloc, count, &indices)?;
+    let size = element_size(data_type);
+    match gather(
+        alloc,
+        &picks,
+        count,
+        blank,
+        indices.len() as u64,
+        &new,
+        size,
+    ) {
+        Ok(bytes) => Ok(bytes),
+        Err(_) => Err(AllocError),
+    }
+}
+
+impl<'a> ListedBox<'a> {
+    ghost use Rattle.zarr_array_elements.specs.BoxElements.{listed_kind, listed_box, listed_list};
+
+    /// A box whose elements are all the fill value.
+    pub(crate) fn filled(
+        alloc: Global,
+        data_type: &'a DataType,
+        fill_value: &FillValue,
+        subset: &'a ArraySubset,
+    ) -> Result<ListedBox<'a>, AllocError>
+        requires denotes { IsSome (fill_element (kind_seen data_type.now)
+            (fill_bytes fill_value.now)) }
+        requires count { count (region subset.now) + 1 < 2 ^ 64 }
+        requires bytes { count (region subset.now) * bytes_seen data_type.now < 2 ^ 64 }
+        ensures kind { IfOk result (λ v. listed_kind v ≡ kind_seen data_type.now) }
+        ensures subset { IfOk result (λ v. listed_box v ≡ region subset.now) }
+        ensures elements { (x : Element)
+            → fill_element (kind_seen data_type.now) (fill_bytes fill_value.now) ≡ Some x
+            → IfOk result (λ v. listed_list v ≡ replicate (count (region subset.now)) x) }
+    {
+        let blank = blank_elements(alloc, data_type, subset, fill_value)?;
+        Ok(ListedBox {
+            data_type,
+            subset,
+            blank,
+            given: None,
+        })
+    }
+
+    /// Takes the elements that bytes over another box share with this one. After an error all are blank.
+    pub(crate) fn put(
+        &mut self,
+        alloc: Global,
+        bytes: &ArrayBytes<'_>,
+        subset: &ArraySubset,
+    ) -> Result<(), AllocError>
+        requires rank { length (listed_box self.old) ≡ length (region subset.now) }
+        requires means { IsSome
+            (meaning (listed_kind self.old) (count (region subset.now)) (raw_of bytes.now)) }
+        requires count { count (region subset.now) + 1 < 2 ^ 64 }
+        requires bytes { count (region subset.now) * size_in (fixed_size (listed_kind self.old))
+            < 2 ^ 64 }
+        ensures kind { listed_kind self.new ≡ listed_kind self.old }
+        ensures subset { listed_box self.new ≡ listed_box self.old }
+        ensures copied { OnOk result (Copied (listed_box self.old) (region subset.now)
+            (list_in (listed_kind self.old) (region subset.now) (raw_of bytes.now))
+            (listed_list self.old) (listed_list self.new)) }
+    {
+        let part = shared_part(alloc, self.subset, subset)?;
+        let piece = piece_in(alloc, self.data_type, bytes, subset, &part)?;
+        let at = part_in(alloc, &part, self.subset)?;
+        let before = self.given.take();
+        let given = with_piece(before, alloc, &at, self.subset.shape(), &piece)?;
+        self.given = Some(given);
+        Ok(())
+    }
+
+    /// The elements as array bytes.
+    pub(crate) fn into_bytes(self, alloc: Global) -> Result<ArrayBytes<'static>, AllocError>
+        ensures { IfOk result (λ v. meaning (listed_kind self.entry)
+            (count (listed_box self.entry)) (raw_of v) ≡ Some (listed_list self.entry)) }
+    {
+        let ListedBox {
+            data_type,
+            subset,
+            blank,
+            given,
+        } = self;
+        match given {
+            Some(given) => with_given(alloc, data_type, subset.num_elements(), &blank, given),
+            None => Ok(blank),
+        }
+    }
+}

@@ -1,0 +1,105 @@
+//! A chunk with the elements that a box shares with it.
+
+ghost use Rattle.std.specs.Prelude.{◌≡◌, ◌+◌, ◌*◌, ◌<◌, ◌^◌, false, Some, IsSome, length, IfOk};
+ghost use Rattle.zarr_model.specs.Region.{count};
+ghost use Rattle.zarr_model.specs.Element.{fixed_size};
+ghost use Rattle.zarr_model.specs.ArrayBytes.{meaning};
+ghost use Rattle.zarr_model.specs.Command.{has_long_element};
+ghost use Rattle.zarrs_array_subset.specs.ArraySubset.{region};
+ghost use Rattle.zarrs_codec_bytes.specs.Overlap.{Copied};
+ghost use Rattle.zarrs_codec_array_bytes.specs.Raw.{raw_of};
+ghost use Rattle.zarrs_codec_array_bytes.specs.Steps.{kind_seen, bytes_seen, size_seen};
+ghost use Rattle.zarr_array_elements.specs.Elements.{list_in, PutsOverlap};
+
+use crate::fixed::{plain_size, put_fixed};
+use crate::shared::{part_in, piece_in, shared_part};
+use std::alloc::{AllocError, Global};
+use zarrs_array_subset::ArraySubset;
+use zarrs_codec_array_bytes::ArrayBytes;
+use zarrs_codec_array_bytes_update::update_array_bytes;
+use zarrs_data_type_names::DataType;
+use zarrs_metadata_parts::DataTypeSize;
+
+// The size of a data type's elements.
+fn size_of_type(data_type: &DataType) -> DataTypeSize
+    ensures { fixed_size (kind_seen data_type.now) ≡ size_seen result }
+{
+    match data_type.fixed_size() {
+        Some(size) => DataTypeSize::Fixed(size),
+        None => DataTypeSize::Variable,
+    }
+}
+
+// A chunk of elements of any kind, with those that a box shares with it replaced.
+fn put_listed(
+    alloc: Global,
+    data_type: &DataType,
+    chunk: &ArrayBytes<'_>,
+    chunk_subset: &ArraySubset,
+    bytes: &ArrayBytes<'_>,
+    subset: &ArraySubset,
+) -> Result<ArrayBytes<'static>, AllocError>
+    requires rank { length (region chunk_subset.now) ≡ length (region subset.now) }
+    requires chunk_means { IsSome (meaning (kind_seen data_type.now)
+        (count (region chunk_subset.now)) (raw_of chunk.now)) }
+    requires chunk_count { count (region chunk_subset.now) + 1 < 2 ^ 64 }
+    requires chunk_bytes { count (region chunk_subset.now) * bytes_seen data_type.now < 2 ^ 64 }
+    requires means { IsSome (meaning (kind_seen data_type.now)
+        (count (region subset.now)) (raw_of bytes.now)) }
+    requires count { count (region subset.now) + 1 < 2 ^ 64 }
+    requires bytes { count (region subset.now) * bytes_seen data_type.now < 2 ^ 64 }
+    ensures puts { IfOk result (λ v. PutsOverlap (kind_seen data_type.now)
+        (region chunk_subset.now) (region subset.now) (raw_of bytes.now) (raw_of chunk.now)
+        (raw_of v)) }
+    ensures short { has_long_element (raw_of bytes.now) ≡ false
+        → has_long_element (raw_of chunk.now) ≡ false
+        → IfOk result (λ v. has_long_element (raw_of v) ≡ false) }
+{
+    let part = shared_part(alloc, chunk_subset, subset)?;
+    let piece = piece_in(alloc, data_type, bytes, subset, &part)?;
+    let at = part_in(alloc, &part, chunk_subset)?;
+    let size = size_of_type(data_type);
+    match update_array_bytes(alloc, chunk, chunk_subset.shape(), &at, &piece, size) {
+        Ok(bytes) => Ok(bytes),
+        Err(_) => Err(AllocError),
+    }
+}
+
+/// A chunk with the elements that a box shares with it replaced by those of the box.
+///
+/// # Errors
+/// [`AllocError`] where memory runs out.
+pub fn put_overlap(
+    alloc: Global,
+    data_type: &DataType,
+    chunk: ArrayBytes<'static>,
+    chunk_subset: &ArraySubset,
+    bytes: &ArrayBytes<'_>,
+    subset: &ArraySubset,
+) -> Result<ArrayBytes<'static>, AllocError>
+    requires rank { length (region chunk_subset.now) ≡ length (region subset.now) }
+    requires chunk_means { IsSome (meaning (kind_seen data_type.now)
+        (count (region chunk_subset.now)) (raw_of chunk)) }
+    requires chunk_count { count (region chunk_subset.now) + 1 < 2 ^ 64 }
+    requires chunk_bytes { count (region chunk_subset.now) * bytes_seen data_type.now < 2 ^ 64 }
+    requires means { IsSome (meaning (kind_seen data_type.now)
+        (count (region subset.now)) (raw_of bytes.now)) }
+    requires count { count (region subset.now) + 1 < 2 ^ 64 }
+    requires bytes { count (region subset.now) * bytes_seen data_type.now < 2 ^ 64 }
+    ensures held { IfOk result (λ v.
+        meaning (kind_seen data_type.now) (count (region chunk_subset.now)) (raw_of v)
+        ≡ Some (list_in (kind_seen data_type.now) (region chunk_subset.now) (raw_of v))) }
+    ensures copied { let kind = kind_seen data_type.now in
+        IfOk result (λ v. Copied (region chunk_subset.now) (region subset.now)
+        (list_in kind (region subset.now) (raw_of bytes.now))
+        (list_in kind (region chunk_subset.now) (raw_of chunk.entry))
+        (list_in kind (region chunk_subset.now) (raw_of v))) }
+    ensures short { has_long_element (raw_of bytes.now) ≡ false
+        → has_long_element (raw_of chunk.entry) ≡ false
+        → IfOk result (λ v. has_long_element (raw_of v) ≡ false) }
+{
+    match plain_size(data_type) {
+        Some(size) => put_fixed(alloc, size, chunk, chunk_subset, bytes, subset),
+        None => put_listed(alloc, data_type, &chunk, chunk_subset, bytes, subset),
+    }
+}

@@ -1,0 +1,99 @@
+//! Chunks that are too large.
+
+ghost use Rattle.std.specs.Prelude.{◌≡◌, ◌-◌, true, false, None, [], if◌then◌else◌, length, take};
+ghost use Rattle.zarr_model.specs.Prelude.{fixed_size};
+ghost use Rattle.zarrs_data_type_elements.specs.FillValue.{fill_bytes};
+ghost use Rattle.zarrs_data_type_elements.specs.Pieces.{ends_in_zero};
+ghost use Rattle.zarrs_data_type.specs.DataType.{type_of};
+ghost use Rattle.zarrs_codec_bytes.specs.Filling.{innermost_fill};
+ghost use Rattle.zarrs_codec_array_bytes.specs.Steps.{kind_seen};
+ghost use Rattle.zarrs_codec_traits.specs.Views.{lengths};
+ghost use Rattle.zarr_basics_grids.specs.BasicGrid.{basic_grid};
+ghost use Rattle.zarr_basics_grids.specs.Limits.{has_large_chunk};
+ghost use Rattle.zarr_codecs_array_to_bytes.specs.Plain.{unserved_by};
+ghost use Rattle.zarr_codecs_array_to_bytes.specs.Views.{plain_of};
+ghost use Rattle.zarr_array_parts.specs.ChunkChain.{basic_lengths};
+ghost use Rattle.zarr_array_parts.specs.Opening.{is_large};
+ghost use Rattle.zarr_array_parts.specs.Sizes.{have_chunks, has_long_chunk};
+
+use std::num::NonZeroU64;
+use zarr_basics::BasicGrid;
+use zarr_codecs_kinds::BasicArrayToBytes;
+use zarrs_chunk_grid_traits::ChunkGridTraits;
+use zarrs_codec_array_bytes::array_bytes::step::{Step, step_of};
+use zarrs_codec_traits::num_elements;
+use zarrs_data_type::{DataType, FillValue};
+use zarrs_data_type_elements::ends_in_zero;
+
+// What stands in 4 bytes is less.
+const LONG: u64 = 1 << 32;
+
+/// The shape of the chunks of a grid, which all have one.
+pub(crate) fn chunk_shape(grid: &BasicGrid) -> &[NonZeroU64]
+    ensures { lengths result.now ≡ basic_lengths grid.now }
+{
+    match grid {
+        BasicGrid::Regular(grid) => &grid.chunk_shape,
+    }
+}
+
+/// Whether a grid has a chunk.
+pub(crate) fn has_chunks(grid: &BasicGrid) -> bool
+    ensures { result ≡ have_chunks (basic_grid grid.now).grid_shape }
+{
+    grid.grid_shape().iter().all(|n| 0 < *n)
+}
+
+// The fill value inside that of an optional type, of elements of no fixed size: none under a null.
+fn inner_fill(fill: &[u8]) -> &[u8]
+    ensures { result.now
+        ≡ (if ends_in_zero fill.now then [] else take (length fill.now - 1) fill.now) }
+{
+    if ends_in_zero(fill) {
+        return &[];
+    }
+    &fill[..fill.len().saturating_sub(1)]
+}
+
+// The fill value of the innermost elements, which have no fixed size.
+fn innermost_fill<'f>(data_type: &DataType, fill: &'f [u8]) -> &'f [u8]
+    requires { fixed_size (kind_seen data_type.now) ≡ None }
+    ensures { result.now ≡ innermost_fill (kind_seen data_type.now) fill.now }
+{
+    match step_of(data_type) {
+        Step::Optional(inner) => innermost_fill(inner, inner_fill(fill)),
+        Step::Variable => fill,
+        Step::Fixed(_) => fill,
+    }
+}
+
+// Whether the number of the elements of some chunk, or the length of these bytes, does not fit 4 bytes.
+fn has_long_chunk(grid: &BasicGrid, fill: &[u8]) -> bool
+    requires { has_large_chunk (basic_grid grid.now) None ≡ false }
+    ensures { result ≡ has_long_chunk (basic_grid grid.now) fill.now }
+{
+    if !has_chunks(grid) {
+        return false;
+    }
+    LONG <= num_elements(chunk_shape(grid)) || LONG <= fill.len() as u64
+}
+
+/// Whether some chunk can't be held or addressed, or its lengths can't be stored where they have to be.
+pub(crate) fn is_large(
+    codec: &BasicArrayToBytes,
+    data_type: &DataType,
+    fill: &FillValue,
+    grid: &BasicGrid,
+) -> bool
+    requires served { unserved_by (plain_of codec.now) (type_of data_type.now) ≡ None }
+    ensures { result ≡ is_large (plain_of codec.now) (type_of data_type.now)
+        (fill_bytes fill.now) (basic_grid grid.now) }
+{
+    if grid.has_large_chunk(data_type.fixed_size()) {
+        return true;
+    }
+    if !codec.stores_lengths() {
+        return false;
+    }
+    has_long_chunk(grid, innermost_fill(data_type, fill.as_ne_bytes()))
+}
