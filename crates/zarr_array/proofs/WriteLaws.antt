@@ -7,7 +7,7 @@ use Rattle.zarr_model.specs.Prelude.{Region, Element, ArrayBytes, Array, written
 use Rattle.zarr_model.proofs.FailureLaws.{same_bytes, bytes_eq-refl, listed_is_chunk, chunks_under-once, part_way-end, part_way-fails}
 use Rattle.zarr_array_regions.specs.declared.error.SessionErrorKind.{SessionErrorKind}
 use Rattle.zarr_array_regions.specs.declared.error.SessionErrorKind.TheVariants.{NotOpened, ChunkDecode, Store, OutOfMemory}
-use Rattle.zarr_array_regions.specs.Write.{StopsChunk}
+use Rattle.zarr_array_regions.specs.Write.{HoldsChunk, StopsChunk}
 use Rattle.zarr_array_regions.specs.PartWay.{ChangedSome, StopsBefore, FailsPartWay}
 use Rattle.zarr_array.proofs.HasRun.{HasRun}
 use Rattle.zarr_array.specs.Session.{HasSessionCause, FailsAt}
@@ -79,7 +79,7 @@ module _ (description : Description) (covers : CoversShape description.shape des
       IsPartWay description options (write region value) k array (after description (write region value) array) now.content
   write-part_way k old now array changed meant = record {
     finished = λ place chunk h e. subst (λ a. ChunkHas (layout description options) now.content a chunk) (sym (write-left array))
-        (changed.has array place chunk meant.fill h (in_region place chunk e) (meant.each_chunk chunk (met-chunks description.grid region place chunk (in_region place chunk e))));
+        ((changed.holds array place chunk meant.fill h (in_region place chunk e) (meant.each_chunk chunk (met-chunks description.grid region place chunk (in_region place chunk e)))).has options);
     others = λ chunk is_chunk apart.
         content-same (layout description options) old.content now.content chunk
         (changed-kept description options sound (write_change description region value) (chunks_meeting description.grid region) (met-chunks description.grid region) k old now chunk changed is_chunk
@@ -116,7 +116,7 @@ module _ (description : Description) (covers : CoversShape description.shape des
     present array chunk meant is_chunk = ⊎_elim
         (λ (inside : is_among (chunks_meeting description.grid region) chunk ≡ true).
         let (place, e) = at-among (chunks_meeting description.grid region) chunk inside in
-        changed.present array place chunk meant.fill (slice_get_within (chunks_meeting description.grid region) place chunk e) e (meant.each_chunk chunk is_chunk)
+        (changed.holds array place chunk meant.fill (slice_get_within (chunks_meeting description.grid region) place chunk e) e (meant.each_chunk chunk is_chunk)).present
         ∙ sym (cond-true (is_among (chunks_meeting description.grid region) chunk) _ _ inside))
         (λ (outside : is_among (chunks_meeting description.grid region) chunk ≡ false).
         ap is_some (kept (length (chunks_meeting description.grid region)) old new changed chunk is_chunk outside)
@@ -140,7 +140,7 @@ module _ (description : Description) (covers : CoversShape description.shape des
       each = λ chunk is_chunk. ⊎_elim
           (λ (inside : is_among (chunks_meeting description.grid region) chunk ≡ true).
           let (place, e) = at-among (chunks_meeting description.grid region) chunk inside in
-          inl (changed.mended place chunk (slice_get_within (chunks_meeting description.grid region) place chunk e) e))
+          inl (changed.mended place chunk (slice_get_within (chunks_meeting description.grid region) place chunk e) e options))
           (λ (outside : is_among (chunks_meeting description.grid region) chunk ≡ false).
           inr (kept (length (chunks_meeting description.grid region)) old new changed chunk is_chunk outside, refl))
           (cases_Bool (is_among (chunks_meeting description.grid region) chunk));
@@ -196,9 +196,9 @@ module _ (description : Description) (covers : CoversShape description.shape des
       part_way-fails description covers options sound (write region value) k chunk true array (after description (write region value) array) fails.mid.content new.content (in_command k chunk here) (part_way array meant)
           (⊎_elim
           (λ (held : new.content (description.key chunk) ≡ fails.mid.content (description.key chunk)). inl held)
-          (λ (rest : ChunkHas (layout description options) new.content (write_change description region value array) chunk ⊎ (new.content (description.key chunk) ≡ None)). ⊎_elim
-          (λ (has : ChunkHas (layout description options) new.content (write_change description region value array) chunk).
-          inr (inl (subst (λ a. ChunkHas (layout description options) new.content a chunk) (sym (write-left array)) has)))
+          (λ (rest : HoldsChunk description options (write_change description region value array) chunk new.content ⊎ (new.content (description.key chunk) ≡ None)). ⊎_elim
+          (λ (holds : HoldsChunk description options (write_change description region value array) chunk new.content).
+          inr (inl (subst (λ a. ChunkHas (layout description options) new.content a chunk) (sym (write-left array)) (holds.has options))))
           (λ (gone : new.content (description.key chunk) ≡ None). inr (inr (refl, tt, gone)))
           rest)
           (stops.here array meant.fill

@@ -23,7 +23,8 @@ impl OpenArray {
 
     /// Reads a region of the array: its elements in row-major order, or why it is refused.
     ///
-    /// Each chunk that the region meets is asked for once, after the room for the elements is taken.
+    /// Each chunk that the region meets is asked for once, in row-major order. For elements of one size the room for all of
+    /// them is taken before the first chunk is asked for; for others it grows with what the chunks hold.
     ///
     /// # Errors
     /// `ChunkDecode` with the key of a chunk that the region meets and whose value does not decode, `Store` where the
@@ -56,8 +57,9 @@ impl OpenArray {
         }
     }
 
-    /// Writes elements to a region of the array, in its row-major order: done, or why it is refused. Each element has the
-    /// bytes of its data type, the lowest byte of a whole number first.
+    /// Writes elements to a region of the array, in its row-major order: done, or why it is refused. The bytes are of the
+    /// data type's kind: elements of one size one behind another, the lowest byte of a whole number first; texts and byte
+    /// strings between offsets; optional elements under a mask.
     ///
     /// Each chunk that the region meets is asked for once, in row-major order, decoded whole, and stored anew; or its
     /// key is erased where all its elements are the fill value and the options do not have such chunks stored.

@@ -5,19 +5,19 @@ use Rattle.zarrs_array_subset.specs.ArraySubset.{region}
 use Rattle.zarrs_codec_bytes.proofs.FixedLaws.{length-elements}
 use Rattle.zarrs_codec_bytes.proofs.ReplaceLaws.{length-replaced}
 use Rattle.zarrs_codec_array_bytes.specs.Raw.{raw_of}
-use Rattle.zarr_array_elements.specs.Elements.{list_in}
+use Rattle.zarr_array_elements.specs.Elements.{blanks}
 use Rattle.zarr_array_elements.specs.Given.{given_indices, given_list}
 use Rattle.zarr_array_elements.specs.BoxElements.{listed_kind, listed_box, held_box, held_list, box_held, list_held}
 use Rattle.zarr_array_elements.specs.declared.box_elements.Held.{Held}
 use Rattle.zarr_array_elements.specs.declared.box_elements.Held.TheVariants as held
 use Rattle.zarr_array_elements.specs.declared.box_elements.BoxElements.{BoxElements}
-use Rattle.zarr_array_elements.proofs.PutLaws.{list_long}
+use Rattle.zarr_array_elements.proofs.PutLaws.{blanks_long}
 
 held-long : (elements : Held) → length (held_list elements) ≡ count (held_box elements)
 held-long (held.Fixed elements) = length-elements elements.size elements.some (count (region elements.subset.now)) elements.bytes.items elements.long
 held-long (held.Listed elements) =
-    length-replaced (given_indices elements.given) (given_list (listed_kind elements) elements.given) (list_in (listed_kind elements) (listed_box elements) (raw_of elements.blank))
-    ∙ list_long (listed_kind elements) (listed_box elements) (raw_of elements.blank) elements.blank_means
+    length-replaced (given_indices elements.given) (given_list (listed_kind elements) elements.given) (blanks (listed_kind elements) (count (listed_box elements)) (raw_of elements.blank))
+    ∙ blanks_long (listed_kind elements) (count (listed_box elements)) (raw_of elements.blank)
 
 pub length-list_held : (elements : BoxElements) → length (list_held elements) ≡ count (box_held elements)
 length-list_held elements = held-long elements.held

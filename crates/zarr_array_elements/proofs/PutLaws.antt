@@ -1,7 +1,7 @@
 -- Pieces that are put in their places.
 use Rattle.std.proofs.Common.{◌≡◌, ℕ, ◌-◌, ◌<◌, ◌≤◌, true, List, [], ◌∷◌, ◌++◌, length, set, get_or, replicate, Option, Some, None, IsSome, is_some, unwrap_or, arith, ap, ap₂, sym, refl, ◌∙◌, subst, inl, inr, ◌⊎◌}
 use Rattle.std.proofs.lemmas.Bool.{cases_lt}
-use Rattle.std.proofs.lemmas.List.{length-append, length-map, get_or_append_left, get_or-append_right}
+use Rattle.std.proofs.lemmas.List.{length-append, length-map, length-replicate, get_or_append_left, get_or-append_right}
 use Rattle.zarr_model.specs.Region.{Region, count, count_of, starts, sizes, tuples, place, linear_index}
 use Rattle.zarr_model.specs.Element.{Element, null, Kind}
 use Rattle.zarr_model.specs.ArrayBytes.{ArrayBytes, meaning}
@@ -11,7 +11,7 @@ use Rattle.zarrs_codec_bytes.specs.Overlap.{Copied}
 use Rattle.zarrs_codec_bytes.specs.Picking.{AllBelow, picked, replaced}
 use Rattle.zarrs_codec_bytes.proofs.ReplaceLaws.{length-replaced}
 use Rattle.zarrs_codec_array_bytes.specs.Selection.{linear}
-use Rattle.zarr_array_elements.specs.Elements.{list_in, PutsOverlap}
+use Rattle.zarr_array_elements.specs.Elements.{list_in, blanks, PutsOverlap}
 use Rattle.zarr_array_elements.specs.Shared.{shared_in}
 use Rattle.zarr_array_elements.specs.Joined.{joined}
 use Rattle.zarr_array_elements.specs.Grown.{grown_bytes}
@@ -81,8 +81,8 @@ below_append limit indices more all a b is = subst (AllBelow limit) (sym is) at
         go (inr high) = subst (λ n. n < limit) (sym (get_or-append_right indices more (length indices) k 0 refl high)) (b (k - length indices) (omega (arith, h, high, length-append indices more)))
 
 -- so the list of a box took what the piece's box shares with it
-module _ (kind : Kind) (box source : Region) (blank bytes piece : ArrayBytes) (given : Option Given) (new : Given) (rank : length box ≡ length source)
-    (blank_means : IsSome (meaning kind (count box) blank)) (given_means : IsSome (given_meaning kind given)) (means : IsSome (meaning kind (count source) bytes))
+module _ (kind : Kind) (box source : Region) (base : List Element) (bytes piece : ArrayBytes) (given : Option Given) (new : Given) (rank : length box ≡ length source)
+    (base_long : length base ≡ count box) (given_means : IsSome (given_meaning kind given)) (means : IsSome (meaning kind (count source) bytes))
     (piece_means : meaning kind (length (shared_in source (overlap_of box source))) piece ≡ Some (picked null (shared_in source (overlap_of box source)) (list_in kind source bytes)))
     (places : new.indices.items ≡ given_indices given ++ shared_in box (overlap_of box source)) (joins : grown_bytes new.grown ≡ given_joined given piece) where
   abbrev taken : List Element
@@ -92,16 +92,16 @@ module _ (kind : Kind) (box source : Region) (blank bytes piece : ArrayBytes) (g
   new_means = given_more kind given new.indices.items (shared_in box (overlap_of box source)) (grown_bytes new.grown) piece taken given_means
       (ap (λ n. meaning kind n piece) (shared_long box source rank) ∙ piece_means) places joins
 
-  pub listed_copied : Copied box source (list_in kind source bytes) (replaced (given_indices given) (given_list kind given) (list_in kind box blank))
-      (replaced (given_indices (Some new)) (given_list kind (Some new)) (list_in kind box blank))
+  pub listed_copied : Copied box source (list_in kind source bytes) (replaced (given_indices given) (given_list kind given) base)
+      (replaced (given_indices (Some new)) (given_list kind (Some new)) base)
   listed_copied =
-      let before = replaced (given_indices given) (given_list kind given) (list_in kind box blank) in
-      let after : replaced (given_indices (Some new)) (given_list kind (Some new)) (list_in kind box blank) ≡ replaced (shared_in box (overlap_of box source)) taken before =
-      ap₂ (λ i l. replaced i l (list_in kind box blank)) places (ap (λ o. unwrap_or o []) new_means)
-      ∙ replaced-append (given_indices given) (shared_in box (overlap_of box source)) (given_list kind given) taken (list_in kind box blank) (sym (given_long kind given given_means)) in
+      let before = replaced (given_indices given) (given_list kind given) base in
+      let after : replaced (given_indices (Some new)) (given_list kind (Some new)) base ≡ replaced (shared_in box (overlap_of box source)) taken before =
+      ap₂ (λ i l. replaced i l base) places (ap (λ o. unwrap_or o []) new_means)
+      ∙ replaced-append (given_indices given) (shared_in box (overlap_of box source)) (given_list kind given) taken base (sym (given_long kind given given_means)) in
       subst (λ l. Copied box source (list_in kind source bytes) before l) (sym after)
       (shared_copied box source rank null (list_in kind source bytes) before (list_long kind source bytes means)
-      (length-replaced (given_indices given) (given_list kind given) (list_in kind box blank) ∙ list_long kind box blank blank_means))
+      (length-replaced (given_indices given) (given_list kind given) base ∙ base_long))
 
 -- the same by the steps that find the part, its place in the box, and the piece
 record IsPiece (kind : Kind) (source part : Region) (bytes piece : ArrayBytes) : Type 0 where
@@ -116,19 +116,19 @@ piece_of kind box source part bytes piece means part_is selected =
 place_in : (box source part at : Region) → part ≡ overlap_of box source → at ≡ moved_back part (starts box) → at ≡ moved_back (overlap_of box source) (starts box)
 place_in box source part at part_is at_is = at_is ∙ ap (λ p. moved_back p (starts box)) part_is
 
-pub record Took (kind : Kind) (box source : Region) (blank bytes : ArrayBytes) (given : Option Given) (new : Given) : Type 0 where
+pub record Took (kind : Kind) (box source : Region) (base : List Element) (bytes : ArrayBytes) (given : Option Given) (new : Given) : Type 0 where
   pub means : IsSome (given_meaning kind (Some new))
   pub below : AllBelow (count box) (given_indices (Some new))
-  pub copied : Copied box source (list_in kind source bytes) (replaced (given_indices given) (given_list kind given) (list_in kind box blank))
-      (replaced (given_indices (Some new)) (given_list kind (Some new)) (list_in kind box blank))
+  pub copied : Copied box source (list_in kind source bytes) (replaced (given_indices given) (given_list kind given) base)
+      (replaced (given_indices (Some new)) (given_list kind (Some new)) base)
 
-pub took : (kind : Kind) (box source part at : Region) (shape : List ℕ) (blank bytes piece : ArrayBytes) (before given : Option Given) (new : Given) → length box ≡ length source →
-    IsSome (meaning kind (count box) blank) → IsSome (given_meaning kind given) → AllBelow (count box) (given_indices given) → IsSome (meaning kind (count source) bytes) →
+pub took : (kind : Kind) (box source part at : Region) (shape : List ℕ) (base : List Element) (bytes piece : ArrayBytes) (before given : Option Given) (new : Given) → length box ≡ length source →
+    length base ≡ count box → IsSome (given_meaning kind given) → AllBelow (count box) (given_indices given) → IsSome (meaning kind (count source) bytes) →
     part ≡ overlap_of box source → at ≡ moved_back part (starts box) → shape ≡ sizes box → before ≡ given →
     ((xs : List Element) → meaning kind (count source) bytes ≡ Some xs → meaning kind (length (shared_in source part)) piece ≡ Some (picked null (shared_in source part) xs)) →
     new.indices.items ≡ given_indices before ++ linear shape (tuples at) → AllBelow (count_of shape) (linear shape (tuples at)) → grown_bytes new.grown ≡ given_joined before piece →
-    Took kind box source blank bytes given new
-took kind box source part at shape blank bytes piece before given new rank blank_means given_means below means part_is at_is shape_is before_is selected places within joins =
+    Took kind box source base bytes given new
+took kind box source part at shape base bytes piece before given new rank base_long given_means below means part_is at_is shape_is before_is selected places within joins =
     let taken = piece_of kind box source part bytes piece means part_is selected in
     let at_box : at ≡ moved_back (overlap_of box source) (starts box) = place_in box source part at part_is at_is in
     let new_places : new.indices.items ≡ given_indices given ++ shared_in box (overlap_of box source) =
@@ -137,9 +137,9 @@ took kind box source part at shape blank bytes piece before given new rank blank
     let new_within : AllBelow (count box) (shared_in box (overlap_of box source)) =
     subst (λ a. AllBelow (count_of (sizes box)) (linear (sizes box) (tuples a))) at_box (subst (λ s. AllBelow (count_of s) (linear s (tuples at))) shape_is within) in
     record {
-      means = ap is_some (new_means kind box source blank bytes piece given new rank blank_means given_means means taken.means new_places new_joins);
+      means = ap is_some (new_means kind box source base bytes piece given new rank base_long given_means means taken.means new_places new_joins);
       below = below_append (count box) (given_indices given) (shared_in box (overlap_of box source)) new.indices.items below new_within new_places;
-      copied = listed_copied kind box source blank bytes piece given new rank blank_means given_means means taken.means new_places new_joins;
+      copied = listed_copied kind box source base bytes piece given new rank base_long given_means means taken.means new_places new_joins;
     }
 
 pub updated_puts : (kind : Kind) (box source part at : Region) (shape : List ℕ) (bytes old piece new : ArrayBytes) → length box ≡ length source →
@@ -159,7 +159,13 @@ updated_puts kind box source part at shape bytes old piece new rank means was pa
     puts_overlap kind box source bytes old new rank means was
     (ap (λ s. meaning kind (count_of s) new) (sym shape_is) ∙ (updated xs ys old_is piece_is ∙ ap₂ (λ s a. Some (replaced (linear s (tuples a)) ys xs)) shape_is at_box))
 
--- elements that are all the fill value mean a list
-pub blank_some : (fill : Option Element) (kind : Kind) (number : ℕ) (raw : ArrayBytes) → IsSome fill → ((x : Element) → fill ≡ Some x → meaning kind number raw ≡ Some (replicate number x)) → IsSome (meaning kind number raw)
-blank_some None kind number raw h filled = cc
-blank_some (Some x) kind number raw h filled = ap is_some (filled x refl)
+-- one element that is the fill value means a list, and so often as it is asked it is that list
+pub blank_some : (fill : Option Element) (kind : Kind) (raw : ArrayBytes) → IsSome fill → ((x : Element) → fill ≡ Some x → meaning kind 1 raw ≡ Some (x ∷ [])) → IsSome (meaning kind 1 raw)
+blank_some None kind raw h filled = cc
+blank_some (Some x) kind raw h filled = ap is_some (filled x refl)
+
+pub blanks_are : (kind : Kind) (number : ℕ) (raw : ArrayBytes) (x : Element) → meaning kind 1 raw ≡ Some (x ∷ []) → blanks kind number raw ≡ replicate number x
+blanks_are kind number raw x is = ap (λ o. replicate number (get_or (unwrap_or o []) 0 null)) is
+
+pub blanks_long : (kind : Kind) (number : ℕ) (raw : ArrayBytes) → length (blanks kind number raw) ≡ number
+blanks_long kind number raw = length-replicate number (get_or (unwrap_or (meaning kind 1 raw) []) 0 null)

@@ -1,13 +1,13 @@
 -- What a box of elements holds.
 use Rattle.std.specs.Prelude.{List}
-use Rattle.zarr_model.specs.Region.{Region}
+use Rattle.zarr_model.specs.Region.{Region, count}
 use Rattle.zarr_model.specs.Element.{Element, Kind, fixed}
 use Rattle.zarrs_array_subset.specs.ArraySubset.{region}
 use Rattle.zarrs_codec_bytes.specs.Elements.{fixed_elements}
 use Rattle.zarrs_codec_bytes.specs.Picking.{replaced}
 use Rattle.zarrs_codec_array_bytes.specs.Raw.{raw_of}
 use Rattle.zarrs_codec_array_bytes.specs.Steps.{kind_seen}
-use Rattle.zarr_array_elements.specs.Elements.{list_in}
+use Rattle.zarr_array_elements.specs.Elements.{blanks}
 use Rattle.zarr_array_elements.specs.Given.{given_indices, given_list}
 use Rattle.zarr_array_elements.specs.declared.fixed.FixedBox.{FixedBox}
 use Rattle.zarr_array_elements.specs.declared.listed.ListedBox.{ListedBox}
@@ -29,7 +29,7 @@ listed_box elements = region elements.subset.now
 abbrev pub listed_list : ListedBox → List Element
 listed_list elements =
     replaced (given_indices elements.given) (given_list (listed_kind elements) elements.given)
-    (list_in (listed_kind elements) (listed_box elements) (raw_of elements.blank))
+    (blanks (listed_kind elements) (count (listed_box elements)) (raw_of elements.blank))
 
 -- the same of either
 abbrev pub held_kind : Held → Kind

@@ -1,6 +1,6 @@
 //! Elements of any kind over a box.
 
-ghost use Rattle.std.specs.Prelude.{◌≡◌, ◌+◌, ◌*◌, ◌<◌, ◌^◌, List, Some, IsSome, length, replicate, IfOk, OnOk};
+ghost use Rattle.std.specs.Prelude.{◌≡◌, ◌+◌, ◌*◌, ◌<◌, ◌^◌, [], ◌∷◌, Some, IsSome, length, replicate, IfOk, OnOk};
 ghost use Rattle.zarr_model.specs.Region.{count};
 ghost use Rattle.zarr_model.specs.Element.{Element, fill_element, fixed_size};
 ghost use Rattle.zarr_model.specs.ArrayBytes.{meaning};
@@ -10,7 +10,7 @@ ghost use Rattle.zarrs_codec_bytes.specs.Overlap.{Copied};
 ghost use Rattle.zarrs_codec_bytes.specs.Picking.{AllBelow, replaced, size_in};
 ghost use Rattle.zarrs_codec_array_bytes.specs.Raw.{raw_of};
 ghost use Rattle.zarrs_codec_array_bytes.specs.Steps.{kind_seen, bytes_seen};
-ghost use Rattle.zarr_array_elements.specs.Elements.{list_in};
+ghost use Rattle.zarr_array_elements.specs.Elements.{list_in, blanks};
 ghost use Rattle.zarr_array_elements.specs.Given.{given_indices, given_meaning, given_list};
 
 use crate::given::{Given, with_piece};
@@ -19,14 +19,15 @@ use crate::shared::{part_in, piece_in, shared_part};
 use std::alloc::{AllocError, Global};
 use zarrs_array_subset::ArraySubset;
 use zarrs_codec_array_bytes::ArrayBytes;
+use zarrs_codec_array_bytes::array_bytes::gather::select;
 use zarrs_codec_array_bytes::array_bytes::step::element_size;
 use zarrs_codec_array_bytes_update::gather;
-use zarrs_codec_bytes::picks::picks_of;
+use zarrs_codec_bytes::picks::picks_over_one;
 use zarrs_data_type_elements::FillValue;
 use zarrs_data_type_names::DataType;
 
-/// Elements of any kind over a box: blank ones at all its places, and those that were given to some of them since, of
-/// which the last one at a place counts.
+/// Elements of any kind over a box: one blank element, which stands at all its places, and those that were given to some
+/// of them since, of which the last one at a place counts.
 #[derive(Drop)]
 pub(crate) struct ListedBox<'a> {
     pub(crate) data_type: &'a DataType,
@@ -34,34 +35,29 @@ pub(crate) struct ListedBox<'a> {
     pub(crate) blank: ArrayBytes<'static>,
     pub(crate) given: Option<Given>,
     ghost few: { count (region subset.now) + 1 < 2 ^ 64 },
-    ghost blank_means: { IsSome
-        (meaning (kind_seen data_type.now) (count (region subset.now)) (raw_of blank)) },
+    ghost blank_means: { IsSome (meaning (kind_seen data_type.now) 1 (raw_of blank)) },
     ghost given_means: { IsSome (given_meaning (kind_seen data_type.now) given) },
     ghost below: { AllBelow (count (region subset.now)) (given_indices given) },
 }
 
-// So many elements that are all the fill value.
-fn blank_elements(
+// One element, the fill value.
+fn blank_element(
     alloc: Global,
     data_type: &DataType,
-    subset: &ArraySubset,
     fill_value: &FillValue,
 ) -> Result<ArrayBytes<'static>, AllocError>
-    requires count { count (region subset.now) + 1 < 2 ^ 64 }
-    requires bytes { count (region subset.now) * bytes_seen data_type.now < 2 ^ 64 }
     ensures { (x : Element)
         → fill_element (kind_seen data_type.now) (fill_bytes fill_value.now) ≡ Some x
-        → IfOk result (λ v. meaning (kind_seen data_type.now) (count (region subset.now)) (raw_of v)
-        ≡ Some (replicate (count (region subset.now)) x)) }
+        → IfOk result (λ v. meaning (kind_seen data_type.now) 1 (raw_of v) ≡ Some (x ∷ [])) }
 {
-    let count = subset.num_elements();
-    match ArrayBytes::new_fill_value(alloc, data_type, count, fill_value) {
+    let _size = element_size(data_type);
+    match ArrayBytes::new_fill_value(alloc, data_type, 1, fill_value) {
         Ok(blank) => Ok(blank),
         Err(_) => Err(AllocError),
     }
 }
 
-// The blank elements with those that were given in their places.
+// So many elements: the blank one, and those that were given in their places.
 fn with_given(
     alloc: Global,
     data_type: &DataType,
@@ -69,27 +65,37 @@ fn with_given(
     blank: &ArrayBytes<'_>,
     given: Given,
 ) -> Result<ArrayBytes<'static>, AllocError>
-    requires blank { IsSome (meaning (kind_seen data_type.now) count (raw_of blank.now)) }
+    requires blank { IsSome (meaning (kind_seen data_type.now) 1 (raw_of blank.now)) }
     requires given { IsSome (given_meaning (kind_seen data_type.now) (Some given)) }
     requires below { AllBelow count (given_indices (Some given)) }
-    ensures { (xs : List Element) → meaning (kind_seen data_type.now) count (raw_of blank.now)
-        ≡ Some xs → IfOk result (λ v. meaning (kind_seen data_type.now) count (raw_of v)
+    ensures { IfOk result (λ v. meaning (kind_seen data_type.now) count (raw_of v)
         ≡ Some (replaced (given_indices (Some given))
-        (given_list (kind_seen data_type.now) (Some given)) xs)) }
+        (given_list (kind_seen data_type.now) (Some given))
+        (blanks (kind_seen data_type.now) count (raw_of blank.now)))) }
 {
     let Given { indices, grown } = given;
     let new = into_array_bytes(grown, alloc)?;
-    let picks = picks_of(alloc, count, &indices)?;
+    let picks = picks_over_one(alloc, count, &indices)?;
     let size = element_size(data_type);
-    match gather(
-        alloc,
-        &picks,
-        count,
-        blank,
-        indices.len() as u64,
-        &new,
-        size,
-    ) {
+    match gather(alloc, &picks, 1, blank, indices.len() as u64, &new, size) {
+        Ok(bytes) => Ok(bytes),
+        Err(_) => Err(AllocError),
+    }
+}
+
+// The blank element so many times.
+fn repeated(
+    alloc: Global,
+    data_type: &DataType,
+    count: u64,
+    blank: &ArrayBytes<'_>,
+) -> Result<ArrayBytes<'static>, AllocError>
+    requires { IsSome (meaning (kind_seen data_type.now) 1 (raw_of blank.now)) }
+    ensures { IfOk result (λ v. meaning (kind_seen data_type.now) count (raw_of v)
+        ≡ Some (blanks (kind_seen data_type.now) count (raw_of blank.now))) }
+{
+    let places = vec![in alloc; 0; count as usize]?;
+    match select(alloc, &places, 1, blank, element_size(data_type)) {
         Ok(bytes) => Ok(bytes),
         Err(_) => Err(AllocError),
     }
@@ -115,7 +121,7 @@ impl<'a> ListedBox<'a> {
             → fill_element (kind_seen data_type.now) (fill_bytes fill_value.now) ≡ Some x
             → IfOk result (λ v. listed_list v ≡ replicate (count (region subset.now)) x) }
     {
-        let blank = blank_elements(alloc, data_type, subset, fill_value)?;
+        let blank = blank_element(alloc, data_type, fill_value)?;
         Ok(ListedBox {
             data_type,
             subset,
@@ -165,7 +171,7 @@ impl<'a> ListedBox<'a> {
         } = self;
         match given {
             Some(given) => with_given(alloc, data_type, subset.num_elements(), &blank, given),
-            None => Ok(blank),
+            None => repeated(alloc, data_type, subset.num_elements(), &blank),
         }
     }
 }

@@ -60,40 +60,39 @@ module _ (holds : List ℕ → SessionErrorKind → Type 0) where
 
 -- a chain that serves the chunks decodes their values as the array's does
 module _ (array : Description) (chain : Codecs) (serves : ServesChunks array chain) (options : Options) (chunk : List ℕ) (is_chunk : IsChunk array.grid chunk) where
-  pub decodes_as : (value : List ℕ) → decoded array_meaning list_meaning bytes_meaning chain options value ≡ decode_at array options chunk value
-  decodes_as value = serves.chunks.values options chunk value is_chunk
+  abbrev chain_decodes : put.Decoding
+  chain_decodes = decoded array_meaning list_meaning bytes_meaning chain
+
+  pub decodes_as : (under : Options) (value : List ℕ) → chain_decodes under value ≡ decode_at array chunk under value
+  decodes_as under value = serves.chunks.values under chunk value is_chunk
 
   pub content_as : (value : Option (List ℕ)) → stored.chunk_content array_meaning list_meaning bytes_meaning chain options value ≡ box_content (layout array options) (array.grid.chunk_box chunk) value
   content_as None = ap (λ (l : Level). Some (replicate (count_of l.shape) l.fill)) (serves.chunks.level chunk is_chunk)
-  content_as (Some value) = decodes_as value
+  content_as (Some value) = decodes_as options value
 
   -- what was put for the chain was put for the array
-  is_put : (decode other : List ℕ → Option (List Element)) → ((value : List ℕ) → decode value ≡ other value) → (drops : Bool) (list : List Element) (value : Option (List ℕ)) → put.IsPut decode drops list value → put.IsPut other drops list value
+  is_put : (decode other : put.Decoding) → ((under : Options) (value : List ℕ) → decode under value ≡ other under value) → (drops : Bool) (list : List Element) (value : Option (List ℕ)) →
+      put.IsPut decode drops list value → put.IsPut other drops list value
   is_put decode other same true list value here = here
   is_put decode other same false list None here = here
-  is_put decode other same false list (Some value) here = sym (same value) ∙ here
+  is_put decode other same false list (Some value) here = λ under. sym (same under value) ∙ here under
 
-  holds : (decode other : List ℕ → Option (List Element)) → ((value : List ℕ) → decode value ≡ other value) → (list : List Element) (value : Option (List ℕ)) → put.HoldsList decode list value → put.HoldsList other list value
-  holds decode other same list None here = here
-  holds decode other same list (Some value) here = sym (same value) ∙ here
+  put_as : (list : List Element) (value : Option (List ℕ)) → put.IsPut chain_decodes (put.is_dropped options (first_level chain) list) list value →
+      put.IsPut (decode_at array chunk) (is_dropped array options list) list value
+  put_as list value here = is_put chain_decodes (decode_at array chunk) decodes_as (is_dropped array options list) list value
+      (subst (λ (l : Level). put.IsPut chain_decodes (put.is_dropped options l list) list value) (serves.chunks.level chunk is_chunk) here)
 
   pub puts_as : (list : List Element) (old new : Content) (key : List ℕ) →
-      put.PutsChunk (decoded array_meaning list_meaning bytes_meaning chain options) (put.is_dropped options (first_level chain) list) list old new key →
-      PutsElements array options chunk list old new key
-  puts_as list old new key puts = record {
-    here = is_put (decoded array_meaning list_meaning bytes_meaning chain options) (decode_at array options chunk) decodes_as (is_dropped array options list) list (new key)
-        (subst (λ (l : Level). put.IsPut (decoded array_meaning list_meaning bytes_meaning chain options) (put.is_dropped options l list) list (new key)) (serves.chunks.level chunk is_chunk) puts.here);
-    others = puts.others;
-  }
+      put.PutsChunk chain_decodes (put.is_dropped options (first_level chain) list) list old new key → PutsElements array options chunk list old new key
+  puts_as list old new key puts = record { here = put_as list (new key) puts.here; others = puts.others }
 
   pub may_put_as : (list : List Element) (old new : Content) (key : List ℕ) →
-      put.MayPutChunk (decoded array_meaning list_meaning bytes_meaning chain options) list old new key → MayPutElements array options chunk list old new key
+      put.MayPutChunk chain_decodes (put.is_dropped options (first_level chain) list) list old new key → MayPutElements array options chunk list old new key
   may_put_as list old new key puts = record {
     here = ⊎_elim
         (λ (kept : new key ≡ old key). inl kept)
-        (λ (other : put.HoldsList (decoded array_meaning list_meaning bytes_meaning chain options) list (new key) ⊎ (new key ≡ None)). ⊎_elim
-        (λ (held : put.HoldsList (decoded array_meaning list_meaning bytes_meaning chain options) list (new key)).
-        inr (inl (holds (decoded array_meaning list_meaning bytes_meaning chain options) (decode_at array options chunk) decodes_as list (new key) held)))
+        (λ (other : put.IsPut chain_decodes (put.is_dropped options (first_level chain) list) list (new key) ⊎ (new key ≡ None)). ⊎_elim
+        (λ (here : put.IsPut chain_decodes (put.is_dropped options (first_level chain) list) list (new key)). inr (inl (put_as list (new key) here)))
         (λ (gone : new key ≡ None). inr (inr gone))
         other)
         puts.here;

@@ -1,18 +1,25 @@
 -- Changing some chunks, one after another.
-use Rattle.std.proofs.Common.{◌≡◌, ℕ, ◌+◌, ◌^◌, ◌-◌, ◌<◌, ◌≤◌, ◌||◌, not, List, length, slice_get, Some, None, IsSome, is_some, refl, sym, ap, ◌∙◌, subst, arith, ◌⊎◌, inl, inr, ⊎_elim, le_trans}
+use Rattle.std.proofs.Common.{◌≡◌, ℕ, ◌+◌, ◌^◌, ◌-◌, ◌<◌, ◌≤◌, List, length, slice_get, Some, None, IsSome, is_some, refl, sym, ap, ◌∙◌, subst, arith, ◌⊎◌, inl, inr, ⊎_elim, le_trans}
 use Rattle.std.proofs.lemmas.Bool.{cases_eq}
 use Rattle.std.proofs.lemmas.Option.{same_Some, slice_get_within}
-use Rattle.zarr_model.specs.Prelude.{Region, Element, Array, Grid, IsChunk, chunks_meeting, Options, Content, Layout, IsSound, box_content, chunk_content, Shown, read, Description, layout, counted, present_in, is_blank, ChunkHas}
+use Rattle.zarr_model.specs.Prelude.{Region, Element, Array, Grid, IsChunk, chunks_meeting, Options, Content, Layout, IsSound, box_content, chunk_content, Shown, read, Description, layout, counted, ChunkHas}
 use Rattle.zarr_model.proofs.FailureLaws.{meeting_is, chunks_under-once}
 use Rattle.zarr_array_regions.specs.declared.error.SessionErrorKind.{SessionErrorKind}
 use Rattle.zarr_array_regions.specs.declared.error.SessionErrorKind.TheVariants.{OutOfMemory}
-use Rattle.zarr_array_regions.specs.Write.{ChangesChunk, FailsToChange}
+use Rattle.zarr_array_regions.specs.Write.{HoldsChunk, ChangesChunk, FailsToChange}
 use Rattle.zarr_array_regions.specs.PartWay.{ChangedSome, FailsPartWay}
 
 -- a chunk whose key holds the same has the same content
 pub content-same : {E : Type 0} (place : Layout E) (old new : Content) (chunk : List ℕ) → new (place.key chunk) ≡ old (place.key chunk) →
     chunk_content place new chunk ≡ chunk_content place old chunk
 content-same place old new chunk same = ap (box_content place (place.grid.chunk_box chunk)) same
+
+holds-same : (description : Description) (options : Options) (array : Array Element) (chunk : List ℕ) (old new : Content) → new (description.key chunk) ≡ old (description.key chunk) →
+    HoldsChunk description options array chunk old → HoldsChunk description options array chunk new
+holds-same description options array chunk old new same holds = record {
+  has = λ under. content-same (layout description under) old new chunk same ∙ holds.has under;
+  present = ap is_some same ∙ holds.present;
+}
 
 module _ (description : Description) (options : Options) (sound : IsSound (layout description options)) (change : Array Element → Array Element) (chunks : List (List ℕ))
     (are_chunks : (place : ℕ) (chunk : List ℕ) → slice_get chunks place ≡ Some chunk → IsChunk description.grid chunk) where
@@ -30,9 +37,8 @@ module _ (description : Description) (options : Options) (sound : IsSound (layou
   pub changed-start : (store : Shown) → store.asks ≤ 2 ^ 64 - 1 → ChangedSome description options change chunks 0 store store
   changed-start store fits = record {
     decoded = λ place chunk h e. absurd (omega (arith, h));
-    mended = λ place chunk h e. absurd (omega (arith, h));
-    has = λ array place chunk is_fill h e was. absurd (omega (arith, h));
-    present = λ array place chunk is_fill h e was. absurd (omega (arith, h));
+    mended = λ place chunk h e under. absurd (omega (arith, h));
+    holds = λ array place chunk is_fill h e was. absurd (omega (arith, h));
     others = λ key apart. refl;
     asks = omega arith;
     later = omega arith;
@@ -80,17 +86,12 @@ module _ (description : Description) (options : Options) (sound : IsSound (layou
       decoded = λ place other h e. at place other h e (IsSome (chunk_content (layout description options) old.content other))
           (λ same. subst (λ c. IsSome (chunk_content (layout description options) old.content c)) same (subst IsSome (content-same (layout description options) old.content mid.content chunk was) changes.decoded))
           (λ below apart. changed.decoded place other below e);
-      mended = λ place other h e. at place other h e (IsSome (chunk_content (layout description options) new.content other))
-          (λ same. subst (λ c. IsSome (chunk_content (layout description options) new.content c)) same changes.mended)
-          (λ below apart. subst IsSome (sym (content-same (layout description options) mid.content new.content other apart)) (changed.mended place other below e));
-      has = λ array place other is_fill h e had. at place other h e (ChunkHas (layout description options) new.content (change array) other)
-          (λ same. subst (ChunkHas (layout description options) new.content (change array)) same (changes.has array is_fill (had_then array other same had)))
-          (λ below apart. content-same (layout description options) mid.content new.content other apart ∙ changed.has array place other is_fill below e had);
-      present = λ array place other is_fill h e had.
-          at place other h e (present_in description new.content other ≡ (options.store_empty_chunks || not (is_blank description (change array) other)))
-          (λ same. subst (λ c. present_in description new.content c ≡ (options.store_empty_chunks || not (is_blank description (change array) c))) same
-          (changes.present array is_fill (had_then array other same had)))
-          (λ below apart. ap is_some apart ∙ changed.present array place other is_fill below e had);
+      mended = λ place other h e under. at place other h e (IsSome (chunk_content (layout description under) new.content other))
+          (λ same. subst (λ c. IsSome (chunk_content (layout description under) new.content c)) same (changes.mended under))
+          (λ below apart. subst IsSome (sym (content-same (layout description under) mid.content new.content other apart)) (changed.mended place other below e under));
+      holds = λ array place other is_fill h e had. at place other h e (HoldsChunk description options (change array) other new.content)
+          (λ same. subst (λ c. HoldsChunk description options (change array) c new.content) same (changes.holds array is_fill (had_then array other same had)))
+          (λ below apart. holds-same description options (change array) other mid.content new.content apart (changed.holds array place other is_fill below e had));
       others = λ key apart.
           changes.others key (apart k chunk (omega arith) here)
           ∙ changed.others key (λ place other h e. apart place other (omega (arith, h)) e);

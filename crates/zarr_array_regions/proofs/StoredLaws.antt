@@ -10,9 +10,9 @@ use Rattle.zarrs_storage.specs.Store.{IsFault, IsPlain}
 use Rattle.zarrs_storage.specs.declared.store.StorageError.{StorageError}
 use Rattle.zarrs_storage.specs.declared.store.StorageError.TheVariants as Storage
 use Rattle.zarrs_codec_bytes.specs.Overlap.{Copied}
-use Rattle.zarr_chain_stored.specs.Put.{HoldsList, IsPut, PutsChunk, MayPutChunk}
-use Rattle.zarr_array_regions.specs.Chunk.{is_dropped, storage_kind}
-use Rattle.zarr_array_regions.specs.Write.{ChangesChunk, FailsToChange}
+use Rattle.zarr_chain_stored.specs.Put.{Decoding, IsPut, PutsChunk, MayPutChunk}
+use Rattle.zarr_array_regions.specs.Chunk.{is_dropped, decode_at, storage_kind}
+use Rattle.zarr_array_regions.specs.Write.{HoldsChunk, ChangesChunk, FailsToChange}
 
 -- elements that are all the same
 same_is : (x y : Element) → same_element x y ≡ true → x ≡ y
@@ -62,20 +62,17 @@ some_one : {A : Type 0} {a b : A} → Some a ≡ Some b → a ≡ b
 some_one e = cc
 
 -- what was put stands for the elements, and is there exactly where it was not dropped
-put-content : (place : Layout Element) (box : Region) (drops : Bool) (list : List Element) (value : Option (List ℕ)) →
-    (drops ≡ true → list ≡ replicate (count box) place.fill) → IsPut (place.decode (sizes box)) drops list value → box_content place box value ≡ Some list
-put-content place box true list value all put = ap (box_content place box) put ∙ ap Some (sym (all refl))
-put-content place box false list None all put = absurd put
-put-content place box false list (Some value) all put = put
+put-content : (description : Description) (chunk : List ℕ) (under : Options) (drops : Bool) (list : List Element) (value : Option (List ℕ)) →
+    (drops ≡ true → list ≡ replicate (count (description.grid.chunk_box chunk)) description.fill) → IsPut (decode_at description chunk) drops list value →
+    box_content (layout description under) (description.grid.chunk_box chunk) value ≡ Some list
+put-content description chunk under true list value all put = ap (box_content (layout description under) (description.grid.chunk_box chunk)) put ∙ ap Some (sym (all refl))
+put-content description chunk under false list None all put = absurd put
+put-content description chunk under false list (Some value) all put = put under
 
-put-there : (decode : List ℕ → Option (List Element)) (drops : Bool) (list : List Element) (value : Option (List ℕ)) → IsPut decode drops list value → is_some value ≡ not drops
+put-there : (decode : Decoding) (drops : Bool) (list : List Element) (value : Option (List ℕ)) → IsPut decode drops list value → is_some value ≡ not drops
 put-there decode true list value put = ap is_some put
 put-there decode false list None put = absurd put
 put-there decode false list (Some value) put = refl
-
-held-content : (place : Layout Element) (box : Region) (list : List Element) (value : Option (List ℕ)) → HoldsList (place.decode (sizes box)) list value → box_content place box value ≡ Some list
-held-content place box list None holds = absurd holds
-held-content place box list (Some value) holds = holds
 
 not_dropped : (keeps blank : Bool) → not (not keeps && blank) ≡ keeps || not blank
 not_dropped true blank = refl
@@ -114,31 +111,32 @@ module _ (description : Description) (options : Options) (region : Region) (chun
       all_same description.fill list (dropped_blank options.store_empty_chunks (list_all (same_element description.fill) list) dropped)
       ∙ ap (λ n. replicate n description.fill) (copied.as_long ∙ long)
 
-  content_is : (after : Content) → IsPut (place_of.decode (sizes box)) drops list (after key) → chunk_content place_of after chunk ≡ Some list
-  content_is after put = ap (λ k. box_content place_of box (after k)) (sym its_key) ∙ put-content place_of box drops list (after key) all_fill put
+  content_is : (after : Content) (under : Options) → IsPut (decode_at description chunk) drops list (after key) → chunk_content (layout description under) after chunk ≡ Some list
+  content_is after under put = ap (λ k. box_content (layout description under) box (after k)) (sym its_key) ∙ put-content description chunk under drops list (after key) all_fill put
 
-  has_held : (after : Content) (plain : Array Element) → HoldsList (place_of.decode (sizes box)) list (after key) → ChunkHas place_of before.content plain chunk →
-      ChunkHas place_of after (change plain) chunk
-  has_held after plain holds has =
-      ap (λ k. box_content place_of box (after k)) (sym its_key) ∙ (held-content place_of box list (after key) holds ∙ ap Some (now_is plain has))
-
-  pub chunk-changed : (mid after : Content) → ((other : List ℕ) → mid other ≡ before.content other) → PutsChunk (place_of.decode (sizes box)) drops list mid after key →
-      ChangesChunk description options change chunk before.content after
-  chunk-changed mid after same puts = record {
-    decoded = subst IsSome (sym fetched) refl;
-    mended = subst IsSome (sym (content_is after puts.here)) refl;
-    has = λ plain filler has. content_is after puts.here ∙ ap Some (now_is plain has);
-    present = λ plain filler has.
+  holds_put : (after : Content) (plain : Array Element) → plain.fill ≡ description.fill → IsPut (decode_at description chunk) drops list (after key) → ChunkHas place_of before.content plain chunk →
+      HoldsChunk description options (change plain) chunk after
+  holds_put after plain filler put has = record {
+    has = λ under. content_is after under put ∙ ap Some (now_is plain has);
+    present =
         ap (λ k. is_some (after k)) (sym its_key)
-        ∙ (put-there (place_of.decode (sizes box)) drops list (after key) puts.here
+        ∙ (put-there (decode_at description chunk) drops list (after key) put
         ∙ (not_dropped options.store_empty_chunks (list_all (same_element description.fill) list)
         ∙ ap (λ t. options.store_empty_chunks || not t)
         (ap₂ (λ f l. list_all (same_element f) l) (sym filler) (now_is plain has))));
+  }
+
+  pub chunk-changed : (mid after : Content) → ((other : List ℕ) → mid other ≡ before.content other) → PutsChunk (decode_at description chunk) drops list mid after key →
+      ChangesChunk description options change chunk before.content after
+  chunk-changed mid after same puts = record {
+    decoded = subst IsSome (sym fetched) refl;
+    mended = λ under. subst IsSome (sym (content_is after under puts.here)) refl;
+    holds = λ plain filler has. holds_put after plain filler puts.here has;
     others = λ other apart. puts.others other (λ e. apart (e ∙ its_key)) ∙ same other;
   }
 
   pub chunk-stops : (mid now : Shown) (error : StorageError) → ((other : List ℕ) → mid.content other ≡ before.content other) →
-      MayPutChunk (place_of.decode (sizes box)) list mid.content now.content key →
+      MayPutChunk (decode_at description chunk) drops list mid.content now.content key →
       (error ≡ Storage.OutOfMemory → (other : List ℕ) → now.content other ≡ mid.content other) → (IsFault error → Rose mid.faults now.faults) → before.faults ≤ mid.faults → IsPlain error →
       FailsToChange description options change chunk before now (storage_kind error)
   chunk-stops mid now (Storage.InvalidByteRange range) same puts memory rose later plain = absurd plain
@@ -148,8 +146,8 @@ module _ (description : Description) (options : Options) (region : Region) (chun
     record {
       here = λ plain filler has. ⊎_elim
           (λ (kept : now.content key ≡ mid.content key). inl (ap now.content (sym its_key) ∙ (kept ∙ (same key ∙ ap before.content its_key))))
-          (λ (other : HoldsList (place_of.decode (sizes box)) list (now.content key) ⊎ (now.content key ≡ None)). ⊎_elim
-          (λ (new : HoldsList (place_of.decode (sizes box)) list (now.content key)). inr (inl (has_held now.content plain new has)))
+          (λ (other : IsPut (decode_at description chunk) drops list (now.content key) ⊎ (now.content key ≡ None)). ⊎_elim
+          (λ (put : IsPut (decode_at description chunk) drops list (now.content key)). inr (inl (holds_put now.content plain filler put has)))
           (λ (gone : now.content key ≡ None). inr (inr (ap now.content (sym its_key) ∙ gone)))
           other)
           puts.here;

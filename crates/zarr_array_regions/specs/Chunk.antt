@@ -16,21 +16,22 @@ is_dropped array options list =
     not options.store_empty_chunks && list_all (same_element array.fill) list
 
 -- what the value of a chunk decodes to
-abbrev pub decode_at : Description → Options → List ℕ → List ℕ → Option (List Element)
-decode_at array options chunk value =
-    (layout array options).decode (sizes (array.grid.chunk_box chunk)) value
+abbrev pub decode_at : Description → List ℕ → Options → List ℕ → Option (List Element)
+decode_at array chunk under value =
+    (layout array under).decode (sizes (array.grid.chunk_box chunk)) value
 
--- a chunk was put under a key: absent where it is dropped, else by a value that decodes to it
+-- a chunk was put under a key: absent where it is dropped, else by a value that decodes to it under
+-- all options
 abbrev pub PutsElements : Description → Options → List ℕ → List Element → Content → Content
     → List ℕ → Type 0
 PutsElements array options chunk list old new key =
-    PutsChunk (decode_at array options chunk) (is_dropped array options list) list old new key
+    PutsChunk (decode_at array chunk) (is_dropped array options list) list old new key
 
 -- the same of a call that failed: the key may be as before or absent
 abbrev pub MayPutElements : Description → Options → List ℕ → List Element → Content → Content
     → List ℕ → Type 0
 MayPutElements array options chunk list old new key =
-    MayPutChunk (decode_at array options chunk) list old new key
+    MayPutChunk (decode_at array chunk) (is_dropped array options list) list old new key
 
 -- an error of the store as one of a session, which reads no ranges
 abbrev pub storage_kind : StorageError → SessionErrorKind

@@ -1,13 +1,13 @@
 -- What changing some chunks, one after another, does to a store.
-use Rattle.std.specs.Prelude.{◌≡◌, ◌+◌, ◌<◌, ◌≤◌, ◌||◌, ◌⊎◌, not, ℕ, List, length, slice_get, Some, IsSome}
-use Rattle.zarr_model.specs.Prelude.{Region, Element, ArrayBytes, Array, Options, chunk_content, chunks_meeting, Shown, Description, layout, counted, present_in, is_blank, ChunkHas}
+use Rattle.std.specs.Prelude.{◌≡◌, ◌+◌, ◌<◌, ◌≤◌, ◌⊎◌, ℕ, List, length, slice_get, Some, IsSome}
+use Rattle.zarr_model.specs.Prelude.{Region, Element, ArrayBytes, Array, Options, chunk_content, chunks_meeting, Shown, Description, layout, counted, ChunkHas}
 use Rattle.zarr_array_parts.specs.Parts.{documented, described}
 use Rattle.zarr_array_parts.specs.declared.parts.ArrayParts.{ArrayParts}
 use Rattle.zarr_array_regions.specs.declared.error.CommandError.{CommandError}
 use Rattle.zarr_array_regions.specs.declared.error.SessionErrorKind.{SessionErrorKind}
 use Rattle.zarr_array_regions.specs.declared.error.SessionErrorKind.TheVariants.{OutOfMemory}
 use Rattle.zarr_array_regions.specs.Told.{TellsWhy}
-use Rattle.zarr_array_regions.specs.Write.{change_of, FailsToChange}
+use Rattle.zarr_array_regions.specs.Write.{HoldsChunk, change_of, FailsToChange}
 
 -- the first k of some chunks were changed, with one reading call for each, and no other key was
 pub record ChangedSome (description : Description) (options : Options) (change : Array Element →
@@ -16,18 +16,11 @@ pub record ChangedSome (description : Description) (options : Options) (change :
   pub decoded : (place : ℕ) (chunk : List ℕ) → place < k → slice_get chunks place ≡ Some chunk →
       IsSome (chunk_content (layout description options) before.content chunk)
   pub mended : (place : ℕ) (chunk : List ℕ) → place < k → slice_get chunks place ≡ Some chunk →
-      IsSome (chunk_content (layout description options) now.content chunk)
-  pub has : (array : Array Element) (place : ℕ) (chunk : List ℕ) → array.fill ≡ description.fill →
-      place < k →
-      slice_get chunks place ≡ Some chunk →
+      (under : Options) → IsSome (chunk_content (layout description under) now.content chunk)
+  pub holds : (array : Array Element) (place : ℕ) (chunk : List ℕ) →
+      array.fill ≡ description.fill → place < k → slice_get chunks place ≡ Some chunk →
       ChunkHas (layout description options) before.content array chunk →
-      ChunkHas (layout description options) now.content (change array) chunk
-  pub present : (array : Array Element) (place : ℕ) (chunk : List ℕ) →
-      array.fill ≡ description.fill → place < k →
-      slice_get chunks place ≡ Some chunk →
-      ChunkHas (layout description options) before.content array chunk →
-      present_in description now.content chunk
-      ≡ (options.store_empty_chunks || not (is_blank description (change array) chunk))
+      HoldsChunk description options (change array) chunk now.content
   pub others : (key : List ℕ) → ((place : ℕ) (chunk : List ℕ) → place < k →
       slice_get chunks place ≡ Some chunk →
       ¬ (key ≡ description.key chunk)) → now.content key ≡ before.content key

@@ -13,7 +13,8 @@ use Rattle.zarr_array_regions.specs.Codecs.{IsChainOf}
 abbrev pub chunk_at : RegionChunks → ℕ → List ℕ
 chunk_at met number = tuple_at (region met.chunks) number
 
--- the region lies inside the array, these are the chunks that it meets, and the chain is the array's
+-- the region lies inside the array, these are the chunks that it meets, and the chain is the
+-- array's
 pub record AreMet (met : RegionChunks) : Type 0 where
   pub inside : ends_within (region met.subset.now) (described met.array.now).shape ≡ true
   pub listed : tuples (region met.chunks)

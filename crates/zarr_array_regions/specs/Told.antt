@@ -30,8 +30,8 @@ level_under (c ∷ codecs) level = level_under codecs ((array_codec_of c).level_
 abbrev pub to_bytes_says : Plain → Level → List ℕ → CodecError → Type 0
 to_bytes_says codec level value e = says_by codec (count_of level.shape) level.data_type value e
 
--- the same of a document's chain for the value of a chunk: those of the first codec, in the order of
--- decoding, that gives nothing
+-- the same of a document's chain for the value of a chunk: those of the first codec, in the order
+-- of decoding, that gives nothing
 abbrev pub value_says : ArrayDocument → Options → List ℕ → List ℕ → CodecError → Type 0
 value_says document options chunk value e =
     said_at (decode_bytes (map (byte_codec_of options) document.byte_codecs) value)

@@ -8,20 +8,23 @@ use Rattle.zarr_array_regions.specs.declared.error.SessionErrorKind.{SessionErro
 use Rattle.zarr_array_regions.specs.declared.error.SessionErrorKind.TheVariants.{NotOpened, ChunkDecode, Store, OutOfMemory}
 use Rattle.zarr_array_regions.specs.Told.{TellsWhy}
 
--- A chunk was changed: it has the changed array's elements, for each array that it had, and is
--- absent exactly where these are all fill and such chunks are not stored.
+-- a chunk has an array's elements under all options, and is absent exactly where these are all fill
+-- and such chunks are not stored
+pub record HoldsChunk (description : Description) (options : Options) (array : Array Element)
+    (chunk : List ℕ) (store : Content) : Type 0 where
+  pub has : (under : Options) → ChunkHas (layout description under) store array chunk
+  pub present : present_in description store chunk
+      ≡ (options.store_empty_chunks || not (is_blank description array chunk))
+
+-- a chunk was changed: it holds the changed array's elements, for each array that it had
 pub record ChangesChunk (description : Description) (options : Options) (change : Array Element →
     Array Element)
     (chunk : List ℕ) (old new : Content) : Type 0 where
   pub decoded : IsSome (chunk_content (layout description options) old chunk)
-  pub mended : IsSome (chunk_content (layout description options) new chunk)
-  pub has : (array : Array Element) → array.fill ≡ description.fill →
+  pub mended : (under : Options) → IsSome (chunk_content (layout description under) new chunk)
+  pub holds : (array : Array Element) → array.fill ≡ description.fill →
       ChunkHas (layout description options) old array chunk →
-      ChunkHas (layout description options) new (change array) chunk
-  pub present : (array : Array Element) → array.fill ≡ description.fill →
-      ChunkHas (layout description options) old array chunk →
-      present_in description new chunk ≡ (options.store_empty_chunks
-      || not (is_blank description (change array) chunk))
+      HoldsChunk description options (change array) chunk new
   pub others : (key : List ℕ) → ¬ (key ≡ description.key chunk) → new key ≡ old key
 
 -- the store failed while a chunk was changed: its key is old, new or absent
@@ -31,7 +34,7 @@ pub record StopsChunk (description : Description) (options : Options) (change : 
   pub here : (array : Array Element) → array.fill ≡ description.fill →
       ChunkHas (layout description options) old array chunk →
       (new (description.key chunk) ≡ old (description.key chunk))
-      ⊎ (ChunkHas (layout description options) new (change array) chunk
+      ⊎ (HoldsChunk description options (change array) chunk new
       ⊎ (new (description.key chunk) ≡ None))
   pub others : (key : List ℕ) → ¬ (key ≡ description.key chunk) → new key ≡ old key
 

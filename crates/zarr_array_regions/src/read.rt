@@ -113,8 +113,8 @@ impl RegionChunks<'_> {
     }
 }
 
-/// The elements of a region inside an array, in row-major order, which have room. The room for them is taken first, and
-/// then each chunk that the region meets is asked for once.
+/// The elements of a region inside an array, in row-major order, which have room. Each chunk that the region meets is
+/// asked for once, in row-major order; the room for all elements is taken before the first where they are of one size.
 ///
 /// # Errors
 /// What a chunk's value or the store told, or want of memory, and how many chunks were finished.

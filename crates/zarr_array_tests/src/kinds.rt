@@ -5,8 +5,10 @@ use std::alloc::Global;
 use std::borrow::CowSlice;
 use std::process::Abort;
 use std::test::Fail;
+use zarr_array::command::Command;
 use zarr_array::open::OpenArray;
-use zarr_array::{CodecOptions, Reply};
+use zarr_array::session::run_session;
+use zarr_array::{CodecOptions, Reply, builtin_registries};
 use zarrs_codec_array_bytes::{ArrayBytes, ArrayBytesOffsets};
 use zarrs_storage::memory_store::MemoryStore;
 
@@ -14,9 +16,9 @@ use zarrs_storage::memory_store::MemoryStore;
 const TEXTS: &str =
     r#"{"zarr_format":3,"node_type":"array","shape":[2],"data_type":"string","chunk_grid":{"name":"regular","configuration":{"chunk_shape":[1]}},"chunk_key_encoding":"default","fill_value":"a","codecs":["vlen-utf8"]}"#;
 
-// Three numbers that may be null, in a chunk.
+// Three optional elements of optional numbers, in a chunk.
 const OPTIONAL: &str =
-    r#"{"zarr_format":3,"node_type":"array","shape":[3],"data_type":{"name":"zarrs.optional","configuration":{"name":"uint8","configuration":{}}},"chunk_grid":{"name":"regular","configuration":{"chunk_shape":[3]}},"chunk_key_encoding":"default","fill_value":null,"codecs":[{"name":"zarr_basics.optional","configuration":{"inner":"bytes"}}]}"#;
+    r#"{"zarr_format":3,"node_type":"array","shape":[3],"data_type":{"name":"zarrs.optional","configuration":{"name":"zarrs.optional","configuration":{"name":"uint8","configuration":{}}}},"chunk_grid":{"name":"regular","configuration":{"chunk_shape":[3]}},"chunk_key_encoding":"default","fill_value":null,"codecs":[{"name":"zarr_basics.optional","configuration":{"inner":{"name":"zarr_basics.optional","configuration":{"inner":"bytes"}}}}]}"#;
 
 // Texts between offsets, where these never fall and lie within the bytes.
 fn texts(bytes: &'static [u8], offsets: &'static [usize]) -> Option<ArrayBytes<'static>> {
@@ -39,34 +41,59 @@ fn write(
     Ok(reply)
 }
 
-// The name of the reply to a write of the first elements of a document's array.
+// The name of a session's reply to a write of the first elements of a document's array.
 fn reply_to(
     alloc: Global,
     document: &str,
     number: u64,
-    bytes: &ArrayBytes<'_>,
+    bytes: ArrayBytes<'static>,
 ) -> Result<&'static str, Fail> {
-    let array = opened(alloc, document)?;
+    let registries = builtin_registries(alloc)?;
+    let options = CodecOptions::default();
     let mut store = MemoryStore::new(alloc);
-    match write(alloc, &array, number, bytes, &mut store)? {
-        Reply::Refused(why) => Ok(why.name()),
-        Reply::Done => Ok("done"),
-        Reply::Elements(_) => Ok("elements"),
+    let mut commands = Vec::with_capacity(alloc, 1)?;
+    commands.push(Command::Write(region(alloc, &[0..number])?, bytes))?;
+    let replies = run_session(
+        alloc,
+        document,
+        &registries,
+        &commands,
+        &mut store,
+        &options,
+    )
+    .ok()
+    .ok_or("replies")?;
+    match replies.first() {
+        Some(Reply::Refused(why)) => Ok(why.name()),
+        Some(Reply::Done) => Ok("done"),
+        _ => Ok("another reply"),
     }
 }
 
 // The same of two texts between offsets.
 fn of_texts(alloc: Global, offsets: &'static [usize]) -> Result<&'static str, Fail> {
     match texts(b"abc", offsets) {
-        Some(bytes) => reply_to(alloc, TEXTS, 2, &bytes),
+        Some(bytes) => reply_to(alloc, TEXTS, 2, bytes),
         None => Ok("no offsets"),
     }
 }
 
-// The same of three numbers under a mask.
-fn of_masked(alloc: Global, mask: &'static [u8]) -> Result<&'static str, Fail> {
+// The same of three numbers under two masks, the inner one first.
+fn of_masked(
+    alloc: Global,
+    inner: &'static [u8],
+    outer: &'static [u8],
+) -> Result<&'static str, Fail> {
+    let bytes = ArrayBytes::from(&[7, 8, 9])
+        .with_optional_mask(alloc, CowSlice::Borrowed(inner))?
+        .with_optional_mask(alloc, CowSlice::Borrowed(outer))?;
+    reply_to(alloc, OPTIONAL, 3, bytes)
+}
+
+// The same of three numbers under one mask.
+fn of_numbers(alloc: Global, mask: &'static [u8]) -> Result<&'static str, Fail> {
     let bytes = ArrayBytes::from(&[7, 8, 9]).with_optional_mask(alloc, CowSlice::Borrowed(mask))?;
-    reply_to(alloc, OPTIONAL, 3, &bytes)
+    reply_to(alloc, OPTIONAL, 3, bytes)
 }
 
 #[test]
@@ -77,24 +104,28 @@ fn texts_have_offsets(rt: HostRuntime) -> Result<(), Fail> {
     assert_eq!(rt; of_texts(alloc, &[1, 2, 3])?, wrong);
     assert_eq!(rt; of_texts(alloc, &[0, 3])?, wrong);
     assert_eq!(rt; of_texts(alloc, &[0, 2, 1])?, "no offsets");
-    let fixed = ArrayBytes::from(&[97, 98]);
     assert_eq!(rt;
-        reply_to(alloc, TEXTS, 2, &fixed)?,
+        reply_to(alloc, TEXTS, 2, ArrayBytes::from(&[97, 98]))?,
         "ExpectedVariableLengthBytes"
     );
-    assert_eq!(rt; reply_to(alloc, TEXTS, 3, &fixed)?, "SubsetOutOfBounds");
+    assert_eq!(rt;
+        reply_to(alloc, TEXTS, 3, ArrayBytes::from(&[97, 98]))?,
+        "SubsetOutOfBounds"
+    );
     Ok(())
 }
 
 #[test]
-fn optional_numbers_have_a_mask(rt: HostRuntime) -> Result<(), Fail> {
-    let alloc = rt.alloc();
-    assert_eq!(rt; of_masked(alloc, &[1, 0, 1])?, "done");
-    assert_eq!(rt; of_masked(alloc, &[2, 1, 1])?, "InvalidMask");
-    assert_eq!(rt; of_masked(alloc, &[1, 1])?, "InvalidMask");
-    let fixed = ArrayBytes::from(&[7, 8, 9]);
+fn optional_numbers_have_masks(rt: HostRuntime) -> Result<(), Fail> {
+    let (alloc, wrong) = (rt.alloc(), "InvalidMask");
+    assert_eq!(rt; of_masked(alloc, &[0, 0, 1], &[1, 0, 1])?, "done");
+    assert_eq!(rt; of_masked(alloc, &[0, 0, 1], &[2, 1, 1])?, wrong);
+    assert_eq!(rt; of_masked(alloc, &[0, 0, 1], &[1, 1])?, wrong);
+    assert_eq!(rt; of_masked(alloc, &[0, 0, 2], &[1, 0, 1])?, wrong);
+    assert_eq!(rt; of_numbers(alloc, &[2, 1, 1])?, wrong);
+    assert_eq!(rt; of_numbers(alloc, &[1, 1, 1])?, "ExpectedOptionalBytes");
     assert_eq!(rt;
-        reply_to(alloc, OPTIONAL, 3, &fixed)?,
+        reply_to(alloc, OPTIONAL, 3, ArrayBytes::from(&[7, 8, 9]))?,
         "ExpectedOptionalBytes"
     );
     Ok(())

@@ -1,8 +1,9 @@
 //! Readers of configurations. Each refuses, as `InvalidMetadata`, exactly a configuration that is not of its form.
 
-ghost use Rattle.std.specs.Prelude.{◌≡◌, IsTrue, IfOk, IfSome, IfNone, false, nat_le};
+ghost use Rattle.std.specs.Prelude.{◌≡◌, IsTrue, IfOk, IfErr, IfSome, IfNone, false, nat_le};
 ghost use Rattle.std.specs.List.{list_all};
 ghost use Rattle.serde_json.specs.View.{view};
+ghost use Rattle.zarrs_metadata_values.specs.declared.error.MetadataError.TheVariants as fault;
 ghost use Rattle.zarrs_metadata_parts.specs.Configuration.{configuration_seen};
 ghost use Rattle.zarrs_metadata_parts.specs.MetadataV3.{extension_seen};
 ghost use Rattle.zarrs_metadata_parts.specs.Reading.{Reads};
@@ -38,8 +39,9 @@ pub fn only_member<'a>(
     configuration: &'a Configuration,
     name: &str,
 ) -> Result<&'a Value, MetadataError>
-    ensures { Reads (λ v. view v.now) result
+    ensures value { Reads (λ v. view v.now) result
         (only_member name.now (configuration_seen configuration.now)) }
+    ensures form { IfErr result (λ e. e ≡ fault.InvalidMetadata) }
 {
     let mut members = configuration.as_map().iter();
     let Some((key, value)) = members.next() else {

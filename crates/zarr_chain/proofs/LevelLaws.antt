@@ -1,5 +1,5 @@
 -- What levels give over what lies below them.
-use Rattle.std.proofs.Common.{◌≡◌, true, false, ℕ, zero, suc, List, [], ◌∷◌, drop, take, ◌++◌, Option, Some, None, IsSome, option_and_then, refl, sym, ap, ◌∙◌, ◌*◌, ◌⊎◌, ⊎_elim, is_some, subst}
+use Rattle.std.proofs.Common.{◌≡◌, true, false, ℕ, zero, suc, List, [], ◌∷◌, drop, take, ◌++◌, Option, Some, None, IsSome, option_and_then, refl, sym, ap, ◌∙◌, ◌*◌, ◌⊎◌, ◌≤◌, arith, ⊎_elim, is_some, subst}
 use Rattle.zarrs_data_type_elements.specs.FillValue.{fill_bytes}
 use Rattle.zarr_model.specs.Element.{Element}
 use Rattle.zarr_model.specs.Codec.{Level, ArrayCodec, decode_bytes, decode_levels, decode_chain}
@@ -191,3 +191,14 @@ module _ {A : Type 0} (meaning : A → ArrayCodec) (unserved : Serving A) (botto
       decode_chain (record { array_codecs = array_codecs meaning steps; to_elements = to_elements; byte_codecs = codecs }) (top steps bottom) value ≡ Some list
   chain-back steps to_elements codecs value bytes o list links first next above_is =
       ap (option_and_then (decode_levels (array_codecs meaning steps) to_elements (top steps bottom))) first ∙ (sym (levels-decode steps to_elements bytes links) ∙ (ap (elements_above meaning steps) next ∙ above_is))
+
+-- no level below has more elements
+pub fewer_below : {A : Type 0} (meaning : A → ArrayCodec) (unserved : Serving A)
+    → ((codec : A) (level : Level) (fill : List ℕ) → unserved_at (unserved codec) level fill ≡ None → count_of ((meaning codec).level_below level).shape ≤ count_of level.shape)
+    → (steps : List (CodecLevel A)) (bottom : Level) → AreLinked meaning unserved steps bottom → count_of bottom.shape ≤ count_of (top steps bottom).shape
+fewer_below meaning unserved keeps [] bottom linked = omega arith
+fewer_below meaning unserved keeps (step ∷ steps) bottom linked =
+    let rest : count_of bottom.shape ≤ count_of (top steps bottom).shape = fewer_below meaning unserved keeps steps bottom linked.1 in
+    let here : count_of (top steps bottom).shape ≤ count_of (above step).shape =
+    subst (λ (level : Level). count_of level.shape ≤ count_of (above step).shape) linked.0.below (keeps step.codec (above step) (fill_bytes step.fill_value) linked.0.served) in
+    omega (arith, rest, here)

@@ -10,8 +10,8 @@ use Rattle.zarrs_codec_traits.specs.Words.{list_at}
 use Rattle.zarr_chain.specs.declared.level.CodecLevel.{CodecLevel}
 use Rattle.zarr_chain.specs.Levels.{elements_above}
 
--- array bytes at the bottom stand for a list of the first level; with no codec above the bottom they
--- are the very bytes that are encoded
+-- array bytes at the bottom stand for a list of the first level; with no codec above the bottom
+-- they are the very bytes that are encoded
 pub record StandFor {A : Type 0} (meaning : A → ArrayCodec) (steps : List (CodecLevel A))
     (bottom : Level) (list : List Element) (bytes below : ArrayBytes) : Type 0 where
   pub means : elements_above meaning steps (list_at bottom below) ≡ Some list

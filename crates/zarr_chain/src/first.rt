@@ -1,10 +1,12 @@
 //! The first level of a chain: that of a chunk.
 
-ghost use Rattle.std.specs.Prelude.{◌≡◌};
+ghost use Rattle.std.specs.Prelude.{◌≡◌, ◌<◌, ◌^◌};
+ghost use Rattle.zarr_model.specs.Region.{count_of};
 ghost use Rattle.zarrs_data_type_elements.specs.FillValue.{fill_bytes};
 ghost use Rattle.zarrs_data_type_names.specs.DataType.{type_of};
 ghost use Rattle.zarrs_codec_traits.specs.Views.{lengths};
-ghost use Rattle.zarr_chain.specs.Chain.{first_level, first_fill};
+ghost use Rattle.zarr_chain.specs.Levels.{above};
+ghost use Rattle.zarr_chain.specs.Chain.{IsServed, first_level, first_fill};
 
 use crate::chain::CodecChain;
 use std::num::NonZeroU64;
@@ -48,4 +50,11 @@ impl<A: ArrayToArrayCodecTraits, B: ArrayToBytesCodecTraits, C: BytesToBytesCode
             Some(level) => &level.fill_value,
         }
     }
+
+    /// No codec above the bottom adds elements, so a chunk of fewer than 2^32 has all its short elements taken there.
+    pub fn takes_few(&self)
+        requires { IsServed A.meaning A.unserved B.unserved self.now }
+        ensures { count_of (first_level self.now).shape < 2 ^ 32
+            → B.takes self.now.bottom.codec (above self.now.bottom) }
+    {}
 }

@@ -1,5 +1,5 @@
--- When a chunk is blank.
-use Rattle.std.proofs.Common.{◌≡◌, ◌↔◌, ℕ, zero, suc, ◌*◌, ◌<◌, ◌≤◌, Bool, false, true, List, [], ◌∷◌, length, replicate, refl, sym, ap, ap₂, ◌∙◌, IsTrue, arith}
+-- When a chunk is blank, and what a value that was set leaves of one.
+use Rattle.std.proofs.Common.{◌≡◌, ◌↔◌, ◌⊎◌, inl, inr, ⊎_elim, ℕ, zero, suc, ◌*◌, ◌<◌, ◌≤◌, Bool, false, true, List, [], ◌∷◌, length, replicate, Some, None, Result, Ok, Err, OnOk, OnErr, refl, sym, ap, ap₂, ◌∙◌, subst₂, IsTrue, arith}
 use Rattle.std.specs.List.{list_all}
 use Rattle.std.proofs.Math.Nat.{mul-le-mul_right}
 use Rattle.std.proofs.lemmas.Bool.{and_parts, and_from}
@@ -7,9 +7,13 @@ use Rattle.std.proofs.lemmas.Slice.Eq.{bytes_eq-Decides}
 use Rattle.std.specs.declared.num.NonZeroU64.{NonZeroU64}
 use Rattle.zarr_model.specs.Region.{count_of}
 use Rattle.zarr_model.specs.Element.{Element, of_bytes, null, some, same_element}
+use Rattle.zarr_model.specs.Codec.{Options}
+use Rattle.zarr_model.specs.Store.{Content}
+use Rattle.zarr_model.specs.Outside.{PutsKey, MayPutKey}
 use Rattle.zarrs_codec_traits.specs.Views.{lengths}
 use Rattle.zarr_chain.specs.declared.level.CodecLevel.{CodecLevel}
 use Rattle.zarr_chain.specs.Levels.{above, top}
+use Rattle.zarr_chain_stored.specs.Put.{Decoding, IsPut, PutsChunk, MayPutChunk}
 
 -- two elements are the same exactly where the test says so
 same_is : (x y : Element) → same_element x y ≡ true → x ≡ y
@@ -58,3 +62,25 @@ lengths_some (n ∷ shape) = product_some n.value (count_of (lengths shape)) n.o
 pub chunk_some : {A B : Type 0} (steps : List (CodecLevel A)) (bottom : CodecLevel B) → 0 < count_of (top steps (above bottom)).shape
 chunk_some [] bottom = lengths_some bottom.shape.items
 chunk_some (step ∷ steps) bottom = lengths_some step.shape.items
+
+-- a chunk that is not dropped was put where its value was set
+module _ (decode : Decoding) (answer drops : Bool) (list : List Element) (value : List ℕ) (tells : answer ≡ drops) (kept : answer ≡ false) (decodes : (under : Options) → decode under value ≡ Some list) (old new : Content) (key : List ℕ) where
+  put_here : new key ≡ Some value → IsPut decode drops list (new key)
+  put_here is = subst₂ (λ d o. IsPut decode d list o) (sym kept ∙ tells) (sym is) decodes
+
+  pub set_puts : {T E : Type 0} (r : Result T E) → OnOk r (PutsKey old new key (Some value)) → OnOk r (PutsChunk decode drops list old new key)
+  set_puts (Ok v) puts = record { here = put_here puts.here; others = puts.others }
+  set_puts (Err e) puts = tt
+
+  pub set_may_put : {T E : Type 0} (r : Result T E) → OnErr r (MayPutKey old new key (Some value)) → OnErr r (MayPutChunk decode drops list old new key)
+  set_may_put (Ok v) puts = tt
+  set_may_put (Err e) puts = record {
+    here = ⊎_elim
+        (λ (same : new key ≡ old key). inl same)
+        (λ (other : (new key ≡ Some value) ⊎ (new key ≡ None)). ⊎_elim
+        (λ (is : new key ≡ Some value). inr (inl (put_here is)))
+        (λ (gone : new key ≡ None). inr (inr gone))
+        other)
+        puts.here;
+    others = puts.others;
+  }

@@ -5,20 +5,21 @@ use Rattle.zarr_model.specs.Element.{Element}
 use Rattle.zarr_model.specs.Store.{Content}
 use Rattle.zarrs_codec_bytes.specs.Picking.{replaced}
 use Rattle.zarrs_codec_array_bytes.specs.Selection.{linear}
-use Rattle.zarr_chain_stored.specs.Put.{PutsChunk, MayPutChunk}
+use Rattle.zarr_chain_stored.specs.Put.{Decoding, PutsChunk, MayPutChunk}
 
 -- the elements of a shape with those of a box inside it replaced
 abbrev pub with_box : List ℕ → Region → List Element → List Element → List Element
 with_box shape box new old = replaced (linear shape (tuples box)) new old
 
 -- a chunk that has elements was put
-abbrev pub UpdatesChunk : (List ℕ → Option (List Element)) → (List Element → Bool)
-    → Option (List Element) → Content → Content → List ℕ → Type 0
+abbrev pub UpdatesChunk : Decoding → (List Element → Bool) → Option (List Element) → Content
+    → Content → List ℕ → Type 0
 UpdatesChunk decode drops None old new key = ⊥
 UpdatesChunk decode drops (Some list) old new key = PutsChunk decode (drops list) list old new key
 
 -- the same of a call that failed: a chunk without elements is as before
-abbrev pub MayUpdateChunk : (List ℕ → Option (List Element)) → Option (List Element) → Content
+abbrev pub MayUpdateChunk : Decoding → (List Element → Bool) → Option (List Element) → Content
     → Content → List ℕ → Type 0
-MayUpdateChunk decode None old new key = (other : List ℕ) → new other ≡ old other
-MayUpdateChunk decode (Some list) old new key = MayPutChunk decode list old new key
+MayUpdateChunk decode drops None old new key = (other : List ℕ) → new other ≡ old other
+MayUpdateChunk decode drops (Some list) old new key =
+    MayPutChunk decode (drops list) list old new key

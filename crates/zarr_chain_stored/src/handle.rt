@@ -122,8 +122,7 @@ impl<
         ensures ok { let level = first_level self.old.chain in
             let under = options_of options.now in (new : List Element)
             → list_at (at_box (box_of region.now) level) (raw_of bytes.now) ≡ Some new
-            → OnOk result (UpdatesChunk
-            (decoded A.meaning B.meaning C.meaning self.old.chain under)
+            → OnOk result (UpdatesChunk (decoded A.meaning B.meaning C.meaning self.old.chain)
             (is_dropped under level) (option_map (with_box level.shape (box_of region.now) new)
             (chunk_content A.meaning B.meaning C.meaning self.old.chain under
             ((S.shown self.old.storage.now).content self.old.key)))
@@ -132,9 +131,8 @@ impl<
         ensures failed { let level = first_level self.old.chain in
             let under = options_of options.now in (new : List Element)
             → list_at (at_box (box_of region.now) level) (raw_of bytes.now) ≡ Some new
-            → OnErr result (MayUpdateChunk
-            (decoded A.meaning B.meaning C.meaning self.old.chain under)
-            (option_map (with_box level.shape (box_of region.now) new)
+            → OnErr result (MayUpdateChunk (decoded A.meaning B.meaning C.meaning self.old.chain)
+            (is_dropped under level) (option_map (with_box level.shape (box_of region.now) new)
             (chunk_content A.meaning B.meaning C.meaning self.old.chain under
             ((S.shown self.old.storage.now).content self.old.key)))
             (S.shown self.old.storage.now).content (S.shown self.new.storage.now).content

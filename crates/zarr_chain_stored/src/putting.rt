@@ -75,14 +75,13 @@ pub fn put<
     requires short { has_long_element (raw_of chunk) ≡ false }
     ensures ok { (list : List Element)
         → list_at (first_level chain.now) (raw_of chunk.entry) ≡ Some list
-        → OnOk result (PutsChunk
-        (decoded A.meaning B.meaning C.meaning chain.now (options_of options.now))
+        → OnOk result (PutsChunk (decoded A.meaning B.meaning C.meaning chain.now)
         (is_dropped (options_of options.now) (first_level chain.now) list) list
         (S.shown store.old).content (S.shown store.new).content key.now) }
     ensures failed { (list : List Element)
         → list_at (first_level chain.now) (raw_of chunk.entry) ≡ Some list
-        → OnErr result (MayPutChunk
-        (decoded A.meaning B.meaning C.meaning chain.now (options_of options.now)) list
+        → OnErr result (MayPutChunk (decoded A.meaning B.meaning C.meaning chain.now)
+        (is_dropped (options_of options.now) (first_level chain.now) list) list
         (S.shown store.old).content (S.shown store.new).content key.now) }
     ensures memory { IsErrOf result StorageError.OutOfMemory
         → SameContent (S.shown store.old) (S.shown store.new) }

@@ -139,7 +139,7 @@ pub fn write<
     ensures ok { let level = first_level chain.now in let under = options_of options.now in
         (new : List Element)
         → list_at (at_box (box_of region.now) level) (raw_of bytes.now) ≡ Some new
-        → OnOk result (UpdatesChunk (decoded A.meaning B.meaning C.meaning chain.now under)
+        → OnOk result (UpdatesChunk (decoded A.meaning B.meaning C.meaning chain.now)
         (is_dropped under level) (option_map (with_box level.shape (box_of region.now) new)
         (chunk_content A.meaning B.meaning C.meaning chain.now under
         ((S.shown store.old).content key.now)))
@@ -147,8 +147,8 @@ pub fn write<
     ensures failed { let level = first_level chain.now in let under = options_of options.now in
         (new : List Element)
         → list_at (at_box (box_of region.now) level) (raw_of bytes.now) ≡ Some new
-        → OnErr result (MayUpdateChunk (decoded A.meaning B.meaning C.meaning chain.now under)
-        (option_map (with_box level.shape (box_of region.now) new)
+        → OnErr result (MayUpdateChunk (decoded A.meaning B.meaning C.meaning chain.now)
+        (is_dropped under level) (option_map (with_box level.shape (box_of region.now) new)
         (chunk_content A.meaning B.meaning C.meaning chain.now under
         ((S.shown store.old).content key.now)))
         (S.shown store.old).content (S.shown store.new).content key.now) }

@@ -19,8 +19,8 @@ pub record AnswersMade (number : ℕ) (options : Options) (before now : Seen)
   -- done: the sink has the summary of the replies of one plain array, and of the final keys
   pub done : ending ≡ end.done → WentMade number options before.store.content now.store.content
       (λ output. IsGiven output before.sink.bytes now.sink.bytes)
-  -- where its text is written, there were as many reading calls as chunks that reads and writes meet,
-  -- and one for the keys
+  -- where its text is written, there were as many reading calls as chunks that reads and writes
+  -- meet, and one for the keys
   pub asks : IsWritten ending → now.store.asks
       ≡ counted before.store.asks (all_asks made_array (made_commands number) + 1)
   -- nothing is read, and no ending is one of the words, the reading or an input

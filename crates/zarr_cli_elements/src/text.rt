@@ -163,7 +163,7 @@ fn push_others(
     Ok(())
 }
 
-/// Appends a space and the text of each element. Array bytes that are not valid have none.
+/// Appends a space and the text of each element of array bytes that mean a list.
 ///
 /// An error comes only for want of memory; the text may then have a part of them.
 pub fn push_elements(

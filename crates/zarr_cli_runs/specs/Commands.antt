@@ -1,4 +1,5 @@
--- Commands that ran over a store: their replies, the keys that they may change, and why they ended early.
+-- Commands that ran over a store: their replies, the keys that they may change, and why they ended
+-- early.
 use Rattle.std.specs.Prelude.{◌≡◌, ℕ, List, map, Some, true}
 use Rattle.std.specs.List.{AllZip, list_any}
 use Rattle.zarr_model.specs.Prelude.{Element, Array, Options, Means, Shown, Command, Description, kind, layout, replies, Matches, LeavesArray, MeetsNoDamage, RefusesRight, all_asks, counted, Rose, IsDamageMet, IsChunk, changes_chunk}

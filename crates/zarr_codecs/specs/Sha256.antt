@@ -9,7 +9,10 @@ use Rattle.zarrs_codec_options.specs.declared.bytes_representation.BytesRepresen
 use Rattle.zarrs_codec_options.specs.declared.bytes_representation.BytesRepresentation.TheVariants.{FixedSize, BoundedSize, UnboundedSize}
 use Rattle.zarrs_codec_error.specs.declared.error.CodecError.{CodecError}
 use Rattle.zarrs_codec_error.specs.declared.error.CodecError.TheVariants as codec
+use Rattle.std.proofs.Common.{refl, sym, subst, ◌∙◌}
 use Rattle.zarrs_codec_array_bytes.specs.Refusals.{told_by, wrong_length}
+use Rattle.zarrs_codec_traits.specs.Errors.{IsNoFault}
+use Rattle.zarrs_codec_traits.proofs.FaultLaws.{told_no_fault}
 
 -- no configuration, or an empty one
 abbrev pub none_form : Option Members → Result Members Unmade
@@ -41,3 +44,16 @@ says_digest true value e = e ≡ codec.InvalidChecksum
 
 abbrev pub sha256_says : List ℕ → CodecError → Type 0
 sha256_says value e = says_digest (nat_le 32 (length value)) value e
+
+-- neither of the two errors is a fault of a store
+abbrev IsDigestError : CodecError → Type 0
+IsDigestError codec.InvalidChecksum = Unit {0}
+IsDigestError _ = ⊥
+
+pub digest_no_fault : (long : Bool) (value : List ℕ) (e : CodecError) → says_digest long value e
+    → IsNoFault e
+digest_no_fault false value e told =
+    told_no_fault e (wrong_length (length value) 32) refl told
+digest_no_fault true value e is = record {
+  unlike = λ fault same. subst IsDigestError (sym is ∙ same) tt;
+}

@@ -46,6 +46,7 @@ impl BytesCodec {
     ghost use Rattle.zarrs_metadata_values.specs.Configuration.{configuration_seen};
     ghost use Rattle.zarrs_plugin.specs.Making.{Makes};
     ghost use Rattle.zarrs_plugin.specs.declared.error.PluginKind.TheVariants as kinds;
+    ghost use Rattle.zarrs_plugin.specs.declared.error.PluginCreateError.TheVariants as plugin;
     ghost use Rattle.zarr_basics_grids.specs.Making.{or_config};
     ghost use Rattle.zarr_codecs.specs.BytesCodec.{component_unserved, type_unserved, order_in};
 
@@ -59,13 +60,14 @@ impl BytesCodec {
     /// The codec of a configuration: of none, an empty one, or exactly an `endian` that is `little`, `big` or null.
     ///
     /// # Errors
-    /// `Config` exactly where the configuration is another; or `OutOfMemory`.
+    /// `Config` exactly where the configuration is another.
     #[tactic(auto, using(zarr_basics_grids::proofs::MakingLaws::of_configurations))]
     pub fn from_configuration(
         configuration: Option<&Configuration>,
     ) -> Result<Self, PluginCreateError>
-        ensures { Makes kinds.Codec (λ c. c.endianness) result (or_config
+        ensures made { Makes kinds.Codec (λ c. c.endianness) result (or_config
             (order_in (option_map (λ c. configuration_seen c.now) configuration.entry))) }
+        ensures config { IfErr result (λ e. e ≡ plugin.Config) }
     {
         match read_order(configuration) {
             Ok(endianness) => Ok(BytesCodec { endianness }),
@@ -221,6 +223,7 @@ impl ArrayToBytesCodecTraits for BytesCodec {
     ghost use Rattle.zarr_model.specs.Codec.{bytes_codec, decode_array_to_bytes};
     ghost use Rattle.zarr_model.proofs.ChainLaws.{array_to_bytes-counted};
     ghost use Rattle.zarrs_codec_array_bytes.specs.Refusals.{fine, told_by, wrong_length};
+    ghost use Rattle.zarrs_codec_traits.proofs.FaultLaws.{told_no_fault};
     ghost use Rattle.zarrs_codec_options.specs.declared.bytes_representation.BytesRepresentation.TheVariants.{FixedSize};
     ghost use Rattle.zarr_codecs.specs.BytesCodec.{stored_order, bytes_size, nothing_asked};
 
@@ -251,6 +254,9 @@ impl ArrayToBytesCodecTraits for BytesCodec {
 
     ghost asks = { λ c under level box fill value ranges served inside some.
         absurd (nothing_asked some) };
+
+    ghost no_fault = { λ c under level value e told.
+        told_no_fault e (wrong_length (length value) (bytes_size level)) refl told };
 
     fn encoded_representation(
         &self,

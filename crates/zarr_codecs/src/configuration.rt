@@ -1,11 +1,13 @@
 //! The configurations of codecs, read and written.
 
-ghost use Rattle.std.specs.Prelude.{◌≡◌, IfOk, option_map};
+ghost use Rattle.std.specs.Prelude.{◌≡◌, IfOk, IfErr, option_map};
 ghost use Rattle.serde_json.specs.Data.{no_members};
 ghost use Rattle.serde_json.specs.View.{view};
 ghost use Rattle.zarrs_metadata_values.specs.Configuration.{configuration_seen};
 ghost use Rattle.zarrs_metadata_values.specs.Reading.{Reads};
+ghost use Rattle.zarrs_metadata_values.specs.declared.error.MetadataError.TheVariants as fault;
 ghost use Rattle.zarrs_plugin.specs.Making.{Makes};
+ghost use Rattle.zarrs_plugin.specs.declared.error.PluginCreateError.TheVariants as plugin;
 ghost use Rattle.zarrs_plugin.specs.declared.error.PluginKind.TheVariants as kinds;
 ghost use Rattle.zarr_codecs.specs.BytesCodec.{order_named, order_or_null, given_order, order_in, order_text, order_members};
 ghost use Rattle.zarr_codecs.specs.Sha256.{none_form};
@@ -45,7 +47,8 @@ pub fn order_configuration(
 }
 
 fn order_named(text: &str) -> Result<Option<Endianness>, MetadataError>
-    ensures { Reads (λ order. order) result (order_named text.now) }
+    ensures value { Reads (λ order. order) result (order_named text.now) }
+    ensures form { IfErr result (λ e. e ≡ fault.InvalidMetadata) }
 {
     match text {
         "little" => Ok(Some(Endianness::Little)),
@@ -55,7 +58,8 @@ fn order_named(text: &str) -> Result<Option<Endianness>, MetadataError>
 }
 
 fn order_or_null(value: &Value) -> Result<Option<Endianness>, MetadataError>
-    ensures { Reads (λ order. order) result (order_or_null (view value.now)) }
+    ensures value { Reads (λ order. order) result (order_or_null (view value.now)) }
+    ensures form { IfErr result (λ e. e ≡ fault.InvalidMetadata) }
 {
     match value {
         Value::Null => Ok(None),
@@ -66,7 +70,9 @@ fn order_or_null(value: &Value) -> Result<Option<Endianness>, MetadataError>
 
 #[tactic(auto, unfolding(crate::specs::BytesCodec::given_order))]
 fn given_order(configuration: &Configuration) -> Result<Option<Endianness>, MetadataError>
-    ensures { Reads (λ order. order) result (given_order (configuration_seen configuration.now)) }
+    ensures value { Reads (λ order. order) result
+        (given_order (configuration_seen configuration.now)) }
+    ensures form { IfErr result (λ e. e ≡ fault.InvalidMetadata) }
 {
     order_or_null(only_member(configuration, "endian")?)
 }
@@ -79,8 +85,9 @@ fn given_order(configuration: &Configuration) -> Result<Option<Endianness>, Meta
 pub fn read_order(
     configuration: Option<&Configuration>,
 ) -> Result<Option<Endianness>, MetadataError>
-    ensures { Reads (λ order. order) result
+    ensures value { Reads (λ order. order) result
         (order_in (option_map (λ c. configuration_seen c.now) configuration.entry)) }
+    ensures form { IfErr result (λ e. e ≡ fault.InvalidMetadata) }
 {
     let Some(configuration) = configuration else {
         return Ok(None);
@@ -97,8 +104,9 @@ pub fn read_order(
 /// # Errors
 /// `Config` exactly where it has a member.
 pub fn expect_none(configuration: Option<&Configuration>) -> Result<(), PluginCreateError>
-    ensures { Makes kinds.Codec (λ _. no_members) result
+    ensures made { Makes kinds.Codec (λ _. no_members) result
         (none_form (option_map (λ c. configuration_seen c.now) configuration.entry)) }
+    ensures config { IfErr result (λ e. e ≡ plugin.Config) }
 {
     let Some(configuration) = configuration else {
         return Ok(());

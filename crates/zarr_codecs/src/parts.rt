@@ -1,6 +1,6 @@
 //! Parts of values.
 
-ghost use Rattle.std.specs.Prelude.{◌≡◌, ◌∷◌, [], List, true, false, Some, length, IfOk, MatchResult};
+ghost use Rattle.std.specs.Prelude.{◌≡◌, ◌∷◌, [], List, true, false, Some, length, IfOk, IfErr, MatchResult};
 ghost use Rattle.zarr_model.specs.Region.{ends_within};
 ghost use Rattle.zarr_model.specs.Element.{Element};
 ghost use Rattle.zarr_model.specs.Command.{has_long_element};
@@ -10,6 +10,7 @@ ghost use Rattle.zarrs_data_type_elements.specs.declared.fill_value.FillValue.{F
 ghost use Rattle.zarrs_data_type_names.specs.DataType.{type_of};
 ghost use Rattle.zarrs_codec_array_bytes.specs.Raw.{raw_of};
 ghost use Rattle.zarrs_codec_error.specs.declared.error.CodecError.TheVariants as codec;
+ghost use Rattle.zarrs_codec_traits.specs.Errors.{IsNoFault};
 ghost use Rattle.zarrs_codec_traits.specs.Views.{lengths, level_of};
 ghost use Rattle.zarrs_codec_traits.specs.Words.{IsFit, list_at, at_box, select};
 
@@ -34,6 +35,7 @@ pub fn only_part(parts: Vec<Vec<u8>>) -> Vec<u8>
 ///
 /// # Errors
 /// [`CodecError`] where memory runs out, if the bytes are valid.
+#[tactic(auto, using(zarrs_codec_traits::proofs::FaultLaws::memory_no_fault))]
 pub fn extracted(
     alloc: Global,
     bytes: &ArrayBytes<'_>,
@@ -51,6 +53,7 @@ pub fn extracted(
         (λ e. e ≡ codec.OutOfMemory) }
     ensures short { has_long_element (raw_of bytes.now) ≡ false
         → IfOk result (λ v. has_long_element (raw_of v) ≡ false) }
+    ensures no_fault { IfErr result IsNoFault }
 {
     let numbers = shape_numbers(alloc, shape)?;
     bytes.extract_array_subset(alloc, region, &numbers, data_type)

@@ -1,11 +1,12 @@
 //! The codec `zarr_basics.sha256`: bytes with their digest behind them.
 
-ghost use Rattle.std.specs.Prelude.{◌≡◌, ◌≤◌, ◌++◌, ◌||◌, not, length, option_map, IfOk, Ok};
+ghost use Rattle.std.specs.Prelude.{◌≡◌, ◌≤◌, ◌++◌, ◌||◌, not, length, option_map, IfOk, IfErr, Ok};
 ghost use Rattle.serde_json.specs.Data.{no_members};
 ghost use Rattle.sha2.specs.Sha256.{sha256};
 ghost use Rattle.zarrs_metadata_values.specs.Configuration.{configuration_seen};
 ghost use Rattle.zarrs_plugin.specs.Making.{Makes};
 ghost use Rattle.zarrs_plugin.specs.declared.error.PluginKind.TheVariants as kinds;
+ghost use Rattle.zarrs_plugin.specs.declared.error.PluginCreateError.TheVariants as plugin;
 ghost use Rattle.zarr_codecs.specs.Sha256.{ends_in_digest, with_digest_size, none_form};
 
 use crate::configuration::expect_none;
@@ -40,12 +41,13 @@ impl Sha256Codec {
     /// The codec of a configuration: of none, or an empty one.
     ///
     /// # Errors
-    /// `Config` exactly where the configuration has a member; or `OutOfMemory`.
+    /// `Config` exactly where the configuration has a member.
     pub fn from_configuration(
         configuration: Option<&Configuration>,
     ) -> Result<Self, PluginCreateError>
-        ensures { Makes kinds.Codec (λ _. no_members) result
+        ensures made { Makes kinds.Codec (λ _. no_members) result
             (none_form (option_map (λ c. configuration_seen c.now) configuration.entry)) }
+        ensures config { IfErr result (λ e. e ≡ plugin.Config) }
     {
         match expect_none(configuration) {
             Ok(()) => Ok(Sha256Codec),
@@ -152,11 +154,15 @@ impl CodecTraitsV3 for Sha256Codec {
 
 impl BytesToBytesCodecTraits for Sha256Codec {
     ghost use Rattle.zarr_model.specs.Codec.{checksum_codec};
-    ghost use Rattle.zarr_codecs.specs.Sha256.{sha256_says};
+    ghost use Rattle.std.specs.Prelude.{nat_le, length};
+    ghost use Rattle.zarr_codecs.specs.Sha256.{sha256_says, digest_no_fault};
 
     ghost meaning = { λ _ under value. checksum_codec under.validate_checksums value };
 
     ghost says = { λ _ _ value e. sha256_says value e };
+
+    ghost no_fault = { λ _ _ value e told.
+        digest_no_fault (nat_le 32 (length value)) value e told };
 
     ghost representation = { λ _ size. with_digest_size size };
 

@@ -1,5 +1,5 @@
 -- Optional elements by the codec inside: served, decoded and encoded.
-use Rattle.std.proofs.Common.{◌≡◌, ◌⊎◌, ℕ, ◌*◌, ◌<◌, ◌^◌, Bool, true, false, not, ◌&&◌, nat_le, List, ◌++◌, length, take, drop, Option, Some, None, Result, Ok, Err, Vec, IsSome, option_map, refl, sym, ap, ap₂, ◌∙◌, subst, if◌then◌else◌, inl, inr, arith}
+use Rattle.std.proofs.Common.{◌≡◌, ◌⊎◌, ℕ, ◌*◌, ◌<◌, ◌^◌, Bool, true, false, not, ◌&&◌, nat_le, List, ◌++◌, length, take, drop, Option, Some, None, Result, Ok, Err, IfErr, Vec, IsSome, option_map, refl, sym, ap, ap₂, ◌∙◌, subst, if◌then◌else◌, inl, inr, arith}
 use Rattle.std.proofs.lemmas.Bool.{cond-true, cond-false, and_from, le-leb}
 use Rattle.std.proofs.lemmas.List.{take_at, drop_at, length-append}
 use Rattle.zarr_model.specs.Region.{count_of}
@@ -17,11 +17,13 @@ use Rattle.zarrs_codec_error.specs.declared.error.CodecError.{CodecError}
 use Rattle.zarrs_codec_error.specs.declared.error.CodecError.TheVariants as codec
 use Rattle.zarrs_data_type_elements.specs.declared.codec_support.CodecName.TheVariants as names
 use Rattle.zarrs_data_type_names.specs.DataType.{inner_of}
-use Rattle.zarrs_codec_traits.specs.Errors.{Unserved, unsupported, unserved_error, RefusesBy, IsDecodeError}
+use Rattle.zarrs_codec_traits.specs.Errors.{Unserved, unsupported, unserved_error, IsNoFault, RefusesBy, Serves, IsDecodeError}
+use Rattle.zarrs_codec_traits.proofs.FaultLaws.{served_no_fault, decoded_no_fault}
 use Rattle.zarrs_codec_traits.specs.Words.{list_at, IsFit}
 use Rattle.zarr_codecs.proofs.ExtractLaws.{says_some}
 use Rattle.zarr_codecs_array_to_bytes.specs.Plain.{Plain, plain_optional, codec_of, unserved_by, beyond_by, says_by, says_optional, held_type, mask_answer}
-use Rattle.zarr_codecs_array_to_bytes.specs.Answers.{Serves, IsUnserved, Decodes, Encodes, IsSplit, IsUnsplit}
+use Rattle.zarr_codecs_array_to_bytes.specs.Laws.{plain_no_fault}
+use Rattle.zarr_codecs_array_to_bytes.specs.Answers.{IsUnserved, Decodes, Encodes, IsSplit, IsUnsplit}
 
 -- no codec looks at the fill
 unseen : (under : Options) (codec : ArrayToBytes) (dims : List ℕ) (type : DataType) (a b : Element) (value : List ℕ) →
@@ -69,39 +71,38 @@ no_reason (Some reason) r none = cc
 
 refused_by : (T : Type 0) (why : Option Unserved) (e : CodecError) → IsUnserved why e → RefusesBy {T = T} why (Err e)
 refused_by T None e told = tt
-refused_by T (Some reason) e (inl memory) = inl memory
-refused_by T (Some reason) e (inr is) = inr (let same : e ≡ unserved_error reason = cc in same)
+refused_by T (Some reason) e told = inr (let same : e ≡ unserved_error reason = cc in same)
 
--- where there is no reason, memory ran out
+memory_refused : (T : Type 0) (why : Option Unserved) (e : CodecError) → e ≡ codec.OutOfMemory → RefusesBy {T = T} why (Err e)
+memory_refused T None e memory = tt
+memory_refused T (Some reason) e memory = inl memory
+
+-- where there is no reason, there is no such error
 memory_alone : (why : Option Unserved) (e : CodecError) → IsUnserved why e → why ≡ None → e ≡ codec.OutOfMemory
-memory_alone why e (inl memory) none = memory
-memory_alone None e (inr is) none = cc
-memory_alone (Some reason) e (inr is) none = cc
+memory_alone None e told none = cc
+memory_alone (Some reason) e told none = cc
 
 -- and a call that gave an error of the codec inside
 pub unserved_here : (T : Type 0) (why : Option Unserved) (is : T → Type 0) (e : CodecError) → Serves why is (Err e) → IsUnserved why e
-unserved_here T None is e told = inl (told.value refl)
-unserved_here T (Some reason) is e told = go told.unserved
-  where
-    go : (e ≡ codec.OutOfMemory) ⊎ (e ≡ unserved_error reason) → IsUnserved (Some reason) e
-    go (inl memory) = inl memory
-    go (inr same) = inr (ap Some (sym same))
+unserved_here T None is e told = absurd told
+unserved_here T (Some reason) is e told = ap Some (sym told)
 
 pub served_here : (T : Type 0) (why : Option Unserved) (is : T → Type 0) (v : T) → Serves why is (Ok v) → why ≡ None
 served_here T None is v told = refl
-served_here T (Some reason) is v told = absurd told.unserved
+served_here T (Some reason) is v told = absurd told
 
 pub serves_refused : (T : Type 0) (why : Option Unserved) (is : T → Type 0) (e : CodecError) → IsUnserved why e → Serves why is (Err e)
-serves_refused T why is e told = record { unserved = refused_by T why e told; value = memory_alone why e told }
+serves_refused T None is e told = absurd (let no : Some e ≡ None = sym told in cc)
+serves_refused T (Some reason) is e told = let same : e ≡ unserved_error reason = cc in same
 
 -- another type than an optional one
 pub not_held : (plain : Plain) (type : DataType) (e : CodecError) → inner_of type ≡ None → e ≡ unserved_error (unsupported names.Optional) → IsUnserved (unserved_by (plain_optional plain) type) e
-not_held plain bool_type e none is = inr (ap Some (sym is))
-not_held plain (int_type n) e none is = inr (ap Some (sym is))
-not_held plain (uint_type n) e none is = inr (ap Some (sym is))
-not_held plain (raw_type n) e none is = inr (ap Some (sym is))
-not_held plain string_type e none is = inr (ap Some (sym is))
-not_held plain bytes_type e none is = inr (ap Some (sym is))
+not_held plain bool_type e none is = ap Some (sym is)
+not_held plain (int_type n) e none is = ap Some (sym is)
+not_held plain (uint_type n) e none is = ap Some (sym is)
+not_held plain (raw_type n) e none is = ap Some (sym is)
+not_held plain string_type e none is = ap Some (sym is)
+not_held plain bytes_type e none is = ap Some (sym is)
 not_held plain (optional_type inner) e none is = cc
 
 -- an optional type is served as what it holds is
@@ -123,7 +124,11 @@ decode_refused plain under level value e told = record {
 }
 
 pub decode_starved : (plain : Plain) (under : Options) (level : Level) (value : List ℕ) (e : CodecError) → e ≡ codec.OutOfMemory → Decodes plain under level value (Err e)
-decode_starved plain under level value e memory = decode_refused plain under level value e (inl memory)
+decode_starved plain under level value e memory = record {
+  unserved = memory_refused code.ArrayBytes (unserved_by plain level.data_type) e memory;
+  value = λ served. inl memory;
+  short = tt;
+}
 
 -- what decodes is not refused but for want of memory
 pub starved_alone : (wanted : Option (List Element)) (says : CodecError → Type 0) (e : CodecError) (xs : List Element) → IsDecodeError wanted says e → wanted ≡ Some xs → e ≡ codec.OutOfMemory
@@ -203,7 +208,11 @@ encode_refused plain level bytes e told = record {
 }
 
 pub encode_starved : {Z : Type 0} (plain : Plain) (level : Level) (bytes : ArrayBytes) (e : CodecError) → e ≡ codec.OutOfMemory → Encodes {Z = Z} plain level bytes (Err e)
-encode_starved plain level bytes e memory = encode_refused plain level bytes e (inl memory)
+encode_starved plain level bytes e memory = record {
+  unserved = memory_refused _ (unserved_by plain level.data_type) e memory;
+  exact = λ served. inl memory;
+  value = λ served. tt;
+}
 
 -- what is said of optional elements: first of their mask, then of what is under it
 masked_validity : (kind : Kind) (number : ℕ) (under : ArrayBytes) (mask : List ℕ) → is_mask number mask ≡ true → validity (optional kind) number (optional_bytes under mask) ≡ validity kind number under
@@ -283,3 +292,10 @@ encode_held {Z = Z} plain level inner b bytes under mask v w is served made answ
           ∙ (ap (option_map (mask_over mask)) (told.value served options) ∙ sym means));
     } in
     subst (λ (raw : ArrayBytes). Encodes {Z = Z} (plain_optional plain) level raw (Ok w)) (sym made) here
+
+-- an error of decoding is no fault of a store
+pub decodes_no_fault : (plain : Plain) (under : Options) (level : Level) (encoded : List ℕ) (r : Result code.ArrayBytes CodecError) → Decodes plain under level encoded r → IfErr r IsNoFault
+decodes_no_fault plain under level encoded r decodes =
+    served_no_fault (unserved_by plain level.data_type) r decodes.unserved
+    (λ served. decoded_no_fault _ (decode_array_to_bytes under (codec_of plain) level encoded) (says_by plain (count_of level.shape) level.data_type encoded) r
+    (λ e told. plain_no_fault plain (count_of level.shape) level.data_type encoded e told) (decodes.value served))

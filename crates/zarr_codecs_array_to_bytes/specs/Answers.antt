@@ -14,15 +14,9 @@ use Rattle.zarrs_codec_traits.specs.Errors.{Unserved, unserved_error, RefusesBy,
 use Rattle.zarrs_codec_traits.specs.Words.{list_at, Gives}
 use Rattle.zarr_codecs_array_to_bytes.specs.Plain.{Plain, codec_of, unserved_by, beyond_by, says_by, says_optional}
 
--- what is not served is refused, and else a call gives this, or memory ran out
-pub record Serves {T : Type 0} (why : Option Unserved) (is : T → Type 0)
-    (result : Result T CodecError) : Type 0 where
-  pub unserved : RefusesBy why result
-  pub value : why ≡ None → MatchResult result is (λ e. e ≡ codec.OutOfMemory)
-
--- an error refuses what is not served, or memory ran out
+-- an error refuses what is not served
 abbrev pub IsUnserved : Option Unserved → CodecError → Type 0
-IsUnserved why e = (e ≡ codec.OutOfMemory) ⊎ (option_map unserved_error why ≡ Some e)
+IsUnserved why e = option_map unserved_error why ≡ Some e
 
 -- what decoding answers
 pub record Decodes (plain : Plain) (under : Options) (level : Level) (encoded : List ℕ)

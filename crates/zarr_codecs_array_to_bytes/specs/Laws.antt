@@ -1,14 +1,17 @@
 -- What the codecs serve and take, by cases.
-use Rattle.std.specs.Prelude.{◌≡◌, ◌<◌, ◌^◌, ℕ, Bool, true, false, Some, None, refl}
-use Rattle.std.proofs.Common.{inl}
+use Rattle.std.specs.Prelude.{◌≡◌, ◌<◌, ◌*◌, ◌^◌, nat_le, ℕ, Bool, true, false, List, length, take, drop, Some, None, refl}
+use Rattle.std.proofs.Common.{inl, ap}
 use Rattle.zarr_model.specs.Element.{DataType}
-use Rattle.zarr_model.specs.ArrayBytes.{ArrayBytes, fixed_bytes, variable_bytes, optional_bytes}
-use Rattle.zarr_model.specs.Command.{has_long_element}
-use Rattle.zarrs_codec_array_bytes.specs.Refusals.{fine}
-use Rattle.zarrs_codec_traits.specs.Errors.{IsFormRefusal}
+use Rattle.zarr_model.specs.ArrayBytes.{ArrayBytes, fixed_bytes, variable_bytes, optional_bytes, is_mask}
+use Rattle.zarr_model.specs.Command.{has_long_element, invalid_mask, invalid_variable_sized_array_offsets}
+use Rattle.zarrs_codec_error.specs.declared.error.CodecError.{CodecError}
+use Rattle.zarrs_codec_array_bytes.specs.Refusals.{fine, refused, wrong_length, told_by}
+use Rattle.zarrs_codec_traits.specs.Errors.{IsFormRefusal, IsNoFault}
+use Rattle.zarrs_codec_traits.proofs.FaultLaws.{told_no_fault}
+use Rattle.zarr_codecs.specs.BytesCodec.{element_bytes}
 use Rattle.zarrs_codec_traits.specs.Words.{taken}
 use Rattle.zarr_codecs_vlen.specs.Vlen as vlen
-use Rattle.zarr_codecs_array_to_bytes.specs.Plain.{Plain, plain_bytes, plain_vlen, plain_optional, plain_unserved, takes_by, beyond_by}
+use Rattle.zarr_codecs_array_to_bytes.specs.Plain.{Plain, plain_bytes, plain_vlen, plain_optional, plain_unserved, held_type, takes_by, beyond_by, says_optional, says_by}
 
 -- a type that is served is so by a call that takes only some of a level
 pub plain_serves : (plain : Plain) (data_type : DataType) (with_type : Bool)
@@ -42,3 +45,24 @@ plain_refuses_form (plain_optional inner) number (fixed_bytes value) = inl refl
 plain_refuses_form (plain_optional inner) number (variable_bytes value offsets) = inl refl
 plain_refuses_form (plain_optional inner) number (optional_bytes under mask) =
     plain_refuses_form inner number under
+
+-- no error of a value is a fault of a store
+pub optional_no_fault : (long valid : Bool) (inner : CodecError → Type 0) (len number : ℕ)
+    (e : CodecError) → (inner e → IsNoFault e) → says_optional long valid inner len number e
+    → IsNoFault e
+optional_no_fault false valid inner len number e law told =
+    told_no_fault e (wrong_length len number) refl told
+optional_no_fault true false inner len number e law is =
+    told_no_fault e (refused invalid_mask) refl (ap told_by is)
+optional_no_fault true true inner len number e law told = law told
+
+pub plain_no_fault : (plain : Plain) (number : ℕ) (data_type : DataType) (value : List ℕ)
+    (e : CodecError) → says_by plain number data_type value e → IsNoFault e
+plain_no_fault (plain_bytes order) number data_type value e told =
+    told_no_fault e (wrong_length (length value) (number * element_bytes data_type)) refl told
+plain_no_fault (plain_vlen text) number data_type value e is =
+    told_no_fault e (refused invalid_variable_sized_array_offsets) refl (ap told_by is)
+plain_no_fault (plain_optional inner) number data_type value e told =
+    optional_no_fault (nat_le number (length value)) (is_mask number (take number value))
+    (says_by inner number (held_type data_type) (drop number value)) (length value) number e
+    (λ more. plain_no_fault inner number (held_type data_type) (drop number value) e more) told

@@ -107,7 +107,7 @@ impl ArrayToBytesCodecTraits for BasicArrayToBytes {
     ghost use Rattle.zarr_model.proofs.ChainLaws.{array_to_bytes-counted};
     ghost use Rattle.zarr_codecs.specs.BytesCodec.{nothing_asked};
     ghost use Rattle.zarr_codecs_array_to_bytes.specs.Plain.{codec_of, takes_by, beyond_by, says_by, size_by};
-    ghost use Rattle.zarr_codecs_array_to_bytes.specs.Laws.{plain_taken, plain_takes_few, plain_refuses_form};
+    ghost use Rattle.zarr_codecs_array_to_bytes.specs.Laws.{plain_taken, plain_takes_few, plain_refuses_form, plain_no_fault};
 
     ghost meaning = { λ c under level value.
         decode_array_to_bytes under (codec_of (plain_of c)) level value };
@@ -140,6 +140,9 @@ impl ArrayToBytesCodecTraits for BasicArrayToBytes {
 
     ghost asks = { λ c under level box fill value ranges served inside some.
         absurd (nothing_asked some) };
+
+    ghost no_fault = { λ c under level value e told.
+        plain_no_fault (plain_of c) (count_of level.shape) level.data_type value e told };
 
     fn encoded_representation(
         &self,

@@ -5,12 +5,12 @@ ghost use Rattle.zarr_model.specs.Region.{count_of};
 ghost use Rattle.zarr_model.specs.Element.{optional_type};
 ghost use Rattle.zarrs_data_type_elements.specs.declared.codec_support.CodecName.TheVariants as names;
 ghost use Rattle.zarrs_data_type_names.specs.DataType.{type_of, inner_of};
-ghost use Rattle.zarrs_codec_traits.specs.Errors.{unsupported, unserved_error};
+ghost use Rattle.zarrs_codec_traits.specs.Errors.{unsupported, unserved_error, Serves};
 ghost use Rattle.zarrs_codec_traits.specs.Views.{lengths};
 ghost use Rattle.zarrs_codec_traits.specs.Words.{IsFit};
 ghost use Rattle.zarr_codecs_array_to_bytes.specs.Plain.{plain_optional, unserved_by, with_mask, size_by};
 ghost use Rattle.zarr_codecs_array_to_bytes.specs.Views.{plain_of};
-ghost use Rattle.zarr_codecs_array_to_bytes.specs.Answers.{Serves, IsUnserved};
+ghost use Rattle.zarr_codecs_array_to_bytes.specs.Answers.{IsUnserved};
 
 use crate::codecs::BasicArrayToBytes;
 use std::num::NonZeroU64;
@@ -41,7 +41,7 @@ pub fn held_by(data_type: &DataType) -> Result<&DataType, CodecError>
 /// How many threads a codec can use well, where it serves the type.
 ///
 /// # Errors
-/// [`CodecError`] exactly where it does not; or where memory runs out.
+/// [`CodecError`] exactly where it does not.
 #[cycle(concurrency)]
 pub fn concurrency_by(
     codec: &BasicArrayToBytes,
@@ -64,8 +64,7 @@ pub fn concurrency_by(
 /// The same for optional elements over a codec of what they hold.
 ///
 /// # Errors
-/// [`CodecError`] exactly where the type is not optional, or the inner codec does not serve what it holds; or where
-/// memory runs out.
+/// [`CodecError`] exactly where the type is not optional, or the inner codec does not serve what it holds.
 #[cycle(concurrency)]
 pub fn optional_concurrency(
     inner: &BasicArrayToBytes,
@@ -83,7 +82,7 @@ pub fn optional_concurrency(
 /// The type that an optional type holds, where the inner codec serves it.
 ///
 /// # Errors
-/// [`CodecError`] exactly where it does not, or the type is not optional; or where memory runs out.
+/// [`CodecError`] exactly where it does not, or the type is not optional.
 pub fn expect_optional<'t>(
     inner: &BasicArrayToBytes,
     shape: &[NonZeroU64],
@@ -118,7 +117,7 @@ fn with_mask(number: u64, inner: BytesRepresentation) -> BytesRepresentation
 /// How many bytes the elements of a chunk have, encoded, where the codec serves them.
 ///
 /// # Errors
-/// [`CodecError`] exactly where it does not; or where memory runs out.
+/// [`CodecError`] exactly where it does not.
 #[cycle(size)]
 pub fn size_by(
     codec: &BasicArrayToBytes,
@@ -147,8 +146,7 @@ pub fn size_by(
 /// The same for optional elements over a codec of what they hold.
 ///
 /// # Errors
-/// [`CodecError`] exactly where the type is not optional, or the inner codec does not serve what it holds; or where
-/// memory runs out.
+/// [`CodecError`] exactly where the type is not optional, or the inner codec does not serve what it holds.
 #[cycle(size)]
 pub fn optional_size(
     inner: &BasicArrayToBytes,

@@ -80,11 +80,15 @@ impl CodecTraits for BasicBytesToBytes {
 
 impl BytesToBytesCodecTraits for BasicBytesToBytes {
     ghost use Rattle.zarr_model.specs.Codec.{checksum_codec};
-    ghost use Rattle.zarr_codecs.specs.Sha256.{sha256_says, with_digest_size};
+    ghost use Rattle.std.specs.Prelude.{nat_le, length};
+    ghost use Rattle.zarr_codecs.specs.Sha256.{sha256_says, digest_no_fault, with_digest_size};
 
     ghost meaning = { λ _ under value. checksum_codec under.validate_checksums value };
 
     ghost says = { λ _ _ value e. sha256_says value e };
+
+    ghost no_fault = { λ _ _ value e told.
+        digest_no_fault (nat_le 32 (length value)) value e told };
 
     ghost representation = { λ _ size. with_digest_size size };
 

@@ -1,9 +1,10 @@
 //! The configuration of the codec `zarr_basics.offset`, read and written.
 
-ghost use Rattle.std.specs.Prelude.{◌≡◌, IfOk, option_map};
+ghost use Rattle.std.specs.Prelude.{◌≡◌, IfOk, IfErr, option_map};
 ghost use Rattle.serde_json.specs.View.{view};
 ghost use Rattle.zarrs_metadata_values.specs.Configuration.{configuration_seen};
 ghost use Rattle.zarrs_metadata_values.specs.Reading.{Reads};
+ghost use Rattle.zarrs_metadata_values.specs.declared.error.MetadataError.TheVariants as fault;
 ghost use Rattle.zarr_codecs_offset.specs.Offset.{integer_in, whole_offset, offset_in, offset_members};
 
 use serde_json::{Map, Value};
@@ -37,7 +38,8 @@ pub fn offset_configuration(alloc: Global, offset: Integer) -> Result<Configurat
 }
 
 fn read_whole(value: &Value) -> Result<Integer, MetadataError>
-    ensures { Reads integer_in result (whole_offset (view value.now)) }
+    ensures value { Reads integer_in result (whole_offset (view value.now)) }
+    ensures form { IfErr result (λ e. e ≡ fault.InvalidMetadata) }
 {
     if let Some(number) = value.as_u64() {
         return Ok(Integer::Unsigned(number));
@@ -54,8 +56,9 @@ fn read_whole(value: &Value) -> Result<Integer, MetadataError>
 /// `InvalidMetadata` exactly where the configuration is not exactly an `offset` that is a whole number of JSON.
 #[tactic(auto, unfolding(crate::specs::Offset::offset_in))]
 pub fn read_offset(configuration: Option<&Configuration>) -> Result<Integer, MetadataError>
-    ensures { Reads integer_in result
+    ensures value { Reads integer_in result
         (offset_in (option_map (λ c. configuration_seen c.now) configuration.entry)) }
+    ensures form { IfErr result (λ e. e ≡ fault.InvalidMetadata) }
 {
     match configuration {
         Some(configuration) => read_whole(only_member(configuration, "offset")?),

@@ -6,6 +6,7 @@ ghost use Rattle.zarr_model.specs.Command.{has_long_element};
 ghost use Rattle.zarrs_metadata_values.specs.Configuration.{configuration_seen};
 ghost use Rattle.zarrs_plugin.specs.Making.{Makes};
 ghost use Rattle.zarrs_plugin.specs.declared.error.PluginKind.TheVariants as kinds;
+ghost use Rattle.zarrs_plugin.specs.declared.error.PluginCreateError.TheVariants as plugin;
 ghost use Rattle.zarr_basics_grids.specs.Making.{or_config};
 ghost use Rattle.zarrs_data_type_elements.specs.FillValue.{fill_bytes};
 ghost use Rattle.zarrs_data_type_names.specs.DataType.{type_of};
@@ -80,13 +81,14 @@ impl OffsetCodec {
     /// The codec of a configuration, which is exactly an `offset` that is a whole number of JSON.
     ///
     /// # Errors
-    /// `Config` exactly where the configuration is none; or `OutOfMemory`.
+    /// `Config` exactly where the configuration is none.
     #[tactic(auto, using(zarr_basics_grids::proofs::MakingLaws::of_configurations))]
     pub fn from_configuration(
         configuration: Option<&Configuration>,
     ) -> Result<Self, PluginCreateError>
-        ensures { Makes kinds.Codec offset_of result (or_config
+        ensures made { Makes kinds.Codec offset_of result (or_config
             (offset_in (option_map (λ c. configuration_seen c.now) configuration.entry))) }
+        ensures config { IfErr result (λ e. e ≡ plugin.Config) }
     {
         match read_offset(configuration) {
             Ok(offset) => Ok(OffsetCodec { offset }),

@@ -7,7 +7,7 @@ ghost use Rattle.zarrs_array_subset.specs.ArraySubset.{region as box_of};
 ghost use Rattle.zarr_chain.specs.Chain.{IsServed, first_level};
 ghost use Rattle.zarr_chain_stored.specs.Fetch.{HasFill};
 
-use crate::coding::told as told_elements;
+use crate::texts::told as told_elements;
 use std::alloc::{AllocError, Global};
 use std::borrow::CowSlice;
 use std::num::NonZeroU64;
@@ -100,6 +100,20 @@ fn erase(alloc: Global, store: &mut MemoryStore) -> Result<(), Fail> {
     Ok(())
 }
 
+// The elements of a region of the chunk, from those of the box at the bottom that it is taken down to, behind the number
+// of boxes on the way.
+fn from_bottom(alloc: Global, region: &ArraySubset, bytes: &'static [u8]) -> Result<String, Fail>
+    requires inside { ends_within (box_of region.now) (2 ∷ 3 ∷ []) ≡ true }
+    requires as_long { length bytes.now ≡ count (box_of region.now) * 2 }
+{
+    let chain = numbers(alloc)?;
+    let elements = ArrayBytes::new_flen(CowSlice::Borrowed(bytes));
+    let boxes = chain.boxes_down(alloc, region).ok().ok_or("boxes")?;
+    let made = chain.decode_boxes_up(alloc, elements, &boxes, region, &CodecOptions::default());
+    let text = told_elements(alloc, made)?;
+    Ok(format!(in alloc; "{}: {text}", boxes.len())?)
+}
+
 // What is stored.
 fn stored(alloc: Global, store: &mut MemoryStore) -> Result<String, Fail> {
     let text = match store.get(alloc, &key(alloc)?)? {
@@ -143,5 +157,13 @@ fn told(alloc: Global) -> Result<String, Fail> {
 fn a_chunk_is_written_read_and_erased(rt: HostRuntime) -> Result<(), Fail> {
     let told = told(rt.alloc())?;
     assert_eq!(rt; told.as_str(), TOLD);
+    Ok(())
+}
+
+#[test]
+fn a_region_is_taken_down_and_up(rt: HostRuntime) -> Result<(), Fail> {
+    let right = ArraySubset::new_with_ranges(rt.alloc(), &[0..2, 1..3])?;
+    let told = from_bottom(rt.alloc(), &right, &[8, 0, 2, 0, 3, 0, 0, 0])?;
+    assert_eq!(rt; told.as_str(), "1: [7, 0, 1, 0, 2, 0, 255, 255]");
     Ok(())
 }

@@ -1,6 +1,6 @@
 //! Elements and values, encoded and decoded.
 
-use crate::texts::{error_text, is_text};
+use crate::texts::{error_text, is_text, told};
 use std::alloc::{AllocError, Global};
 use std::borrow::CowSlice;
 use std::num::NonZeroU64;
@@ -28,18 +28,6 @@ fn elements(bytes: &'static [u8]) -> ArrayBytes<'static> {
 fn fill(alloc: Global, bytes: &[u8]) -> Result<FillValue, AllocError> {
     let bytes = bytes.to_vec(alloc)?;
     Ok(FillValue::new(bytes))
-}
-
-// The bytes of elements of one size, or the error.
-pub fn told(
-    alloc: Global,
-    made: Result<ArrayBytes<'static>, CodecError>,
-) -> Result<String, AllocError> {
-    match made {
-        Ok(ArrayBytes::Fixed(CowSlice::Owned(bytes))) => format!(in alloc; "{bytes:?}"),
-        Ok(_) => String::from_str(alloc, "of another kind"),
-        Err(error) => error_text(alloc, error),
-    }
 }
 
 fn told_value(alloc: Global, made: Result<Vec<u8>, CodecError>) -> Result<String, AllocError> {

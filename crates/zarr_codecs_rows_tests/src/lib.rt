@@ -6,6 +6,8 @@ mod chunks;
 #[cfg(test)]
 mod coding;
 #[cfg(test)]
+mod kinds;
+#[cfg(test)]
 mod making;
 #[cfg(test)]
 mod texts;

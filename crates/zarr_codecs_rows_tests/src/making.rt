@@ -1,6 +1,6 @@
 //! Codecs made of metadata of either version, and the metadata that they have.
 
-use crate::texts::{cut, error_text, is_text};
+use crate::texts::{cut, error_text, is_text, written};
 use std::alloc::{AllocError, Global};
 use std::process::Abort;
 use zarr_codecs_kinds::{BasicCodec, CodecKind};
@@ -12,10 +12,12 @@ use zarrs_plugin::{NamePattern, Registry, ZarrVersion};
 const VERSION_3: &str = r#"
 "bytes" -> bytes {}
 {"name":"bytes","configuration":{"endian":"big"}} -> bytes {"endian":"big"}
+{"name":"bytes","configuration":{"endian":"little"}} -> bytes {"endian":"little"}
 {"name":"bytes","configuration":{"endian":null}} -> bytes {}
 {"name":"bytes","configuration":{"endian":"middle"}} -> Config
 {"name":"bytes","configuration":{"endian":"big","order":1}} -> Config
 "zarr_basics.sha256" -> zarr_basics.sha256 {}
+{"name":"zarr_basics.sha256"} -> zarr_basics.sha256 {}
 {"name":"zarr_basics.sha256","configuration":{}} -> zarr_basics.sha256 {}
 {"name":"zarr_basics.sha256","configuration":{"rounds":1}} -> Config
 {"name":"zarr_basics.offset","configuration":{"offset":250}} -> zarr_basics.offset {"offset":250}
@@ -84,12 +86,7 @@ fn told(alloc: Global, codec: &BasicCodec, version: ZarrVersion) -> Result<Strin
     let options = CodecMetadataOptions::default();
     let name = codec.name(alloc, version)?;
     let configuration = codec.configuration(alloc, version, &options)?;
-    match (name, configuration) {
-        (Some(name), Some(configuration)) => {
-            MetadataV3::new_with_configuration(name, configuration).to_display(alloc)
-        }
-        _ => String::from_str(alloc, "no name"),
-    }
+    written(alloc, name, configuration)
 }
 
 fn made(

@@ -1,6 +1,6 @@
 //! Texts and byte strings, encoded and decoded.
 
-use crate::texts::{error_text, is_text};
+use crate::texts::{error_text, is_text, told};
 use std::alloc::{AllocError, Global};
 use std::borrow::CowSlice;
 use std::num::NonZeroU64;
@@ -24,20 +24,6 @@ fn between(bytes: &'static [u8], offsets: &'static [usize]) -> Option<ArrayBytes
 fn told_value(alloc: Global, made: Result<Vec<u8>, CodecError>) -> Result<String, AllocError> {
     match made {
         Ok(bytes) => format!(in alloc; "{bytes:?}"),
-        Err(error) => error_text(alloc, error),
-    }
-}
-
-fn told(
-    alloc: Global,
-    made: Result<ArrayBytes<'static>, CodecError>,
-) -> Result<String, AllocError> {
-    match made {
-        Ok(ArrayBytes::Variable(variable)) => {
-            let (bytes, offsets) = (variable.items(), variable.numbers());
-            format!(in alloc; "{bytes:?} {offsets:?}")
-        }
-        Ok(_) => String::from_str(alloc, "of another kind"),
         Err(error) => error_text(alloc, error),
     }
 }
@@ -105,6 +91,8 @@ fn values_have_one_form(rt: HostRuntime) {
 #[test]
 fn lengths_fit_four_bytes(rt: HostRuntime) {
     assert!(&rt; vlen_fits(&[]));
+    assert!(&rt; vlen_fits(&[0, 4294967295]));
+    assert!(&rt; !vlen_fits(&[0, 4294967296]));
     assert!(&rt; vlen_fits(&[7, (1 << 32) + 6]));
     assert!(&rt; !vlen_fits(&[7, (1 << 32) + 7]));
     assert!(&rt; !vlen_fits(&[0, 3, (1 << 32) + 3, (1 << 32) + 4]));

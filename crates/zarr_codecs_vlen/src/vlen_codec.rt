@@ -6,6 +6,7 @@ ghost use Rattle.zarrs_metadata_values.specs.Configuration.{configuration_seen};
 ghost use Rattle.zarrs_metadata_parts.specs.MetadataV3.{extension_seen};
 ghost use Rattle.zarrs_plugin.specs.Making.{Makes};
 ghost use Rattle.zarrs_plugin.specs.declared.error.PluginKind.TheVariants as kinds;
+ghost use Rattle.zarrs_plugin.specs.declared.error.PluginCreateError.TheVariants as plugin;
 ghost use Rattle.zarrs_data_type_names.specs.DataType.{type_of};
 ghost use Rattle.zarrs_codec_traits.specs.Errors.{unserved_error};
 ghost use Rattle.zarr_codecs.specs.Sha256.{none_form};
@@ -66,7 +67,7 @@ impl VlenCodec {
     /// The codec of a configuration: of none, or an empty one.
     ///
     /// # Errors
-    /// `Config` exactly where the configuration has a member; or `OutOfMemory`.
+    /// `Config` exactly where the configuration has a member.
     pub fn from_configuration(
         text: bool,
         configuration: Option<&Configuration>,
@@ -74,6 +75,7 @@ impl VlenCodec {
         ensures made { Makes kinds.Codec (λ _. no_members) result
             (none_form (option_map (λ c. configuration_seen c.now) configuration.entry)) }
         ensures text { IfOk result (λ c. c.text ≡ text) }
+        ensures config { IfErr result (λ e. e ≡ plugin.Config) }
     {
         match expect_none(configuration) {
             Ok(()) => Ok(VlenCodec { text }),
@@ -244,6 +246,10 @@ impl ArrayToBytesCodecTraits for VlenCodec {
     ghost use Rattle.zarr_model.specs.Region.{count_of};
     ghost use Rattle.zarr_model.specs.Codec.{vlen_codec, decode_array_to_bytes};
     ghost use Rattle.zarr_model.proofs.ChainLaws.{array_to_bytes-counted};
+    ghost use Rattle.std.proofs.Common.{ap, refl};
+    ghost use Rattle.zarr_model.specs.Command.{invalid_variable_sized_array_offsets};
+    ghost use Rattle.zarrs_codec_array_bytes.specs.Refusals.{told_by, refused};
+    ghost use Rattle.zarrs_codec_traits.proofs.FaultLaws.{told_no_fault};
     ghost use Rattle.zarrs_codec_error.specs.declared.error.CodecError.TheVariants as codec;
     ghost use Rattle.zarrs_codec_options.specs.declared.bytes_representation.BytesRepresentation.TheVariants.{UnboundedSize};
     ghost use Rattle.zarr_codecs.specs.BytesCodec.{nothing_asked};
@@ -276,6 +282,9 @@ impl ArrayToBytesCodecTraits for VlenCodec {
 
     ghost asks = { λ c under level box fill value ranges served inside some.
         absurd (nothing_asked some) };
+
+    ghost no_fault = { λ _ _ _ _ e is. told_no_fault e
+        (refused invalid_variable_sized_array_offsets) refl (ap told_by is) };
 
     fn encoded_representation(
         &self,

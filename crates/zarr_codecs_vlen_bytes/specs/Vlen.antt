@@ -1,9 +1,13 @@
 -- Elements of any length, each between two offsets, and their values behind their lengths.
 use Rattle.std.specs.Prelude.{◌≡◌, ◌<◌, ◌^◌, ℕ, suc, true, false, List, ◌∷◌, ◌++◌, length, map, flat_map, Some, option_map}
 use Rattle.zarr_model.specs.Element.{Element, of_bytes}
-use Rattle.zarr_model.specs.ArrayBytes.{between_offsets, offsets_rise_to, are_offsets}
+use Rattle.zarr_model.specs.ArrayBytes.{bytes_of, between_offsets, offsets_rise_to, are_offsets}
 use Rattle.zarr_model.specs.Codec.{low_bytes, decode_items, decode_vlen}
 use Rattle.zarr_model.specs.Command.{has_long_step}
+
+-- an element of bytes, whose number fits 4 bytes
+abbrev pub IsItem : Element → Type 0
+IsItem element = (element ≡ of_bytes (bytes_of element)) × (length (bytes_of element) < 2 ^ 32)
 
 -- each value behind its length in 4 bytes
 abbrev pub items_of : List (List ℕ) → List ℕ

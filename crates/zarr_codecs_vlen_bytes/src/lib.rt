@@ -1,9 +1,11 @@
 //! The values of elements of any length: their number, and each one behind its length.
 #![tactic(auto)]
 
+mod laws;
 mod numbers;
 mod offsets;
 mod values;
 
+pub use laws::values_have_one_form;
 pub use offsets::vlen_fits;
 pub use values::{decode_values, encode_values};

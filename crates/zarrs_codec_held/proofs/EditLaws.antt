@@ -7,11 +7,11 @@ use Rattle.zarrs_storage.specs.Parts.{held_bytes}
 use Rattle.zarrs_codec_error.specs.declared.error.CodecError.{CodecError}
 use Rattle.zarrs_codec_error.specs.declared.error.CodecError.TheVariants as codec
 use Rattle.zarrs_codec_held.specs.Held.{Held, Seen}
-use Rattle.zarrs_codec_held.specs.Reads.{Keeps, Reads, MayCount, IsFault, IsHandleError}
-use Rattle.zarrs_codec_held.specs.Writes.{Holds, Stays, is_fault, Unless, UnlessFault, Writes, Unasked, Edits}
+use Rattle.zarrs_codec_held.specs.Reads.{Keeps, Reads, IsFault, IsHandleError}
+use Rattle.zarrs_codec_held.specs.Writes.{Holds, Stays, Stands, is_fault, Unless, UnlessFault, Writes, Unasked, MayCountIf, Edits}
 
 -- a fault after an earlier count
-rose_later : (first before now : ℕ) → first ≤ before → Rose before now → Rose first now
+pub rose_later : (first before now : ℕ) → first ≤ before → Rose before now → Rose first now
 rose_later first before now later rose = let r : min (before + 1) (2 ^ 64 - 1) ≤ now = rose in let goal : min (first + 1) (2 ^ 64 - 1) ≤ now = omega arith in goal
 
 pub fault_later : (first before now : ℕ) (e : CodecError) → first ≤ before → IsHandleError before now e → IsHandleError first now e
@@ -46,7 +46,7 @@ always_err (Err e) p = p
 pub writes_after : {T : Type 0} (value : Option (List ℕ)) (first old new : Seen) (result : Result T CodecError) → Keeps first old → Writes value old new result → Writes value first new result
 writes_after value first old new result keeps writes = record {
   ok = writes.ok;
-  failed = on_err_weaker result (λ case. ⊎_elim (λ (same : (under : Options) → new.held under ≡ old.held under). inl (λ (under : Options). same under ∙ keeps.held under)) (λ (more : Holds value new ⊎ Holds None new). inr more) case) writes.failed;
+  failed = on_err_weaker result (λ case. ⊎_elim (λ (same : Stands old new). let s : Stands first new = record { there = same.there ∙ keeps.there; held = λ under. same.held under ∙ keeps.held under } in inl s) (λ (more : Holds value new ⊎ Holds None new). inr more) case) writes.failed;
   unchanged = unless_after result (λ (stays : Stays old new). let s : Stays first new = record { there = stays.there ∙ keeps.there; held = λ under. stays.held under ∙ keeps.held under; content = λ key. stays.content key ∙ keeps.content key } in s) writes.unchanged;
   others = λ other unlike. writes.others other (λ is. unlike (is ∙ keeps.key)) ∙ keeps.content other;
   key = writes.key ∙ keeps.key;
@@ -59,7 +59,7 @@ writes_after value first old new result keeps writes = record {
 pub writes_kept : {T : Type 0} (value : Option (List ℕ)) (old new : Seen) (e : CodecError) → Keeps old new → Writes {T = T} value old new (Err e)
 writes_kept {T} value old new e keeps = record {
   ok = tt;
-  failed = inl keeps.held;
+  failed = inl (let s : Stands old new = record { there = keeps.there; held = keeps.held } in s);
   unchanged = unless_of {T = T} (Err e) (let s : Stays old new = record { there = keeps.there; held = keeps.held; content = keeps.content } in s);
   others = λ other unlike. keeps.content other;
   key = keeps.key;
@@ -72,7 +72,7 @@ same_held : (a b : Option (List ℕ)) → Some a ≡ Some b → a ≡ b
 same_held a b e = cc
 
 module _ {T : Type 0} (edit : List ℕ → List ℕ) (under : Options) where
-  pub edits_kept : (rereads : Bool) (old new : Seen) (e : CodecError) → Keeps old new → MayCount old.shown.asks new.shown.asks old.cost → MayCount old.shown.taken new.shown.taken (old.taking None)
+  pub edits_kept : (rereads : Bool) (old new : Seen) (e : CodecError) → Keeps old new → MayCountIf rereads old.shown.asks new.shown.asks old.cost → MayCountIf rereads old.shown.taken new.shown.taken (old.taking None)
       → Edits {T = T} edit rereads under old new (Err e)
   edits_kept rereads old new e keeps asks taken = record {
     ok = λ value is. writes_kept (Some (edit (held_bytes value))) old new e keeps;
@@ -89,11 +89,11 @@ module _ {T : Type 0} (edit : List ℕ → List ℕ) (under : Options) where
     later = keeps.later;
   }
 
-  pub edits_unread : {U E : Type 0} (rereads : Bool) (old new : Seen) (failure : E) (e : CodecError) → Reads {T = U} None old new (Err failure) → Edits {T = T} edit rereads under old new (Err e)
-  edits_unread rereads old new failure e reads = edits_kept rereads old new e reads.keeps reads.asks_err reads.taken_err
+  pub edits_unread : {U E : Type 0} (old new : Seen) (failure : E) (e : CodecError) → Reads {T = U} None old new (Err failure) → Edits {T = T} edit true under old new (Err e)
+  edits_unread old new failure e reads = edits_kept true old new e reads.keeps reads.asks_err reads.taken_err
 
-  pub edits_unmade : {U E : Type 0} (rereads : Bool) (old new : Seen) (read : U) (e : CodecError) → Reads {E = E} None old new (Ok read) → Edits {T = T} edit rereads under old new (Err e)
-  edits_unmade rereads old new read e reads = edits_kept rereads old new e reads.keeps (inr reads.asks) (inr reads.taken)
+  pub edits_unmade : {U E : Type 0} (old new : Seen) (read : U) (e : CodecError) → Reads {E = E} None old new (Ok read) → Edits {T = T} edit true under old new (Err e)
+  edits_unmade old new read e reads = edits_kept true old new e reads.keeps (inr reads.asks) (inr reads.taken)
 
   pub edits_made : {U E : Type 0} (first old new : Seen) (read : U) (value : Option (List ℕ)) (made : List ℕ) (result : Result T CodecError) → Reads {E = E} None first old (Ok read) → first.held under ≡ Some value
       → made ≡ edit (held_bytes value) → Writes (Some made) old new result → Unasked old new → Edits edit true under first new result

@@ -8,7 +8,7 @@ use Rattle.zarrs_codec_error.specs.declared.error.CodecError.{CodecError}
 use Rattle.zarrs_codec_error.specs.declared.error.CodecError.TheVariants as codec
 use Rattle.zarrs_codec_held.specs.Held.{Held, HasPart, value_part, part_of, Seen, IsSound}
 use Rattle.zarrs_codec_held.specs.Reads.{Keeps, Reads, GivesParts, AreParts, AreAbsent, RefusesSome, IsRangeError, IsHandleError, IsReadError, IsPartError}
-use Rattle.zarrs_codec_held.specs.Writes.{Holds, Stays, is_fault, Unless, UnlessFault, Writes}
+use Rattle.zarrs_codec_held.specs.Writes.{Holds, Stays, Stands, is_fault, Unless, UnlessFault, Writes}
 use Rattle.zarrs_codec_held.specs.Through.{through, says_of, through_says, decoded}
 use Rattle.zarrs_codec_held.proofs.PartLaws.{within_value, value_there, none_absent}
 
@@ -140,7 +140,7 @@ module _ {T : Type 0} (meaning : Options → List ℕ → Option (List ℕ)) (be
   pub decoded_writes : Writes below old new result → Writes above (decoded meaning old) (decoded meaning new) result
   decoded_writes writes = record {
     ok = on_ok_weaker result holds_above writes.ok;
-    failed = on_err_weaker result (λ case. ⊎_elim (λ (same : (under : Options) → new.held under ≡ old.held under). inl (λ (under : Options). ap (through (meaning under)) (same under)))
+    failed = on_err_weaker result (λ case. ⊎_elim (λ (same : Stands old new). let s : Stands (decoded meaning old) (decoded meaning new) = record { there = same.there; held = λ under. ap (through (meaning under)) (same.held under) } in inl s)
         (λ (more : Holds below new ⊎ Holds None new). inr (⊎_elim (λ (h : Holds below new). inl (holds_above h)) (λ (h : Holds None new). inr (holds_none h)) more)) case) writes.failed;
     unchanged = unless result (λ (stays : Stays old new). let s : Stays (decoded meaning old) (decoded meaning new) = record { there = stays.there; held = λ under. ap (through (meaning under)) (stays.held under); content = stays.content } in s) writes.unchanged;
     others = writes.others;
@@ -160,4 +160,4 @@ writes_some meaning value encoded old new result gives writes = decoded_writes m
 -- nothing was changed for want of memory
 pub writes_not : {T : Type 0} (value : Option (List ℕ)) (seen : Seen) (e : CodecError) → e ≡ codec.OutOfMemory → Writes {T = T} value seen seen (Err e)
 writes_not {T} value seen e is = subst (λ (x : CodecError). Writes {T = T} value seen seen (Err x)) (sym is)
-    (record { ok = tt; failed = inl (λ under. refl); unchanged = record { there = refl; held = λ under. refl; content = λ key. refl }; others = λ other other_key. refl; key = refl; place = refl; cost = refl; later = omega arith })
+    (record { ok = tt; failed = inl (record { there = refl; held = λ under. refl }); unchanged = record { there = refl; held = λ under. refl; content = λ key. refl }; others = λ other other_key. refl; key = refl; place = refl; cost = refl; later = omega arith })

@@ -18,6 +18,11 @@ pub record Stays (old new : Seen) : Type 0 where
   pub held : (under : Options) → new.held under ≡ old.held under
   pub content : (key : List ℕ) → new.shown.content key ≡ old.shown.content key
 
+-- it holds what it held
+pub record Stands (old new : Seen) : Type 0 where
+  pub there : new.there ≡ old.there
+  pub held : (under : Options) → new.held under ≡ old.held under
+
 -- whether an error is a fault of what is below
 abbrev pub is_fault : CodecError → Bool
 is_fault (codec.StorageError e) = true
@@ -38,8 +43,7 @@ pub record Writes {T : Type 0} (value : Option (List ℕ)) (old new : Seen)
   pub ok : OnOk result (Holds value new)
   -- after a fault it holds what it held, or this, or nothing; after any other refusal nothing has
   -- changed
-  pub failed : OnErr result (((under : Options) → new.held under ≡ old.held under)
-      ⊎ (Holds value new ⊎ Holds None new))
+  pub failed : OnErr result (Stands old new ⊎ (Holds value new ⊎ Holds None new))
   pub unchanged : UnlessFault result (Stays old new)
   -- other keys stay, and the handle is still that of this key
   pub others : (other : List ℕ) → ¬ (other ≡ old.key)
@@ -59,6 +63,11 @@ abbrev pub CountsIf : Bool → ℕ → ℕ → ℕ → Type 0
 CountsIf false before now more = now ≡ before
 CountsIf true before now more = now ≡ counted before more
 
+-- and of a call that failed: as before, if nothing is read
+abbrev pub MayCountIf : Bool → ℕ → ℕ → ℕ → Type 0
+MayCountIf false before now more = now ≡ before
+MayCountIf true before now more = MayCount before now more
+
 -- a change of what is held by a function of its bytes
 pub record Edits {T : Type 0} (edit : List ℕ → List ℕ) (rereads : Bool) (under : Options)
     (old new : Seen) (result : Result T CodecError) : Type 0 where
@@ -68,9 +77,10 @@ pub record Edits {T : Type 0} (edit : List ℕ → List ℕ) (rereads : Bool) (u
   pub decodes : OnOk result (IsSome (old.held under))
   pub undecoded : old.held under ≡ None → Stays old new
   pub asks : OnOk result (CountsIf rereads old.shown.asks new.shown.asks old.cost)
-  pub asks_err : OnErr result (MayCount old.shown.asks new.shown.asks old.cost)
+  pub asks_err : OnErr result (MayCountIf rereads old.shown.asks new.shown.asks old.cost)
   pub taken : OnOk result (CountsIf rereads old.shown.taken new.shown.taken (old.taking None))
-  pub taken_err : OnErr result (MayCount old.shown.taken new.shown.taken (old.taking None))
+  pub taken_err : OnErr result
+      (MayCountIf rereads old.shown.taken new.shown.taken (old.taking None))
   pub others : (other : List ℕ) → ¬ (other ≡ old.key)
       → new.shown.content other ≡ old.shown.content other
   pub key : new.key ≡ old.key

@@ -1,5 +1,5 @@
 -- The list that is held, by cases.
-use Rattle.std.proofs.Common.{◌≡◌, ◌⊎◌, ℕ, ◌+◌, ◌-◌, ◌≤◌, Bool, true, false, is_some, if◌then◌else◌, List, [], ◌∷◌, length, take, drop, replicate, Option, Some, None, IsSome, option_map, not, Result, Ok, Err, IfOk, IfErr, OnOk, MatchResult, refl, sym, ap, ◌∙◌, subst, arith, inl, inr, ⊎_elim, eq-eqb}
+use Rattle.std.proofs.Common.{◌≡◌, ◌⊎◌, ℕ, ◌+◌, ◌-◌, ◌≤◌, Bool, true, false, is_some, if◌then◌else◌, List, [], ◌∷◌, length, take, drop, replicate, Option, Some, None, IsSome, option_map, not, Result, Ok, Err, IfOk, IfErr, OnOk, MatchResult, refl, sym, ap, ap₂, ◌∙◌, subst, arith, inl, inr, ⊎_elim, eq-eqb}
 use Rattle.std.proofs.Math.Path.{fun_ext}
 use Rattle.std.proofs.lemmas.List.{length-take-le, length-drop}
 use Rattle.std.proofs.lemmas.Bool.{leb-true, le-leb}
@@ -30,7 +30,7 @@ use Rattle.zarrs_codec_held.specs.Reads.{Keeps, Looks, Reads, GivesParts, ArePar
 use Rattle.zarrs_codec_held.proofs.PartLaws.{as_many}
 use Rattle.zarrs_codec_partial_traits.specs.Boxes.{smaller_box, is_smaller}
 use Rattle.zarrs_codec_partial_traits.specs.Lists.{fills, IsListError, KeepsList, LooksAt, ReadsList}
-use Rattle.zarrs_codec_partial.specs.Level.{list_of, IsRefused, AreGiven, IsOtherFill, own_says, list_says, ranges_for, listed}
+use Rattle.zarrs_codec_partial.specs.Level.{list_of, found, held_in, IsRefused, AreGiven, IsOtherFill, own_says, list_says, ranges_for, listed}
 use Rattle.zarrs_codec_partial.specs.Boxes.{IsShort, GivesAll, GivesBox, GivesPlaces}
 use Rattle.zarrs_codec_partial.proofs.SelectLaws.{select-replicate, boxed-picked}
 use Rattle.zarrs_codec_partial.proofs.ExtractLaws.{says_some, extract_told}
@@ -149,18 +149,28 @@ module _ (level : Level) (fill : List ℕ) (decode : List ℕ → Option (List E
 
 module _ (level : Level) (fill : List ℕ) (decode : List ℕ → Option (List Element)) (says : List ℕ → CodecError → Type 0) (tells : CodecError → Type 0) (below : Seen) (under : Options) (asked : Option (List ByteRange)) (before now : ℕ) where
   abbrev Fails : CodecError → Type 0
-  Fails e = IsListError below.there (list_of decode (fills level fill) (below.held under)) (list_says level fill says tells below under asked) before now e
+  Fails e = IsListError below.there (list_of decode (fills level fill) (held_in below under)) (list_says level fill says tells below under asked) before now e
 
   abbrev Own : Held → CodecError → Type 0
   Own h e = own_says level fill says (AreGiven below.there (below.part under) asked) h e
 
+  none_found : below.held under ≡ None → (list_of decode (fills level fill) (held_in below under) ≡ None) ⊎ (below.there ≡ false)
+  none_found is = go below.there refl
+    where
+      go : (b : Bool) → below.there ≡ b → (list_of decode (fills level fill) (held_in below under) ≡ None) ⊎ (below.there ≡ false)
+      go true here = inl (ap₂ (λ (t : Bool) (h : Held). list_of decode (fills level fill) (found t h)) here is)
+      go false gone = inr gone
+
+  value_found : (value : List ℕ) → below.held under ≡ Some (Some value) → list_of decode (fills level fill) (held_in below under) ≡ decode value
+  value_found value is = ap (λ (h : Held). list_of decode (fills level fill) (found below.there h)) is
+
   pub read_fails : asked ≡ None → (e : CodecError) → IsReadError (below.held under) tells before now e → Fails e
   read_fails whole e told = ⊎_elim (λ (h : IsHandleError before now e). inl h)
-      (λ (none : (below.held under ≡ None) × tells e). inr (inl (ap (list_of decode (fills level fill)) none.0), inl (subst (λ (a : Option (List ByteRange)). IsRefused (below.held under) (below.part under) a) (sym whole) none.0, none.1))) told
+      (λ (none : (below.held under ≡ None) × tells e). inr (none_found none.0, inl (subst (λ (a : Option (List ByteRange)). IsRefused (below.held under) (below.part under) a) (sym whole) none.0, none.1))) told
 
   pub value_fails : (value : List ℕ) (e : CodecError) → below.held under ≡ Some (Some value) → IsDecodeError (decode value) (says value) e → Fails e
   value_fails value e is told = ⊎_elim (λ (m : e ≡ codec.OutOfMemory). inl (inl m))
-      (λ (none : (decode value ≡ None) × says value e). inr (inl (ap (list_of decode (fills level fill)) is ∙ none.0), inr (subst (λ (h : Held). Own h e) (sym is) none.1))) told
+      (λ (none : (decode value ≡ None) × says value e). inr (inl (value_found value is ∙ none.0), inr (subst (λ (h : Held). Own h e) (sym is) none.1))) told
 
   pub value_fails_if : {T : Type 0} (value : List ℕ) (r : Result T CodecError) → below.held under ≡ Some (Some value) → IfErr r (IsDecodeError (decode value) (says value)) → IfErr r Fails
   value_fails_if value r is told = weaker_err _ _ r (λ e t. value_fails value e is t) told
@@ -174,7 +184,7 @@ module _ (level : Level) (fill : List ℕ) (decode : List ℕ → Option (List E
 
   pub broken_fails : {T : Type 0} (r : Result T CodecError) → below.held under ≡ None → AreGiven below.there (below.part under) asked → IfErr r Fails
   broken_fails (Ok v) is given = tt
-  broken_fails (Err e) is given = inr (inl (ap (list_of decode (fills level fill)) is), inr (subst (λ (h : Held). Own h e) (sym is) given))
+  broken_fails (Err e) is given = inr (none_found is, inr (subst (λ (h : Held). Own h e) (sym is) given))
 
   -- ranges that are refused of a value that decodes are not all valid for it
   pub parts_fail : (ranges : List ByteRange) (e : CodecError) → asked ≡ Some ranges → ((value : List ℕ) → below.held under ≡ Some (Some value) → (range : ByteRange) → below.part under range ≡ value_part (Some value) range)
@@ -201,10 +211,10 @@ module _ (level : Level) (fill : List ℕ) (decode : List ℕ → Option (List E
           split true range rest e = (refl, e)
           split false range rest e = cc
 
-      go : (h : Held) → below.held under ≡ h → RefusesSome (below.part under) ranges → (list_of decode (fills level fill) (below.held under) ≡ None) ⊎ (below.there ≡ false)
-      go None is refuses = inl (ap (list_of decode (fills level fill)) is)
+      go : (h : Held) → below.held under ≡ h → RefusesSome (below.part under) ranges → (list_of decode (fills level fill) (held_in below under) ≡ None) ⊎ (below.there ≡ false)
+      go None is refuses = none_found is
       go (Some None) is refuses = inr (sym (all None is))
-      go (Some (Some value)) is refuses = inl (ap (list_of decode (fills level fill)) is ∙ asks value (refused value ranges (whole value is) refuses))
+      go (Some (Some value)) is refuses = inl (value_found value is ∙ asks value (refused value ranges (whole value is) refuses))
 
 -- the length of a slice
 slice_told : (range : ByteRange) (value : List ℕ) → is_valid range (length value) ≡ true → length_answer range (slice_of range value) ≡ fine
@@ -262,32 +272,29 @@ never : true ≡ false → ⊥
 never e = cc
 
 module _ (level : Level) (fill : List ℕ) (decode : List ℕ → Option (List Element)) (absent : Option (List Element)) (held : Held) (there : Bool) (all : (value : Option (List ℕ)) → held ≡ Some value → is_some value ≡ there) where
-  pub box_of_absent : (box : Region) (r : Result code.ArrayBytes CodecError) → there ≡ false → GivesBox level fill box absent r → GivesBox level fill box (list_of decode absent held) r
+  pub box_of_absent : (box : Region) (r : Result code.ArrayBytes CodecError) → there ≡ false → GivesBox level fill box absent r → GivesBox level fill box (list_of decode absent (found there held)) r
   box_of_absent box r gone gives = go held refl
     where
-      none : {A : Type 0} {x : A} → None ≡ Some x → ⊥
-      none e = cc
-
-      go : (h : Held) → held ≡ h → GivesBox level fill box (list_of decode absent held) r
-      go None is = record { value = λ xs e. absurd (none (sym (ap (list_of decode absent) is) ∙ e)); valid = gives.valid; short = gives.short }
-      go (Some None) is = box_of_none level fill decode absent held box r is gives
+      go : (h : Held) → held ≡ h → GivesBox level fill box (list_of decode absent (found there held)) r
+      go None is = box_of_none level fill decode absent (found there held) box r (ap₂ found gone is) gives
+      go (Some None) is = box_of_none level fill decode absent (found there held) box r (ap (found there) is) gives
       go (Some (Some value)) is = absurd (never (all (Some value) is ∙ gone))
 
   module _ (part : ByteRange → Held) (ranges : List ByteRange) (given : List (List ℕ)) (whole : (value : List ℕ) → held ≡ Some (Some value) → (range : ByteRange) → part range ≡ value_part (Some value) range) (are : AreParts part ranges given) (here : there ≡ true) where
     pub box_of_parts : (box : Region) (r : Result code.ArrayBytes CodecError)
         → ((value : List ℕ) (xs : List Element) → given ≡ slices_of ranges value → decode value ≡ Some xs → MatchResult r (λ v. list_at (at_box box level) (raw_of v) ≡ Some (select level.shape box xs)) (λ e. e ≡ codec.OutOfMemory))
-        → IfOk r (λ v. IsSome (list_at (at_box box level) (raw_of v))) → IfOk r (λ v. has_long_element (raw_of v) ≡ false) → GivesBox level fill box (list_of decode absent held) r
+        → IfOk r (λ v. IsSome (list_at (at_box box level) (raw_of v))) → IfOk r (λ v. has_long_element (raw_of v) ≡ false) → GivesBox level fill box (list_of decode absent (found there held)) r
     box_of_parts box r gives valid short = go held refl
       where
-        go : (h : Held) → held ≡ h → GivesBox level fill box (list_of decode absent held) r
-        go None is = box_of_broken level fill decode absent held box r is valid short
+        go : (h : Held) → held ≡ h → GivesBox level fill box (list_of decode absent (found there held)) r
+        go None is = box_of_broken level fill decode absent (found there held) box r (ap₂ found here is) valid short
         go (Some None) is = absurd (never (sym here ∙ sym (all None is)))
-        go (Some (Some value)) is = box_of_value level fill decode absent held box value r is (λ xs e. gives value xs (parts_sliced part ranges value given (whole value is) are).slices e) valid short
+        go (Some (Some value)) is = box_of_value level fill decode absent (found there held) box value r (ap (found there) is) (λ xs e. gives value xs (parts_sliced part ranges value given (whole value is) are).slices e) valid short
 
 -- why elements of what a handle gives are refused
 module _ (level : Level) (fill : List ℕ) (decode : List ℕ → Option (List Element)) (says : List ℕ → CodecError → Type 0) (tells : CodecError → Type 0) (below : Seen) (under : Options) (sound : IsSound below) (asked : Option (List ByteRange)) (ranges : List ByteRange) (some : asked ≡ Some ranges) (before now : ℕ) where
   abbrev FailsSo : CodecError → Type 0
-  FailsSo e = IsListError below.there (list_of decode (fills level fill) (below.held under)) (list_says level fill says tells below under asked) before now e
+  FailsSo e = IsListError below.there (list_of decode (fills level fill) (held_in below under)) (list_says level fill says tells below under asked) before now e
 
   given_so : (parts : Option (List (List ℕ))) → GivesParts below.there (below.part under) ranges parts → AreGiven below.there (below.part under) asked
   given_so parts given = subst (λ (a : Option (List ByteRange)). AreGiven below.there (below.part under) a) (sym some) (parts, given)
@@ -336,9 +343,9 @@ listed_fails level fits raw (Err e) P inside valid answers memory = go (list_at 
 
 module _ (decode : List ℕ → Option (List Element)) (absent : Option (List Element)) (there : Bool) (held : Held) (all : (value : Option (List ℕ)) → held ≡ Some value → is_some value ≡ there) where
   pub value_decodes : {T : Type 0} (given : T → Option (List Element)) (Q : CodecError → Type 0) (r : Result T CodecError) (value : List ℕ) → held ≡ Some (Some value) → MatchResult r (λ v. Gives (given v) (decode value)) Q
-      → OnOk r (IsSome (list_of decode absent held))
+      → OnOk r (IsSome (list_of decode absent (found there held)))
   value_decodes given Q (Ok v) value is gives =
-      let same : list_of decode absent held ≡ decode value = ap (list_of decode absent) is in
+      let same : list_of decode absent (found there held) ≡ decode value = ap (λ (h : Held). list_of decode absent (found there h)) is in
       subst (λ (o : Option (List Element)). IsSome o) (gives.same ∙ sym same) gives.there
   value_decodes given Q (Err e) value is gives = tt
 
@@ -365,7 +372,7 @@ module _ (level : Level) (fill : List ℕ) (unserved : Option Unserved) (meaning
     short = refl;
     unserved = refl;
     there = keeps.there;
-    list = λ under. ap (list_of (meaning under) (fills level fill)) (keeps.held under);
+    list = λ under. ap₂ (λ (t : Bool) (h : Held). list_of (meaning under) (fills level fill) (found t h)) keeps.there (keeps.held under);
     content = keeps.content;
     key = keeps.key;
     place = keeps.place;

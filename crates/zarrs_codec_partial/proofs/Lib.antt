@@ -1,4 +1,7 @@
+pub mod AbsentLaws
+pub mod DenotesLaws
 pub mod SelectLaws
 pub mod ExtractLaws
 pub mod HeldLaws
 pub mod WriteLaws
+pub mod ServedLaws

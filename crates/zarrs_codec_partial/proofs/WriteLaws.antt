@@ -1,5 +1,5 @@
 -- Elements that are written through a codec.
-use Rattle.std.proofs.Common.{◌≡◌, ◌⊎◌, ℕ, suc, ◌*◌, ◌<◌, ◌≤◌, Bool, true, false, is_some, not, ◌||◌, ◌&&◌, ◌==◌, List, [], ◌∷◌, length, replicate, Option, Some, None, IsSome, option_map, Result, Ok, Err, IfOk, IfErr, refl, sym, ap, ap₂, ◌∙◌, ◌↔◌, zero, subst, arith, inl, inr, ⊎_elim, eqb-true}
+use Rattle.std.proofs.Common.{◌≡◌, ◌⊎◌, ℕ, suc, ◌*◌, ◌<◌, ◌≤◌, Bool, true, false, is_some, not, ◌||◌, ◌&&◌, ◌==◌, List, [], ◌∷◌, length, replicate, Option, Some, None, IsSome, option_map, Result, Ok, Err, IfOk, IfErr, OnErr, refl, sym, ap, ap₂, ◌∙◌, ◌↔◌, zero, subst, arith, inl, inr, ⊎_elim, eqb-true}
 use Rattle.std.specs.List.{list_all}
 use Rattle.std.specs.Bool.{IsTrue}
 use Rattle.std.specs.Int.NonZero.{non_zero_u64_get}
@@ -20,22 +20,24 @@ use Rattle.zarrs_codec_bytes.specs.Picking.{size_in, replaced}
 use Rattle.zarrs_codec_error.specs.declared.error.CodecError.{CodecError}
 use Rattle.zarrs_codec_error.specs.declared.error.CodecError.TheVariants as codec
 use Rattle.zarrs_codec_array_bytes.specs.Levels.{inner_length}
-use Rattle.zarrs_codec_array_bytes.specs.Refusals.{Told, fine, told_by, sized_answer, then_answer, first_answer, validity, Answers}
+use Rattle.zarrs_codec_array_bytes.specs.Refusals.{Told, fine, told_by, lengths_refusal, lengths_answer, sized_answer, then_answer, first_answer, validity, Answers}
 use Rattle.zarrs_codec_array_bytes.specs.declared.array_bytes.ArrayBytes as code
 use Rattle.zarrs_codec_array_bytes.specs.Raw.{raw_of}
 use Rattle.zarrs_codec_array_bytes_update.specs.Pairs.{pair_refusal, both_answer, update_answer}
-use Rattle.zarrs_codec_traits.specs.Errors.{Unserved}
+use Rattle.zarrs_codec_traits.specs.Errors.{Unserved, IsNoFault, RefusesBy, IsFormRefusal}
+use Rattle.zarrs_codec_traits.proofs.FaultLaws.{answers_no_fault, served_no_fault, known_sized, known_validity, known_then, known_first, known_form}
 use Rattle.zarrs_codec_traits.specs.Views.{lengths}
 use Rattle.zarrs_codec_traits.specs.Words.{list_at, Gives}
-use Rattle.zarrs_codec_held.specs.Held.{Seen, IsSound}
+use Rattle.zarrs_codec_held.specs.Held.{Held, Seen, IsSound}
 use Rattle.zarrs_codec_held.specs.Reads.{IsFault, IsHandleError}
-use Rattle.zarrs_codec_held.specs.Writes.{Holds, Stays, UnlessFault, Writes, Unasked}
+use Rattle.zarrs_codec_held.specs.Writes.{Holds, Stays, Stands, UnlessFault, Writes, Unasked}
 use Rattle.zarrs_codec_partial_traits.specs.Boxes.{same_lengths, is_all}
-use Rattle.zarrs_codec_partial_traits.specs.Lists.{ListSeen, fills}
-use Rattle.zarrs_codec_partial_traits.specs.ListWrites.{given_answer, are_all, is_kept, updated, HoldsList, ErasesList, PutsList, StaysList, KeepsRest}
+use Rattle.zarrs_codec_partial_traits.specs.Lists.{ListSeen, by_codec, fills}
+use Rattle.zarrs_codec_partial_traits.specs.ListWrites.{given_answer, are_all, is_kept, updated, HoldsList, IsAbsent, SameList, IsLeft, ErasesList, PutsList, StaysList, KeepsRest}
 use Rattle.zarrs_codec_partial_traits.specs.Updates.{Stores}
+use Rattle.zarrs_codec_partial_traits.proofs.FaultLaws.{handle_faults, own_faults}
 use Rattle.zarrs_codec_partial_traits.proofs.UpdateLaws.{unless, fault_told, fault_only, handle_told}
-use Rattle.zarrs_codec_partial.specs.Level.{list_of, listed}
+use Rattle.zarrs_codec_partial.specs.Level.{list_of, found, listed}
 use Rattle.zarrs_codec_partial.specs.Writing.{IsBeyond}
 use Rattle.zarrs_codec_partial.proofs.ExtractLaws.{says_some, masked, lengths_kept}
 
@@ -120,6 +122,24 @@ dropped_list level fill under xs long dropped = go (fill_element (kind_of level.
     go None false e = cc
     go (Some x) false e = ap Some (sym (all_found x xs (not_true _ e) ∙ ap (λ (n : ℕ). replicate n x) long))
 
+none_some : {A : Type 0} (o : Option A) → o ≡ None → IsSome o → ⊥
+none_some None is there = cc
+none_some (Some x) is there = cc
+
+-- what was encoded is served
+pub encoded_served : {T : Type 0} (why : Option Unserved) (v : T) → RefusesBy why (Ok v) → why ≡ None
+encoded_served None v refuses = refl
+encoded_served (Some why) v refuses = absurd refuses
+
+-- a list that is kept where the fill value denotes an element is kept where it denotes none
+pub kept_any : (under : Options) (element : Option Element) (xs : List Element) → (IsSome element → true ≡ is_kept under element xs) → true ≡ is_kept under element xs
+kept_any under None xs kept = go under.store_empty_chunks
+  where
+    go : (s : Bool) → true ≡ (s || not false)
+    go true = refl
+    go false = refl
+kept_any under (Some x) xs kept = kept refl
+
 any : Options
 any = record { store_empty_chunks = true; validate_checksums = true }
 
@@ -139,40 +159,43 @@ module _ (level : Level) (fill : List ℕ) (unserved : Option Unserved) (meaning
   abbrev see : Seen → ListSeen
   see seen = listed level fill unserved meaning request seen
 
+  held_list : (new : Seen) (under : Options) (held : Held) → new.held under ≡ held → (see new).list under ≡ list_of (meaning under) (fills level fill) (found new.there held)
+  held_list new under held is = ap (λ (h : Held). list_of (meaning under) (fills level fill) (found new.there h)) is
+
   holds_value : (value : List ℕ) (list : List Element) (new : Seen) → IsSound new → ((under : Options) → meaning under value ≡ Some list) → Holds (Some value) new → HoldsList true (Some list) (see new)
   holds_value value list new sound means holds = record {
     there = sym (sound.all_there any (Some value) (holds any));
-    list = λ under. ap (list_of (meaning under) (fills level fill)) (holds under) ∙ means under;
+    list = λ under. held_list new under _ (holds under) ∙ means under;
   }
 
-  holds_none : (new : Seen) → IsSound new → Holds None new → HoldsList false (fills level fill) (see new)
-  holds_none new sound holds = record {
-    there = sym (sound.all_there any None (holds any));
-    list = λ under. ap (list_of (meaning under) (fills level fill)) (holds under);
-  }
+  holds_none : (new : Seen) → IsSound new → Holds None new → IsAbsent (see new)
+  holds_none new sound holds = sym (sound.all_there any None (holds any))
 
-  same_list : (old new : Seen) → ((under : Options) → new.held under ≡ old.held under) → (under : Options) → (see new).list under ≡ (see old).list under
-  same_list old new same under = ap (list_of (meaning under) (fills level fill)) (same under)
+  same_list : (old new : Seen) → Stands old new → SameList (see old) (see new)
+  same_list old new same = record {
+    there = same.there;
+    list = λ under. ap₂ (λ (t : Bool) (h : Held). list_of (meaning under) (fills level fill) (found t h)) same.there (same.held under);
+  }
 
   pub puts_value : {T : Type 0} (value : List ℕ) (list : List Element) (old new : Seen) (result : Result T CodecError) → IsSound new → ((under : Options) → meaning under value ≡ Some list) → Writes (Some value) old new result
       → PutsList true list (see old) (see new) result
   puts_value value list old new result sound means writes = record {
     ok = on_ok_weaker result (holds_value value list new sound means) writes.ok;
-    failed = on_err_weaker result (λ case. ⊎_elim (λ (same : (under : Options) → new.held under ≡ old.held under). inl (same_list old new same))
-        (λ (more : Holds (Some value) new ⊎ Holds None new). inr (⊎_elim (λ (h : Holds (Some value) new). inl (holds_value value list new sound means h)) (λ (h : Holds None new). inr (holds_none new sound h)) more)) case) writes.failed;
+    failed = on_err_weaker result (λ case. ⊎_elim (λ (same : Stands old new). inl (same_list old new same))
+        (λ (more : Holds (Some value) new ⊎ Holds None new). inr (⊎_elim (λ (h : Holds (Some value) new). inr (holds_value value list new sound means h)) (λ (h : Holds None new). inl (holds_none new sound h)) more)) case) writes.failed;
   }
 
   pub puts_absent : {T : Type 0} (list : List Element) (old new : Seen) (result : Result T CodecError) → IsSound new → fills level fill ≡ Some list → Writes None old new result → PutsList false list (see old) (see new) result
   puts_absent list old new result sound is writes = record {
-    ok = on_ok_weaker result (λ (h : Holds None new). subst (λ (l : Option (List Element)). HoldsList false l (see new)) is (holds_none new sound h)) writes.ok;
-    failed = on_err_weaker result (λ case. ⊎_elim (λ (same : (under : Options) → new.held under ≡ old.held under). inl (same_list old new same))
-        (λ (more : Holds None new ⊎ Holds None new). inr (inr (⊎_elim (λ (h : Holds None new). holds_none new sound h) (λ (h : Holds None new). holds_none new sound h) more))) case) writes.failed;
+    ok = on_ok_weaker result (λ (h : Holds None new). let l : HoldsList false (Some list) (see new) = record { there = holds_none new sound h; list = λ under. held_list new under _ (h under) ∙ is } in l) writes.ok;
+    failed = on_err_weaker result (λ case. ⊎_elim (λ (same : Stands old new). inl (same_list old new same))
+        (λ (more : Holds None new ⊎ Holds None new). inr (inl (⊎_elim (λ (h : Holds None new). holds_none new sound h) (λ (h : Holds None new). holds_none new sound h) more))) case) writes.failed;
   }
 
   pub erases : {T : Type 0} (old new : Seen) (result : Result T CodecError) → IsSound new → Writes None old new result → ErasesList (see old) (see new) result
   erases old new result sound writes = record {
     ok = on_ok_weaker result (holds_none new sound) writes.ok;
-    failed = on_err_weaker result (λ case. ⊎_elim (λ (same : (under : Options) → new.held under ≡ old.held under). inl (same_list old new same))
+    failed = on_err_weaker result (λ case. ⊎_elim (λ (same : Stands old new). inl (same_list old new same))
         (λ (more : Holds None new ⊎ Holds None new). inr (⊎_elim (λ (h : Holds None new). holds_none new sound h) (λ (h : Holds None new). holds_none new sound h) more)) case) writes.failed;
   }
 
@@ -181,36 +204,44 @@ module _ (level : Level) (fill : List ℕ) (unserved : Option Unserved) (meaning
 
   pub written_unchanged : {T : Type 0} (value : Option (List ℕ)) (old new : Seen) (result : Result T CodecError) → Writes value old new result → UnlessFault result (StaysList (see old) (see new))
   written_unchanged value old new result writes =
-      unless result (λ (stays : Stays old new). let s : StaysList (see old) (see new) = record { there = stays.there; list = same_list old new stays.held; content = stays.content } in s) writes.unchanged
+      unless result (λ (stays : Stays old new). let s : StaysList (see old) (see new) = let same = same_list old new (record { there = stays.there; held = stays.held }) in record { there = stays.there; list = same.list; content = stays.content } in s) writes.unchanged
 
   -- the value was replaced by one that decodes to these elements
   pub stores_value : {T : Type 0} (under : Options) (raw : ArrayBytes) (unencoded : List Element → CodecError → Type 0) (Short : Type 0) (value : List ℕ) (old new : Seen) (result : Result T CodecError) → IsSound new
       → ((list : List Element) → IsSome (fill_element (kind_of level.data_type) fill) → list_at level raw ≡ Some list → true ≡ is_kept under (fill_element (kind_of level.data_type) fill) list)
       → (unserved ≡ None → (under : Options) → meaning under value ≡ list_at level raw) → Writes (Some value) old new result → Unasked old new → IfErr result (IsHandleError old.shown.faults new.shown.faults)
-      → Stores under raw unencoded Short (see old) (see new) result
-  stores_value under raw unencoded Short value old new result sound kept decodes writes unasked cause = record {
-    puts = λ list served filled means. subst (λ (b : Bool). PutsList b list (see old) (see new) result) (kept list filled means) (puts_value value list old new result sound (λ under. decodes served under ∙ means) writes);
+      → unserved ≡ None → Stores under raw unencoded Short (see old) (see new) result
+  stores_value under raw unencoded Short value old new result sound kept decodes writes unasked cause is = record {
+    puts = λ list served filled means. subst (λ (b : Bool). PutsList b list (see old) (see new) result) (kept list filled means) (puts_value value list old new result sound (λ under. decodes is under ∙ means) writes);
+    left = λ list served means.
+        let all = kept_any under (fill_element (kind_of level.data_type) fill) list (λ filled. kept list filled means) in
+        subst (λ (b : Bool). OnErr result (IsLeft (λ other. b) (Some list) (see old) (see new))) all (puts_value value list old new result sound (λ under. decodes is under ∙ means) writes).failed;
+    unserved = λ some. absurd (none_some (option_map by_codec unserved) (ap (option_map by_codec) is) some);
     unchanged = written_unchanged (Some value) old new result writes;
     rest = written_rest (Some value) old new result writes;
     unasked = record { asks = unasked.asks; taken = unasked.taken };
     cause = λ list served filled means. handle_told _ _ (unencoded list) result cause;
     encoded = λ served filled few takes there short. cause;
+    fault = handle_faults _ _ result cause;
   }
 
   -- it was erased
   pub stores_none : {T : Type 0} (under : Options) (raw : ArrayBytes) (unencoded : List Element → CodecError → Type 0) (Short : Type 0) (old new : Seen) (result : Result T CodecError) → IsSound new
       → ((list : List Element) → IsSome (fill_element (kind_of level.data_type) fill) → list_at level raw ≡ Some list → false ≡ is_kept under (fill_element (kind_of level.data_type) fill) list)
-      → Writes None old new result → Unasked old new → IfErr result (IsFault old.shown.faults new.shown.faults) → Stores under raw unencoded Short (see old) (see new) result
-  stores_none under raw unencoded Short old new result sound dropped writes unasked cause = record {
+      → Writes None old new result → Unasked old new → IfErr result (IsFault old.shown.faults new.shown.faults) → unserved ≡ None → Stores under raw unencoded Short (see old) (see new) result
+  stores_none under raw unencoded Short old new result sound dropped writes unasked cause is = record {
     puts = λ list served filled means.
         let long = length-meaning (kind_of level.data_type) (count_of level.shape) raw list means in
         let not_kept = dropped list filled means in
         subst (λ (b : Bool). PutsList b list (see old) (see new) result) not_kept (puts_absent list old new result sound (dropped_list level fill under list long not_kept) writes);
+    left = λ list served means. on_err_weaker result (λ case. ⊎_elim (λ (same : SameList (see old) (see new)). inl same) (λ (gone : IsAbsent (see new)). inr (inl gone)) case) (erases old new result sound writes).failed;
+    unserved = λ some. absurd (none_some (option_map by_codec unserved) (ap (option_map by_codec) is) some);
     unchanged = written_unchanged None old new result writes;
     rest = written_rest None old new result writes;
     unasked = record { asks = unasked.asks; taken = unasked.taken };
     cause = λ list served filled means. fault_told _ _ (unencoded list) result cause;
     encoded = λ served filled few takes there short. fault_only _ _ result cause;
+    fault = own_faults _ _ result cause;
   }
 
 -- of options that drop, what is kept is not the fill
@@ -246,6 +277,24 @@ given_memory kind fits number raw given e inside means answer =
     ⊎_elim (λ (m : e ≡ codec.OutOfMemory). m)
     (λ (t : told_by e ≡ given_answer kind fits number raw). absurd (says_some e (t ∙ ap₂ (λ (v : Told) (f : Bool). then_answer v (first_answer None f fine)) valid inside))) answer
 
+-- which is no fault
+pub given_no_fault : (kind : Kind) (fits : Bool) (number : ℕ) (raw : ArrayBytes) (e : CodecError) → (e ≡ codec.OutOfMemory) ⊎ (told_by e ≡ given_answer kind fits number raw) → IsNoFault e
+given_no_fault kind fits number raw e answer =
+    answers_no_fault {T = Unit {0}} (Err e) (given_answer kind fits number raw) (known_then _ _ (known_validity kind number raw) (known_first None fits fine refl)) answer
+
+pub encode_no_fault : (T : Type 0) (level : Level) (raw : ArrayBytes) (beyond : Told) (unserved : Option Unserved) (e : CodecError) → IsFormRefusal beyond → RefusesBy {T = T} unserved (Err e)
+    → (unserved ≡ None → (e ≡ codec.OutOfMemory) ⊎ (told_by e ≡ then_answer (validity (kind_of level.data_type) (count_of level.shape) raw) beyond)) → IsNoFault e
+encode_no_fault T level raw beyond unserved e form refuses answer =
+    served_no_fault {T = T} unserved (Err e) refuses
+    (λ served. answers_no_fault {T = T} (Err e) _ (known_then _ beyond (known_validity (kind_of level.data_type) (count_of level.shape) raw) (known_form beyond form)) (answer served))
+
+pub update_no_fault : {T : Type 0} (size : Option ℕ) (fits : Bool) (n m : ℕ) (old new : ArrayBytes) (r : Result T CodecError) → Answers (update_answer size fits n old m new) r → IfErr r IsNoFault
+update_no_fault size fits n m old new r answers =
+    let width = size_in size in
+    answers_no_fault r (update_answer size fits n old m new)
+    (known_first (pair_refusal size old new) fits (both_answer width n old m new)
+    (known_then (lengths_answer width n old) (lengths_answer width m new) (known_sized (inner_length old) (n * width) (lengths_refusal width n old)) (known_sized (inner_length new) (m * width) (lengths_refusal width m new)))) answers
+
 -- an update of elements by others of their kind is not refused
 pub pair_kept : (kind : Kind) (n m : ℕ) (old new : ArrayBytes) (xs ys : List Element) → meaning kind n old ≡ Some xs → meaning kind m new ≡ Some ys → pair_refusal (fixed_size kind) old new ≡ None
 pair_kept (fixed size) n m (fixed_bytes a) (fixed_bytes b) xs ys e f = refl
@@ -274,10 +323,6 @@ update_memory kind size fits n m old new xs ys e sized inside o p answer =
     let all : update_answer (fixed_size kind) fits n old m new ≡ fine = ap₂ (λ (a : Option Refusal) (f : Bool). first_answer a f (both_answer width n old m new)) (pair_kept kind n m old new xs ys o p) inside ∙ lengths in
     ⊎_elim (λ (h : e ≡ codec.OutOfMemory). h)
     (λ (t : told_by e ≡ update_answer size fits n old m new). absurd (says_some e (t ∙ (ap (λ (s : Option ℕ). update_answer s fits n old m new) sized ∙ all)))) answer
-
-none_some : {A : Type 0} (o : Option A) → o ≡ None → IsSome o → ⊥
-none_some None is there = cc
-none_some (Some x) is there = cc
 
 some_now : {A : Type 0} (o : Option A) (x : A) → o ≡ Some x → IsSome o
 some_now {A = A} o x is = subst (λ (p : Option A). IsSome p) (sym is) refl

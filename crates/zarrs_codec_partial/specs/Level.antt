@@ -1,5 +1,5 @@
 -- An array-to-bytes codec with its level, over what a handle of bytes holds.
-use Rattle.std.specs.Prelude.{◌≡◌, ◌⊎◌, ℕ, not, is_some, Bool, false, List, Option, Some, None, option_and_then}
+use Rattle.std.specs.Prelude.{◌≡◌, ◌⊎◌, ℕ, not, is_some, Bool, true, false, List, Option, Some, None, option_map, option_and_then}
 use Rattle.zarr_model.specs.Region.{Region}
 use Rattle.zarr_model.specs.Element.{Element, DataType, kind_of}
 use Rattle.zarr_model.specs.Codec.{Level, Options}
@@ -13,7 +13,7 @@ use Rattle.zarrs_codec_traits.specs.Views.{level_of}
 use Rattle.zarrs_codec_held.specs.Held.{Held, Seen}
 use Rattle.zarrs_codec_held.specs.Reads.{RefusesSome, GivesParts}
 use Rattle.zarrs_codec_partial_traits.specs.Boxes.{smaller_box}
-use Rattle.zarrs_codec_partial_traits.specs.Lists.{ListSeen, fills, is_short}
+use Rattle.zarrs_codec_partial_traits.specs.Lists.{ListSeen, by_codec, fills, is_short}
 use Rattle.zarrs_codec_partial.specs.declared.level.BottomLevel.{BottomLevel}
 
 -- its level, and the bytes of its fill value
@@ -29,6 +29,15 @@ abbrev pub list_of : (List ℕ → Option (List Element)) → Option (List Eleme
 list_of decode absent None = None
 list_of decode absent (Some None) = absent
 list_of decode absent (Some (Some value)) = decode value
+
+-- what is held, which is nothing where the value is absent, also where a read of it is refused
+abbrev pub found : Bool → Held → Held
+found there (Some value) = Some value
+found true None = None
+found false None = Some None
+
+abbrev pub held_in : Seen → Options → Held
+held_in seen under = found seen.there (seen.held under)
 
 -- what is read is refused: the whole value, or some of the ranges that are asked for
 abbrev pub IsRefused : Held → (ByteRange → Held) → Option (List ByteRange) → Type 0
@@ -46,8 +55,8 @@ abbrev pub IsOtherFill : Level → List ℕ → CodecError → Type 0
 IsOtherFill level fill e =
     (has_size (kind_of level.data_type) fill ≡ false) × (told_by e ≡ other_fill)
 
--- which errors say why there are no elements of what is given: the codec's of a value; any of ranges
--- of a value that is not given as a whole; and of an absent one, that of its fill value
+-- which errors say why there are no elements of what is given: the codec's of a value; any of
+-- ranges of a value that is not given as a whole; and of an absent one, that of its fill value
 abbrev pub own_says : Level → List ℕ → (List ℕ → CodecError → Type 0) → Type 0 → Held
     → CodecError → Type 0
 own_says level fill says Given None e = Given
@@ -74,9 +83,9 @@ listed level fill unserved meaning request below = record {
   level = level;
   fill = fill;
   short = is_short level fill;
-  unserved = unserved;
+  unserved = option_map by_codec unserved;
   there = below.there;
-  list = λ under. list_of (meaning under) (fills level fill) (below.held under);
+  list = λ under. list_of (meaning under) (fills level fill) (held_in below under);
   shown = below.shown;
   key = below.key;
   place = below.place;

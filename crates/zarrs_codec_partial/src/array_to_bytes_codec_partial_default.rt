@@ -75,9 +75,9 @@ impl<H: BytesPartialDecoderTraits, C: ArrayToBytesCodecTraits> ArrayPartialDecod
     ghost use Rattle.std.specs.Prelude.{◌&&◌};
     ghost use Rattle.std.proofs.Common.{refl, ◌∙◌};
     ghost use Rattle.zarrs_codec_traits.specs.Errors.{unserved_at};
-    ghost use Rattle.zarrs_codec_partial.specs.Counted.{listed_count};
+    ghost use Rattle.zarrs_codec_partial.specs.Counted.{listed_count, listed_absent};
     ghost use Rattle.zarrs_codec_partial_traits.specs.Lists.{fills};
-    ghost use Rattle.zarrs_codec_partial.specs.Level.{bottom_level, bottom_fill, listed, list_says, ranges_for};
+    ghost use Rattle.zarrs_codec_partial.specs.Level.{bottom_level, bottom_fill, listed, held_in, list_says, ranges_for};
 
     ghost seen = { λ h. listed (bottom_level h.level) (bottom_fill h.level)
         (unserved_at (C.unserved h.level.codec) (bottom_level h.level) (bottom_fill h.level))
@@ -94,8 +94,14 @@ impl<H: BytesPartialDecoderTraits, C: ArrayToBytesCodecTraits> ArrayPartialDecod
 
     ghost counted = { λ h under xs served is. listed_count
         (C.meaning h.level.codec under (bottom_level h.level)) (bottom_level h.level)
-        (bottom_fill h.level) ((H.seen h.handle).held under) xs
+        (bottom_fill h.level) (held_in (H.seen h.handle) under) xs
         (λ value given. C.counted h.level.codec under (bottom_level h.level) value xs given) is };
+
+    ghost absent = { λ h under served gone. listed_absent
+        (C.meaning h.level.codec under (bottom_level h.level))
+        (fills (bottom_level h.level) (bottom_fill h.level))
+        (H.seen h.handle).there ((H.seen h.handle).held under)
+        (λ value is. (H.sound h.handle).all_there under value is) gone };
 
     ghost same_self = { λ h. (refl, H.same_self h.handle) };
 
@@ -129,7 +135,7 @@ impl<H: BytesPartialDecoderTraits, C: ArrayToBytesCodecTraits> ArrayPartialDecod
             && self.handle.supports_partial_decode()
     }
 
-    #[tactic(auto, using(crate::proofs::HeldLaws::listed_reads, crate::proofs::HeldLaws::not_some))]
+    #[tactic(auto, using(crate::proofs::HeldLaws::listed_reads, crate::proofs::HeldLaws::not_some, zarrs_codec_partial_traits::proofs::NamedLaws::codec_served))]
     fn partial_decode<I: Indexer>(
         &mut self,
         alloc: Global,

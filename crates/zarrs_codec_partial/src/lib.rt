@@ -3,6 +3,7 @@
 
 mod array_to_bytes_codec_partial_default;
 pub mod boxes;
+pub mod fill;
 mod level;
 pub mod read;
 pub mod write;

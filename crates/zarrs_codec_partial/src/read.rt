@@ -1,6 +1,6 @@
 //! The elements of what a handle of bytes holds, by a codec with its level.
 
-ghost use Rattle.std.specs.Prelude.{◌≡◌, ◌∷◌, [], ◌⊎◌, ◌+◌, ◌<◌, ◌^◌, true, false, None, IsSome, IfOk, IfErr, OnOk};
+ghost use Rattle.std.specs.Prelude.{◌≡◌, ◌∷◌, [], ◌⊎◌, ◌+◌, ◌<◌, ◌^◌, true, false, None, IsSome, IsOk, IfOk, IfErr, OnOk, option_map};
 ghost use Rattle.zarrs_storage.specs.ByteRange.{parts_of};
 ghost use Rattle.zarr_model.specs.Region.{count_of, ends_within};
 ghost use Rattle.zarr_model.specs.Element.{kind_of};
@@ -9,14 +9,14 @@ ghost use Rattle.zarrs_array_subset.specs.ArraySubset.{region as box_of};
 ghost use Rattle.zarrs_codec_error.specs.declared.error.CodecError.{CodecError};
 ghost use Rattle.zarrs_codec_error.specs.declared.error.CodecError.TheVariants as codec;
 ghost use Rattle.zarrs_codec_array_bytes.specs.Refusals.{fine, first_answer, Answers, IfUnfit};
-ghost use Rattle.zarrs_codec_traits.specs.Errors.{unserved_at, RefusesAs};
+ghost use Rattle.zarrs_codec_traits.specs.Errors.{unserved_at, IsNoFault, RefusesAs};
 ghost use Rattle.zarrs_codec_traits.specs.Views.{lengths, options_of};
 ghost use Rattle.zarrs_codec_traits.specs.Words.{IsFit};
 ghost use Rattle.zarrs_codec_held.specs.Reads.{Reads};
 ghost use Rattle.zarrs_codec_partial_traits.specs.Boxes.{is_all};
-ghost use Rattle.zarrs_codec_partial_traits.specs.Lists.{fills, AreFew, IsUnread, IsListError};
+ghost use Rattle.zarrs_codec_partial_traits.specs.Lists.{by_codec, fills, AreFew, IsUnread, IsListError, RefusesFor, TellsFault};
 ghost use Rattle.zarrs_codec_partial.specs.Boxes.{Denotes, GivesAll, GivesBox, GivesPlaces};
-ghost use Rattle.zarrs_codec_partial.specs.Level.{list_of, list_says, IsOtherFill, ranges_for};
+ghost use Rattle.zarrs_codec_partial.specs.Level.{list_of, held_in, list_says, IsOtherFill, ranges_for};
 
 use crate::boxes::smaller_box;
 use crate::level::BottomLevel;
@@ -69,6 +69,24 @@ fn one(alloc: Global, value: Vec<u8>) -> Result<Vec<Vec<u8>>, AllocError>
 impl<C: ArrayToBytesCodecTraits> BottomLevel<C> {
     ghost use Rattle.zarrs_codec_partial.specs.Level.{bottom_level, bottom_fill};
 
+    // Tests that the codec serves the shape, the data type and the fill value.
+    pub(crate) fn expect_served(&self) -> Result<(), CodecError>
+        requires fits { IsFit (bottom_level self.now).shape (bottom_level self.now).data_type }
+        ensures named { RefusesFor (option_map by_codec (unserved_at (C.unserved self.now.codec)
+            (bottom_level self.now) (bottom_fill self.now))) result }
+        ensures served { unserved_at (C.unserved self.now.codec) (bottom_level self.now)
+            (bottom_fill self.now) ≡ None → IsOk result }
+        ensures no_fault { IfErr result IsNoFault }
+    {
+        match self
+            .codec
+            .encoded_representation(&self.shape, &self.data_type, &self.fill_value)
+        {
+            Ok(_) => Ok(()),
+            Err(error) => Err(error),
+        }
+    }
+
     // The fill value for each element.
     fn fill_whole(&self, alloc: Global) -> Result<ArrayBytes<'static>, CodecError>
         requires fits { IsFit (bottom_level self.now).shape (bottom_level self.now).data_type }
@@ -113,13 +131,13 @@ impl<C: ArrayToBytesCodecTraits> BottomLevel<C> {
             let under = options_of options.now in
             unserved_at (C.unserved self.now.codec) level fill ≡ None → GivesAll level fill
             (list_of (C.meaning self.now.codec under level) (fills level fill)
-            ((H.seen handle.old).held under)) result }
+            (held_in (H.seen handle.old) under)) result }
         ensures failed { let level = bottom_level self.now in let fill = bottom_fill self.now in
             let under = options_of options.now in
             unserved_at (C.unserved self.now.codec) level fill ≡ None → IfErr result
             (IsListError (H.seen handle.old).there
             (list_of (C.meaning self.now.codec under level) (fills level fill)
-            ((H.seen handle.old).held under))
+            (held_in (H.seen handle.old) under))
             (list_says level fill (C.says self.now.codec under level) (H.tells handle.old under)
             (H.seen handle.old) under None)
             (H.seen handle.old).shown.faults (H.seen handle.new).shown.faults) }
@@ -128,14 +146,16 @@ impl<C: ArrayToBytesCodecTraits> BottomLevel<C> {
             unserved_at (C.unserved self.now.codec) level fill ≡ None
             → (H.seen handle.old).there ≡ true → OnOk result
             (IsSome (list_of (C.meaning self.now.codec under level) (fills level fill)
-            ((H.seen handle.old).held under))) }
+            (held_in (H.seen handle.old) under))) }
         ensures filled { let level = bottom_level self.now in let fill = bottom_fill self.now in
             let under = options_of options.now in
             unserved_at (C.unserved self.now.codec) level fill ≡ None
             → Denotes level fill → OnOk result
             (IsSome (list_of (C.meaning self.now.codec under level) (fills level fill)
-            ((H.seen handle.old).held under))) }
+            (held_in (H.seen handle.old) under))) }
         ensures reads { Reads None (H.seen handle.old) (H.seen handle.new) result }
+        ensures fault { IfErr result
+            (TellsFault (H.seen handle.old).shown.faults (H.seen handle.new).shown.faults) }
         ensures same { H.same handle.old handle.new }
         ensures tells { (under : Options) (e : CodecError) → H.tells handle.new under e
             → H.tells handle.old under e }
@@ -170,13 +190,13 @@ impl<C: ArrayToBytesCodecTraits> BottomLevel<C> {
             let under = options_of options.now in
             unserved_at (C.unserved self.now.codec) level fill ≡ None → GivesBox level fill
             (box_of region.now) (list_of (C.meaning self.now.codec under level) (fills level fill)
-            ((H.seen handle.old).held under)) result }
+            (held_in (H.seen handle.old) under)) result }
         ensures failed { let level = bottom_level self.now in let fill = bottom_fill self.now in
             let under = options_of options.now in
             unserved_at (C.unserved self.now.codec) level fill ≡ None → IfErr result
             (IsListError (H.seen handle.old).there
             (list_of (C.meaning self.now.codec under level) (fills level fill)
-            ((H.seen handle.old).held under))
+            (held_in (H.seen handle.old) under))
             (list_says level fill (C.says self.now.codec under level) (H.tells handle.old under)
             (H.seen handle.old) under (C.request self.now.codec level.shape level.data_type
             (box_of region.now)))
@@ -186,8 +206,10 @@ impl<C: ArrayToBytesCodecTraits> BottomLevel<C> {
             unserved_at (C.unserved self.now.codec) level fill ≡ None
             → (H.seen handle.old).there ≡ true → OnOk result
             (IsSome (list_of (C.meaning self.now.codec under level) (fills level fill)
-            ((H.seen handle.old).held under))) }
+            (held_in (H.seen handle.old) under))) }
         ensures reads { Reads None (H.seen handle.old) (H.seen handle.new) result }
+        ensures fault { IfErr result
+            (TellsFault (H.seen handle.old).shown.faults (H.seen handle.new).shown.faults) }
         ensures same { H.same handle.old handle.new }
         ensures tells { (under : Options) (e : CodecError) → H.tells handle.new under e
             → H.tells handle.old under e }
@@ -227,18 +249,20 @@ impl<C: ArrayToBytesCodecTraits> BottomLevel<C> {
             let under = options_of options.now in
             unserved_at (C.unserved self.now.codec) level fill ≡ None → GivesBox level fill
             (box_of region.now) (list_of (C.meaning self.now.codec under level) (fills level fill)
-            ((H.seen handle.old).held under)) result }
+            (held_in (H.seen handle.old) under)) result }
         ensures failed { let level = bottom_level self.now in let fill = bottom_fill self.now in
             let under = options_of options.now in
             unserved_at (C.unserved self.now.codec) level fill ≡ None → IfErr result
             (IsListError (H.seen handle.old).there
             (list_of (C.meaning self.now.codec under level) (fills level fill)
-            ((H.seen handle.old).held under))
+            (held_in (H.seen handle.old) under))
             (list_says level fill (C.says self.now.codec under level) (H.tells handle.old under)
             (H.seen handle.old) under (C.request self.now.codec level.shape level.data_type
             (box_of region.now)))
             (H.seen handle.old).shown.faults (H.seen handle.new).shown.faults) }
         ensures reads { Reads (Some ranges.now) (H.seen handle.old) (H.seen handle.new) result }
+        ensures fault { IfErr result
+            (TellsFault (H.seen handle.old).shown.faults (H.seen handle.new).shown.faults) }
         ensures same { H.same handle.old handle.new }
         ensures tells { (under : Options) (e : CodecError) → H.tells handle.new under e
             → H.tells handle.old under e }
@@ -276,13 +300,13 @@ impl<C: ArrayToBytesCodecTraits> BottomLevel<C> {
             let under = options_of options.now in
             unserved_at (C.unserved self.now.codec) level fill ≡ None → GivesBox level fill
             (box_of region.now) (list_of (C.meaning self.now.codec under level) (fills level fill)
-            ((H.seen handle.old).held under)) result }
+            (held_in (H.seen handle.old) under)) result }
         ensures failed { let level = bottom_level self.now in let fill = bottom_fill self.now in
             let under = options_of options.now in
             unserved_at (C.unserved self.now.codec) level fill ≡ None → IfErr result
             (IsListError (H.seen handle.old).there
             (list_of (C.meaning self.now.codec under level) (fills level fill)
-            ((H.seen handle.old).held under))
+            (held_in (H.seen handle.old) under))
             (list_says level fill (C.says self.now.codec under level) (H.tells handle.old under)
             (H.seen handle.old) under (C.request self.now.codec level.shape level.data_type
             (box_of region.now)))
@@ -294,10 +318,12 @@ impl<C: ArrayToBytesCodecTraits> BottomLevel<C> {
             (box_of region.now)) ≡ None
             → (H.seen handle.old).there ≡ true → OnOk result
             (IsSome (list_of (C.meaning self.now.codec under level) (fills level fill)
-            ((H.seen handle.old).held under))) }
+            (held_in (H.seen handle.old) under))) }
         ensures reads { Reads (C.request self.now.codec (bottom_level self.now).shape
             (bottom_level self.now).data_type (box_of region.now))
             (H.seen handle.old) (H.seen handle.new) result }
+        ensures fault { IfErr result
+            (TellsFault (H.seen handle.old).shown.faults (H.seen handle.new).shown.faults) }
         ensures same { H.same handle.old handle.new }
         ensures tells { (under : Options) (e : CodecError) → H.tells handle.new under e
             → H.tells handle.old under e }
@@ -332,13 +358,13 @@ impl<C: ArrayToBytesCodecTraits> BottomLevel<C> {
             let under = options_of options.now in
             unserved_at (C.unserved self.now.codec) level fill ≡ None → GivesPlaces level fill
             (I.places indexer.now) (list_of (C.meaning self.now.codec under level)
-            (fills level fill) ((H.seen handle.old).held under)) result }
+            (fills level fill) (held_in (H.seen handle.old) under)) result }
         ensures failed { let level = bottom_level self.now in let fill = bottom_fill self.now in
             let under = options_of options.now in
             unserved_at (C.unserved self.now.codec) level fill ≡ None → IfErr result
             (IsListError (H.seen handle.old).there
             (list_of (C.meaning self.now.codec under level) (fills level fill)
-            ((H.seen handle.old).held under))
+            (held_in (H.seen handle.old) under))
             (list_says level fill (C.says self.now.codec under level) (H.tells handle.old under)
             (H.seen handle.old) under None)
             (H.seen handle.old).shown.faults (H.seen handle.new).shown.faults) }
@@ -347,13 +373,15 @@ impl<C: ArrayToBytesCodecTraits> BottomLevel<C> {
             unserved_at (C.unserved self.now.codec) level fill ≡ None
             → (H.seen handle.old).there ≡ true → OnOk result
             (IsSome (list_of (C.meaning self.now.codec under level) (fills level fill)
-            ((H.seen handle.old).held under))) }
+            (held_in (H.seen handle.old) under))) }
         ensures all { let level = bottom_level self.now in let fill = bottom_fill self.now in
             let under = options_of options.now in
             unserved_at (C.unserved self.now.codec) level fill ≡ None → Denotes level fill
             → OnOk result (IsSome (list_of (C.meaning self.now.codec under level) (fills level fill)
-            ((H.seen handle.old).held under))) }
+            (held_in (H.seen handle.old) under))) }
         ensures reads { Reads None (H.seen handle.old) (H.seen handle.new) result }
+        ensures fault { IfErr result
+            (TellsFault (H.seen handle.old).shown.faults (H.seen handle.new).shown.faults) }
         ensures same { H.same handle.old handle.new }
         ensures tells { (under : Options) (e : CodecError) → H.tells handle.new under e
             → H.tells handle.old under e }
@@ -381,13 +409,13 @@ impl<C: ArrayToBytesCodecTraits> BottomLevel<C> {
             let under = options_of options.now in
             unserved_at (C.unserved self.now.codec) level fill ≡ None → GivesPlaces level fill
             (I.places indexer.now) (list_of (C.meaning self.now.codec under level)
-            (fills level fill) ((H.seen handle.old).held under)) result }
+            (fills level fill) (held_in (H.seen handle.old) under)) result }
         ensures failed { let level = bottom_level self.now in let fill = bottom_fill self.now in
             let under = options_of options.now in
             unserved_at (C.unserved self.now.codec) level fill ≡ None → IfErr result
             (IsListError (H.seen handle.old).there
             (list_of (C.meaning self.now.codec under level) (fills level fill)
-            ((H.seen handle.old).held under))
+            (held_in (H.seen handle.old) under))
             (list_says level fill (C.says self.now.codec under level) (H.tells handle.old under)
             (H.seen handle.old) under (ranges_for (C.request self.now.codec level.shape
             level.data_type) level.shape (I.as_region indexer.now)))
@@ -399,17 +427,19 @@ impl<C: ArrayToBytesCodecTraits> BottomLevel<C> {
             level.data_type) level.shape (I.as_region indexer.now)) ≡ None
             → (H.seen handle.old).there ≡ true → OnOk result
             (IsSome (list_of (C.meaning self.now.codec under level) (fills level fill)
-            ((H.seen handle.old).held under))) }
+            (held_in (H.seen handle.old) under))) }
         ensures all { let level = bottom_level self.now in let fill = bottom_fill self.now in
             let under = options_of options.now in
             unserved_at (C.unserved self.now.codec) level fill ≡ None → Denotes level fill
             → is_all level.shape (I.as_region indexer.now) ≡ true
             → OnOk result (IsSome (list_of (C.meaning self.now.codec under level) (fills level fill)
-            ((H.seen handle.old).held under))) }
+            (held_in (H.seen handle.old) under))) }
         ensures reads { Reads (ranges_for (C.request self.now.codec
             (bottom_level self.now).shape (bottom_level self.now).data_type)
             (bottom_level self.now).shape (I.as_region indexer.now))
             (H.seen handle.old) (H.seen handle.new) result }
+        ensures fault { IfErr result
+            (TellsFault (H.seen handle.old).shown.faults (H.seen handle.new).shown.faults) }
         ensures same { H.same handle.old handle.new }
         ensures tells { (under : Options) (e : CodecError) → H.tells handle.new under e
             → H.tells handle.old under e }
@@ -425,8 +455,8 @@ impl<C: ArrayToBytesCodecTraits> BottomLevel<C> {
     /// codec, else out of all elements.
     ///
     /// # Errors
-    /// [`CodecError`] exactly where the indexer does not fit the shape, before anything is read; else where what is below
-    /// fails, where the value does not decode, or where memory runs out.
+    /// [`CodecError`] exactly where the indexer does not fit the shape, else where the codec does not serve its level, both
+    /// before anything is read; else where what is below fails, where the value does not decode, or where memory runs out.
     #[tactic(auto, using(zarrs_codec_held::proofs::IntervalLaws::unread))]
     pub fn decode_elements<H: BytesPartialDecoderTraits, I: Indexer>(
         &self,
@@ -446,18 +476,21 @@ impl<C: ArrayToBytesCodecTraits> BottomLevel<C> {
             let under = options_of options.now in
             unserved_at (C.unserved self.now.codec) level fill ≡ None → GivesPlaces level fill
             (I.places indexer.now) (list_of (C.meaning self.now.codec under level)
-            (fills level fill) ((H.seen handle.old).held under)) result }
+            (fills level fill) (held_in (H.seen handle.old) under)) result }
         ensures failed { let level = bottom_level self.now in let fill = bottom_fill self.now in
             let under = options_of options.now in
             unserved_at (C.unserved self.now.codec) level fill ≡ None
             → I.fits indexer.now level.shape ≡ true → IfErr result
             (IsListError (H.seen handle.old).there
             (list_of (C.meaning self.now.codec under level) (fills level fill)
-            ((H.seen handle.old).held under))
+            (held_in (H.seen handle.old) under))
             (list_says level fill (C.says self.now.codec under level) (H.tells handle.old under)
             (H.seen handle.old) under (ranges_for (C.request self.now.codec level.shape
             level.data_type) level.shape (I.as_region indexer.now)))
             (H.seen handle.old).shown.faults (H.seen handle.new).shown.faults) }
+        ensures named { I.fits indexer.now (bottom_level self.now).shape ≡ true
+            → RefusesFor (option_map by_codec (unserved_at (C.unserved self.now.codec)
+            (bottom_level self.now) (bottom_fill self.now))) result }
         ensures decodes { let level = bottom_level self.now in let fill = bottom_fill self.now in
             let under = options_of options.now in
             unserved_at (C.unserved self.now.codec) level fill ≡ None
@@ -465,23 +498,28 @@ impl<C: ArrayToBytesCodecTraits> BottomLevel<C> {
             level.data_type) level.shape (I.as_region indexer.now)) ≡ None
             → (H.seen handle.old).there ≡ true → OnOk result
             (IsSome (list_of (C.meaning self.now.codec under level) (fills level fill)
-            ((H.seen handle.old).held under))) }
+            (held_in (H.seen handle.old) under))) }
         ensures all { let level = bottom_level self.now in let fill = bottom_fill self.now in
             let under = options_of options.now in
             unserved_at (C.unserved self.now.codec) level fill ≡ None → Denotes level fill
             → is_all level.shape (I.as_region indexer.now) ≡ true
             → OnOk result (IsSome (list_of (C.meaning self.now.codec under level) (fills level fill)
-            ((H.seen handle.old).held under))) }
+            (held_in (H.seen handle.old) under))) }
         ensures reads { Reads (ranges_for (C.request self.now.codec
             (bottom_level self.now).shape (bottom_level self.now).data_type)
             (bottom_level self.now).shape (I.as_region indexer.now))
             (H.seen handle.old) (H.seen handle.new) result }
+        ensures fault { IfErr result
+            (TellsFault (H.seen handle.old).shown.faults (H.seen handle.new).shown.faults) }
         ensures same { H.same handle.old handle.new }
         ensures tells { (under : Options) (e : CodecError) → H.tells handle.new under e
             → H.tells handle.old under e }
     {
         match fitting_numbers(alloc, indexer, &self.shape) {
-            Ok(numbers) => self.decode_fit(alloc, handle, indexer, &numbers, options),
+            Ok(numbers) => match self.expect_served() {
+                Ok(()) => self.decode_fit(alloc, handle, indexer, &numbers, options),
+                Err(error) => Err(error),
+            },
             Err(error) => Err(error),
         }
     }

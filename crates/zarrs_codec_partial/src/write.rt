@@ -1,6 +1,6 @@
 //! Elements put into what a handle of bytes holds, by a codec with its level.
 
-ghost use Rattle.std.specs.Prelude.{◌≡◌, ℕ, ◌<◌, true, false, not, List, length, Some, None, IsSome, IfOk, IfErr};
+ghost use Rattle.std.specs.Prelude.{◌≡◌, ℕ, ◌<◌, true, false, not, List, length, Some, None, IsSome, IfOk, IfErr, option_map};
 ghost use Rattle.zarr_model.specs.Element.{Element, Kind, kind_of, fill_element};
 ghost use Rattle.zarr_model.specs.ArrayBytes.{meaning};
 ghost use Rattle.zarrs_codec_array_bytes.specs.Raw.{raw_of};
@@ -8,11 +8,11 @@ ghost use Rattle.zarrs_codec_array_bytes.specs.Refusals.{fine, validity, Answers
 ghost use Rattle.zarrs_data_type_elements.specs.FillValue.{fill_bytes};
 ghost use Rattle.zarrs_data_type_names.specs.DataType.{type_of, size_of as size_of_type};
 ghost use Rattle.zarrs_codec_array_bytes.specs.Steps.{size_seen};
-ghost use Rattle.zarrs_codec_traits.specs.Errors.{RefusesAs};
+ghost use Rattle.zarrs_codec_traits.specs.Errors.{unserved_at, RefusesAs};
 ghost use Rattle.zarrs_codec_traits.specs.Views.{lengths, options_of};
 ghost use Rattle.zarrs_codec_traits.specs.Words.{list_at, IsFit};
 ghost use Rattle.zarrs_codec_partial_traits.specs.Boxes.{is_all};
-ghost use Rattle.zarrs_codec_partial_traits.specs.Lists.{AreFew};
+ghost use Rattle.zarrs_codec_partial_traits.specs.Lists.{by_codec, AreFew, RefusesFor};
 ghost use Rattle.zarrs_codec_partial_traits.specs.ListWrites.{given_answer, is_kept, IsUntouched};
 ghost use Rattle.zarrs_codec_partial_traits.specs.Updates.{change_of, ReadsListIf, GivesMade, Stores, Updates};
 ghost use Rattle.zarrs_codec_partial.specs.Boxes.{Denotes};
@@ -20,6 +20,7 @@ ghost use Rattle.zarrs_codec_partial.specs.Level.{list_says};
 ghost use Rattle.zarrs_codec_partial.specs.Writing.{IsBeyond};
 
 use crate::boxes::covers;
+use crate::fill::expect_denoted;
 use crate::level::BottomLevel;
 use crate::read::fitting_numbers;
 use std::alloc::Global;
@@ -110,7 +111,8 @@ impl<C: ArrayToBytesCodecTraits> BottomLevel<C> {
         expect_given(alloc, indexer, bytes, &self.shape, &self.data_type)
     }
 
-    // The old elements with those that are given put in.
+    // The old elements with those that are given put in. Of an absent value there are old ones only where the fill value
+    // denotes an element, so this is tested.
     fn updated_elements<H: BytesPartialDecoderTraits, I: Indexer>(
         &self,
         alloc: Global,
@@ -138,11 +140,14 @@ impl<C: ArrayToBytesCodecTraits> BottomLevel<C> {
             ReadsListIf true None (see (H.seen handle.old)) (see (H.seen handle.new)) result }
         ensures same { H.same handle.old handle.new }
     {
-        match self.decode_whole(alloc, handle, options) {
-            Ok(whole) => {
-                let size = size_of(&self.data_type);
-                update_array_bytes(alloc, &whole, numbers, indexer, bytes, size)
-            }
+        match expect_denoted(&self.data_type, &self.fill_value) {
+            Ok(()) => match self.decode_whole(alloc, handle, options) {
+                Ok(whole) => {
+                    let size = size_of(&self.data_type);
+                    update_array_bytes(alloc, &whole, numbers, indexer, bytes, size)
+                }
+                Err(error) => Err(error),
+            },
             Err(error) => Err(error),
         }
     }
@@ -187,7 +192,8 @@ impl<C: ArrayToBytesCodecTraits> BottomLevel<C> {
         }
     }
 
-    // Makes the handle's value one that decodes to these elements, or leaves it absent where they are not stored.
+    // Makes the handle's value one that decodes to these elements, or leaves it absent where they are not stored: encoded
+    // they are in either case, before anything is changed.
     fn store_elements<H: BytesPartialEncoderTraits>(
         &self,
         alloc: Global,
@@ -203,9 +209,7 @@ impl<C: ArrayToBytesCodecTraits> BottomLevel<C> {
             (see (H.seen handle.old)) (see (H.seen handle.new)) result }
         ensures same { H.same handle.old handle.new }
     {
-        if is_dropped(&bytes, &self.fill_value, options) {
-            return handle.erase();
-        }
+        let dropped = is_dropped(&bytes, &self.fill_value, options);
         match self.codec.encode(
             alloc,
             bytes,
@@ -214,7 +218,12 @@ impl<C: ArrayToBytesCodecTraits> BottomLevel<C> {
             &self.fill_value,
             options,
         ) {
-            Ok(value) => handle.replace(alloc, &value, options),
+            Ok(value) => {
+                if dropped {
+                    return handle.erase();
+                }
+                handle.replace(alloc, &value, options)
+            }
             Err(error) => Err(error),
         }
     }
@@ -260,8 +269,9 @@ impl<C: ArrayToBytesCodecTraits> BottomLevel<C> {
     ///
     /// # Errors
     /// [`CodecError`] exactly where the bytes are not valid elements, so many as the indexer has, else exactly where the
-    /// indexer does not fit the shape, both before anything is read; else where what is below fails, where the old value
-    /// does not decode, where the new elements are not encoded, or where memory runs out.
+    /// indexer does not fit the shape, else where the codec does not serve its level, all before anything is read; else
+    /// where what is below fails, where the old value does not decode, where the new elements are not encoded, or where
+    /// memory runs out.
     pub fn encode_elements<H: BytesPartialEncoderTraits, I: Indexer>(
         &self,
         alloc: Global,
@@ -295,10 +305,18 @@ impl<C: ArrayToBytesCodecTraits> BottomLevel<C> {
             (options_of options.now) None)
             (IsBeyond (C.beyond self.now.codec level) level) (C.takes self.now.codec level)
             (see (H.seen handle.old)) (see (H.seen handle.new)) result }
+        ensures named { given_answer (kind_of (bottom_level self.now).data_type)
+            (I.fits indexer.now (bottom_level self.now).shape) (length (I.places indexer.now))
+            (raw_of bytes.now) ≡ fine → RefusesFor (option_map by_codec
+            (unserved_at (C.unserved self.now.codec) (bottom_level self.now)
+            (bottom_fill self.now))) result }
         ensures same { H.same handle.old handle.new }
     {
         match self.expect_given(alloc, indexer, bytes) {
-            Ok(numbers) => self.encode_fit(alloc, handle, indexer, &numbers, bytes, options),
+            Ok(numbers) => match self.expect_served() {
+                Ok(()) => self.encode_fit(alloc, handle, indexer, &numbers, bytes, options),
+                Err(error) => Err(error),
+            },
             Err(error) => Err(error),
         }
     }

@@ -1,10 +1,10 @@
 -- Elements of the level below, and what a codec makes of them.
-use Rattle.std.proofs.Common.{◌≡◌, ◌⊎◌, ℕ, suc, Bool, true, false, List, length, get_or, Option, Some, None, IsSome, option_and_then, unwrap_or, Result, Ok, Err, IfOk, IfErr, OnOk, refl, sym, ap, ap₂, ◌∙◌, subst, arith, inl, inr, ⊎_elim}
+use Rattle.std.proofs.Common.{◌≡◌, ◌⊎◌, ◌&&◌, ℕ, Bool, true, false, List, length, get_or, Option, Some, None, IsSome, option_and_then, Result, Ok, Err, IfOk, IfErr, OnOk, refl, sym, ap, ap₂, ◌∙◌, subst, inl, inr, ⊎_elim}
 use Rattle.std.proofs.lemmas.Simd.{map-map}
 use Rattle.zarr_model.specs.Region.{Region, count, count_of, sizes, whole, ends_within, tuples, place, linear_index}
 use Rattle.zarr_model.proofs.RegionLaws.{length-tuples}
 use Rattle.zarr_model.proofs.ChainLaws.{sizes-whole}
-use Rattle.zarr_model.specs.Element.{Element, null, Kind, fixed, variable, optional, DataType, fill_element, kind_of}
+use Rattle.zarr_model.specs.Element.{Element, null, Kind, DataType, fill_element, kind_of}
 use Rattle.zarr_model.specs.ArrayBytes.{ArrayBytes, meaning}
 use Rattle.zarr_model.specs.Codec.{Level, ArrayCodec}
 use Rattle.zarrs_codec_bytes.specs.Picking.{picked}
@@ -19,23 +19,12 @@ use Rattle.zarrs_codec_traits.specs.Words.{list_at, at_box, select, Gives, IsFit
 use Rattle.zarrs_codec_held.specs.Reads.{IsHandleError}
 use Rattle.zarrs_codec_partial_traits.specs.Boxes.{is_all}
 use Rattle.zarrs_codec_partial_traits.proofs.BoxLaws.{whole_is_all}
-use Rattle.zarrs_codec_partial_traits.specs.Lists.{ListSeen, HasFill, AreFew, KeepsList, LooksAt, ReadsList, IsListError}
+use Rattle.zarrs_codec_partial_traits.specs.Lists.{Refused, ListSeen, HasFill, is_short, AreFew, KeepsList, LooksAt, ReadsList, IsListError}
+use Rattle.zarrs_codec_partial.proofs.AbsentLaws.{kind_back}
 use Rattle.zarrs_codec_partial.proofs.ExtractLaws.{says_some}
 use Rattle.zarrs_codec_partial.proofs.SelectLaws.{listed, box-fits, boxed-picked}
 use Rattle.zarrs_codec_partial.proofs.WriteLaws.{valid_some}
-use Rattle.zarrs_codec_partial_arrays.specs.Above.{kind_code, IsBelow, box_below, first_unserved, raised}
-
--- a kind is known by its numbers
-pub kind_back : (a b : Kind) → kind_code a ≡ kind_code b → a ≡ b
-kind_back (fixed n) (fixed m) e = let same : n ≡ m = cc in ap fixed same
-kind_back (fixed n) variable e = cc
-kind_back (fixed n) (optional b) e = let zero_suc : suc n ≡ 0 = cc in absurd (let no : ⊥ = omega (arith, zero_suc) in no)
-kind_back variable (fixed m) e = cc
-kind_back variable variable e = refl
-kind_back variable (optional b) e = cc
-kind_back (optional a) (fixed m) e = let zero_suc : 0 ≡ suc m = cc in absurd (let no : ⊥ = omega (arith, zero_suc) in no)
-kind_back (optional a) variable e = cc
-kind_back (optional a) (optional b) e = let same : kind_code a ≡ kind_code b = cc in ap optional (kind_back a b same)
+use Rattle.zarrs_codec_partial_arrays.specs.Above.{IsBelow, box_below, first_unserved, raised}
 
 none_some : {A : Type 0} (o : Option A) → o ≡ None → IsSome o → ⊥
 none_some None is there = cc
@@ -127,6 +116,10 @@ pub valid_fails : {T : Type 0} (level : Level) (raw : ArrayBytes) (P : CodecErro
 valid_fails level raw P (Ok v) there answers memory = tt
 valid_fails level raw P (Err e) there answers memory = subst P (sym (valid_memory level raw e there answers)) memory
 
+pub valid_fails_memory : {T : Type 0} (level : Level) (raw : ArrayBytes) (r : Result T CodecError) → IsSome (list_at level raw) → Answers (validity (kind_of level.data_type) (count_of level.shape) raw) r → IfErr r (λ e. e ≡ codec.OutOfMemory)
+valid_fails_memory level raw (Ok v) there answers = tt
+valid_fails_memory level raw (Err e) there answers = valid_memory level raw e there answers
+
 pub ok_always : {T E P : Type 0} (r : Result T E) → P → OnOk r P
 ok_always (Ok v) p = p
 ok_always (Err e) p = tt
@@ -162,28 +155,41 @@ placed_valid level places (Ok v) raw there chosen = go (list_at level raw) refl 
     go (Some ys) is held = some_now _ _ (chosen ys is)
 
 -- what is shown of the handle below
-pub own_served : (own below : Option Unserved) (element : Option Element) → first_unserved own below element ≡ None → own ≡ None
-own_served (Some why) below element is = cc
-own_served None below element is = refl
+pub own_served : (own : Option Unserved) (below : Option Refused) (element : Option Element) → first_unserved own below element ≡ None → own ≡ None
+own_served own below None is = cc
+own_served (Some why) below (Some x) is = cc
+own_served None below (Some x) is = refl
 
-pub below_served : (own below : Option Unserved) (element : Option Element) → first_unserved own below element ≡ None → below ≡ None
-below_served (Some why) below element is = cc
-below_served None (Some why) element is = cc
-below_served None None element is = refl
+pub below_served : (own : Option Unserved) (below : Option Refused) (element : Option Element) → first_unserved own below element ≡ None → below ≡ None
+below_served own below None is = cc
+below_served (Some why) below (Some x) is = cc
+below_served None below (Some x) is = is
 
-pub fill_served : (own below : Option Unserved) (element : Option Element) → first_unserved own below element ≡ None → IsSome element
-fill_served (Some why) below element is = cc
-fill_served None (Some why) element is = cc
-fill_served None None None is = cc
-fill_served None None (Some x) is = refl
+pub fill_served : (own : Option Unserved) (below : Option Refused) (element : Option Element) → first_unserved own below element ≡ None → IsSome element
+fill_served own below None is = cc
+fill_served own below (Some x) is = refl
+
+-- where what is below is not served, though the codec serves its level
+pub unserved_below : (own : Option Unserved) (below : Option Refused) (element : Option Element) → own ≡ None → IsSome element → IsSome (first_unserved own below element) → IsSome below
+unserved_below own below None is there some = cc
+unserved_below (Some why) below (Some x) is there some = cc
+unserved_below None below (Some x) is there some = some
+
+pub below_short : (own below : Bool) → (own && below) ≡ true → below ≡ true
+below_short true below is = is
+below_short false below is = cc
+
+pub own_short : (own below : Bool) → (own && below) ≡ true → own ≡ true
+own_short true below is = refl
+own_short false below is = cc
 
 module _ (level : Level) (fill : List ℕ) (unserved : Option Unserved) (codec : ArrayCodec) (region_below : List ℕ → Region → Region) where
   pub raised_keeps : (old new : ListSeen) → KeepsList old new → KeepsList (raised level fill unserved codec region_below old) (raised level fill unserved codec region_below new)
   raised_keeps old new keeps = record {
     level = refl;
     fill = refl;
-    short = keeps.short;
-    unserved = ap (λ (b : Option Unserved). first_unserved unserved b (fill_element (kind_of level.data_type) fill)) keeps.unserved;
+    short = ap (λ (b : Bool). is_short level fill && b) keeps.short;
+    unserved = ap (λ (b : Option Refused). first_unserved unserved b (fill_element (kind_of level.data_type) fill)) keeps.unserved;
     there = keeps.there;
     list = λ under. ap (λ (l : Option (List Element)). option_and_then (codec.decode_list level) l) (keeps.list under);
     content = keeps.content;
@@ -204,10 +210,6 @@ module _ (level : Level) (fill : List ℕ) (unserved : Option Unserved) (codec :
   raised_looks old new result looks = record { keeps = raised_keeps old new looks.keeps; asks = looks.asks; asks_err = looks.asks_err; taken = looks.taken }
 
 -- a fill value that denotes an element does so below
-pub denoted_fill : (o : Option Element) → IsSome o → o ≡ Some (unwrap_or o null)
-denoted_fill None there = cc
-denoted_fill (Some x) there = refl
-
 pub below_fill : (codec : ArrayCodec) (fill_below : DataType → List ℕ → List ℕ) (level : Level) (fill : List ℕ) (seen : ListSeen) (x : Element) → IsBelow codec fill_below level fill seen
     → fill_element (kind_of (codec.level_below level).data_type) (fill_below level.data_type fill) ≡ Some x → HasFill seen
 below_fill codec fill_below level fill seen x is denotes =

@@ -1,2 +1,5 @@
+mod ByteLaws
+mod FillLaws
 pub mod AboveLaws
 pub mod StoreLaws
+mod ServedLaws

@@ -1,15 +1,17 @@
 //! The elements of what a handle of elements of the level below holds, by an array-to-array codec.
 
-ghost use Rattle.std.specs.Prelude.{◌≡◌, None};
-ghost use Rattle.zarr_model.specs.Element.{kind_of};
+ghost use Rattle.std.specs.Prelude.{◌≡◌, true, nat_lt, None};
+ghost use Rattle.std.specs.List.{list_all};
+ghost use Rattle.zarr_model.specs.Element.{kind_of, fill_element};
 ghost use Rattle.zarrs_data_type_names.specs.DataType.{type_of};
 ghost use Rattle.zarrs_data_type_elements.specs.FillValue.{fill_bytes};
 ghost use Rattle.zarrs_codec_traits.specs.Errors.{unserved_at};
 ghost use Rattle.zarrs_codec_traits.specs.Views.{lengths, level_of};
 ghost use Rattle.zarrs_codec_traits.specs.Words.{IsFit};
-ghost use Rattle.zarrs_codec_partial_arrays.specs.Above.{kind_code};
+ghost use Rattle.zarrs_codec_partial.specs.Kinds.{kind_code};
 
 use crate::level::ArrayLevel;
+use crate::write::are_fill_bytes;
 use std::alloc::Global;
 use zarrs_array_subset::ChunkShape;
 use zarrs_chunk_grid_indexer::Indexer;
@@ -25,7 +27,8 @@ use zarrs_storage::StorageError;
 /// The elements that those of a handle on the level below decode to, by an array-to-array codec.
 ///
 /// A box that is smaller than the shape is read by the box below that the codec names; else all elements are decoded. A
-/// write encodes all elements, and hands them on in one call.
+/// write hands on in one call what all elements are encoded to, or, where they are not stored, the fill value below for
+/// each.
 #[derive(Drop)]
 pub struct ArrayToArrayCodecPartialDefault<
     H: ArrayPartialDecoderTraits,
@@ -45,6 +48,7 @@ pub struct ArrayToArrayCodecPartialDefault<
         (level_of level.shape.items level.data_type level.fill_value)
         (fill_bytes level.fill_value) ≡ None → (H.seen handle).fill
         ≡ C.fill_below level.codec (type_of level.data_type) (fill_bytes level.fill_value) },
+    ghost bytes: { list_all (λ b. nat_lt b 256) (fill_bytes level.fill_value) ≡ true },
 }
 
 impl<H: ArrayPartialDecoderTraits, C: ArrayToArrayCodecTraits> ArrayToArrayCodecPartialDefault<
@@ -78,6 +82,7 @@ impl<H: ArrayPartialDecoderTraits, C: ArrayToArrayCodecTraits> ArrayToArrayCodec
           fill_value = fill_value;
         } }
     {
+        are_fill_bytes(&fill_value);
         ArrayToArrayCodecPartialDefault {
             handle,
             level: ArrayLevel {
@@ -103,7 +108,9 @@ impl<H: ArrayPartialDecoderTraits, C: ArrayToArrayCodecTraits> ArrayPartialDecod
     for ArrayToArrayCodecPartialDefault<H, C> {
     ghost use Rattle.std.specs.Prelude.{Some, ◌&&◌};
     ghost use Rattle.std.proofs.Common.{refl, ◌∙◌};
-    ghost use Rattle.zarrs_codec_partial_arrays.specs.Counted.{raised_count};
+    ghost use Rattle.zarrs_codec_traits.proofs.FillLaws.{element_bytes};
+    ghost use Rattle.zarrs_codec_partial.proofs.AbsentLaws.{denoted_fill, tested_bytes};
+    ghost use Rattle.zarrs_codec_partial_arrays.specs.Counted.{raised_count, raised_absent};
     ghost use Rattle.zarrs_codec_partial_arrays.specs.Above.{array_level, array_fill, raised, box_below};
 
     ghost seen = { λ h. raised (array_level h.level) (array_fill h.level)
@@ -121,6 +128,19 @@ impl<H: ArrayPartialDecoderTraits, C: ArrayToArrayCodecTraits> ArrayPartialDecod
         (H.seen h.handle) under xs h.shape (λ ys zs own long given. C.counted h.level.codec
         (array_level h.level) (array_fill h.level) ys zs own long given)
         (λ ys below given. H.counted h.handle under ys below given) served is };
+
+    ghost absent = { λ h under served gone. let level = array_level h.level in
+        let fill = array_fill h.level in raised_absent (C.meaning h.level.codec)
+        (C.fill_below h.level.codec) (unserved_at (C.unserved h.level.codec) level fill)
+        level fill (H.seen h.handle) under
+        (λ own. record { shape = h.shape own; kind = h.kind own; fill = h.fill own })
+        (λ own some. let is = denoted_fill (fill_element (kind_of level.data_type) fill) some in
+        record {
+          own = is;
+          below = C.denotes h.level.codec level fill own is;
+          decodes = C.fills h.level.codec level fill own is (element_bytes
+              (kind_of level.data_type) fill level.fill (tested_bytes fill h.bytes) is);
+        }) (λ below none. H.absent h.handle under below none) served gone };
 
     ghost same_self = { λ h. (refl, H.same_self h.handle) };
 
@@ -154,7 +174,7 @@ impl<H: ArrayPartialDecoderTraits, C: ArrayToArrayCodecTraits> ArrayPartialDecod
             && self.handle.supports_partial_decode()
     }
 
-    #[tactic(auto, using(crate::proofs::AboveLaws::raised_reads))]
+    #[tactic(auto, using(crate::proofs::AboveLaws::raised_reads, crate::proofs::AboveLaws::below_short))]
     fn partial_decode<I: Indexer>(
         &mut self,
         alloc: Global,
@@ -190,7 +210,6 @@ impl<H: ArrayPartialEncoderTraits, C: ArrayToArrayCodecTraits> ArrayPartialEncod
     ghost same_short = { λ a b same takes. H.same_short a.handle b.handle same.1 takes };
 
     fn erase(&mut self) -> Result<(), CodecError> {
-        self.level.fill_is_bytes();
         self.handle.erase()
     }
 

@@ -1,6 +1,6 @@
 //! The elements of what a handle of elements of the level below holds, by an array-to-array codec.
 
-ghost use Rattle.std.specs.Prelude.{◌≡◌, ◌⊎◌, true, false, List, length, Option, Some, None, IsSome, IfOk, IfErr, OnOk, MatchResult, option_and_then};
+ghost use Rattle.std.specs.Prelude.{◌≡◌, ◌⊎◌, true, false, List, length, Option, Some, None, IsSome, IfOk, IfErr, OnOk, OnErr, MatchResult, option_and_then};
 ghost use Rattle.zarr_model.specs.Region.{Region, whole, ends_within};
 ghost use Rattle.zarr_model.specs.Element.{Element, null, fill_element, kind_of};
 ghost use Rattle.zarr_model.specs.ArrayBytes.{meaning};
@@ -13,13 +13,13 @@ ghost use Rattle.zarrs_codec_error.specs.declared.error.CodecError.TheVariants a
 ghost use Rattle.zarrs_codec_array_bytes.specs.Raw.{raw_of};
 ghost use Rattle.zarrs_codec_array_bytes.specs.Refusals.{fine, first_answer, IfUnfit};
 ghost use Rattle.zarrs_codec_array_bytes.specs.Selection.{linear};
-ghost use Rattle.zarrs_codec_traits.specs.Errors.{unserved_at, RefusesAs};
+ghost use Rattle.zarrs_codec_traits.specs.Errors.{unserved_at, IsNoFault, RefusesAs};
 ghost use Rattle.zarrs_codec_traits.specs.Views.{lengths, options_of};
 ghost use Rattle.zarrs_codec_traits.specs.Words.{list_at, at_box, select, IsFit};
 ghost use Rattle.zarrs_codec_partial.specs.Boxes.{Denotes};
 ghost use Rattle.zarrs_codec_partial_traits.specs.Boxes.{is_all};
-ghost use Rattle.zarrs_codec_partial_traits.specs.Lists.{ReadsList, IsUnread, IsListError};
-ghost use Rattle.zarrs_codec_partial_arrays.specs.Above.{IsBelow, box_below};
+ghost use Rattle.zarrs_codec_partial_traits.specs.Lists.{ReadsList, IsUnread, IsListError, RefusesFor, TellsFault, Refused};
+ghost use Rattle.zarrs_codec_partial_arrays.specs.Above.{IsBelow, box_below, first_unserved};
 
 use crate::level::ArrayLevel;
 use std::alloc::Global;
@@ -30,6 +30,7 @@ use zarrs_codec_array_bytes::ArrayBytes;
 use zarrs_codec_error::CodecError;
 use zarrs_codec_options::CodecOptions;
 use zarrs_codec_partial::boxes::smaller_box;
+use zarrs_codec_partial::fill::expect_denoted;
 use zarrs_codec_partial::read::fitting_numbers;
 use zarrs_codec_partial_traits::ArrayPartialDecoderTraits;
 use zarrs_codec_traits::{ArrayToArrayCodecTraits, shape_numbers};
@@ -47,7 +48,7 @@ fn whole_box(alloc: Global, shape: &[NonZeroU64]) -> Result<ArraySubset, CodecEr
 impl<C: ArrayToArrayCodecTraits> ArrayLevel<C> {
     ghost use Rattle.zarrs_codec_partial_arrays.specs.Above.{array_level, array_fill};
 
-    // Tests that the codec serves the shape, the data type and the fill value.
+    // Tests that the fill value denotes an element, and then that the codec serves it with the shape and the data type.
     pub(crate) fn expect_served(&self, alloc: Global) -> Result<(), CodecError>
         requires fits { IsFit (array_level self.now).shape (array_level self.now).data_type }
         ensures served { IfOk result (λ _. unserved_at (C.unserved self.now.codec)
@@ -55,12 +56,21 @@ impl<C: ArrayToArrayCodecTraits> ArrayLevel<C> {
         ensures memory { unserved_at (C.unserved self.now.codec) (array_level self.now)
             (array_fill self.now) ≡ None → Denotes (array_level self.now) (array_fill self.now)
             → IfErr result (λ e. e ≡ codec.OutOfMemory) }
+        ensures denotes { IfOk result (λ _. Denotes (array_level self.now) (array_fill self.now)) }
+        ensures named { (below : Option Refused) → OnErr result (RefusesFor (first_unserved
+            (unserved_at (C.unserved self.now.codec) (array_level self.now) (array_fill self.now))
+            below (fill_element (kind_of (array_level self.now).data_type) (array_fill self.now)))
+            result) }
+        ensures no_fault { IfErr result IsNoFault }
     {
-        match self
-            .codec
-            .encoded_representation(alloc, &self.shape, &self.data_type, &self.fill_value)
-        {
-            Ok(_) => Ok(()),
+        match expect_denoted(&self.data_type, &self.fill_value) {
+            Ok(()) => match self
+                .codec
+                .encoded_representation(alloc, &self.shape, &self.data_type, &self.fill_value)
+            {
+                Ok(_) => Ok(()),
+                Err(error) => Err(error),
+            },
             Err(error) => Err(error),
         }
     }
@@ -112,6 +122,7 @@ impl<C: ArrayToArrayCodecTraits> ArrayLevel<C> {
             (H.tells handle.old under (Some (C.region_below self.now.codec
             (array_level self.now).shape (box_of region.now))))
             below.shown.faults (H.seen handle.new).shown.faults) }
+        ensures named { RefusesFor (H.seen handle.old).unserved result }
         ensures decodes { let level = array_level self.now in let fill = array_fill self.now in
             let below = H.seen handle.old in let under = options_of options.now in
             below.unserved ≡ None → Denotes level fill → below.there ≡ true
@@ -121,6 +132,8 @@ impl<C: ArrayToArrayCodecTraits> ArrayLevel<C> {
             (below.list under))) }
         ensures short { (H.seen handle.old).unserved ≡ None → (H.seen handle.old).short ≡ true
             → IfOk result (λ v. has_long_element (raw_of v) ≡ false) }
+        ensures fault { IfErr result
+            (TellsFault (H.seen handle.old).shown.faults (H.seen handle.new).shown.faults) }
         ensures same { H.same handle.old handle.new }
         ensures tells { (under : Options) (asked : Option Region) (e : CodecError)
             → H.tells handle.new under asked e → H.tells handle.old under asked e }
@@ -175,6 +188,7 @@ impl<C: ArrayToArrayCodecTraits> ArrayLevel<C> {
             (H.tells handle.old under (Some (whole
             ((C.meaning self.now.codec).level_below (array_level self.now)).shape)))
             below.shown.faults (H.seen handle.new).shown.faults) }
+        ensures named { RefusesFor (H.seen handle.old).unserved result }
         ensures decodes { let level = array_level self.now in let fill = array_fill self.now in
             let below = H.seen handle.old in let under = options_of options.now in
             below.unserved ≡ None → Denotes level fill → below.there ≡ true
@@ -189,6 +203,8 @@ impl<C: ArrayToArrayCodecTraits> ArrayLevel<C> {
             (below.list under))) }
         ensures short { (H.seen handle.old).unserved ≡ None → (H.seen handle.old).short ≡ true
             → IfOk result (λ v. has_long_element (raw_of v) ≡ false) }
+        ensures fault { IfErr result
+            (TellsFault (H.seen handle.old).shown.faults (H.seen handle.new).shown.faults) }
         ensures same { H.same handle.old handle.new }
         ensures tells { (under : Options) (asked : Option Region) (e : CodecError)
             → H.tells handle.new under asked e → H.tells handle.old under asked e }
@@ -253,6 +269,7 @@ impl<C: ArrayToArrayCodecTraits> ArrayLevel<C> {
             (H.tells handle.old under (Some (whole
             ((C.meaning self.now.codec).level_below (array_level self.now)).shape)))
             below.shown.faults (H.seen handle.new).shown.faults) }
+        ensures named { RefusesFor (H.seen handle.old).unserved result }
         ensures decodes { let level = array_level self.now in let fill = array_fill self.now in
             let below = H.seen handle.old in let under = options_of options.now in
             below.unserved ≡ None → Denotes level fill → below.there ≡ true
@@ -267,6 +284,8 @@ impl<C: ArrayToArrayCodecTraits> ArrayLevel<C> {
             (below.list under))) }
         ensures short { (H.seen handle.old).unserved ≡ None → (H.seen handle.old).short ≡ true
             → IfOk result (λ v. has_long_element (raw_of v) ≡ false) }
+        ensures fault { IfErr result
+            (TellsFault (H.seen handle.old).shown.faults (H.seen handle.new).shown.faults) }
         ensures same { H.same handle.old handle.new }
         ensures tells { (under : Options) (asked : Option Region) (e : CodecError)
             → H.tells handle.new under asked e → H.tells handle.old under asked e }
@@ -319,6 +338,7 @@ impl<C: ArrayToArrayCodecTraits> ArrayLevel<C> {
             ((C.meaning self.now.codec).level_below (array_level self.now)).shape
             (I.as_region indexer.now))))
             below.shown.faults (H.seen handle.new).shown.faults) }
+        ensures named { RefusesFor (H.seen handle.old).unserved result }
         ensures decodes { let level = array_level self.now in let fill = array_fill self.now in
             let below = H.seen handle.old in let under = options_of options.now in
             below.unserved ≡ None → Denotes level fill → below.there ≡ true
@@ -336,6 +356,8 @@ impl<C: ArrayToArrayCodecTraits> ArrayLevel<C> {
             (below.list under))) }
         ensures short { (H.seen handle.old).unserved ≡ None → (H.seen handle.old).short ≡ true
             → IfOk result (λ v. has_long_element (raw_of v) ≡ false) }
+        ensures fault { IfErr result
+            (TellsFault (H.seen handle.old).shown.faults (H.seen handle.new).shown.faults) }
         ensures same { H.same handle.old handle.new }
         ensures tells { (under : Options) (asked : Option Region) (e : CodecError)
             → H.tells handle.new under asked e → H.tells handle.old under asked e }
@@ -356,8 +378,9 @@ impl<C: ArrayToArrayCodecTraits> ArrayLevel<C> {
     /// codec, else out of all elements.
     ///
     /// # Errors
-    /// [`CodecError`] exactly where the indexer does not fit the shape, before anything is read; else where the codec does
-    /// not serve its level, where what is below fails or does not decode, or where memory runs out.
+    /// [`CodecError`] exactly where the indexer does not fit the shape, before anything is read; else where the fill value
+    /// denotes no element, where the codec does not serve its level, where what is below is not served, fails or does not
+    /// decode, or where memory runs out.
     pub fn decode_elements<H: ArrayPartialDecoderTraits, I: Indexer>(
         &self,
         alloc: Global,
@@ -403,6 +426,10 @@ impl<C: ArrayToArrayCodecTraits> ArrayLevel<C> {
             ((C.meaning self.now.codec).level_below (array_level self.now)).shape
             (I.as_region indexer.now))))
             below.shown.faults (H.seen handle.new).shown.faults) }
+        ensures named { let level = array_level self.now in let fill = array_fill self.now in
+            I.fits indexer.now level.shape ≡ true → RefusesFor
+            (first_unserved (unserved_at (C.unserved self.now.codec) level fill)
+            (H.seen handle.old).unserved (fill_element (kind_of level.data_type) fill)) result }
         ensures decodes { let level = array_level self.now in let fill = array_fill self.now in
             let below = H.seen handle.old in let under = options_of options.now in
             unserved_at (C.unserved self.now.codec) level fill ≡ None
@@ -424,6 +451,8 @@ impl<C: ArrayToArrayCodecTraits> ArrayLevel<C> {
             (array_fill self.now) ≡ None → (H.seen handle.old).unserved ≡ None →
             (H.seen handle.old).short ≡ true
             → IfOk result (λ v. has_long_element (raw_of v) ≡ false) }
+        ensures fault { IfErr result
+            (TellsFault (H.seen handle.old).shown.faults (H.seen handle.new).shown.faults) }
         ensures same { H.same handle.old handle.new }
         ensures tells { (under : Options) (asked : Option Region) (e : CodecError)
             → H.tells handle.new under asked e → H.tells handle.old under asked e }

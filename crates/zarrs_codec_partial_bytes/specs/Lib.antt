@@ -1,1 +1,2 @@
+pub mod NoFault
 pub mod Stored

@@ -86,6 +86,7 @@ impl<H: BytesPartialDecoderTraits> BytesPartialDecoderTraits for ByteIntervalPar
     ghost use Rattle.std.proofs.Common.{refl, ◌∙◌};
     ghost use Rattle.zarrs_codec_held.specs.Interval.{interval, interval_early};
     ghost use Rattle.zarrs_codec_held.proofs.IntervalLaws.{interval_sound};
+    ghost use Rattle.zarrs_codec_partial_bytes.specs.NoFault.{either_no_fault};
 
     ghost seen = { λ h. interval h.byte_offset h.byte_length (H.seen h.handle) };
 
@@ -107,6 +108,9 @@ impl<H: BytesPartialDecoderTraits> BytesPartialDecoderTraits for ByteIntervalPar
     ghost early = { λ h. interval_early h.byte_offset h.byte_length (H.early h.handle) };
 
     ghost reads_parts = { λ h. H.reads_parts h.handle };
+
+    ghost no_fault = { λ h under e told. either_no_fault (H.tells h.handle under) e
+        (λ more. H.no_fault h.handle under e more) told };
 
     ghost sound = { λ h. interval_sound h.byte_offset h.byte_length (H.seen h.handle)
         (H.sound h.handle) };

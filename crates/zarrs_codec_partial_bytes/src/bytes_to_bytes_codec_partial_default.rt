@@ -131,6 +131,7 @@ impl<H: BytesPartialDecoderTraits, C: BytesToBytesCodecTraits> BytesPartialDecod
     ghost use Rattle.std.specs.Prelude.{◌&&◌};
     ghost use Rattle.std.proofs.Common.{refl, ◌∙◌};
     ghost use Rattle.zarrs_codec_held.proofs.ThroughLaws.{decoded_sound};
+    ghost use Rattle.zarrs_codec_partial_bytes.specs.NoFault.{through_no_fault};
 
     ghost seen = { λ h. decoded (C.meaning h.codec) (H.seen h.handle) };
 
@@ -153,6 +154,11 @@ impl<H: BytesPartialDecoderTraits, C: BytesToBytesCodecTraits> BytesPartialDecod
     ghost early = { λ h asked. H.early h.handle None };
 
     ghost reads_parts = { λ h. (C.decodes_parts h.codec).partial_decode && H.reads_parts h.handle };
+
+    ghost no_fault = { λ h under e told. through_no_fault (C.meaning h.codec under)
+        (C.says h.codec under) (H.tells h.handle under) ((H.seen h.handle).held under) e
+        (λ more. H.no_fault h.handle under e more)
+        (λ value said. C.no_fault h.codec under value e said) told };
 
     ghost sound = { λ h. decoded_sound (C.meaning h.codec) (H.seen h.handle)
         (H.sound h.handle) };

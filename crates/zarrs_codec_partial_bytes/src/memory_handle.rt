@@ -39,6 +39,7 @@ impl BytesPartialDecoderTraits for MemoryHandle {
     ghost use Rattle.std.specs.Prelude.{true, false};
     ghost use Rattle.zarrs_codec_held.specs.Held.{in_memory};
     ghost use Rattle.zarrs_codec_held.specs.Reads.{IsRangeError};
+    ghost use Rattle.zarrs_codec_partial_traits.specs.Ranges.{range_no_fault};
     ghost use Rattle.zarrs_codec_held.proofs.PartLaws.{sound_memory};
 
     ghost seen = { λ h. in_memory (value_bytes h.value) };
@@ -54,6 +55,8 @@ impl BytesPartialDecoderTraits for MemoryHandle {
     ghost early = { λ h asked. false };
 
     ghost reads_parts = { λ h. true };
+
+    ghost no_fault = { λ h under e told. range_no_fault e told };
 
     ghost sound = { λ h. sound_memory (value_bytes h.value) };
 

@@ -39,6 +39,7 @@ impl<S: Store> BytesPartialDecoderTraits for StoragePartialDecoder<'_, S> {
     ghost use Rattle.std.specs.Prelude.{false};
     ghost use Rattle.std.proofs.Common.{refl};
     ghost use Rattle.zarrs_codec_held.specs.Reads.{IsRangeError};
+    ghost use Rattle.zarrs_codec_partial_traits.specs.Ranges.{range_no_fault};
     ghost use Rattle.zarrs_codec_held.proofs.PartLaws.{sound_by};
     ghost use Rattle.zarrs_codec_partial_bytes.specs.Stored.{stored};
 
@@ -55,6 +56,8 @@ impl<S: Store> BytesPartialDecoderTraits for StoragePartialDecoder<'_, S> {
     ghost early = { λ h asked. false };
 
     ghost reads_parts = { λ h. S.gets_parts h.storage.now };
+
+    ghost no_fault = { λ h under e told. range_no_fault e told };
 
     ghost sound = { λ h. sound_by (stored h.storage.ghost_name h.key (S.shown h.storage.now))
         ((S.shown h.storage.now).content h.key) refl (λ under. refl) (λ under range. refl) };

@@ -1,3 +1,4 @@
 pub mod ChunkLaws
 pub mod FewLaws
+pub mod MirrorLaws
 pub mod TurnLaws

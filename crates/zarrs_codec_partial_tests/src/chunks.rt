@@ -6,7 +6,7 @@ ghost use Rattle.zarrs_data_type_elements.specs.FillValue.{fill_bytes};
 ghost use Rattle.zarrs_data_type_names.specs.DataType.{type_of};
 ghost use Rattle.zarrs_codec_traits.specs.Views.{lengths, level_of};
 ghost use Rattle.zarrs_codec_traits.specs.Words.{IsFit};
-ghost use Rattle.zarrs_codec_partial_arrays.specs.Above.{array_level};
+ghost use Rattle.zarrs_codec_partial.specs.Level.{bottom_level, bottom_fill};
 
 use std::alloc::Global;
 use zarrs_array_subset::ChunkShape;
@@ -40,8 +40,18 @@ pub fn chunk_of<
 ) -> Result<Chunk<H, A, B>, CodecError>
     requires fits { IsFit (lengths shape.items) (type_of data_type) }
     requires denotes { IsSome (fill_element (kind_of (type_of data_type)) (fill_bytes fill_value)) }
-    ensures { IfOk result
-        (λ c. array_level c.level ≡ level_of shape.items data_type fill_value) }
+    ensures level { IfOk result (λ c. c.level ≡ record {
+      codec = array_codec;
+      shape = shape;
+      data_type = data_type;
+      fill_value = fill_value;
+    }) }
+    ensures below { IfOk result (λ c. bottom_level c.handle.level
+        ≡ (A.meaning array_codec).level_below (level_of shape.items data_type fill_value)) }
+    ensures fill { IfOk result (λ c. bottom_fill c.handle.level
+        ≡ A.fill_below array_codec (type_of data_type) (fill_bytes fill_value)) }
+    ensures codec { IfOk result (λ c. c.handle.level.codec ≡ bytes_codec) }
+    ensures handle { IfOk result (λ c. c.handle.handle ≡ handle) }
 {
     match array_codec.encoded_representation(alloc, &shape, &data_type, &fill_value) {
         Ok((shape_below, type_below, fill_below)) => {

@@ -1,4 +1,4 @@
-//! Handles on elements: an offset over bytes, over a value in memory and under a key of a store.
+//! Handles on elements: an offset over bytes, over a value in memory and under a key of a store, and a list turned round.
 
 ghost use Rattle.std.specs.Prelude.{◌≡◌, ◌<◌, IsTrue, IfOk, length};
 ghost use Rattle.zarr_model.specs.Region.{tuples};
@@ -7,6 +7,7 @@ ghost use Rattle.zarrs_array_subset.specs.ArraySubset.{region as box_of};
 ghost use Rattle.zarrs_data_type_names.specs.DataType.{type_of};
 
 use crate::chunks::{Chunk, chunk_of};
+use crate::reversed_elements::ReversedElementsCodec;
 use std::alloc::{AllocError, Global};
 use std::borrow::CowSlice;
 use std::num::NonZeroU64;
@@ -24,6 +25,7 @@ use zarrs_codec_partial_bytes::{MemoryHandle, StoragePartialEncoder};
 use zarrs_codec_partial_traits::{
     ArrayPartialDecoderTraits, ArrayPartialEncoderTraits, BytesPartialEncoderTraits,
 };
+use zarrs_codec_traits::ArrayToArrayCodecTraits;
 use zarrs_codec_view::{ArrayBytesDecodeIntoTarget, ArrayBytesFixedDisjointView};
 use zarrs_data_type_elements::FillValue;
 use zarrs_data_type_names::DataType;
@@ -40,6 +42,15 @@ const ROWS: &str = "0 4 | [10, 10, 10, 10]
 1 2 | [10]
 ! 0 4 10 10 10 10 | there
 3 4 13 | there";
+
+// The same of a chunk whose stored elements are read the last one first.
+const TURNED_ROWS: &str = "0 4 | [4, 3, 2, 1]
+1 3 | [3, 2]
+0 4 10 10 10 10 | absent
+1 3 | [10, 10]
+0 4 4 3 2 1 | there
+0 1 9 | there
+0 4 | [9, 3, 2, 1]";
 
 // A row's first part, and what is behind its bar.
 fn cut(row: &str) -> (&str, &str) {
@@ -146,19 +157,20 @@ fn is_row<H: ArrayPartialEncoderTraits>(rt: &impl Abort, alloc: Global, chunk: &
     }
 }
 
-fn are_rows<H: ArrayPartialEncoderTraits>(rt: &impl Abort, alloc: Global, chunk: &mut H)
+fn are_rows<H: ArrayPartialEncoderTraits>(rt: &impl Abort, alloc: Global, chunk: &mut H, rows: &str)
     requires bytes { kind_of (H.seen chunk.old).level.data_type ≡ fixed 1 }
 {
-    for row in ROWS.lines() {
+    for row in rows.lines() {
         is_row(rt, alloc, chunk, row);
     }
 }
 
-// A chunk of four bytes with 250 put on each; the fill value is 10, and 4 below.
-fn four_bytes<H: BytesPartialEncoderTraits + Drop>(
+// A chunk of four bytes through a codec; the fill value is 10.
+fn four_bytes<H: BytesPartialEncoderTraits + Drop, A: ArrayToArrayCodecTraits + Drop>(
     alloc: Global,
     handle: H,
-) -> Result<Chunk<H, OffsetCodec, BytesCodec>, CodecError>
+    codec: A,
+) -> Result<Chunk<H, A, BytesCodec>, CodecError>
     ensures { IfOk result (λ c. kind_of (type_of c.level.data_type) ≡ fixed 1) }
 {
     let mut shape = Vec::new(alloc);
@@ -166,25 +178,46 @@ fn four_bytes<H: BytesPartialEncoderTraits + Drop>(
         shape.push(four).map_err(AllocError::from)?;
     }
     let fill = FillValue::new(Vec::from_slice(alloc, &[10])?);
-    let offset = OffsetCodec::new(250);
     chunk_of(
         alloc,
         handle,
         shape,
         DataType::UInt8,
         fill,
-        offset,
+        codec,
         BytesCodec::new(None),
     )
 }
 
+// The same with 250 put on each; the fill value is 4 below.
+fn raised_bytes<H: BytesPartialEncoderTraits + Drop>(
+    alloc: Global,
+    handle: H,
+) -> Result<Chunk<H, OffsetCodec, BytesCodec>, CodecError>
+    ensures { IfOk result (λ c. kind_of (type_of c.level.data_type) ≡ fixed 1) }
+{
+    four_bytes(alloc, handle, OffsetCodec::new(250))
+}
+
 #[test]
 fn a_chunk_in_memory_is_read_and_written(rt: HostRuntime) -> Result<(), Fail> {
-    let mut chunk = four_bytes(rt.alloc(), MemoryHandle::new(None))?;
-    are_rows(&rt, rt.alloc(), &mut chunk);
+    let mut chunk = raised_bytes(rt.alloc(), MemoryHandle::new(None))?;
+    are_rows(&rt, rt.alloc(), &mut chunk, ROWS);
     let handle = chunk.into_handle().into_handle();
     let value = handle.value().ok_or("absent")?;
     assert_eq!(rt; value, [4, 4, 4, 7].as_slice());
+    Ok(())
+}
+
+#[test]
+fn a_chunk_is_stored_the_last_element_first(rt: HostRuntime) -> Result<(), Fail> {
+    let stored = Vec::from_slice(rt.alloc(), &[1, 2, 3, 4])?;
+    let handle = MemoryHandle::new(Some(stored));
+    let mut chunk = four_bytes(rt.alloc(), handle, ReversedElementsCodec)?;
+    are_rows(&rt, rt.alloc(), &mut chunk, TURNED_ROWS);
+    let handle = chunk.into_handle().into_handle();
+    let value = handle.value().ok_or("absent")?;
+    assert_eq!(rt; value, [1, 2, 3, 9].as_slice());
     Ok(())
 }
 
@@ -194,8 +227,8 @@ fn a_chunk_of_a_store_is_read_and_written(rt: HostRuntime) -> Result<(), Fail> {
     let key = StoreKey::new(String::from_str(rt.alloc(), "c/0")?)
         .ok()
         .ok_or("no key")?;
-    let mut chunk = four_bytes(rt.alloc(), StoragePartialEncoder::new(&mut store, key))?;
-    are_rows(&rt, rt.alloc(), &mut chunk);
+    let mut chunk = raised_bytes(rt.alloc(), StoragePartialEncoder::new(&mut store, key))?;
+    are_rows(&rt, rt.alloc(), &mut chunk, ROWS);
     assert_eq!(rt; chunk.faults(), 0);
     Ok(())
 }
@@ -229,7 +262,7 @@ fn of_value(
     ensures { IfOk result (λ c. kind_of (type_of c.level.data_type) ≡ fixed 1) }
 {
     let stored = Vec::from_slice(alloc, value)?;
-    four_bytes(alloc, MemoryHandle::new(Some(stored)))
+    raised_bytes(alloc, MemoryHandle::new(Some(stored)))
 }
 
 #[test]

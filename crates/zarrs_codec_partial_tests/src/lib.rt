@@ -8,5 +8,7 @@ pub mod chunks;
 #[cfg(test)]
 mod elements;
 pub mod reversed;
+pub mod reversed_elements;
 #[cfg(test)]
 mod stores;
+mod turning;

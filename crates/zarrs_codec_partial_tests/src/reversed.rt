@@ -75,6 +75,8 @@ impl BytesToBytesCodecTraits for ReversedCodec {
 
     ghost says = { λ _ _ value e. ⊥ };
 
+    ghost no_fault = { λ _ _ value e told. absurd told };
+
     ghost representation = { λ _ r. r };
 
     ghost concurrency = { λ _ _. concurrency_of (Included 1) (Included 1) };

@@ -1,5 +1,5 @@
 -- How many elements lists have.
-use Rattle.std.proofs.Common.{◌≡◌, ℕ, List, length, replicate, Option, Some, None, option_map, sym, ap, ◌∙◌}
+use Rattle.std.proofs.Common.{◌≡◌, ℕ, Bool, true, false, List, length, replicate, Option, Some, None, option_map, sym, ap, ◌∙◌}
 use Rattle.std.proofs.lemmas.List.{length-replicate}
 use Rattle.zarr_model.specs.Region.{count_of}
 use Rattle.zarr_model.specs.Element.{Element, fill_element, kind_of}
@@ -21,3 +21,11 @@ no_reason why is = cc
 
 pub same_long : {a b : List ℕ} (ys : List Element) → length ys ≡ count_of a → a ≡ b → length ys ≡ count_of b
 same_long ys long same = long ∙ ap count_of same
+
+-- a value is there, or is not
+pub no_value : {P : Type 0} (there : Bool) → true ≡ there → there ≡ false → P
+no_value true here gone = cc
+no_value false here gone = cc
+
+pub still_there : {P : Type 0} → true ≡ false → P
+still_there gone = cc

@@ -1,4 +1,6 @@
 pub mod BoxLaws
 pub mod CountLaws
+pub mod FaultLaws
+pub mod NamedLaws
 pub mod SelectsLaws
 pub mod UpdateLaws

@@ -1,5 +1,5 @@
 -- Elements that are read and put into a target.
-use Rattle.std.proofs.Common.{◌≡◌, ◌⊎◌, ℕ, Bool, List, length, Option, Some, None, IsSome, Result, Ok, Err, IfOk, IfErr, OnOk, refl, sym, ◌∙◌, subst, inl, inr}
+use Rattle.std.proofs.Common.{◌≡◌, ◌⊎◌, ℕ, Bool, List, length, Option, Some, None, IsSome, Result, Ok, Err, IfOk, IfErr, OnOk, refl, sym, ◌∙◌, subst, inl, inr, ⊎_elim}
 use Rattle.zarr_model.specs.Region.{Region}
 use Rattle.zarr_model.specs.Element.{Element, Kind, kind_of}
 use Rattle.zarr_model.specs.ArrayBytes.{ArrayBytes, meaning}
@@ -13,8 +13,9 @@ use Rattle.zarrs_codec_traits.proofs.IntoLaws.{into_means, held_after, put_after
 use Rattle.zarrs_codec_view.specs.Held.{held_by, IsTargetOf}
 use Rattle.zarrs_codec_view.specs.Targets.{ArePut, target_answer}
 use Rattle.zarrs_codec_view.specs.declared.array_bytes_fixed_disjoint_view.ArrayBytesFixedDisjointView.{ArrayBytesFixedDisjointView}
-use Rattle.zarrs_codec_partial_traits.specs.Lists.{ListSeen, ReadsList}
-use Rattle.zarrs_codec_partial_traits.specs.Selects.{Selects, SelectsInto}
+use Rattle.zarrs_codec_partial_traits.specs.Lists.{ListSeen, HasFill, ReadsList}
+use Rattle.zarrs_codec_partial_traits.specs.Selects.{Selects, HasListOrFill, SelectsInto, KeepsFrame}
+use Rattle.zarrs_codec_partial_traits.proofs.NamedLaws.{refused_never, refused_still}
 use Rattle.zarrs_codec_partial_traits.proofs.UpdateLaws.{keeps_self, was_ok, was_err}
 
 pub reads_not : {T E : Type 0} (asked : Option Region) (seen : ListSeen) (e : E) → ReadsList {T = T} asked seen seen (Err e)
@@ -44,6 +45,10 @@ module _ (kind : Kind) (number : ℕ) (raw : ArrayBytes) (olds news : List Array
       go None is here = cc
       go (Some xs) is here = same ∙ into_means kind number raw olds from xs is
 
+pub put_framed : {T : Type 0} (raw : ArrayBytes) (olds news : List ArrayBytesFixedDisjointView) (from to : ArrayBytesFixedDisjointView) (result : Result T CodecError) → IfOk result (λ _. ArePut raw olds news from to) → IfOk result (λ _. KeepsFrame olds news from to)
+put_framed raw olds news from to (Ok v) put = record { bytes = raw; put = put }
+put_framed raw olds news from to (Err e) put = tt
+
 ok_told : {T : Type 0} (result : Result T CodecError) (answer : Told) → told result ≡ answer → OnOk result (answer ≡ fine)
 ok_told (Ok v) answer is = sym is
 ok_told (Err e) answer is = tt
@@ -52,6 +57,14 @@ err_told : {T : Type 0} (result : Result T CodecError) (answer : Told) (P : Code
 err_told (Ok v) answer P is = tt
 err_told (Err e) answer P is = inr is
 
+none_some : {P : Type 0} (o : Option (List Element)) → o ≡ None → IsSome o → P
+none_some None is there = cc
+none_some (Some xs) is there = cc
+
+some_list : {P : Type 0} (o : Option (List Element)) → IsSome o → ((list : List Element) → o ≡ Some list → P) → P
+some_list None there of = cc
+some_list (Some list) there of = of list refl
+
 module _ (under : Options) (asked : Option Region) (places : List (List ℕ)) (in_order : Bool) (tells : CodecError → Type 0) (olds : List ArrayBytesFixedDisjointView) (from : ArrayBytesFixedDisjointView) (old new : ListSeen) where
   abbrev answer : Told
   answer = into_answer (kind_of old.level.data_type) (length places) olds from
@@ -59,20 +72,31 @@ module _ (under : Options) (asked : Option Region) (places : List (List ℕ)) (i
   pub selects_into : {T : Type 0} (elements : code.ArrayBytes) (result : Result T CodecError) → Selects under asked places in_order tells old new (Ok elements) → told result ≡ target_answer (raw_of elements) olds from
       → SelectsInto under asked in_order tells answer old new result
   selects_into elements result selects same =
-      let kind = kind_of old.level.data_type in
       record {
-        taken = λ served filled. ok_told result answer (put_answer kind (length places) (raw_of elements) olds olds from from result (selects.valid served filled) same);
-        failed = λ served filled order. err_told result answer _ (put_answer kind (length places) (raw_of elements) olds olds from from result (selects.valid served filled) same);
+        taken = λ served some. ok_told result answer (answered served some);
+        failed = λ served some order. err_told result answer _ (answered served some);
+        undecoded = λ served order there all none. none_some (old.list under) none (selects.decodes served there all);
         decodes = λ served there all. was_ok result (selects.decodes served there all);
         all = λ served filled all. was_ok result (selects.all served filled all);
+        named = λ order. refused_never old.unserved elements result (selects.named order);
         reads = reads_still asked old new elements result selects.reads;
       }
+    where
+      valid : old.unserved ≡ None → HasListOrFill under old → IsSome (meaning (kind_of old.level.data_type) (length places) (raw_of elements))
+      valid served some = ⊎_elim
+          (λ (held : IsSome (old.list under)). some_list (old.list under) held (λ list is. subst (λ (o : Option (List Element)). IsSome o) (sym (selects.value list served is)) refl))
+          (λ (filled : HasFill old). selects.valid served filled) some
+
+      answered : old.unserved ≡ None → HasListOrFill under old → told result ≡ answer
+      answered served some = put_answer (kind_of old.level.data_type) (length places) (raw_of elements) olds olds from from result (valid served some) same
 
   pub selects_not : {T : Type 0} (e : CodecError) → Selects under asked places in_order tells old new (Err e) → SelectsInto {T = T} under asked in_order tells answer old new (Err e)
-  selects_not e selects = record {
+  selects_not {T} e selects = record {
     taken = λ served filled. tt;
-    failed = λ served filled order. inl (selects.failed served order);
+    failed = λ served some order. inl (selects.failed served order);
+    undecoded = λ served order there all none. selects.failed served order;
     decodes = λ served there all. tt;
     all = λ served filled all. tt;
+    named = λ order. refused_still code.ArrayBytes T old.unserved e (selects.named order);
     reads = record { keeps = selects.reads.keeps; asks = tt; asks_err = selects.reads.asks_err; taken = tt; taken_err = selects.reads.taken_err };
   }

@@ -11,11 +11,13 @@ use Rattle.zarrs_codec_error.specs.declared.error.CodecError.TheVariants as code
 use Rattle.zarrs_codec_array_bytes.specs.declared.array_bytes.ArrayBytes as code
 use Rattle.zarrs_codec_array_bytes.specs.Raw.{raw_of}
 use Rattle.zarrs_codec_traits.specs.Words.{list_at, Gives}
+use Rattle.zarrs_codec_traits.specs.Errors.{IsNoFault}
 use Rattle.zarrs_codec_held.specs.Reads.{IsFault, IsHandleError}
-use Rattle.zarrs_codec_held.specs.Writes.{is_fault, Unless, UnlessFault, CountsIf}
+use Rattle.zarrs_codec_held.specs.Writes.{is_fault, Unless, UnlessFault, CountsIf, MayCountIf}
 use Rattle.zarrs_codec_held.proofs.EditLaws.{fault_later}
-use Rattle.zarrs_codec_partial_traits.specs.Lists.{ListSeen, HasFill, HasShortFill, KeepsList, ReadsList}
-use Rattle.zarrs_codec_partial_traits.specs.ListWrites.{is_kept, is_stored, HoldsList, IsAbsent, PutsList, StaysList, KeepsRest, UnaskedList, MayPutList, MayCountIf, Rewrites, IsUnencoded}
+use Rattle.zarrs_codec_partial_traits.specs.Lists.{Refused, ListSeen, HasFill, HasShortFill, KeepsList, ReadsList}
+use Rattle.zarrs_codec_partial_traits.specs.ListWrites.{is_kept, is_stored, HoldsStored, IsAbsent, SameList, IsLeft, IsRefused, PutsList, StaysList, KeepsRest, UnaskedList, MayPutList, Rewrites, IsUnencoded}
+use Rattle.zarrs_codec_partial_traits.proofs.FaultLaws.{no_fault, faults_after}
 use Rattle.zarrs_codec_partial_traits.specs.Updates.{Change, given_by, made_by, ReadsListIf, GivesMade, Stores, Updates}
 
 -- what holds where no fault is told
@@ -69,6 +71,17 @@ keeps_self seen = record {
   later = omega arith;
 }
 
+-- what is held stayed
+pub left_same : (stored : List Element → Bool) (made : Option (List Element)) (old new : ListSeen) → SameList old new → IsLeft stored made old new
+left_same stored None old new same = same
+left_same stored (Some list) old new same = inl same
+
+stays_same : (old new : ListSeen) → StaysList old new → SameList old new
+stays_same old new stays = record { there = stays.there; list = stays.list }
+
+keeps_same : (old new : ListSeen) → KeepsList old new → SameList old new
+keeps_same old new keeps = record { there = keeps.there; list = keeps.list }
+
 -- a read, and then a change
 module _ (first old new : ListSeen) (keeps : KeepsList first old) where
   pub stays_after : StaysList old new → StaysList first new
@@ -88,17 +101,28 @@ module _ (first old new : ListSeen) (keeps : KeepsList first old) where
     later = let a : first.shown.faults ≤ old.shown.faults = keeps.later in let b : old.shown.faults ≤ new.shown.faults = rest.later in omega arith;
   }
 
+  same_after : SameList old new → SameList first new
+  same_after same = record { there = same.there ∙ keeps.there; list = λ under. same.list under ∙ keeps.list under }
+
+  pub refused_after : {T : Type 0} (result : Result T CodecError) → IsRefused old new result → IsRefused first new result
+  refused_after result refused = record { err = refused.err; stays = stays_after refused.stays }
+
+  some_left : {T : Type 0} (stored : Bool) (list : List Element) (result : Result T CodecError) → OnErr result (IsLeft (λ other. stored) (Some list) old new) → OnErr result (IsLeft (λ other. stored) (Some list) first new)
+  some_left stored list result left =
+      on_err_weaker result (λ case. ⊎_elim (λ (same : SameList old new). inl (same_after same)) (λ (more : IsAbsent new ⊎ HoldsStored stored list new). inr more) case) left
+
   pub puts_after : {T : Type 0} (stored : Bool) (list : List Element) (result : Result T CodecError) → PutsList stored list old new result → PutsList stored list first new result
-  puts_after stored list result puts = record {
-    ok = puts.ok;
-    failed = on_err_weaker result (λ case. ⊎_elim (λ (same : (under : Options) → new.list under ≡ old.list under). inl (λ (under : Options). same under ∙ keeps.list under))
-        (λ (more : HoldsList true (Some list) new ⊎ IsAbsent new). inr more) case) puts.failed;
-  }
+  puts_after stored list result puts = record { ok = puts.ok; failed = some_left stored list result puts.failed }
 
   pub may_put : {T : Type 0} (stored : List Element → Bool) (list given : Option (List Element)) (result : Result T CodecError) → Gives given list → ((xs : List Element) → given ≡ Some xs → PutsList (stored xs) xs old new result)
       → MayPutList stored list first new result
   may_put stored None given result gives puts = absurd (none_some given gives.same gives.there)
   may_put stored (Some list) given result gives puts = puts_after (stored list) list result (puts list gives.same)
+
+  pub left_after : {T : Type 0} (stored : List Element → Bool) (list given : Option (List Element)) (result : Result T CodecError) → Gives given list
+      → ((xs : List Element) → given ≡ Some xs → OnErr result (IsLeft stored (Some xs) old new)) → OnErr result (IsLeft stored list first new)
+  left_after stored None given result gives left = absurd (none_some given gives.same gives.there)
+  left_after stored (Some list) given result gives left = some_left (stored list) list result (left list gives.same)
 
   may : (b : Bool) (before now more : ℕ) → CountsIf b before now more → MayCountIf b before now more
   may true before now more is = inr is
@@ -147,7 +171,7 @@ keeps_stays old new keeps = record { there = keeps.there; list = keeps.list; con
 
 may_not : (T : Type 0) (stored : List Element → Bool) (list : Option (List Element)) (old new : ListSeen) (e : CodecError) → KeepsList old new → MayPutList {T = T} stored list old new (Err e)
 may_not T stored None old new e keeps = tt
-may_not T stored (Some list) old new e keeps = record { ok = tt; failed = inl keeps.list }
+may_not T stored (Some list) old new e keeps = record { ok = tt; failed = inl (keeps_same old new keeps) }
 
 rewrites_not : {T U : Type 0} (rereads : Bool) (old new : ListSeen) (e : CodecError) → ReadsListIf {T = U} rereads None old new (Err e) → Rewrites {T = T} rereads old new (Err e)
 rewrites_not {T} rereads old new e reads = record { unchanged = unless_of {T = T} (Err e) (keeps_stays old new reads.keeps); rest = keeps_rest old new reads.keeps; asks = tt; asks_err = reads.asks_err; taken = tt; taken_err = reads.taken_err }
@@ -206,14 +230,17 @@ handle_told before now P (Err e) told = inl told
 pub stores_not : {T : Type 0} (under : Options) (bytes : ArrayBytes) (unencoded : List Element → CodecError → Type 0) (Short : Type 0) (seen : ListSeen) (e : CodecError)
     → ((list : List Element) → seen.unserved ≡ None → HasFill seen → list_at seen.level bytes ≡ Some list → IsHandleError seen.shown.faults seen.shown.faults e ⊎ unencoded list e)
     → (seen.unserved ≡ None → HasFill seen → HasShortFill seen → Short → IsSome (list_at seen.level bytes) → has_long_element bytes ≡ false → IsHandleError seen.shown.faults seen.shown.faults e)
-    → Stores {T = T} under bytes unencoded Short seen seen (Err e)
-stores_not {T} under bytes unencoded Short seen e cause encoded = record {
-  puts = λ list served filled means. let p : PutsList {T = T} (is_stored under seen list) list seen seen (Err e) = record { ok = tt; failed = inl (λ under. refl) } in p;
+    → IsNoFault e → Stores {T = T} under bytes unencoded Short seen seen (Err e)
+stores_not {T} under bytes unencoded Short seen e cause encoded own = record {
+  puts = λ list served filled means. let p : PutsList {T = T} (is_stored under seen list) list seen seen (Err e) = record { ok = tt; failed = inl (keeps_same seen seen (keeps_self seen)) } in p;
+  left = λ list served means. inl (keeps_same seen seen (keeps_self seen));
+  unserved = λ some. let r : IsRefused {T = T} seen seen (Err e) = record { err = tt; stays = keeps_stays seen seen (keeps_self seen) } in r;
   unchanged = unless_of {T = T} (Err e) (keeps_stays seen seen (keeps_self seen));
   rest = keeps_rest seen seen (keeps_self seen);
   unasked = record { asks = refl; taken = refl };
   cause = cause;
   encoded = encoded;
+  fault = no_fault _ _ e own;
 }
 
 module _ (under : Options) (change : Change) (tells : CodecError → Type 0) (unencoded : List Element → CodecError → Type 0) (Short : Type 0) where
@@ -226,32 +253,53 @@ module _ (under : Options) (change : Change) (tells : CodecError → Type 0) (un
       let raw = raw_of elements in
       let means = (λ (xs : List Element) (is : list_at first.level raw ≡ Some xs). ap (λ (level : Level). list_at level raw) keeps.level ∙ is) in
       record {
-        puts = λ given served filled is. may_put first mid new keeps (is_stored under first) (made_by change given (first.list under)) (list_at first.level raw) result (made.gives given served filled is)
+        puts = λ given served filled is. may_put first mid new keeps (is_stored under first) (made_by change given (first.list under)) (list_at first.level raw) result (made.gives given served is)
             (λ xs here. subst (λ (b : Bool). PutsList b xs mid new result) (stored_after first mid new keeps under xs) (stores.puts xs (keeps.unserved ∙ served) (filled_after first mid new keeps filled) (means xs here)));
+        left = λ given is. left_by given is first.unserved refl;
+        unserved = unserved_by;
         rewrites = rewrites_after first mid new keeps (not change.all) elements result reads stores.unchanged stores.rest stores.unasked;
-        cause = λ given served filled fits is. stored_told (list_at first.level raw) (made_by change given (first.list under)) _ unencoded _ _ _ result (made.gives given served filled is) keeps.later
+        cause = λ given served filled fits is. stored_told (list_at first.level raw) (made_by change given (first.list under)) _ unencoded _ _ _ result (made.gives given served is) keeps.later
             (λ xs here. told_before _ _ (unencoded_then xs) (unencoded xs) result (back xs) (stores.cause xs (keeps.unserved ∙ served) (filled_after first mid new keeps filled) (means xs here)));
         encoded = λ given served filled few takes short fits is.
-            let gives = made.gives given served filled is in
+            let gives = made.gives given served is in
             stored_short _ _ _ _ result keeps.later (stores.encoded (keeps.unserved ∙ served) (filled_after first mid new keeps filled) (keeps.short ∙ few) (to takes) (subst (λ (level : Level). IsSome (list_at level raw)) (sym keeps.level) gives.there)
             (made.short served few short));
+        fault = faults_after first.shown.faults mid.shown.faults new.shown.faults result keeps.later stores.fault;
       }
+    where
+      unserved_by : IsSome first.unserved → IsRefused first new result
+      unserved_by some = refused_after first mid new reads.keeps result (stores.unserved (subst (λ (o : Option Refused). IsSome o) (sym reads.keeps.unserved) some))
+
+      left_by : (given : List Element) → given_by first.level change ≡ Some given → (u : Option Refused) → first.unserved ≡ u → OnErr result (IsLeft (is_stored under first) (made_by change given (first.list under)) first new)
+      left_by given is None served =
+          let keeps = reads.keeps in
+          left_after first mid new keeps (is_stored under first) (made_by change given (first.list under)) (list_at first.level (raw_of elements)) result (made.gives given served is)
+          (λ xs here. subst (λ (b : Bool). OnErr result (IsLeft (λ other. b) (Some xs) mid new)) (stored_after first mid new keeps under xs)
+          (stores.left xs (keeps.unserved ∙ served) (ap (λ (level : Level). list_at level (raw_of elements)) keeps.level ∙ here)))
+      left_by given is (Some why) because =
+          was_err result (left_same (is_stored under first) (made_by change given (first.list under)) first new (stays_same first new (unserved_by (subst (λ (o : Option Refused). IsSome o) (sym because) refl)).stays))
 
   -- they were not made
   pub updates_not : {T : Type 0} (first mid : ListSeen) (e : CodecError) → GivesMade under change tells first mid (Err e) → ReadsListIf {T = code.ArrayBytes} (not change.all) None first mid (Err e) → Updates {T = T} under change tells unencoded Short first mid (Err e)
   updates_not {T} first mid e made reads = record {
     puts = λ given served filled is. may_not T (is_stored under first) (made_by change given (first.list under)) first mid e reads.keeps;
+    left = λ given is. left_same (is_stored under first) (made_by change given (first.list under)) first mid (keeps_same first mid reads.keeps);
+    unserved = λ some. let r : IsRefused {T = T} first mid (Err e) = record { err = tt; stays = keeps_stays first mid reads.keeps } in r;
     rewrites = rewrites_not (not change.all) first mid e reads;
     cause = λ given served filled fits is. ⊎_elim (λ h. inl h) (λ u. inr (inl u)) (made.failed given served filled is);
     encoded = λ given served filled few takes short fits is. made.failed given served filled is;
+    fault = made.fault;
   }
 
   -- nothing was done, for want of memory where the elements and their indexer are in order
   pub updates_early : {T : Type 0} (seen : ListSeen) (e : CodecError) → ((given : List Element) → seen.unserved ≡ None → HasFill seen → change.fits ≡ true → given_by seen.level change ≡ Some given → e ≡ codec.OutOfMemory)
-      → Updates {T = T} under change tells unencoded Short seen seen (Err e)
-  updates_early {T} seen e memory = record {
+      → IsNoFault e → Updates {T = T} under change tells unencoded Short seen seen (Err e)
+  updates_early {T} seen e memory own = record {
     puts = λ given served filled is. may_not T (is_stored under seen) (made_by change given (seen.list under)) seen seen e (keeps_self seen);
+    left = λ given is. left_same (is_stored under seen) (made_by change given (seen.list under)) seen seen (keeps_same seen seen (keeps_self seen));
+    unserved = λ some. let r : IsRefused {T = T} seen seen (Err e) = record { err = tt; stays = keeps_stays seen seen (keeps_self seen) } in r;
     rewrites = rewrites_not {U = code.ArrayBytes} (not change.all) seen seen e (unread_if (not change.all) None seen e);
     cause = λ given served filled fits is. inl (inl (memory given served filled fits is));
     encoded = λ given served filled few takes short fits is. inl (inl (memory given served filled fits is));
+    fault = no_fault _ _ e own;
   }

@@ -3,3 +3,4 @@ pub mod Lists
 pub mod ListWrites
 pub mod Updates
 pub mod Selects
+pub mod Ranges

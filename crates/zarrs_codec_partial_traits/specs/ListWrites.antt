@@ -8,9 +8,8 @@ use Rattle.zarr_model.specs.Codec.{Options}
 use Rattle.zarrs_codec_bytes.specs.Picking.{replaced}
 use Rattle.zarrs_codec_array_bytes.specs.Refusals.{Told, fine, validity, then_answer, first_answer}
 use Rattle.zarrs_codec_error.specs.declared.error.CodecError.{CodecError}
-use Rattle.zarrs_codec_held.specs.Reads.{MayCount}
-use Rattle.zarrs_codec_held.specs.Writes.{UnlessFault, CountsIf}
-use Rattle.zarrs_codec_partial_traits.specs.Lists.{ListSeen, IsUnread, fills}
+use Rattle.zarrs_codec_held.specs.Writes.{UnlessFault, CountsIf, MayCountIf}
+use Rattle.zarrs_codec_partial_traits.specs.Lists.{ListSeen, IsUnread}
 
 -- what is said of the elements that are given, and then of the indexer
 abbrev pub given_answer : Kind → Bool → ℕ → ArrayBytes → Told
@@ -44,7 +43,24 @@ pub record HoldsList (present : Bool) (elements : Option (List Element)) (new : 
 
 -- the value is absent
 abbrev pub IsAbsent : ListSeen → Type 0
-IsAbsent new = HoldsList false (fills new.level new.fill) new
+IsAbsent new = new.there ≡ false
+
+-- it holds what it held
+pub record SameList (old new : ListSeen) : Type 0 where
+  pub there : new.there ≡ old.there
+  pub list : (under : Options) → new.list under ≡ old.list under
+
+-- a value that is there and holds this list, where such a list is stored
+abbrev pub HoldsStored : Bool → List Element → ListSeen → Type 0
+HoldsStored false list new = ⊥
+HoldsStored true list new = HoldsList true (Some list) new
+
+-- what a writing call that failed leaves: what was held; or, if there is a new list, nothing, or
+-- that list, where such a list is stored
+abbrev pub IsLeft : (List Element → Bool) → Option (List Element) → ListSeen → ListSeen → Type 0
+IsLeft stored None old new = SameList old new
+IsLeft stored (Some list) old new =
+    SameList old new ⊎ (IsAbsent new ⊎ HoldsStored (stored list) list new)
 
 -- it holds what it held, and all that is below is as it was
 pub record StaysList (old new : ListSeen) : Type 0 where
@@ -72,31 +88,29 @@ pub record UnaskedList (old new : ListSeen) : Type 0 where
   pub asks : new.shown.asks ≡ old.shown.asks
   pub taken : new.shown.taken ≡ old.shown.taken
 
--- a change of what is held to a list: after a failure it holds what it held, or this list, or
--- nothing
+-- a call that is refused, and leaves all as it was
+pub record IsRefused {T : Type 0} (old new : ListSeen) (result : Result T CodecError) : Type 0
+  where
+    pub err : OnOk result ⊥
+    pub stays : StaysList old new
+
+-- a change of what is held to a list
 pub record PutsList {T : Type 0} (stored : Bool) (list : List Element) (old new : ListSeen)
     (result : Result T CodecError) : Type 0 where
   pub ok : OnOk result (HoldsList stored (Some list) new)
-  pub failed : OnErr result (((under : Options) → new.list under ≡ old.list under)
-      ⊎ (HoldsList true (Some list) new ⊎ IsAbsent new))
+  pub failed : OnErr result (IsLeft (λ other. stored) (Some list) old new)
 
 -- a change of what is held to nothing
 pub record ErasesList {T : Type 0} (old new : ListSeen) (result : Result T CodecError)
     : Type 0 where
   pub ok : OnOk result (IsAbsent new)
-  pub failed : OnErr result (((under : Options) → new.list under ≡ old.list under)
-      ⊎ IsAbsent new)
+  pub failed : OnErr result (SameList old new ⊎ IsAbsent new)
 
 -- a change of what is held to a new list, if there is one
 abbrev pub MayPutList : {T : Type 0} → (List Element → Bool) → Option (List Element) → ListSeen
     → ListSeen → Result T CodecError → Type 0
 MayPutList stored None old new result = OnOk result ⊥
 MayPutList stored (Some list) old new result = PutsList (stored list) list old new result
-
--- and of a call that failed: as before, if nothing is read
-abbrev pub MayCountIf : Bool → ℕ → ℕ → ℕ → Type 0
-MayCountIf false before now more = now ≡ before
-MayCountIf true before now more = MayCount before now more
 
 -- what a change of elements leaves, and what it reads: the whole value, unless all elements are
 -- given

@@ -1,15 +1,35 @@
 -- What a handle of elements holds, and what it shows of what is below.
-use Rattle.std.specs.Prelude.{◌≡◌, ◌≤◌, ◌⊎◌, ℕ, ◌+◌, ◌*◌, ◌^◌, ◌<◌, nat_lt, Bool, true, false, List, length, replicate, Option, None, IsSome, option_map, Result, OnOk, OnErr}
+use Rattle.std.specs.Prelude.{◌≡◌, ◌≤◌, ◌⊎◌, ℕ, ◌+◌, ◌*◌, ◌^◌, ◌<◌, nat_lt, Bool, true, false, List, length, replicate, Option, Some, None, IsSome, option_map, Result, Ok, Err, OnOk, OnErr}
 use Rattle.zarr_model.specs.Region.{Region, count_of}
 use Rattle.zarr_model.specs.Element.{Element, Kind, fill_element, fixed_size, kind_of}
 use Rattle.zarr_model.specs.Codec.{Level, Options}
 use Rattle.zarr_model.specs.Shown.{Shown}
+use Rattle.zarr_model.specs.Prelude.{Rose}
+use Rattle.zarrs_storage.specs.declared.store.StorageError.{StorageError}
 use Rattle.zarr_model.specs.Cost.{counted}
 use Rattle.zarrs_codec_bytes.specs.Filling.{innermost_fill}
 use Rattle.zarrs_codec_bytes.specs.Picking.{size_in}
 use Rattle.zarrs_codec_error.specs.declared.error.CodecError.{CodecError}
-use Rattle.zarrs_codec_traits.specs.Errors.{Unserved}
+use Rattle.zarrs_codec_error.specs.declared.error.CodecError.TheVariants as codec
+use Rattle.zarrs_codec_array_bytes.specs.Refusals.{told_by, other_fill}
+use Rattle.zarrs_codec_traits.specs.Errors.{Unserved, unserved_error}
 use Rattle.zarrs_codec_held.specs.Reads.{MayCount, IsHandleError}
+
+-- why a level is not served: by a codec, or since its fill value denotes no element
+pub data Refused : Type 0 where
+  by_codec : Unserved → Refused
+  by_fill : Refused
+
+-- the error says so
+abbrev pub refusal_tells : Refused → CodecError → Type 0
+refusal_tells (by_codec why) e = e ≡ unserved_error why
+refusal_tells by_fill e = told_by e ≡ other_fill
+
+-- where there is a reason the call is refused by it, or memory ran out
+abbrev pub RefusesFor : {T : Type 0} → Option Refused → Result T CodecError → Type 0
+RefusesFor None result = Unit {0}
+RefusesFor (Some why) (Ok v) = ⊥
+RefusesFor (Some why) (Err e) = (e ≡ codec.OutOfMemory) ⊎ refusal_tells why e
 
 -- what a handle shows
 pub record ListSeen : Type 0 where
@@ -18,8 +38,8 @@ pub record ListSeen : Type 0 where
   pub fill : List ℕ
   -- whether that, and what codecs make of it below, is short
   pub short : Bool
-  -- why its codecs do not serve these, if they do not
-  pub unserved : Option Unserved
+  -- why these are not served, if they are not
+  pub unserved : Option Refused
   -- whether the value is there, and the list of all elements, which is that of the fill where the
   -- value is absent, and none where it does not decode
   pub there : Bool
@@ -104,3 +124,7 @@ abbrev pub IsListError : Bool → Option (List Element) → (CodecError → Type
     → Type 0
 IsListError there list tells before now e = IsHandleError before now e
     ⊎ (((list ≡ None) ⊎ (there ≡ false)) × tells e)
+
+-- a fault is told only where what is below failed
+pub record TellsFault (before now : ℕ) (e : CodecError) : Type 0 where
+  pub rose : (fault : StorageError) → e ≡ codec.StorageError fault → Rose before now

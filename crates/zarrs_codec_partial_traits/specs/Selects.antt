@@ -2,7 +2,7 @@
 use Rattle.std.specs.Prelude.{◌≡◌, ◌⊎◌, ℕ, Bool, true, List, length, Option, Some, None, IsSome, Result, IfOk, IfErr, OnOk}
 use Rattle.zarr_model.specs.Region.{Region}
 use Rattle.zarr_model.specs.Element.{Element, null, kind_of}
-use Rattle.zarr_model.specs.ArrayBytes.{meaning}
+use Rattle.zarr_model.specs.ArrayBytes.{ArrayBytes, meaning}
 use Rattle.zarr_model.specs.Codec.{Level, Options}
 use Rattle.zarrs_codec_bytes.specs.Picking.{picked}
 use Rattle.zarrs_codec_error.specs.declared.error.CodecError.{CodecError}
@@ -10,8 +10,10 @@ use Rattle.zarrs_codec_array_bytes.specs.declared.array_bytes.ArrayBytes as code
 use Rattle.zarrs_codec_array_bytes.specs.Raw.{raw_of}
 use Rattle.zarrs_codec_array_bytes.specs.Refusals.{Told, fine, told_by}
 use Rattle.zarrs_codec_array_bytes.specs.Selection.{linear}
+use Rattle.zarrs_codec_view.specs.Targets.{ArePut}
+use Rattle.zarrs_codec_view.specs.declared.array_bytes_fixed_disjoint_view.ArrayBytesFixedDisjointView.{ArrayBytesFixedDisjointView}
 use Rattle.zarrs_codec_partial_traits.specs.Boxes.{is_all}
-use Rattle.zarrs_codec_partial_traits.specs.Lists.{ListSeen, HasFill, ReadsList, IsListError}
+use Rattle.zarrs_codec_partial_traits.specs.Lists.{ListSeen, HasFill, ReadsList, IsListError, RefusesFor}
 
 -- those of a level's list at some places
 abbrev pub chosen : Level → List (List ℕ) → List Element → List Element
@@ -32,18 +34,35 @@ pub record Selects (under : Options) (asked : Option Region) (places : List (Lis
       → OnOk result (IsSome (old.list under))
   pub all : old.unserved ≡ None → HasFill old → is_all old.level.shape asked ≡ true
       → OnOk result (IsSome (old.list under))
+  pub named : in_order ≡ true → RefusesFor old.unserved result
   pub reads : ReadsList asked old new result
+
+-- what is held has a list, or its fill value denotes an element
+abbrev pub HasListOrFill : Options → ListSeen → Type 0
+HasListOrFill under seen = IsSome (seen.list under) ⊎ HasFill seen
 
 -- the same for a target, which answers so to these elements
 pub record SelectsInto {T : Type 0} (under : Options) (asked : Option Region) (in_order : Bool)
     (tells : CodecError → Type 0) (answer : Told) (old new : ListSeen)
     (result : Result T CodecError) : Type 0 where
-  pub taken : old.unserved ≡ None → HasFill old → OnOk result (answer ≡ fine)
-  pub failed : old.unserved ≡ None → HasFill old → in_order ≡ true → IfErr result
+  pub taken : old.unserved ≡ None → HasListOrFill under old → OnOk result (answer ≡ fine)
+  pub failed : old.unserved ≡ None → HasListOrFill under old → in_order ≡ true → IfErr result
       (λ e. IsListError old.there (old.list under) tells old.shown.faults new.shown.faults e
       ⊎ (told_by e ≡ answer))
+  -- of a value that is read as a whole and does not decode, the target is not asked
+  pub undecoded : old.unserved ≡ None → in_order ≡ true → old.there ≡ true
+      → old.whole asked ≡ true → old.list under ≡ None → IfErr result
+      (IsListError old.there (old.list under) tells old.shown.faults new.shown.faults)
   pub decodes : old.unserved ≡ None → old.there ≡ true → old.whole asked ≡ true
       → OnOk result (IsSome (old.list under))
   pub all : old.unserved ≡ None → HasFill old → is_all old.level.shape asked ≡ true
       → OnOk result (IsSome (old.list under))
+  pub named : in_order ≡ true → RefusesFor old.unserved result
   pub reads : ReadsList asked old new result
+
+-- some array bytes were put into a target's views, each into its view's box, and nothing else of
+-- the views' bytes changed
+pub record KeepsFrame (olds news : List ArrayBytesFixedDisjointView)
+    (from to : ArrayBytesFixedDisjointView) : Type 0 where
+  pub bytes : ArrayBytes
+  pub put : ArePut bytes olds news from to

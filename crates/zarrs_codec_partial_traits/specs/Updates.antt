@@ -11,10 +11,10 @@ use Rattle.zarrs_codec_array_bytes.specs.Raw.{raw_of}
 use Rattle.zarrs_codec_array_bytes.specs.Selection.{linear}
 use Rattle.zarrs_codec_traits.specs.Words.{list_at, Gives}
 use Rattle.zarrs_codec_held.specs.Reads.{IsHandleError}
-use Rattle.zarrs_codec_held.specs.Writes.{UnlessFault, CountsIf}
+use Rattle.zarrs_codec_held.specs.Writes.{UnlessFault, CountsIf, MayCountIf}
 use Rattle.zarrs_codec_partial_traits.specs.Boxes.{is_all}
-use Rattle.zarrs_codec_partial_traits.specs.Lists.{ListSeen, HasFill, HasShortFill, KeepsList}
-use Rattle.zarrs_codec_partial_traits.specs.ListWrites.{updated, is_stored, PutsList, StaysList, KeepsRest, UnaskedList, MayPutList, MayCountIf, Rewrites, IsUnencoded, IsUnreadList}
+use Rattle.zarrs_codec_partial_traits.specs.Lists.{ListSeen, HasFill, HasShortFill, KeepsList, TellsFault}
+use Rattle.zarrs_codec_partial_traits.specs.ListWrites.{updated, is_stored, IsLeft, IsRefused, PutsList, StaysList, KeepsRest, UnaskedList, MayPutList, Rewrites, IsUnencoded, IsUnreadList}
 
 -- elements that are put in: whether these are all, and whether their indexer fits; their linear
 -- indices, how many there are, and their bytes
@@ -54,7 +54,7 @@ pub record ReadsListIf {T E : Type 0} (reads : Bool) (asked : Option Region) (ol
 -- the new elements, made of what is held and of those that are put in
 pub record GivesMade (under : Options) (change : Change) (tells : CodecError → Type 0)
     (old new : ListSeen) (result : Result code.ArrayBytes CodecError) : Type 0 where
-  pub gives : (given : List Element) → old.unserved ≡ None → HasFill old
+  pub gives : (given : List Element) → old.unserved ≡ None
       → given_by old.level change ≡ Some given → IfOk result
       (λ v. Gives (list_at old.level (raw_of v)) (made_by change given (old.list under)))
   pub failed : (given : List Element) → old.unserved ≡ None → HasFill old
@@ -63,6 +63,7 @@ pub record GivesMade (under : Options) (change : Change) (tells : CodecError →
       ⊎ IsUnreadList change.all old.there (old.list under) tells e)
   pub short : old.unserved ≡ None → HasShortFill old → has_long_element change.bytes ≡ false
       → IfOk result (λ v. has_long_element (raw_of v) ≡ false)
+  pub fault : IfErr result (TellsFault old.shown.faults new.shown.faults)
 
 -- a change of what is held to the elements of these bytes, with nothing read
 pub record Stores {T : Type 0} (under : Options) (bytes : ArrayBytes)
@@ -71,6 +72,10 @@ pub record Stores {T : Type 0} (under : Options) (bytes : ArrayBytes)
   pub puts : (list : List Element) → old.unserved ≡ None → HasFill old
       → list_at old.level bytes ≡ Some list
       → PutsList (is_stored under old list) list old new result
+  -- after a failure what is held is the old list, or this one where it is stored, or nothing
+  pub left : (list : List Element) → old.unserved ≡ None → list_at old.level bytes ≡ Some list
+      → OnErr result (IsLeft (is_stored under old) (Some list) old new)
+  pub unserved : IsSome old.unserved → IsRefused old new result
   pub unchanged : UnlessFault result (StaysList old new)
   pub rest : KeepsRest old new
   pub unasked : UnaskedList old new
@@ -80,6 +85,7 @@ pub record Stores {T : Type 0} (under : Options) (bytes : ArrayBytes)
   pub encoded : old.unserved ≡ None → HasFill old → HasShortFill old → Short
       → IsSome (list_at old.level bytes) → has_long_element bytes ≡ false
       → IfErr result (IsHandleError old.shown.faults new.shown.faults)
+  pub fault : IfErr result (TellsFault old.shown.faults new.shown.faults)
 
 -- both: what is left, what is read, and why a call fails, also where all is short
 pub record Updates {T : Type 0} (under : Options) (change : Change) (tells : CodecError → Type 0)
@@ -88,6 +94,11 @@ pub record Updates {T : Type 0} (under : Options) (change : Change) (tells : Cod
   pub puts : (given : List Element) → old.unserved ≡ None → HasFill old
       → given_by old.level change ≡ Some given → MayPutList (is_stored under old)
       (made_by change given (old.list under)) old new result
+  -- after a failure what is held is the old list, or this one where it is stored, or nothing
+  pub left : (given : List Element) → given_by old.level change ≡ Some given → OnErr result
+      (IsLeft (is_stored under old) (made_by change given (old.list under)) old new)
+  -- where nothing is served nothing is changed
+  pub unserved : IsSome old.unserved → IsRefused old new result
   pub rewrites : Rewrites (not change.all) old new result
   pub cause : (given : List Element) → old.unserved ≡ None → HasFill old → change.fits ≡ true
       → given_by old.level change ≡ Some given → IfErr result
@@ -99,3 +110,4 @@ pub record Updates {T : Type 0} (under : Options) (change : Change) (tells : Cod
       → given_by old.level change ≡ Some given → IfErr result
       (λ e. IsHandleError old.shown.faults new.shown.faults e
       ⊎ IsUnreadList change.all old.there (old.list under) tells e)
+  pub fault : IfErr result (TellsFault old.shown.faults new.shown.faults)

@@ -22,8 +22,8 @@ ghost use Rattle.zarrs_codec_traits.specs.Errors.{RefusesAs};
 ghost use Rattle.zarrs_codec_traits.specs.Into.{num_elements_in, into_answer, RefusesCount, IsPut};
 ghost use Rattle.zarrs_codec_traits.specs.Views.{options_of};
 ghost use Rattle.zarrs_codec_partial_traits.specs.Boxes.{is_all};
-ghost use Rattle.zarrs_codec_partial_traits.specs.Lists.{ListSeen, HasFill, HasShortFill, AreFew, LooksAt, ReadsList, IsUnread, IsListError};
-ghost use Rattle.zarrs_codec_partial_traits.specs.Selects.{chosen, SelectsInto};
+ghost use Rattle.zarrs_codec_partial_traits.specs.Lists.{ListSeen, HasFill, HasShortFill, AreFew, LooksAt, ReadsList, IsUnread, IsListError, RefusesFor, TellsFault, fills};
+ghost use Rattle.zarrs_codec_partial_traits.specs.Selects.{chosen, SelectsInto, KeepsFrame};
 
 use crate::into_target::{read_into_fixed, read_into_optional};
 use std::alloc::Global;
@@ -85,9 +85,10 @@ pub trait ArrayPartialDecoderTraits {
     /// it is absent.
     ///
     /// # Errors
-    /// [`CodecError::IncompatibleIndexer`] exactly where the indexer does not fit the shape, before anything is read;
-    /// [`CodecError::StorageError`] where what is below fails; what the codecs refuse, or what tells that the value does
-    /// not decode; or [`CodecError::OutOfMemory`].
+    /// [`CodecError::IncompatibleIndexer`] exactly where the indexer does not fit the shape, before anything is read; else
+    /// the error of the reason for which the level is not served, exactly where there is one;
+    /// [`CodecError::StorageError`] where what is below fails; what tells that the value does not decode; or
+    /// [`CodecError::OutOfMemory`].
     fn partial_decode<I: Indexer>(
         &mut self,
         alloc: Global,
@@ -116,6 +117,8 @@ pub trait ArrayPartialDecoderTraits {
             ((seen self.old).list (options_of options.now))
             (tells self.old (options_of options.now) (I.as_region indexer.now))
             (seen self.old).shown.faults (seen self.new).shown.faults) }
+        ensures named { I.fits indexer.now (seen self.old).level.shape ≡ true
+            → RefusesFor (seen self.old).unserved result }
         ensures decodes { (seen self.old).unserved ≡ None → (seen self.old).there ≡ true
             → (seen self.old).whole (I.as_region indexer.now) ≡ true
             → OnOk result (IsSome ((seen self.old).list (options_of options.now))) }
@@ -124,13 +127,16 @@ pub trait ArrayPartialDecoderTraits {
             → OnOk result (IsSome ((seen self.old).list (options_of options.now))) }
         ensures short { (seen self.old).unserved ≡ None → HasShortFill (seen self.old)
             → IfOk result (λ v. has_long_element (raw_of v) ≡ false) }
+        ensures fault { IfErr result
+            (TellsFault (seen self.old).shown.faults (seen self.new).shown.faults) }
         ensures reads { ReadsList (I.as_region indexer.now) (seen self.old) (seen self.new)
             result }
         ensures same { same self.old self.new }
         ensures tells { (under : Options) (asked : Option Region) (e : CodecError)
             → tells self.new under asked e → tells self.old under asked e };
 
-    /// Puts the elements at the indexer's indices into a target. On an error it is as it was.
+    /// Puts the elements at the indexer's indices into the boxes of a target's views, and nothing else of their bytes is
+    /// changed. On an error it is as it was.
     ///
     /// # Errors
     /// [`CodecError::InvalidNumberOfElements`] exactly where the target has another number of elements than the indexer,
@@ -183,6 +189,12 @@ pub trait ArrayPartialDecoderTraits {
             (into_answer (kind_of (seen self.old).level.data_type)
             (length (I.places indexer.now)) (mask_views output_target.entry)
             (inner_view output_target.entry)) (seen self.old) (seen self.new) result }
+        ensures fault { IfErr result
+            (TellsFault (seen self.old).shown.faults (seen self.new).shown.faults) }
+        ensures framed { IfOk result (λ _. LeftBehind
+            (λ left. KeepsFrame [] [] (inner_view output_target.entry) left.0.now)
+            (λ left. KeepsFrame (mask_views output_target.entry) left.1.0.now
+            (inner_view output_target.entry) left.0.now) output_target.exit) }
         ensures kept { IfErr result (λ _. LeftBehind
             (λ left. left.0.now ≡ inner_view output_target.entry)
             (λ left. (left.0.now ≡ inner_view output_target.entry)
@@ -204,6 +216,10 @@ pub trait ArrayPartialDecoderTraits {
     // The list has an element for each place.
     ghost counted: { (h : Self) (under : Options) (xs : List Element) → (seen h).unserved ≡ None
         → (seen h).list under ≡ Some xs → length xs ≡ count_of (seen h).level.shape };
+
+    // Of an absent value the list is the fill's.
+    ghost absent: { (h : Self) (under : Options) → (seen h).unserved ≡ None
+        → (seen h).there ≡ false → (seen h).list under ≡ fills (seen h).level (seen h).fill };
 
     // Settings that are kept by two calls are kept.
     ghost same_self: { (h : Self) → same h h };

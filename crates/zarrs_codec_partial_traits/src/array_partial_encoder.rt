@@ -8,7 +8,7 @@ ghost use Rattle.zarrs_codec_error.specs.declared.error.CodecError.{CodecError};
 ghost use Rattle.zarrs_codec_held.specs.Reads.{IsFault};
 ghost use Rattle.zarrs_codec_traits.specs.Errors.{RefusesAs};
 ghost use Rattle.zarrs_codec_traits.specs.Views.{options_of};
-ghost use Rattle.zarrs_codec_partial_traits.specs.Lists.{AreFew};
+ghost use Rattle.zarrs_codec_partial_traits.specs.Lists.{AreFew, RefusesFor};
 ghost use Rattle.zarrs_codec_partial_traits.specs.ListWrites.{given_answer, ErasesList, KeepsRest, UnaskedList, IsUntouched};
 ghost use Rattle.zarrs_codec_partial_traits.specs.Updates.{change_of, Updates};
 
@@ -35,8 +35,7 @@ pub trait ArrayPartialEncoderTraits: ArrayPartialDecoderTraits {
     /// [`CodecError::StorageError`] where what is below fails. The value is then as before, or absent.
     fn erase(&mut self) -> Result<(), CodecError>
         ensures same { Self.same self.old self.new }
-        ensures erases { (Self.seen self.old).unserved ≡ None
-            → ErasesList (Self.seen self.old) (Self.seen self.new) result }
+        ensures erases { ErasesList (Self.seen self.old) (Self.seen self.new) result }
         ensures rest { KeepsRest (Self.seen self.old) (Self.seen self.new) }
         ensures unasked { UnaskedList (Self.seen self.old) (Self.seen self.new) }
         ensures cause { IfErr result (IsFault (Self.seen self.old).shown.faults
@@ -54,8 +53,9 @@ pub trait ArrayPartialEncoderTraits: ArrayPartialDecoderTraits {
     /// # Errors
     /// [`CodecError`] where the bytes are not valid elements, so many as the indexer has, else
     /// [`CodecError::IncompatibleIndexer`] where the indexer does not fit the shape, both before anything is read;
-    /// [`CodecError::StorageError`] where what is below fails: the value is then as before, or the new one, or absent.
-    /// What tells that the old value does not decode, what refuses to encode the new elements, or
+    /// [`CodecError::StorageError`] where what is below fails: the value is then as before, or absent, or, where the new
+    /// elements are stored, one that decodes to them. What tells that the old value does not decode, what refuses to
+    /// encode the new elements, also where the value would be left absent, what tells that they are not served, or
     /// [`CodecError::OutOfMemory`]; nothing is changed then.
     fn partial_encode<I: Indexer>(
         &mut self,
@@ -83,6 +83,9 @@ pub trait ArrayPartialEncoderTraits: ArrayPartialDecoderTraits {
             (I.as_region indexer.now) (I.places indexer.now) (raw_of bytes.now))
             (Self.tells self.old (options_of options.now) None) (unencoded self.old)
             (encodes_short self.old) (Self.seen self.old) (Self.seen self.new) result }
+        ensures named { given_answer (kind_of (Self.seen self.old).level.data_type)
+            (I.fits indexer.now (Self.seen self.old).level.shape) (length (I.places indexer.now))
+            (raw_of bytes.now) ≡ fine → RefusesFor (Self.seen self.old).unserved result }
         ensures same { Self.same self.old self.new };
 
     // Both are so wherever the settings are the same.

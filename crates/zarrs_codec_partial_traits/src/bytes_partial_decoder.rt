@@ -7,6 +7,7 @@ ghost use Rattle.zarrs_storage.specs.declared.byte_range.ByteRange.{ByteRange};
 ghost use Rattle.zarrs_storage.specs.Store.{value_bytes, part_bytes};
 ghost use Rattle.zarrs_storage.specs.declared.store.StorageError.TheVariants as storage;
 ghost use Rattle.zarrs_codec_error.specs.declared.error.CodecError.{CodecError};
+ghost use Rattle.zarrs_codec_traits.specs.Errors.{IsNoFault};
 ghost use Rattle.zarrs_codec_traits.specs.Views.{options_of};
 ghost use Rattle.zarrs_codec_held.specs.Held.{Seen, IsSound};
 ghost use Rattle.zarrs_codec_held.specs.Reads.{Looks, Reads, GivesParts, IsReadError, IsPartError, RefusesFirst};
@@ -143,6 +144,10 @@ pub trait BytesPartialDecoderTraits {
     ghost same_self: { (h : Self) → same h h };
 
     ghost same_twice: { (a b c : Self) → same a b → same b c → same a c };
+
+    // What tells why a read is refused is no fault of a store.
+    ghost no_fault: { (h : Self) (under : Options) (e : CodecError) → tells h under e
+        → IsNoFault e };
 
     // What is read belongs together.
     ghost sound: { (h : Self) → IsSound (seen h) };

@@ -16,6 +16,7 @@ impl BytesPartialDecoderTraits for Vec<u8> {
     ghost use Rattle.zarrs_codec_held.specs.Held.{in_memory};
     ghost use Rattle.zarrs_codec_held.specs.Reads.{IsRangeError};
     ghost use Rattle.zarrs_codec_held.proofs.PartLaws.{sound_memory};
+    ghost use Rattle.zarrs_codec_partial_traits.specs.Ranges.{range_no_fault};
 
     ghost seen = { λ v. in_memory (Some v.items) };
 
@@ -30,6 +31,8 @@ impl BytesPartialDecoderTraits for Vec<u8> {
     ghost early = { λ h asked. false };
 
     ghost reads_parts = { λ v. true };
+
+    ghost no_fault = { λ v under e told. range_no_fault e told };
 
     ghost sound = { λ v. sound_memory (Some v.items) };
 
@@ -85,6 +88,7 @@ impl BytesPartialDecoderTraits for CowSlice<'_, u8> {
     ghost use Rattle.zarrs_codec_held.specs.Held.{in_memory};
     ghost use Rattle.zarrs_codec_held.specs.Reads.{IsRangeError};
     ghost use Rattle.zarrs_codec_held.proofs.PartLaws.{sound_memory};
+    ghost use Rattle.zarrs_codec_partial_traits.specs.Ranges.{range_no_fault};
 
     ghost seen = { λ v. in_memory (Some (cow_slice_items v)) };
 
@@ -99,6 +103,8 @@ impl BytesPartialDecoderTraits for CowSlice<'_, u8> {
     ghost early = { λ h asked. false };
 
     ghost reads_parts = { λ v. true };
+
+    ghost no_fault = { λ v under e told. range_no_fault e told };
 
     ghost sound = { λ v. sound_memory (Some (cow_slice_items v)) };
 

@@ -11,8 +11,8 @@ ghost use Rattle.zarrs_codec_view.specs.Held.{held_by, IsTargetOf};
 ghost use Rattle.zarrs_codec_traits.specs.Errors.{RefusesAs};
 ghost use Rattle.zarrs_codec_traits.specs.Into.{into_answer, RefusesCount, IsPut};
 ghost use Rattle.zarrs_codec_traits.specs.Views.{options_of};
-ghost use Rattle.zarrs_codec_partial_traits.specs.Lists.{AreFew, IsUnread};
-ghost use Rattle.zarrs_codec_partial_traits.specs.Selects.{chosen, Selects, SelectsInto};
+ghost use Rattle.zarrs_codec_partial_traits.specs.Lists.{AreFew, IsUnread, TellsFault};
+ghost use Rattle.zarrs_codec_partial_traits.specs.Selects.{chosen, Selects, SelectsInto, KeepsFrame};
 
 use crate::array_partial_decoder::ArrayPartialDecoderTraits;
 use std::alloc::Global;
@@ -48,6 +48,8 @@ fn elements_for<H: ArrayPartialDecoderTraits, I: Indexer>(
         && I.fits indexer.now (H.seen handle.old).level.shape)
         (H.tells handle.old (options_of options.now) (I.as_region indexer.now))
         (H.seen handle.old) (H.seen handle.new) result }
+    ensures fault { IfErr result
+        (TellsFault (H.seen handle.old).shown.faults (H.seen handle.new).shown.faults) }
     ensures same { H.same handle.old handle.new }
     ensures tells { (under : Options) (asked : Option Region) (e : CodecError)
         → H.tells handle.new under asked e → H.tells handle.old under asked e }
@@ -98,6 +100,9 @@ pub(crate) fn read_into_fixed<H: ArrayPartialDecoderTraits, I: Indexer>(
         (length (I.places indexer.now)) [] view.old)
         (H.seen handle.old) (H.seen handle.new) result }
     ensures kept { IfErr result (λ _. view.new ≡ view.old) }
+    ensures fault { IfErr result
+        (TellsFault (H.seen handle.old).shown.faults (H.seen handle.new).shown.faults) }
+    ensures framed { IfOk result (λ _. KeepsFrame [] [] view.old view.new) }
     ensures same { H.same handle.old handle.new }
     ensures tells { (under : Options) (asked : Option Region) (e : CodecError)
         → H.tells handle.new under asked e → H.tells handle.old under asked e }
@@ -151,6 +156,9 @@ pub(crate) fn read_into_optional<'a, H: ArrayPartialDecoderTraits, I: Indexer>(
         (length (I.places indexer.now)) masks.old view.old)
         (H.seen handle.old) (H.seen handle.new) result }
     ensures kept { IfErr result (λ _. (view.new ≡ view.old) × (masks.new ≡ masks.old)) }
+    ensures fault { IfErr result
+        (TellsFault (H.seen handle.old).shown.faults (H.seen handle.new).shown.faults) }
+    ensures framed { IfOk result (λ _. KeepsFrame masks.old masks.new view.old view.new) }
     ensures same { H.same handle.old handle.new }
     ensures tells { (under : Options) (asked : Option Region) (e : CodecError)
         → H.tells handle.new under asked e → H.tells handle.old under asked e }

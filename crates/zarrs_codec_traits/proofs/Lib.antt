@@ -1,3 +1,4 @@
 mod CountLaws
+pub mod FaultLaws
 pub mod FillLaws
 pub mod IntoLaws

@@ -3,11 +3,16 @@ use Rattle.std.specs.Prelude.{◌≡◌, ◌⊎◌, ℕ, Bool, true, false, List
 use Rattle.zarr_model.specs.Element.{DataType}
 use Rattle.zarr_model.specs.Codec.{Level}
 use Rattle.zarr_model.specs.Command.{expected_fixed_length_bytes, invalid_variable_sized_array_offsets}
+use Rattle.zarrs_storage.specs.declared.store.StorageError.{StorageError}
 use Rattle.zarrs_data_type_elements.specs.declared.codec_support.CodecName.{CodecName}
 use Rattle.zarrs_data_type_elements.specs.declared.codec_support.DataTypeCodecError.TheVariants as fault
 use Rattle.zarrs_codec_array_bytes.specs.Refusals.{Told, told_by, fine, refused, other_fill}
 use Rattle.zarrs_codec_error.specs.declared.error.CodecError.{CodecError}
 use Rattle.zarrs_codec_error.specs.declared.error.CodecError.TheVariants as codec
+
+-- an error is no fault of a store
+pub record IsNoFault (e : CodecError) : Type 0 where
+  pub unlike : (fault : StorageError) → ¬ (e ≡ codec.StorageError fault)
 
 -- why a codec refuses a shape, a data type and a fill value, whatever the elements: the codec of
 -- this name does not serve them, or no order is given for components of several bytes
@@ -30,6 +35,13 @@ abbrev pub RefusesBy : {T : Type 0} → Option Unserved → Result T CodecError 
 RefusesBy None result = Unit {0}
 RefusesBy (Some why) (Ok v) = ⊥
 RefusesBy (Some why) (Err e) = (e ≡ codec.OutOfMemory) ⊎ (e ≡ unserved_error why)
+
+-- the same of a call that takes no memory, which else gives such a value
+abbrev pub Serves : {T : Type 0} → Option Unserved → (T → Type 0) → Result T CodecError → Type 0
+Serves None is (Ok v) = is v
+Serves None is (Err e) = ⊥
+Serves (Some why) is (Ok v) = ⊥
+Serves (Some why) is (Err e) = e ≡ unserved_error why
 
 -- nothing decodes, and this error says so; or memory ran out
 abbrev pub IsDecodeError : {A : Type 0} → Option A → (CodecError → Type 0) → CodecError → Type 0

@@ -17,7 +17,7 @@ ghost use Rattle.zarrs_codec_error.specs.declared.error.CodecError.TheVariants a
 ghost use Rattle.zarrs_codec_array_bytes.specs.Raw.{raw_of};
 ghost use Rattle.zarrs_codec_array_bytes.specs.Refusals.{Told, fine, validity, then_answer, Answers};
 ghost use Rattle.zarrs_codec_options.specs.declared.bytes_representation.BytesRepresentation.{BytesRepresentation};
-ghost use Rattle.zarrs_codec_traits.specs.Errors.{unserved_at, RefusesBy, RefusesAs, IsDecodeError, IsFormRefusal};
+ghost use Rattle.zarrs_codec_traits.specs.Errors.{unserved_at, IsNoFault, RefusesBy, Serves, RefusesAs, IsDecodeError, IsFormRefusal};
 ghost use Rattle.zarrs_codec_view.specs.Held.{held_by, IsTargetOf};
 ghost use Rattle.zarrs_codec_view.specs.Targets.{LeftBehind};
 ghost use Rattle.zarrs_codec_view.specs.TargetViews.{inner_view, mask_views};
@@ -83,7 +83,7 @@ pub trait ArrayToBytesCodecTraits: ArrayCodecTraits + Sized {
     /// How many bytes the elements of a chunk have, encoded.
     ///
     /// # Errors
-    /// [`CodecError`] where the codec does not serve the arguments, or memory runs out.
+    /// [`CodecError`] exactly where the codec does not serve the arguments.
     fn encoded_representation(
         &self,
         shape: &[NonZeroU64],
@@ -91,12 +91,9 @@ pub trait ArrayToBytesCodecTraits: ArrayCodecTraits + Sized {
         fill_value: &FillValue,
     ) -> Result<BytesRepresentation, CodecError>
         requires fits { IsFit (lengths shape.now) (type_of data_type.now) }
-        ensures unserved { RefusesBy (unserved_at (Self.unserved self.now)
-            (level_of shape.now data_type.now fill_value.now) (fill_bytes fill_value.now)) result }
-        ensures value { let level = level_of shape.now data_type.now fill_value.now in
-            unserved_at (Self.unserved self.now) level (fill_bytes fill_value.now) ≡ None
-            → MatchResult result (λ r. r ≡ representation self.now level)
-            (λ e. e ≡ codec.OutOfMemory) };
+        ensures { let level = level_of shape.now data_type.now fill_value.now in
+            Serves (unserved_at (Self.unserved self.now) level (fill_bytes fill_value.now))
+            (λ r. r ≡ representation self.now level) result };
 
     /// The elements, encoded. They decode to themselves under all options.
     ///
@@ -316,7 +313,8 @@ pub trait ArrayToBytesCodecTraits: ArrayCodecTraits + Sized {
             → request self.now level.shape level.data_type (box_of region.now) ≡ None
             → parts_of parts ≡ value ∷ []
             → IfOk result (λ _. IsSome (meaning self.now (options_of options.now) level value)) }
-        ensures short { IfOk result (λ v. has_long_element (raw_of v) ≡ false) };
+        ensures short { IfOk result (λ v. has_long_element (raw_of v) ≡ false) }
+        ensures no_fault { IfErr result IsNoFault };
 
     // What decodes has an element for each place.
     ghost counted: { (c : Self) (under : Options) (level : Level) (value : List ℕ)
@@ -343,4 +341,8 @@ pub trait ArrayToBytesCodecTraits: ArrayCodecTraits + Sized {
         → unserved_at (Self.unserved c) level fill ≡ None → ends_within box level.shape ≡ true
         → request c level.shape level.data_type box ≡ Some ranges
         → ¬ (first_invalid (length value) ranges ≡ None) → meaning c under level value ≡ None };
+
+    // An error of a value that does not decode is no fault of a store.
+    ghost no_fault: { (c : Self) (under : Options) (level : Level) (value : List ℕ)
+        (e : CodecError) → says c under level value e → IsNoFault e };
 }

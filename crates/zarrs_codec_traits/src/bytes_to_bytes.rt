@@ -6,7 +6,7 @@ ghost use Rattle.zarrs_codec_error.specs.declared.error.CodecError.{CodecError};
 ghost use Rattle.zarrs_codec_error.specs.declared.error.CodecError.TheVariants as codec;
 ghost use Rattle.zarrs_codec_options.specs.declared.bytes_representation.BytesRepresentation.{BytesRepresentation};
 ghost use Rattle.zarrs_codec_options.specs.declared.recommended_concurrency.RecommendedConcurrency.{RecommendedConcurrency};
-ghost use Rattle.zarrs_codec_traits.specs.Errors.{IsDecodeError};
+ghost use Rattle.zarrs_codec_traits.specs.Errors.{IsNoFault, IsDecodeError};
 ghost use Rattle.zarrs_codec_traits.specs.Views.{options_of};
 
 use crate::codec_traits::CodecTraits;
@@ -84,4 +84,8 @@ pub trait BytesToBytesCodecTraits: CodecTraits + Sized {
             (λ v. meaning self.now (options_of options.now) encoded_value.items ≡ Some v.items)
             (IsDecodeError (meaning self.now (options_of options.now) encoded_value.items)
             (says self.now (options_of options.now) encoded_value.items)) };
+
+    // An error of a value that does not decode is no fault of a store.
+    ghost no_fault: { (c : Self) (under : Options) (value : List ℕ) (e : CodecError)
+        → says c under value e → IsNoFault e };
 }

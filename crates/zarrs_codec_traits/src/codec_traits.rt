@@ -1,6 +1,6 @@
 //! What every codec tells of itself, and how one is made from metadata.
 
-ghost use Rattle.std.specs.Prelude.{◌≡◌, ℕ, Bool, List, Option, Some, None, Result, IfOk, MatchResult, option_map};
+ghost use Rattle.std.specs.Prelude.{◌≡◌, ℕ, Bool, List, Option, Some, None, Result, IfOk, option_map};
 ghost use Rattle.serde_json.specs.Data.{Members};
 ghost use Rattle.zarr_model.specs.Codec.{Level};
 ghost use Rattle.zarr_model.specs.Element as Model;
@@ -12,13 +12,12 @@ ghost use Rattle.zarrs_plugin.specs.declared.error.PluginKind.TheVariants as kin
 ghost use Rattle.zarrs_plugin.specs.declared.zarr_version.ZarrVersion.{ZarrVersion};
 ghost use Rattle.zarrs_plugin.specs.declared.zarr_version.ZarrVersion.TheVariants as version;
 ghost use Rattle.zarrs_data_type_names.specs.DataType.{type_of};
-ghost use Rattle.zarrs_codec_error.specs.declared.error.CodecError.TheVariants as codec;
 ghost use Rattle.zarrs_codec_options.specs.Options.{default_metadata_options};
 ghost use Rattle.zarrs_codec_options.specs.declared.options.CodecMetadataOptions.{CodecMetadataOptions};
 ghost use Rattle.zarrs_codec_options.specs.declared.capability.PartialDecoderCapability.{PartialDecoderCapability};
 ghost use Rattle.zarrs_codec_options.specs.declared.capability.PartialEncoderCapability.{PartialEncoderCapability};
 ghost use Rattle.zarrs_codec_options.specs.declared.recommended_concurrency.RecommendedConcurrency.{RecommendedConcurrency};
-ghost use Rattle.zarrs_codec_traits.specs.Errors.{Unserved, unserved_at, RefusesBy};
+ghost use Rattle.zarrs_codec_traits.specs.Errors.{Unserved, unserved_at, Serves};
 ghost use Rattle.zarrs_codec_traits.specs.Views.{lengths};
 ghost use Rattle.zarrs_codec_traits.specs.Words.{IsFit, taken};
 
@@ -102,15 +101,17 @@ pub trait CodecTraitsV3: CodecTraits + Sized {
     // The configuration of the codec that metadata denotes, or why it denotes none.
     ghost created: { Extension → Result (Option Members) Unmade };
 
-    /// The codec that the metadata denotes. Its own configuration is that of the metadata, with all defaults set.
+    /// The codec that the metadata denotes. Its own name and configuration are those of the metadata, with all defaults set.
     ///
     /// # Errors
     /// `Unsupported` exactly where the name is none that this type knows; else `Config` where the configuration is not
     /// of the form, and `Other` where it asks for what the codec does not have; or `OutOfMemory`.
     fn create(alloc: Global, metadata: &MetadataV3) -> Result<Self, PluginCreateError>
-        ensures { Makes kinds.Codec
+        ensures made { Makes kinds.Codec
             (λ (c : Self). Self.written c version.V3 default_metadata_options) result
-            (created (extension_seen metadata.now)) };
+            (created (extension_seen metadata.now)) }
+        ensures named { IfOk result (λ c. Self.name_in c version.V3
+            ≡ Some (extension_seen metadata.now).name) };
 }
 
 /// A codec that is made from version 2 metadata.
@@ -118,15 +119,17 @@ pub trait CodecTraitsV2: CodecTraits + Sized {
     // The configuration of the codec that metadata denotes, or why it denotes none.
     ghost created_v2: { CodecV2 → Result (Option Members) Unmade };
 
-    /// The codec that the metadata denotes. Its own configuration is that of the metadata, with all defaults set.
+    /// The codec that the metadata denotes. Its own name and configuration are those of the metadata, with all defaults set.
     ///
     /// # Errors
     /// `Unsupported` exactly where the id is none that this type knows; else `Config` where the configuration is not
     /// of the form, and `Other` where it asks for what the codec does not have; or `OutOfMemory`.
     fn create(alloc: Global, metadata: &MetadataV2) -> Result<Self, PluginCreateError>
-        ensures { Makes kinds.Codec
+        ensures made { Makes kinds.Codec
             (λ (c : Self). Self.written c version.V2 default_metadata_options) result
-            (created_v2 (codec_v2_seen metadata.now)) };
+            (created_v2 (codec_v2_seen metadata.now)) }
+        ensures named { IfOk result (λ c. Self.name_in c version.V2
+            ≡ Some (codec_v2_seen metadata.now).id) };
 }
 
 /// A codec of arrays: it is given a shape, a data type and a fill value.
@@ -147,19 +150,16 @@ pub trait ArrayCodecTraits: CodecTraits {
     /// How many threads the codec can use well.
     ///
     /// # Errors
-    /// [`CodecError`] where the codec does not serve the shape and the data type, or memory runs out.
+    /// [`CodecError`] exactly where the codec does not serve the shape and the data type.
     fn recommended_concurrency(
         &self,
         shape: &[NonZeroU64],
         data_type: &DataType,
     ) -> Result<RecommendedConcurrency, CodecError>
         requires fits { IsFit (lengths shape.now) (type_of data_type.now) }
-        ensures unserved { RefusesBy (unserved self.now (Some (lengths shape.now))
-            (Some (type_of data_type.now)) None) result }
-        ensures value { unserved self.now (Some (lengths shape.now))
-            (Some (type_of data_type.now)) None ≡ None → MatchResult result
-            (λ r. r ≡ concurrency self.now (lengths shape.now) (type_of data_type.now))
-            (λ e. e ≡ codec.OutOfMemory) };
+        ensures { Serves (unserved self.now (Some (lengths shape.now))
+            (Some (type_of data_type.now)) None)
+            (λ r. r ≡ concurrency self.now (lengths shape.now) (type_of data_type.now)) result };
 
     /// The shape of the parts that are decoded at once: a smaller part costs as much as one of them.
     ///

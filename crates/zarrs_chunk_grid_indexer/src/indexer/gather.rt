@@ -1,6 +1,7 @@
 //! What an indexer lists, gathered in vectors.
 
-ghost use Rattle.std.specs.Prelude.{◌≡◌, ◌<◌, ◌^◌, ◌++◌, true, length, map, IfOk, IfErr, OnErr, OnOk};
+ghost use Rattle.std.specs.Prelude.{◌≡◌, ◌<◌, ◌+◌, ◌^◌, ◌++◌, true, length, map, IfOk, IfErr, OnErr, OnOk};
+ghost use Rattle.std.specs.List.{range_with_len};
 ghost use Rattle.zarr_model.specs.Region.{count_of, linear_index};
 ghost use Rattle.zarrs_chunk_grid_iterators.specs.Runs.{span_of};
 
@@ -26,12 +27,12 @@ pub fn append_linearised_indices<I: Indexer>(
     ensures refused { IfErr result (I.refuses indexer.now array_shape.now) }
     ensures err { OnErr result (out.new.items ≡ out.old.items) }
 {
-    match indexer.iter_linearised_indices(alloc, array_shape) {
+    match indexer.iter_contiguous_linearised_indices(alloc, array_shape) {
         Err(error) => Err(error),
-        Ok(indices) => {
+        Ok(runs) => {
             let before = out.len();
-            for index in indices {
-                if let Err(failed) = out.push(index) {
+            for run in runs {
+                if let Err(failed) = push_run(out, run.0, run.1) {
                     out.truncate(before);
                     return Err(failed.into());
                 }
@@ -39,6 +40,22 @@ pub fn append_linearised_indices<I: Indexer>(
             Ok(())
         }
     }
+}
+
+// Appends the numbers of a run; where there is not enough memory, `out` is as it was.
+fn push_run(out: &mut Vec<u64>, first: u64, count: u64) -> Result<(), AllocError>
+    requires { first + count < 2 ^ 64 }
+    ensures lists { OnOk result (out.new.items ≡ out.old.items ++ range_with_len first count) }
+    ensures err { OnErr result (out.new.items ≡ out.old.items) }
+{
+    let before = out.len();
+    for index in first..first + count {
+        if let Err(failed) = out.push(index) {
+            out.truncate(before);
+            return Err(failed.into());
+        }
+    }
+    Ok(())
 }
 
 /// Appends the runs of linear indices of an indexer in an array's shape.

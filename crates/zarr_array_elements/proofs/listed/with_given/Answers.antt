@@ -26,9 +26,7 @@ gather-requires-clause-alike c =
 
 pub gather-requires-clause-old_long : goal.gather-requires-clause-old_long
 gather-requires-clause-old_long c =
-    blank_long (kind_seen c.args.data_type.now) c.args.count c.element_size-size.result c.len.result c.args.given.indices.items c.deref.result.now c.deref-2.result.now
-    (raw_of c.args.blank.now) (grown_bytes c.args.given.grown) (raw_of c.in_ok-new.new) c.requires.blank c.requires.given
-    c.in_ok-new.ensures c.element_size-size.ensures c.deref.ensures.value (search rules) (c.deref-2.ensures.value ∙ c.in_ok-picks.ensures)
+    blank_long (kind_seen c.args.data_type.now) (raw_of c.args.blank.now) c.requires.blank c.element_size-size.result c.element_size-size.ensures
 
 pub gather-requires-clause-new_long : goal.gather-requires-clause-new_long
 gather-requires-clause-new_long c =

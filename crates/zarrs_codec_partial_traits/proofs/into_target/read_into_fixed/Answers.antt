@@ -3,7 +3,8 @@ use Rattle.zarr_model.specs.Element.{kind_of}
 use Rattle.zarrs_codec_array_bytes.specs.Raw.{raw_of}
 use Rattle.zarrs_codec_traits.specs.Views.{options_of}
 use Rattle.zarrs_codec_partial_traits.specs.Selects.{chosen}
-use Rattle.zarrs_codec_partial_traits.proofs.SelectsLaws.{put_holds, put_written, selects_into, selects_not}
+use Rattle.zarrs_codec_partial_traits.proofs.FaultLaws.{no_faults, target_no_fault}
+use Rattle.zarrs_codec_partial_traits.proofs.SelectsLaws.{put_holds, put_written, put_framed, selects_into, selects_not}
 use Rattle.zarrs_codec_partial_traits.proofs.into_target.read_into_fixed.Goals as goal
 
 pub returns-in-Ok-clause-put : goal.returns-in-Ok-clause-put
@@ -27,3 +28,9 @@ pub returns-in-Err-clause-selects : goal.returns-in-Err-clause-selects
 returns-in-Err-clause-selects g c =
     let asked = g.I.Indexer.as_region c.args.indexer.now in
     selects_not (options_of c.args.options.now) asked (g.I.Indexer.places c.args.indexer.now) _ _ [] c.args.view.now _ _ c.in-Err.error (rw c.num_elements-num.ensures at c.in-Err.ensures.selects)
+
+pub returns-in-Ok-clause-fault : goal.returns-in-Ok-clause-fault
+returns-in-Ok-clause-fault g c = no_faults _ _ c.put_fixed.result (target_no_fault c.put_fixed.result (raw_of c.in-Ok.elements) [] c.args.view.now c.put_fixed.ensures.exact)
+
+pub returns-in-Ok-clause-framed : goal.returns-in-Ok-clause-framed
+returns-in-Ok-clause-framed g c = put_framed (raw_of c.in-Ok.elements) [] [] c.args.view.now c.put_fixed.new.data c.put_fixed.result c.put_fixed.ensures.put

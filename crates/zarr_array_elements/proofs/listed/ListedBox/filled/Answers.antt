@@ -1,6 +1,4 @@
-use Rattle.zarr_model.specs.Region.{count}
 use Rattle.zarr_model.specs.Element.{fill_element}
-use Rattle.zarrs_array_subset.specs.ArraySubset.{region}
 use Rattle.zarrs_data_type_elements.specs.FillValue.{fill_bytes}
 use Rattle.zarrs_codec_array_bytes.specs.Raw.{raw_of}
 use Rattle.zarrs_codec_array_bytes.specs.Steps.{kind_seen}
@@ -9,5 +7,5 @@ use Rattle.zarr_array_elements.proofs.listed.ListedBox.filled.Goals as goal
 
 pub invariant_of-result-clause-blank_means : goal.invariant_of-result-clause-blank_means
 invariant_of-result-clause-blank_means c =
-    blank_some (fill_element (kind_seen c.args.data_type.now) (fill_bytes c.args.fill_value.now)) (kind_seen c.args.data_type.now) (count (region c.args.subset.now)) (raw_of c.in_ok-blank.blank)
+    blank_some (fill_element (kind_seen c.args.data_type.now) (fill_bytes c.args.fill_value.now)) (kind_seen c.args.data_type.now) (raw_of c.in_ok-blank.blank)
     c.requires.denotes c.in_ok-blank.ensures

@@ -1,4 +1,4 @@
-use Rattle.std.proofs.Common.{◌≡◌, ◌∙◌, Ok, Result, List, ℕ, ap, sym, subst}
+use Rattle.std.proofs.Common.{rules, ◌≡◌, ◌∙◌, Ok, Result, IfErr, List, ℕ, ap, sym, subst}
 use Rattle.zarr_model.specs.Codec.{decode_array_to_bytes}
 use Rattle.zarrs_codec_array_bytes.specs.declared.array_bytes.ArrayBytes as code
 use Rattle.zarrs_codec_error.specs.declared.error.CodecError.{CodecError}
@@ -7,6 +7,8 @@ use Rattle.zarr_codecs.proofs.ExtractLaws.{taken_valid, taken_error, same_part}
 use Rattle.zarr_codecs_array_to_bytes.specs.Plain.{codec_of}
 use Rattle.zarr_codecs_array_to_bytes.specs.Views.{plain_of}
 use Rattle.zarr_codecs_array_to_bytes.specs.Answers.{Decodes}
+use Rattle.zarrs_codec_traits.specs.Errors.{IsNoFault}
+use Rattle.zarr_codecs_array_to_bytes.proofs.OptionalLaws.{decodes_no_fault}
 use Rattle.zarr_codecs_array_to_bytes.proofs.basic.BasicArrayToBytesArrayToBytesCodecTraits.decode_parts.Goals as goal
 
 pub returns-clause-value : goal.returns-clause-value
@@ -40,3 +42,13 @@ returns-clause-valid c = λ served.
     let told : Decodes plain under level given (Ok c.in_ok-whole.whole) =
     subst (λ (r : Result code.ArrayBytes CodecError). Decodes plain under level given r) c.in_ok-whole.was c.decode_by.ensures in
     taken_valid c.extracted.result _ _ _ _ (told.value served).there (c.extracted.ensures.value c.args.fill_value.now)
+
+pub returns-in_err-whole-clause-no_fault : goal.returns-in_err-whole-clause-no_fault
+returns-in_err-whole-clause-no_fault c =
+    let under = options_of c.args.options.now in
+    let level = level_of c.args.shape.now c.args.data_type.now c.args.fill_value.now in
+    let plain = plain_of c.args.self.now in
+    let given = c.only_part-value.result.items in
+    let own : IfErr c.decode_by.result IsNoFault = decodes_no_fault plain under level given c.decode_by.result c.decode_by.ensures in
+    let told : IsNoFault c.in_err-whole.field-0.0 = subst (λ (r : Result code.ArrayBytes CodecError). IfErr r IsNoFault) c.in_err-whole.was own in
+    search rules

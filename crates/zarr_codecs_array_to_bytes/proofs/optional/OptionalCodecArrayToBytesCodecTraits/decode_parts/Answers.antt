@@ -1,4 +1,4 @@
-use Rattle.std.proofs.Common.{rules, ◌≡◌, ◌∙◌, Ok, Err, Result, List, ℕ, ap, sym, subst}
+use Rattle.std.proofs.Common.{rules, ◌≡◌, ◌∙◌, Ok, Err, Result, IfErr, List, ℕ, ap, sym, subst}
 use Rattle.zarr_model.specs.Region.{count_of}
 use Rattle.zarr_model.specs.Codec.{decode_array_to_bytes}
 use Rattle.zarrs_codec_array_bytes.specs.declared.array_bytes.ArrayBytes as code
@@ -9,7 +9,8 @@ use Rattle.zarr_codecs.proofs.ExtractLaws.{taken_valid, taken_error, taken_some,
 use Rattle.zarr_codecs_array_to_bytes.specs.Plain.{Plain, codec_of, says_by}
 use Rattle.zarr_codecs_array_to_bytes.specs.Views.{optional_plain}
 use Rattle.zarr_codecs_array_to_bytes.specs.Answers.{Decodes}
-use Rattle.zarr_codecs_array_to_bytes.proofs.OptionalLaws.{starved_alone}
+use Rattle.zarr_codecs_array_to_bytes.proofs.OptionalLaws.{starved_alone, decodes_no_fault}
+use Rattle.zarrs_codec_traits.specs.Errors.{IsNoFault}
 use Rattle.zarr_codecs_array_to_bytes.proofs.optional.OptionalCodecArrayToBytesCodecTraits.decode_parts.Goals as goal
 
 pub returns-clause-value : goal.returns-clause-value
@@ -72,4 +73,14 @@ returns-in_err-whole-clause-value c = λ value xs served parts e.
     let same : given ≡ value = same_part _ value (sym c.only_part-value.ensures ∙ parts) in
     let memory : c.in_err-whole.field-0.0 ≡ OutOfMemory = starved_alone _ (says_by plain (count_of level.shape) level.data_type given) c.in_err-whole.field-0.0 xs (told.value served)
     (ap (λ (v : List ℕ). decode_array_to_bytes under (codec_of plain) level v) same ∙ e) in
+    search rules
+
+pub returns-in_err-whole-clause-no_fault : goal.returns-in_err-whole-clause-no_fault
+returns-in_err-whole-clause-no_fault c =
+    let under = options_of c.args.options.now in
+    let level = level_of c.args.shape.now c.args.data_type.now c.args.fill_value.now in
+    let plain = optional_plain c.args.self.now in
+    let given = c.only_part-value.result.items in
+    let own : IfErr c.decode_optional.result IsNoFault = decodes_no_fault plain under level given c.decode_optional.result (subst (λ (p : Plain). Decodes p under level given c.decode_optional.result) c.inner.ensures c.decode_optional.ensures) in
+    let told : IsNoFault c.in_err-whole.field-0.0 = subst (λ (r : Result code.ArrayBytes CodecError). IfErr r IsNoFault) c.in_err-whole.was own in
     search rules

@@ -5,7 +5,7 @@ use Rattle.zarrs_codec_partial.proofs.WriteLaws.{erases}
 use Rattle.zarrs_codec_partial.proofs.array_to_bytes_codec_partial_default.ArrayToBytesCodecPartialDefaultArrayPartialEncoderTraits.erase.Goals as goal
 
 pub returns-clause-erases : goal.returns-clause-erases
-returns-clause-erases g c = λ served.
+returns-clause-erases g c =
     let level = bottom_level c.args.self.now.level in
     let fill = bottom_fill c.args.self.now.level in
     let code = g.C.ArrayToBytesCodecTraits in

@@ -4,7 +4,7 @@ use Rattle.zarrs_storage.specs.ByteRange.{parts_of}
 use Rattle.zarrs_array_subset.specs.ArraySubset.{region as box_of}
 use Rattle.zarrs_codec_traits.specs.Views.{options_of}
 use Rattle.zarrs_codec_partial_traits.specs.Lists.{fills}
-use Rattle.zarrs_codec_partial.specs.Level.{bottom_level, bottom_fill}
+use Rattle.zarrs_codec_partial.specs.Level.{bottom_level, bottom_fill, found, held_in}
 use Rattle.zarrs_codec_partial.proofs.HeldLaws.{whole_parts, whole_fits, box_of_value, value_fails_if, fill_fails, none_decodes}
 use Rattle.zarrs_codec_partial.proofs.level.BottomLevel.decode_box_of_value.Goals as goal
 
@@ -16,10 +16,11 @@ returns-in-Ok-clause-gives g c = λ served.
     let box = box_of c.args.region.now in
     let code = g.C.ArrayToBytesCodecTraits in
     let value = c.in-Ok-Some.value.items in
+    let below = g.H.BytesPartialDecoderTraits.seen c.args.handle.now in
     let is = c.in-Ok-Some.ensures.value ∙ ap (λ v. Some (value_bytes v)) c.in-Ok-Some.field-0-is in
     let decoded = rw c.deref.ensures.value at c.decode_parts.ensures.value in
     let valid = rw c.deref.ensures.value at c.decode_parts.ensures.valid in
-    box_of_value level fill (code.meaning c.args.self.now.codec under level) (fills level fill) ((g.H.BytesPartialDecoderTraits.seen c.args.handle.now).held under) box value c.decode_parts.result is
+    box_of_value level fill (code.meaning c.args.self.now.codec under level) (fills level fill) (held_in below under) box value c.decode_parts.result (ap (found below.there) is)
     (λ xs e. decoded value xs served (whole_parts (code.request c.args.self.now.codec level.shape level.data_type box) value (parts_of c.in-Ok.parts) c.requires.whole c.in-Ok.ensures) e) (valid served) c.decode_parts.ensures.short
 
 pub returns-in-Ok-clause-failed : goal.returns-in-Ok-clause-failed

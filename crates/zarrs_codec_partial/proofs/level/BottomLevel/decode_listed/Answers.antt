@@ -2,7 +2,7 @@ use Rattle.std.proofs.Common.{refl, inl}
 use Rattle.zarrs_codec_array_bytes.specs.Raw.{raw_of}
 use Rattle.zarrs_codec_traits.specs.Views.{options_of}
 use Rattle.zarrs_codec_partial_traits.specs.Lists.{fills}
-use Rattle.zarrs_codec_partial.specs.Level.{bottom_level, bottom_fill, list_of}
+use Rattle.zarrs_codec_partial.specs.Level.{bottom_level, bottom_fill, list_of, held_in}
 use Rattle.zarrs_codec_partial.proofs.HeldLaws.{listed_gives, listed_fails}
 use Rattle.zarrs_codec_partial.proofs.level.BottomLevel.decode_listed.Goals as goal
 
@@ -11,7 +11,7 @@ returns-in-Ok-clause-gives g c = λ served.
     let level = bottom_level c.args.self.now in
     let fill = bottom_fill c.args.self.now in
     let under = options_of c.args.options.now in
-    let list = list_of (g.C.ArrayToBytesCodecTraits.meaning c.args.self.now.codec under level) (fills level fill) ((g.H.BytesPartialDecoderTraits.seen c.args.handle.now).held under) in
+    let list = list_of (g.C.ArrayToBytesCodecTraits.meaning c.args.self.now.codec under level) (fills level fill) (held_in (g.H.BytesPartialDecoderTraits.seen c.args.handle.now) under) in
     let all = c.in-Ok.ensures.gives served in
     let chosen = rw c.requires.shape at c.extract_array_subset.ensures.selected in
     listed_gives level fill list (g.I.Indexer.places c.args.indexer.now) (raw_of c.in-Ok.whole) c.extract_array_subset.result all.value all.valid chosen (λ few. c.extract_array_subset.ensures.short (all.short few))

@@ -5,11 +5,11 @@ use Rattle.zarrs_codec_traits.specs.Views.{options_of}
 use Rattle.zarrs_codec_partial_traits.specs.Updates.{change_of}
 use Rattle.zarrs_codec_partial_traits.proofs.UpdateLaws.{updates_early}
 use Rattle.zarrs_codec_partial.specs.Level.{bottom_level, seen_by}
-use Rattle.zarrs_codec_partial.proofs.WriteLaws.{given_memory}
+use Rattle.zarrs_codec_partial.proofs.WriteLaws.{given_memory, given_no_fault}
 use Rattle.zarrs_codec_partial.proofs.level.BottomLevel.encode_elements.Goals as goal
 
-pub returns-in-Err-clause-updates : goal.returns-in-Err-clause-updates
-returns-in-Err-clause-updates g c =
+pub returns-clause-updates : goal.returns-clause-updates
+returns-clause-updates g c =
     let level = bottom_level c.args.self.now in
     let see = seen_by c.args.self.now (g.C.ArrayCodecTraits.unserved c.args.self.now.codec) (g.C.ArrayToBytesCodecTraits.meaning c.args.self.now.codec) (g.C.ArrayToBytesCodecTraits.request c.args.self.now.codec) in
     let asked = g.I.Indexer.as_region c.args.indexer.now in
@@ -17,3 +17,4 @@ returns-in-Err-clause-updates g c =
     let change = change_of level (g.I.Indexer.fits c.args.indexer.now level.shape) asked places (raw_of c.args.bytes.now) in
     updates_early (options_of c.args.options.now) change _ _ _ (see (g.H.BytesPartialDecoderTraits.seen c.args.handle.now)) c.in-Err.error
     (λ given served filled fits means. given_memory (kind_of level.data_type) _ (length places) (raw_of c.args.bytes.now) given c.in-Err.error fits means c.in-Err.ensures.answer)
+    (given_no_fault (kind_of level.data_type) _ (length places) (raw_of c.args.bytes.now) c.in-Err.error c.in-Err.ensures.answer)

@@ -5,14 +5,15 @@ use Rattle.zarr_model.specs.Codec.{Options}
 use Rattle.zarrs_codec_array_bytes.specs.Raw.{raw_of}
 use Rattle.zarrs_codec_traits.specs.Views.{options_of}
 use Rattle.zarrs_codec_traits.specs.Errors.{unserved_at}
+use Rattle.zarrs_codec_partial_traits.proofs.NamedLaws.{codec_served}
 use Rattle.zarrs_codec_partial_traits.proofs.UpdateLaws.{stores_not}
 use Rattle.zarrs_codec_partial.specs.Level.{bottom_level, bottom_fill, seen_by}
 use Rattle.zarrs_codec_partial.specs.Writing.{IsBeyond}
-use Rattle.zarrs_codec_partial.proofs.WriteLaws.{positive, stores_value, stores_none, beyond_told, short_told}
+use Rattle.zarrs_codec_partial.proofs.WriteLaws.{positive, stores_value, stores_none, beyond_told, short_told, encoded_served, encode_no_fault}
 use Rattle.zarrs_codec_partial.proofs.level.BottomLevel.store_elements.Goals as goal
 
-pub returns-then-is_dropped-clause-stores : goal.returns-then-is_dropped-clause-stores
-returns-then-is_dropped-clause-stores g c =
+pub returns-then-dropped-clause-stores : goal.returns-then-dropped-clause-stores
+returns-then-dropped-clause-stores g c =
     let level = bottom_level c.args.self.now in
     let fill = bottom_fill c.args.self.now in
     let code = g.C.ArrayToBytesCodecTraits in
@@ -22,11 +23,11 @@ returns-then-is_dropped-clause-stores g c =
     let handle = g.H.BytesPartialDecoderTraits in
     let under = options_of c.args.options.now in
     stores_none level fill unserved means_at request under (raw_of c.args.bytes) _ _ (handle.seen c.args.handle.now) (handle.seen c.erase.new.self) c.erase.result (g.met.H.BytesPartialDecoderTraits.sound c.erase.new.self)
-    (λ list filled means. sym (ap not c.if-is_dropped.true) ∙ c.is_dropped.ensures (kind_of level.data_type) (count_of level.shape) list (positive c.args.self.now.shape.items) filled means)
-    c.erase.ensures.writes c.erase.ensures.unasked c.erase.ensures.cause
+    (λ list filled means. sym (ap not c.if-dropped.true) ∙ c.is_dropped-dropped.ensures (kind_of level.data_type) (count_of level.shape) list (positive c.args.self.now.shape.items) filled means)
+    c.erase.ensures.writes c.erase.ensures.unasked c.erase.ensures.cause (encoded_served unserved c.in-Ok.value (rw c.deref.ensures.value at c.in-Ok.ensures.unserved))
 
-pub returns-in-Ok-clause-stores : goal.returns-in-Ok-clause-stores
-returns-in-Ok-clause-stores g c =
+pub returns-else-dropped-clause-stores : goal.returns-else-dropped-clause-stores
+returns-else-dropped-clause-stores g c =
     let level = bottom_level c.args.self.now in
     let fill = bottom_fill c.args.self.now in
     let code = g.C.ArrayToBytesCodecTraits in
@@ -36,8 +37,8 @@ returns-in-Ok-clause-stores g c =
     let handle = g.H.BytesPartialDecoderTraits in
     let under = options_of c.args.options.now in
     stores_value level fill unserved means_at request under (raw_of c.args.bytes) _ _ c.in-Ok.value.items (handle.seen c.args.handle.now) (handle.seen c.replace.new.self) c.replace.result (g.met.H.BytesPartialDecoderTraits.sound c.replace.new.self)
-    (λ list filled means. sym (ap not c.if-is_dropped.false) ∙ c.is_dropped.ensures (kind_of level.data_type) (count_of level.shape) list (positive c.args.self.now.shape.items) filled means)
-    (rw c.deref.ensures.value at c.in-Ok.ensures.value) (rw c.deref-in-Ok.ensures.value at c.replace.ensures.writes) c.replace.ensures.unasked c.replace.ensures.cause
+    (λ list filled means. sym (ap not c.if-dropped.false) ∙ c.is_dropped-dropped.ensures (kind_of level.data_type) (count_of level.shape) list (positive c.args.self.now.shape.items) filled means)
+    (rw c.deref.ensures.value at c.in-Ok.ensures.value) (rw c.deref-in-Ok.ensures.value at c.replace.ensures.writes) c.replace.ensures.unasked c.replace.ensures.cause (encoded_served unserved c.in-Ok.value (rw c.deref.ensures.value at c.in-Ok.ensures.unserved))
 
 pub returns-in-Err-clause-stores : goal.returns-in-Err-clause-stores
 returns-in-Err-clause-stores g c =
@@ -53,5 +54,6 @@ returns-in-Err-clause-stores g c =
     let beyond = code.beyond c.args.self.now.codec level in
     stores_not under (raw_of c.args.bytes) (IsBeyond beyond level) (code.takes c.args.self.now.codec level)
     (seen_by c.args.self.now (g.C.ArrayCodecTraits.unserved c.args.self.now.codec) (code.meaning c.args.self.now.codec) (code.request c.args.self.now.codec) (handle.seen c.args.handle.now)) c.in-Err.error
-    (λ list served filled means. beyond_told level (raw_of c.args.bytes) list beyond _ _ c.in-Err.error means (exact served))
-    (λ served filled few takes there short. short_told level (raw_of c.args.bytes) beyond _ _ c.in-Err.error there (g.met.C.ArrayToBytesCodecTraits.taken c.args.self.now.codec level fill (raw_of c.args.bytes) served takes there short) (exact served))
+    (λ list served filled means. beyond_told level (raw_of c.args.bytes) list beyond _ _ c.in-Err.error means (exact (codec_served _ served)))
+    (λ served filled few takes there short. short_told level (raw_of c.args.bytes) beyond _ _ c.in-Err.error there (g.met.C.ArrayToBytesCodecTraits.taken c.args.self.now.codec level fill (raw_of c.args.bytes) (codec_served _ served) takes there short) (exact (codec_served _ served)))
+    (encode_no_fault _ level (raw_of c.args.bytes) (beyond (raw_of c.args.bytes)) unserved c.in-Err.error (g.met.C.ArrayToBytesCodecTraits.refuses_form c.args.self.now.codec level (raw_of c.args.bytes)) (rw c.deref.ensures.value at c.in-Err.ensures.unserved) exact)

@@ -7,7 +7,9 @@ use Rattle.zarrs_codec_traits.specs.Views.{options_of}
 use Rattle.zarrs_codec_traits.specs.Words.{list_at, at_box, select}
 use Rattle.zarrs_codec_partial_traits.specs.Lists.{IsListError}
 use Rattle.zarrs_codec_partial_arrays.specs.Above.{array_level, array_fill}
-use Rattle.zarrs_codec_partial_arrays.proofs.AboveLaws.{box_few, box_valid, box_means, above_of, above_some, above_told, valid_fails, ok_always, denoted_fill, below_fill}
+use Rattle.zarrs_codec_partial.proofs.AbsentLaws.{denoted_fill}
+use Rattle.zarrs_codec_partial_arrays.proofs.AboveLaws.{box_few, box_valid, box_means, above_of, above_some, above_told, valid_fails, ok_always, below_fill}
+use Rattle.zarrs_codec_partial_traits.proofs.NamedLaws.{refused_never, refused_memory}
 use Rattle.zarrs_codec_partial_arrays.proofs.level.ArrayLevel.decode_box.Goals as goal
 
 pub partial_decode-requires : goal.partial_decode-requires
@@ -118,3 +120,43 @@ returns-clause-failed g c = λ ok some.
     let old = g.H.ArrayPartialDecoderTraits.seen c.args.handle.now in
     let part = g.met.C.ArrayCodecTraits.serves_parts codec level fill c.requires.served true false false in
     inl (inl ((rw c.deref.ensures.value at c.in-Err.ensures.value) part))
+
+pub returns-in-Ok-partial_decode-clause-named : goal.returns-in-Ok-partial_decode-clause-named
+returns-in-Ok-partial_decode-clause-named g c =
+    let level = array_level c.args.self.now in
+    let fill = array_fill c.args.self.now in
+    let code = g.C.ArrayToArrayCodecTraits in
+    let laws = g.met.C.ArrayToArrayCodecTraits in
+    let codec = c.args.self.now.codec in
+    let meaning = code.meaning codec in
+    let below = meaning.level_below level in
+    let old = g.H.ArrayPartialDecoderTraits.seen c.args.handle.now in
+    let part = g.met.C.ArrayCodecTraits.serves_parts codec level fill c.requires.served true false false in
+    let inner = (rw c.deref.ensures.value at c.in-Ok.ensures.value) part in
+    let inside_region = laws.region_inside codec level fill (box_of c.args.region.now) c.requires.served c.requires.inside in
+    let inside = subst (λ (b : Region). ends_within b below.shape ≡ true) (sym inner) inside_region in
+    let fits = subst (λ (s : List ℕ). ends_within (box_of c.in-Ok.inner) s ≡ true) (sym c.requires.below.shape) inside in
+    refused_never old.unserved c.in-Ok-partial_decode.bytes c.decode_region.result (c.in-Ok-partial_decode.ensures.named fits)
+
+pub returns-in-Ok-clause-named : goal.returns-in-Ok-clause-named
+returns-in-Ok-clause-named g c =
+    let level = array_level c.args.self.now in
+    let fill = array_fill c.args.self.now in
+    let code = g.C.ArrayToArrayCodecTraits in
+    let laws = g.met.C.ArrayToArrayCodecTraits in
+    let codec = c.args.self.now.codec in
+    let meaning = code.meaning codec in
+    let below = meaning.level_below level in
+    let old = g.H.ArrayPartialDecoderTraits.seen c.args.handle.now in
+    let part = g.met.C.ArrayCodecTraits.serves_parts codec level fill c.requires.served true false false in
+    let inner = (rw c.deref.ensures.value at c.in-Ok.ensures.value) part in
+    let inside_region = laws.region_inside codec level fill (box_of c.args.region.now) c.requires.served c.requires.inside in
+    let inside = subst (λ (b : Region). ends_within b below.shape ≡ true) (sym inner) inside_region in
+    let fits = subst (λ (s : List ℕ). ends_within (box_of c.in-Ok.inner) s ≡ true) (sym c.requires.below.shape) inside in
+    c.in-Err-partial_decode.ensures.named fits
+
+pub returns-clause-named : goal.returns-clause-named
+returns-clause-named g c =
+    let level = array_level c.args.self.now in
+    let part = g.met.C.ArrayCodecTraits.serves_parts c.args.self.now.codec level (array_fill c.args.self.now) c.requires.served true false false in
+    refused_memory _ (g.H.ArrayPartialDecoderTraits.seen c.args.handle.now).unserved c.in-Err.error ((rw c.deref.ensures.value at c.in-Err.ensures.value) part)

@@ -6,8 +6,10 @@ use Rattle.zarrs_codec_array_bytes.specs.Raw.{raw_of}
 use Rattle.zarrs_codec_traits.specs.Views.{options_of}
 use Rattle.zarrs_codec_partial_traits.specs.Lists.{IsListError}
 use Rattle.zarrs_codec_partial_arrays.specs.Above.{array_level, array_fill}
-use Rattle.zarrs_codec_partial_arrays.proofs.AboveLaws.{all_few, all_valid, all_means, above_of, above_some, above_told, valid_fails, ok_always, denoted_fill, below_fill, decoded_means, decoded_valid, all_below}
+use Rattle.zarrs_codec_partial.proofs.AbsentLaws.{denoted_fill}
+use Rattle.zarrs_codec_partial_arrays.proofs.AboveLaws.{all_few, all_valid, all_means, above_of, above_some, above_told, valid_fails, ok_always, below_fill, decoded_means, decoded_valid, all_below}
 use Rattle.zarrs_codec_partial_traits.proofs.BoxLaws.{whole_inside}
+use Rattle.zarrs_codec_partial_traits.proofs.NamedLaws.{refused_never, refused_memory}
 use Rattle.zarrs_codec_partial_arrays.proofs.level.ArrayLevel.decode_whole.Goals as goal
 
 pub partial_decode-requires : goal.partial_decode-requires
@@ -124,3 +126,34 @@ returns-in-Ok-clause-failed g c = λ ok some.
     let now = (g.H.ArrayPartialDecoderTraits.seen c.partial_decode.new.self).shown.faults in
     let moved = subst (λ (b : Region). IsListError old.there (old.list under) (g.H.ArrayPartialDecoderTraits.tells c.args.handle.now under (Some b)) old.shown.faults now c.in-Err-partial_decode.error) c.in-Ok.ensures told in
     above_told (meaning.decode_list level) (old.list under) old.there (g.H.ArrayPartialDecoderTraits.tells c.args.handle.now under (Some (whole below.shape))) _ _ c.in-Err-partial_decode.error moved
+
+pub returns-in-Ok-partial_decode-clause-named : goal.returns-in-Ok-partial_decode-clause-named
+returns-in-Ok-partial_decode-clause-named g c =
+    let level = array_level c.args.self.now in
+    let fill = array_fill c.args.self.now in
+    let code = g.C.ArrayToArrayCodecTraits in
+    let laws = g.met.C.ArrayToArrayCodecTraits in
+    let codec = c.args.self.now.codec in
+    let meaning = code.meaning codec in
+    let below = meaning.level_below level in
+    let old = g.H.ArrayPartialDecoderTraits.seen c.args.handle.now in
+    let inside = subst (λ (b : Region). ends_within b below.shape ≡ true) (sym c.in-Ok.ensures) (whole_inside below.shape) in
+    let fits = subst (λ (s : List ℕ). ends_within (box_of c.in-Ok.all) s ≡ true) (sym c.requires.below.shape) inside in
+    refused_never old.unserved c.in-Ok-partial_decode.bytes c.decode.result (c.in-Ok-partial_decode.ensures.named fits)
+
+pub returns-in-Ok-clause-named : goal.returns-in-Ok-clause-named
+returns-in-Ok-clause-named g c =
+    let level = array_level c.args.self.now in
+    let fill = array_fill c.args.self.now in
+    let code = g.C.ArrayToArrayCodecTraits in
+    let laws = g.met.C.ArrayToArrayCodecTraits in
+    let codec = c.args.self.now.codec in
+    let meaning = code.meaning codec in
+    let below = meaning.level_below level in
+    let old = g.H.ArrayPartialDecoderTraits.seen c.args.handle.now in
+    let inside = subst (λ (b : Region). ends_within b below.shape ≡ true) (sym c.in-Ok.ensures) (whole_inside below.shape) in
+    let fits = subst (λ (s : List ℕ). ends_within (box_of c.in-Ok.all) s ≡ true) (sym c.requires.below.shape) inside in
+    c.in-Err-partial_decode.ensures.named fits
+
+pub returns-clause-named : goal.returns-clause-named
+returns-clause-named g c = refused_memory _ (g.H.ArrayPartialDecoderTraits.seen c.args.handle.now).unserved c.in-Err.error c.in-Err.ensures

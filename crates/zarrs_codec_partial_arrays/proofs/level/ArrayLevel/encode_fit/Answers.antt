@@ -6,6 +6,8 @@ use Rattle.zarrs_codec_partial_arrays.specs.Above.{array_level, array_fill, rais
 use Rattle.zarrs_codec_partial_traits.specs.Updates.{change_of}
 use Rattle.zarrs_codec_partial_traits.proofs.UpdateLaws.{updates_after, updates_not, keeps_rest, rest_after}
 use Rattle.zarrs_codec_partial_arrays.proofs.StoreLaws.{below_still, reads_above, unencoded_back}
+use Rattle.zarrs_codec_partial_traits.proofs.NamedLaws.{refused_still}
+use Rattle.zarrs_codec_partial_arrays.proofs.ServedLaws.{step_named}
 use Rattle.zarrs_codec_partial_arrays.proofs.level.ArrayLevel.encode_fit.Goals as goal
 
 pub store_elements-requires : goal.store_elements-requires
@@ -104,3 +106,13 @@ returns-in-Err-clause-rest g c =
     let handle = g.H.ArrayPartialDecoderTraits in
     let old = handle.seen c.args.handle.now in
     keeps_rest old (handle.seen c.new_elements.new.handle) c.in-Err.ensures.reads.keeps
+
+pub returns-in-Ok-clause-named : goal.returns-in-Ok-clause-named
+returns-in-Ok-clause-named g c = λ filled there.
+    let handle = g.H.ArrayPartialDecoderTraits in
+    let old = handle.seen c.args.handle.now in
+    let mid = handle.seen c.new_elements.new.handle in
+    step_named old.unserved mid.unserved c.in-Ok.elements _ c.store_elements.result c.in-Ok.ensures.reads.keeps.unserved (c.in-Ok.ensures.valid there) (λ valid. c.store_elements.ensures.named filled valid)
+
+pub returns-in-Err-clause-named : goal.returns-in-Err-clause-named
+returns-in-Err-clause-named g c = λ filled there. refused_still _ _ (g.H.ArrayPartialDecoderTraits.seen c.args.handle.now).unserved c.in-Err.error c.in-Err.ensures.named

@@ -1,15 +1,17 @@
-use Rattle.std.proofs.Common.{sym, refl, inl, Some, option_and_then}
-use Rattle.zarr_model.specs.Region.{whole}
-use Rattle.zarr_model.specs.Element.{kind_of}
+use Rattle.std.proofs.Common.{length, sym, refl, inl, Some, option_and_then}
+use Rattle.zarr_model.specs.Region.{whole, count_of}
+use Rattle.zarr_model.specs.Element.{kind_of, fill_element}
 use Rattle.zarrs_codec_array_bytes.specs.Raw.{raw_of}
 use Rattle.zarrs_codec_traits.specs.Errors.{unserved_at}
 use Rattle.zarrs_codec_traits.specs.Views.{options_of}
 use Rattle.zarrs_codec_partial_arrays.specs.Above.{array_level, array_fill}
 use Rattle.zarrs_codec_array_bytes.specs.Selection.{linear}
 use Rattle.zarrs_codec_array_bytes.specs.Steps.{size_seen}
+use Rattle.zarrs_codec_partial_traits.proofs.FaultLaws.{no_faults}
 use Rattle.zarrs_codec_partial_traits.proofs.UpdateLaws.{reads_if_still, reads_if_not}
-use Rattle.zarrs_codec_partial.proofs.WriteLaws.{updated_gives, updated_fails, update_memory, err_memory, answers_err}
-use Rattle.zarrs_codec_partial_arrays.proofs.AboveLaws.{below_served}
+use Rattle.zarrs_codec_partial.proofs.WriteLaws.{update_no_fault, updated_gives, updated_fails, update_memory, err_memory, answers_err}
+use Rattle.zarrs_codec_partial_arrays.proofs.AboveLaws.{below_served, fill_served, below_short}
+use Rattle.zarrs_codec_partial_traits.proofs.NamedLaws.{refused_never}
 use Rattle.zarrs_codec_partial_arrays.proofs.level.ArrayLevel.updated_elements.Goals as goal
 
 pub returns-in-Ok-clause-made : goal.returns-in-Ok-clause-made
@@ -33,15 +35,17 @@ returns-in-Ok-clause-made g c =
     let fit = rw c.requires.shape at c.requires.fit in
     let raw = raw_of c.in-Ok.whole in
     record {
-      gives = λ given served filled means.
-          let ok = below_served _ _ _ served in
+      gives = λ given served means.
+          let ok = below_served unserved old.unserved (fill_element kind fill) served in
+          let filled = fill_served unserved old.unserved (fill_element kind fill) served in
           updated_gives level (linear level.shape places) given list raw c.update_array_bytes.result (c.in-Ok.ensures.all ok filled) (λ xs is. c.in-Ok.ensures.value xs ok filled is) (λ xs is. put kind xs given (sym c.size_of-size.ensures) is means);
       failed = λ given served filled means.
-          let ok = below_served _ _ _ served in
+          let ok = below_served unserved old.unserved (fill_element kind fill) served in
           updated_fails list level raw _ c.update_array_bytes.result (c.in-Ok.ensures.valid ok filled)
           (λ xs is. err_memory c.update_array_bytes.result _ (answers_err _ c.update_array_bytes.result answer) (λ e told. update_memory kind (size_seen c.size_of-size.result) _ _ _ raw (raw_of c.args.bytes.now) xs given e c.size_of-size.ensures fit is means told))
           (inl (inl refl));
-      short = λ served few short. c.update_array_bytes.ensures.short (c.in-Ok.ensures.short (below_served _ _ _ served) few) short;
+      short = λ served few short. c.update_array_bytes.ensures.short (c.in-Ok.ensures.short (below_served _ _ _ served) (below_short _ _ few)) short;
+      fault = no_faults _ _ c.update_array_bytes.result (update_no_fault (size_seen c.size_of-size.result) (g.I.Indexer.fits c.args.indexer.now c.args.numbers.now) (count_of c.args.numbers.now) (length places) raw (raw_of c.args.bytes.now) c.update_array_bytes.result c.update_array_bytes.ensures.answer);
     }
 
 pub returns-in-Ok-clause-reads : goal.returns-in-Ok-clause-reads
@@ -61,9 +65,10 @@ returns-in-Ok-clause-reads g c =
 
 pub returns-in-Err-clause-made : goal.returns-in-Err-clause-made
 returns-in-Err-clause-made g c = record {
-  gives = λ given served filled means. tt;
+  gives = λ given served means. tt;
   failed = λ given served filled means. c.in-Err.ensures.failed (below_served _ _ _ served) filled;
   short = λ served few short. tt;
+  fault = c.in-Err.ensures.fault;
 }
 
 pub returns-in-Err-clause-reads : goal.returns-in-Err-clause-reads
@@ -80,3 +85,6 @@ returns-in-Err-clause-reads g c =
     let handle = g.H.ArrayPartialDecoderTraits in
     let old = handle.seen c.args.handle.now in
     reads_if_not (Some (whole below.shape)) old (handle.seen c.decode_whole.new.handle) c.in-Err.error c.in-Err.ensures.reads
+
+pub returns-in-Ok-clause-named : goal.returns-in-Ok-clause-named
+returns-in-Ok-clause-named g c = refused_never (g.H.ArrayPartialDecoderTraits.seen c.args.handle.now).unserved c.in-Ok.whole c.update_array_bytes.result c.in-Ok.ensures.named

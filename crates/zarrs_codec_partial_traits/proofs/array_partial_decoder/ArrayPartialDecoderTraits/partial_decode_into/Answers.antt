@@ -17,3 +17,9 @@ returns-in-Optional-clause-written g c = rw c.in-Optional.is c.read_into_optiona
 
 pub returns-in-Optional-clause-kept : goal.returns-in-Optional-clause-kept
 returns-in-Optional-clause-kept g c = rw c.in-Optional.is c.read_into_optional.ensures.kept
+
+pub returns-in-Fixed-clause-framed : goal.returns-in-Fixed-clause-framed
+returns-in-Fixed-clause-framed g c = rw c.in-Fixed.is c.read_into_fixed.ensures.framed
+
+pub returns-in-Optional-clause-framed : goal.returns-in-Optional-clause-framed
+returns-in-Optional-clause-framed g c = rw c.in-Optional.is c.read_into_optional.ensures.framed
