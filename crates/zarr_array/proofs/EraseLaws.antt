@@ -1,11 +1,12 @@
 -- An erase as a command of a session.
-use Rattle.std.proofs.Common.{◌≡◌, ℕ, zero, suc, ◌-◌, ◌^◌, ◌≤◌, ◌&&◌, ◌||◌, ◌⊎◌, true, false, if◌then◌else◌, bytes_eq, List, [], ◌∷◌, slice_get, Option, Some, None, IsSome, is_some, refl, sym, ap, ◌∙◌, subst, arith, inl, inr, ⊎_elim}
+use Rattle.std.proofs.Common.{◌≡◌, ℕ, zero, suc, ◌-◌, ◌^◌, ◌≤◌, ◌&&◌, ◌||◌, ◌⊎◌, true, false, if◌then◌else◌, bytes_eq, List, [], ◌∷◌, replicate, slice_get, Option, Some, None, IsSome, is_some, refl, sym, ap, ◌∙◌, subst, arith, inl, inr, ⊎_elim}
 use Rattle.std.specs.List.{list_any}
 use Rattle.std.proofs.lemmas.Bool.{cases_Bool, cond-true, cond-false, true≢false, or_parts, or_from}
-use Rattle.zarr_model.specs.Prelude.{IsChunk, CoversShape, Options, Content, IsSound, box_content, chunk_content, Shown, erase, Description, kind, layout, refusal, reply_of, array_of, after, answered_done, Matches, chunks_under, command_chunks, asks_store, is_among, present_in, present_under, erases_chunk, IsDamageMet, MeetsNoDamage, KeepsDamage, IsLeftAt, Rose, PutsKey, MayPutKey, LeavesKeys, ServesWhole}
+use Rattle.zarr_model.specs.Prelude.{count, Element, Array, IsChunk, CoversShape, Options, Content, IsSound, IsHonest, box_content, chunk_content, Shown, erase, Description, kind, layout, refusal, reply_of, array_of, after, answered_done, Matches, chunks_under, command_chunks, asks_store, is_among, present_in, present_under, erases_chunk, IsDamageMet, MeetsNoDamage, KeepsDamage, IsLeftAt, Rose, PutsKey, MayPutKey, ChunkHas, LeavesKeys, ServesWhole}
 use Rattle.zarr_model.proofs.FailureLaws.{same_bytes, bytes_eq-refl, listed_is_chunk, part_way-start, part_way-fails, erase-done}
 use Rattle.zarr_array_regions.specs.declared.error.SessionErrorKind.TheVariants.{Store, OutOfMemory}
 use Rattle.zarr_array.proofs.HasRun.{HasRun}
+use Rattle.zarr_array.specs.Stored.{DecodesForAll, IsChanged, StoresForAll, StaysOrDecodes}
 use Rattle.zarr_array.specs.Session.{FailsAt}
 use Rattle.zarr_array.proofs.StepRuns.{command-starved}
 
@@ -82,6 +83,24 @@ module _ (description : Description) (covers : CoversShape description.shape des
           (erase-keys old new (MayPutKey-from old new (description.key chunk) None puts)).same_chunks other is_other none;
     }
 
+    erase-stored : StoresForAll description options (erase chunk ∷ []) old new
+    erase-stored = record {
+      decodes = λ other is. erased_alone other is (DecodesForAll description new other) (λ same under.
+          subst (λ c. IsSome (chunk_content (layout description under) new c)) (sym same) (subst IsSome (sym (gone under)) refl));
+      left = λ meant other under means is. erased_alone other is (ChunkHas (layout description under) new (after description (erase chunk) meant) other) (λ same.
+          subst (ChunkHas (layout description under) new (after description (erase chunk) meant)) (sym same)
+          (gone under ∙ (sym (gone options) ∙ (erase-done description covers options sound chunk meant old new accepted means puts).each_chunk chunk erased_is_chunk)));
+    }
+      where
+        gone : (under : Options) → chunk_content (layout description under) new chunk ≡ Some (replicate (count (description.grid.chunk_box chunk)) description.fill)
+        gone under = ap (box_content (layout description under) (description.grid.chunk_box chunk)) puts.here
+
+        -- the erased chunk alone is changed
+        erased_alone : (other : List ℕ) → IsChanged description (erase chunk ∷ []) other → (P : Type 0) → (other ≡ chunk → P) → P
+        erased_alone other is P one = one_or_other other is.is_chunk P
+            (λ same equal. one same)
+            (λ apart differs. absurd (true≢false (sym is.changed ∙ or_from (is_among (command_chunks description (erase chunk)) other) false (not_erased other differs) refl)))
+
   -- an erase whose key is gone ran
   pub erase-ran : (before now : Shown) → PutsKey before.content now.content (description.key chunk) None → now.asks ≡ before.asks → before.asks ≤ 2 ^ 64 - 1 →
       before.faults ≤ now.faults → HasRun description options (erase chunk ∷ []) before now (answered_done ∷ [])
@@ -92,8 +111,21 @@ module _ (description : Description) (covers : CoversShape description.shape des
     asks = omega (arith, asked, fits);
     damage = KeepsDamage-erase before.content now.content puts;
     met = MeetsNoDamage-erase description options chunk before.content;
+    stored = erase-stored before.content now.content puts;
     later = later;
   }
+
+  -- a key that is old or absent stays, or decodes
+  erase-stays : (old new : Content) → MayPutKey old new (description.key chunk) None → StaysOrDecodes description old new
+  erase-stays old new puts other is_other = one_or_other other is_other ((new (description.key other) ≡ old (description.key other)) ⊎ DecodesForAll description new other)
+      (λ same equal. subst (λ c. (new (description.key c) ≡ old (description.key c)) ⊎ DecodesForAll description new c) (sym same) (⊎_elim
+      (λ (kept : new (description.key chunk) ≡ old (description.key chunk)). inl kept)
+      (λ (put : (new (description.key chunk) ≡ None) ⊎ (new (description.key chunk) ≡ None)). inr (⊎_elim (absent) (absent) put))
+      puts.here))
+      (λ apart differs. inl (puts.others (description.key other) apart))
+    where
+      absent : new (description.key chunk) ≡ None → DecodesForAll description new chunk
+      absent gone under = subst IsSome (sym (ap (box_content (layout description under) (description.grid.chunk_box chunk)) gone)) refl
 
   -- the store failed in an erase: the chunk's key is old.content or absent
   pub erase-fails : (old new : Shown) → MayPutKey old.content new.content (description.key chunk) None → Rose old.faults new.faults →
@@ -102,6 +134,7 @@ module _ (description : Description) (covers : CoversShape description.shape des
     place = (erase chunk, refl, omega arith);
     asks = (erase chunk, refl, inl (omega (arith, asked, fits)));
     keys = erase-keys old.content new.content puts;
+    stored = λ honest. erase-stays old.content new.content puts;
     cause = (rose, refl, λ honest. left);
   }
     where

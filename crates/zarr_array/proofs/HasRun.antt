@@ -1,6 +1,7 @@
 -- What commands that ran did to a store.
 use Rattle.std.specs.Prelude.{◌≡◌, ◌≤◌, List}
 use Rattle.zarr_model.specs.Prelude.{Options, Shown, Command, Description, Answer, all_asks, counted, KeepsDamage, MeetsNoDamage, ServesWhole, RefusesRight, AreRefused, IsUntouched}
+use Rattle.zarr_array.specs.Stored.{StoresForAll}
 
 -- some commands ran over a store and were answered so
 pub record HasRun (description : Description) (options : Options) (commands : List Command)
@@ -12,4 +13,5 @@ pub record HasRun (description : Description) (options : Options) (commands : Li
   pub asks : now.asks ≡ counted before.asks (all_asks description commands)
   pub damage : KeepsDamage description options commands before.content now.content
   pub met : MeetsNoDamage description options commands before.content
+  pub stored : StoresForAll description options commands before.content now.content
   pub later : before.faults ≤ now.faults

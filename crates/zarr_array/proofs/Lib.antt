@@ -3,6 +3,7 @@ pub mod ReadCommand
 pub mod SessionSteps
 pub mod OpenedLaws
 pub mod WriteLaws
+pub mod StoredLaws
 pub mod HasRun
 pub mod StepRuns
 pub mod EraseLaws

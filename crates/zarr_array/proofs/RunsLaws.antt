@@ -1,5 +1,5 @@
 -- Commands that run one after another.
-use Rattle.std.proofs.Common.{◌≡◌, ℕ, zero, suc, ◌+◌, ◌-◌, ◌^◌, ◌<◌, ◌≤◌, ◌&&◌, List, [], ◌∷◌, ◌++◌, length, take, drop, map, get_or, slice_get, Option, Some, Result, Ok, Err, IfErr, Vec, None, IsSome, add-one, is_some, refl, sym, ap, ap₂, ◌∙◌, subst, arith, le_trans}
+use Rattle.std.proofs.Common.{◌≡◌, ℕ, zero, suc, ◌+◌, ◌-◌, ◌^◌, ◌<◌, ◌≤◌, ◌&&◌, List, [], ◌∷◌, ◌++◌, length, take, drop, map, get_or, slice_get, Option, Some, Result, Ok, Err, IfErr, Vec, None, IsSome, add-one, is_some, refl, sym, ap, ap₂, ◌∙◌, subst, arith, le_trans, inl}
 use Rattle.std.specs.List.{list_all}
 use Rattle.std.proofs.lemmas.Bool.{and_parts}
 use Rattle.std.proofs.lemmas.List.{take-append-drop, map-append, take_all, length-map}
@@ -11,6 +11,7 @@ use Rattle.zarr_model.proofs.StepLaws.{KeepsDamage-none, KeepsDamage-append, pla
 use Rattle.zarr_model.proofs.DamageLaws.{MeetsNoDamage-none, MeetsNoDamage-append}
 use Rattle.zarr_array.specs.Session.{HasSessionCause, FailsAt}
 use Rattle.zarr_array.proofs.HasRun.{HasRun}
+use Rattle.zarr_array.proofs.StoredLaws.{stores-none, stores-append, stays-append, stays-changed}
 use Rattle.zarr_array_regions.specs.declared.error.SessionErrorKind.{SessionErrorKind}
 use Rattle.zarr_array_regions.specs.declared.error.SessionErrorKind.TheVariants.{NotOpened, ChunkDecode, Store, OutOfMemory}
 use Rattle.zarr_array.proofs.SessionSteps.{only_memory, refused_at}
@@ -42,6 +43,7 @@ none_ran array options store fits = record {
   asks = omega (arith, fits);
   undamaged = MeetsNoDamage-none array options store.content;
   damage = KeepsDamage-none array options store.content;
+  stored = stores-none array options [] store.content store.content (λ chunk. refl);
   keys = LeavesKeys-none array options store.content;
   later = omega arith;
   failed = tt;
@@ -58,12 +60,14 @@ none_begun array options commands store = record {
   asks = tt;
   undamaged = tt;
   damage = tt;
+  stored = tt;
   keys = record { same_chunks = λ chunk is_chunk e. refl; other_keys = λ key apart. refl };
   later = omega arith;
   failed = record {
     place = tt;
     asks = refl;
     keys = record { same_chunks = λ chunk is_chunk e. refl; other_keys = λ key apart. refl };
+    stored = λ honest chunk is_chunk. inl refl;
     cause = λ key. refl;
   };
 }
@@ -125,6 +129,11 @@ module _ (array : Description) (options : Options) (covers : CoversShape array.s
       let means = Means-from_whole (layout array options) covers old (stored_array (layout array options) old) (stored_array-meant (layout array options) covers sound old honest) in
       (serves.left.array_left (stored_array (layout array options) old) means).honest
 
+  -- commands that ran leave the array that is left
+  whole_after : (commands : List Command) (before now : Shown) (answers : List Answer) → Runs array options commands before now (Ok answers) →
+      (meant : Array Element) → WhollyMeans (layout array options) before.content meant → WhollyMeans (layout array options) now.content (array_after array commands meant)
+  whole_after commands before now answers ran meant means = (ran.serves (wholly_honest array options before.content meant means)).left.whole_chunks meant means
+
   -- one more command
   pub one_more_ran : (commands : List Command) (command : Command) (before mid now : Shown) (answers : List Answer) (answer : Answer) →
       Runs array options commands before mid (Ok answers) → Runs array options (command ∷ []) mid now (Ok (answer ∷ [])) →
@@ -142,6 +151,8 @@ module _ (array : Description) (options : Options) (covers : CoversShape array.s
     asks = omega (arith, first.asks, second.asks, sum_by-append (asks_of array) commands (command ∷ []));
     undamaged = MeetsNoDamage-append array options covers commands (command ∷ []) before.content mid.content first.damage first.undamaged second.undamaged;
     damage = KeepsDamage-append array options commands (command ∷ []) before.content mid.content now.content first.damage second.damage;
+    stored = stores-append array options commands (command ∷ []) before.content mid.content now.content second.keys first.stored second.stored
+        (whole_after commands before mid answers first) (whole_after (command ∷ []) mid now (answer ∷ []) second);
     keys = LeavesKeys-append array options commands (command ∷ []) before.content mid.content now.content first.keys second.keys;
     later = le_trans first.later second.later;
     failed = tt;
@@ -160,6 +171,7 @@ module _ (array : Description) (options : Options) (covers : CoversShape array.s
     asks = tt;
     undamaged = tt;
     damage = tt;
+    stored = tt;
     keys =
         subst (λ all. LeavesKeys array options all before.content now.content) (take-append-drop (i + 1) commands)
         (LeavesKeys-more array options (take (i + 1) commands) (drop (i + 1) commands) before.content now.content left);
@@ -168,6 +180,9 @@ module _ (array : Description) (options : Options) (covers : CoversShape array.s
       place = place-lifts array options commands i command here k single.failed.place;
       asks = asks-lift array options commands i command here before.asks mid.asks now.asks k so_far.asks single.failed.asks;
       keys = left;
+      stored = λ honest. stays-append array before.content mid.content now.content
+          (stays-changed array options (take i commands) before.content mid.content so_far.keys so_far.stored)
+          (single.failed.stored (still_honest (take i commands) before.content mid.content answers honest (so_far.serves honest)));
       cause = by_kind kind single.failed.cause;
     };
   }
@@ -180,7 +195,7 @@ module _ (array : Description) (options : Options) (covers : CoversShape array.s
           (LeavesKeys-append array options (take i commands) (command ∷ []) before.content mid.content now.content so_far.keys single.keys)
 
       meant_after : (meant : Array Element) → WhollyMeans (layout array options) before.content meant → WhollyMeans (layout array options) mid.content (array_after array (take i commands) meant)
-      meant_after meant means = (so_far.serves (wholly_honest array options before.content meant means)).left.whole_chunks meant means
+      meant_after = whole_after (take i commands) before mid answers so_far
 
       by_kind : (kind : SessionErrorKind) → HasSessionCause array options (command ∷ []) mid now (Some (0, k)) kind →
           HasSessionCause array options commands before now (Some (i, k)) kind
@@ -201,6 +216,7 @@ module _ (array : Description) (options : Options) (covers : CoversShape array.s
     asks = ran.asks;
     undamaged = ran.met;
     damage = ran.damage;
+    stored = ran.stored;
     keys = ran.serves.keys;
     later = ran.later;
     failed = tt;
@@ -219,7 +235,8 @@ module _ (array : Description) (options : Options) (covers : CoversShape array.s
     asks = tt;
     undamaged = tt;
     damage = tt;
+    stored = tt;
     keys = keys;
     later = later;
-    failed = record { place = fails.place; asks = fails.asks; keys = fails.keys; cause = fails.cause };
+    failed = fails;
   }

@@ -1,12 +1,14 @@
 -- Commands that ran: a refused one, and a read; and one that wanted memory at once.
 use Rattle.std.proofs.Common.{◌≡◌, ℕ, zero, suc, ◌+◌, ◌-◌, ◌^◌, ◌<◌, ◌≤◌, ◌&&◌, Bool, true, false, if◌then◌else◌, List, [], ◌∷◌, length, slice_get, Contains, Some, None, IsSome, is_some, refl, sym, ap, ◌∙◌, subst, arith, inl, inr}
+use Rattle.std.specs.List.{list_any}
 use Rattle.std.proofs.lemmas.Bool.{true≢false, or_from}
-use Rattle.zarr_model.specs.Prelude.{Region, Element, ArrayBytes, Array, elements_in, chunks_meeting, CoversShape, Options, Content, WhollyMeans, chunk_content, Shown, Command, read, write, erase, Refusal, Description, kind, layout, refusal, elements, answered, answered_refused, Matches, chunks_under, command_chunks, asks_store, asks_of, is_among, counted, erases_chunk, IsDamageMet, MeetsNoDamage, KeepsDamage}
+use Rattle.zarr_model.specs.Prelude.{Region, Element, ArrayBytes, Array, elements_in, chunks_meeting, CoversShape, Options, Content, WhollyMeans, chunk_content, Shown, Command, read, write, erase, Refusal, Description, kind, layout, refusal, elements, answered, answered_refused, Matches, chunks_under, command_chunks, asks_store, asks_of, is_among, changes_chunk, counted, erases_chunk, IsDamageMet, MeetsNoDamage, KeepsDamage}
 use Rattle.zarr_model.proofs.FailureLaws.{cut_short-start}
 use Rattle.zarr_model.proofs.StepLaws.{LeavesKeys-same, refused-serves, read-serves, KeepsDamage-read}
 use Rattle.zarr_model.proofs.DamageLaws.{MeetsNoDamage-read}
 use Rattle.zarr_array_regions.specs.declared.error.SessionErrorKind.TheVariants.{OutOfMemory}
 use Rattle.zarr_array.proofs.HasRun.{HasRun}
+use Rattle.zarr_array.proofs.StoredLaws.{stores-none}
 use Rattle.zarr_array.specs.Session.{FailsAt}
 
 -- a refused command has no chunks: it asks for none, erases none and meets no damage
@@ -27,6 +29,14 @@ module _ (description : Description) (command : Command) (why : Refusal) (refuse
       by_command : (c : Command) → command_chunks description c ≡ [] → erases_chunk description chunk c ≡ false
       by_command (read region) e = refl
       by_command (write region value) e = refl
+      by_command (erase other) e = ap (λ chunks. is_among chunks chunk) e
+
+  changes_none : (chunk : List ℕ) → list_any (changes_chunk description chunk) (command ∷ []) ≡ false
+  changes_none chunk = or_from (changes_chunk description chunk command) false (by_command command no_chunks) refl
+    where
+      by_command : (c : Command) → command_chunks description c ≡ [] → changes_chunk description chunk c ≡ false
+      by_command (read region) e = refl
+      by_command (write region value) e = ap (λ chunks. is_among chunks chunk) e
       by_command (erase other) e = ap (λ chunks. is_among chunks chunk) e
 
   pub KeepsDamage-refused : (options : Options) (old new : Content) → ((key : List ℕ) → new key ≡ old key) → KeepsDamage description options (command ∷ []) old new
@@ -56,6 +66,7 @@ module _ (description : Description) (command : Command) (why : Refusal) (refuse
     asks = omega (arith, fits, no_asks);
     damage = KeepsDamage-refused options store.content store.content (λ key. refl);
     met = MeetsNoDamage-refused options store.content;
+    stored = stores-none description options (command ∷ []) store.content store.content changes_none;
     later = omega arith;
   }
 
@@ -73,6 +84,7 @@ read-ran description options region old new value accepted same decode right ask
   asks = omega (arith, asked, ap length listed);
   damage = KeepsDamage-read description options region old.content new.content same;
   met = MeetsNoDamage-read description options region old.content (λ place chunk e. decode place chunk (ap (λ chunks. slice_get chunks place) (sym listed) ∙ e));
+  stored = stores-none description options (read region ∷ []) old.content new.content (λ chunk. refl);
   later = later;
 }
   where
@@ -86,6 +98,7 @@ command-starved description covers options command store fits = record {
   place = (command, refl, omega arith);
   asks = (command, refl, inl (none (asks_store command)));
   keys = LeavesKeys-same description options (command ∷ []) store.content store.content (λ key. refl);
+  stored = λ honest chunk is_chunk. inl refl;
   cause = λ honest array meant. (command, refl, cut_short-start description covers options command false array store.content meant);
 }
   where

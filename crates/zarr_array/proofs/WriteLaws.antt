@@ -1,15 +1,18 @@
 -- A write as a command of a session.
 use Rattle.std.proofs.Common.{◌≡◌, ℕ, zero, suc, ◌+◌, ◌<◌, ◌≤◌, ◌||◌, ◌&&◌, not, true, false, if◌then◌else◌, Bool, bytes_eq, List, [], ◌∷◌, length, slice_get, Contains, Some, None, IsSome, is_some, refl, sym, ap, ◌∙◌, subst, arith, ◌⊎◌, inl, inr, ⊎_elim}
-use Rattle.std.proofs.lemmas.Bool.{cases_Bool, cond-true, cond-false, true≢false, or_parts}
+use Rattle.std.proofs.lemmas.Bool.{cases_Bool, cases_lt, cond-true, cond-false, true≢false, or_parts}
 use Rattle.std.proofs.lemmas.List.Folds.{Any-from_list_any, list_any_at}
 use Rattle.std.proofs.lemmas.Option.{slice_get_within, slice_get-get_or, get_or_from_slice_get}
-use Rattle.zarr_model.specs.Prelude.{Region, Element, ArrayBytes, Array, written, IsChunk, chunks_meeting, CoversShape, Options, Content, IsSound, WhollyMeans, chunk_content, Shown, Command, write, Description, kind, layout, refusal, written_elements, reply_of, array_of, after, answered_done, Matches, chunks_under, command_chunks, is_among, is_blank, counted, present_in, present_under, ChunkHas, IsPartWay, IsCutShort, IsDamageMet, MeetsNoDamage, KeepsDamage, IsLeftAt, LeavesKeys, ServesWhole}
+use Rattle.zarr_model.specs.Prelude.{Region, Element, ArrayBytes, Array, written, IsChunk, chunks_meeting, CoversShape, Options, Content, IsSound, IsHonest, WhollyMeans, stored_array, box_content, chunk_content, Shown, Command, write, Description, kind, layout, refusal, written_elements, reply_of, array_of, after, answered_done, Matches, chunks_under, command_chunks, is_among, is_blank, counted, present_in, present_under, ChunkHas, IsPartWay, IsCutShort, IsDamageMet, MeetsNoDamage, KeepsDamage, IsLeftAt, LeavesKeys, ServesWhole}
+use Rattle.zarr_model.proofs.StoreLaws.{stored_array-meant}
 use Rattle.zarr_model.proofs.FailureLaws.{same_bytes, bytes_eq-refl, listed_is_chunk, chunks_under-once, part_way-end, part_way-fails}
 use Rattle.zarr_array_regions.specs.declared.error.SessionErrorKind.{SessionErrorKind}
 use Rattle.zarr_array_regions.specs.declared.error.SessionErrorKind.TheVariants.{NotOpened, ChunkDecode, Store, OutOfMemory}
 use Rattle.zarr_array_regions.specs.Write.{HoldsChunk, StopsChunk}
 use Rattle.zarr_array_regions.specs.PartWay.{ChangedSome, StopsBefore, FailsPartWay}
 use Rattle.zarr_array.proofs.HasRun.{HasRun}
+use Rattle.zarr_array.proofs.StoredLaws.{stays-append}
+use Rattle.zarr_array.specs.Stored.{DecodesForAll, IsChanged, StoresForAll, StaysOrDecodes}
 use Rattle.zarr_array.specs.Session.{HasSessionCause, FailsAt}
 use Rattle.zarr_array_regions.proofs.PartWayLaws.{content-same, changed-kept, changed-outside, met-chunks, met-once}
 
@@ -43,6 +46,11 @@ part_way-stays description covers options command k by_store before now old new 
   others = λ chunk is_chunk apart. content-same (layout description options) old new chunk (same (description.key chunk))
       ∙ part.others chunk is_chunk (λ place h. apart place (omega (arith, h)));
 }
+
+-- a test of one command alone
+alone : (b : Bool) → (b || false) ≡ true → b ≡ true
+alone true e = refl
+alone false e = cc
 
 -- a write all of whose chunks decode meets no damage
 pub MeetsNoDamage-write : (description : Description) (options : Options) (region : Region) (value : ArrayBytes) (store : Content) →
@@ -153,6 +161,22 @@ module _ (description : Description) (covers : CoversShape description.shape des
           (cases_Bool (is_among (chunks_meeting description.grid region) chunk));
     }
 
+    -- each of the write's chunks decodes under all options
+    write-stored : StoresForAll description options (write region value ∷ []) old.content new.content
+    write-stored = record {
+      decodes = λ chunk is under.
+          let (place, e) = its_place chunk is in
+          changed.mended place chunk (slice_get_within (chunks_meeting description.grid region) place chunk e) e under;
+      left = λ meant chunk under means is.
+          let (place, e) = its_place chunk is in
+          subst (λ a. ChunkHas (layout description under) new.content a chunk) (sym (write-left meant))
+          ((changed.holds meant place chunk means.fill (slice_get_within (chunks_meeting description.grid region) place chunk e) e (means.each_chunk chunk is.is_chunk)).has under);
+    }
+      where
+        its_place : (chunk : List ℕ) → IsChanged description (write region value ∷ []) chunk → (place : ℕ) × (slice_get (chunks_meeting description.grid region) place ≡ Some chunk)
+        its_place chunk is = at-among (chunks_meeting description.grid region) chunk
+            (ap (λ chunks. is_among chunks chunk) (sym write-listed) ∙ alone (is_among (command_chunks description (write region value)) chunk) is.changed)
+
     -- a write all of whose chunks were changed ran
     pub write-ran : HasRun description options (write region value ∷ []) old new (answered_done ∷ [])
     write-ran = record {
@@ -162,6 +186,7 @@ module _ (description : Description) (covers : CoversShape description.shape des
       asks = omega (arith, changed.asks, full);
       damage = write-damage;
       met = MeetsNoDamage-write description options region value old.content (λ place chunk e. decoded place chunk (in_region place chunk e));
+      stored = write-stored;
       later = changed.later;
     }
 
@@ -251,6 +276,61 @@ module _ (description : Description) (covers : CoversShape description.shape des
               ∙ before.other_keys key apart;
         }
 
+    -- the first k chunks decode under all options, and the others hold what they held
+    first_stay : StaysOrDecodes description old.content fails.mid.content
+    first_stay chunk is_chunk = ⊎_elim
+        (λ (inside : is_among (chunks_meeting description.grid region) chunk ≡ true).
+        let (place, e) = at-among (chunks_meeting description.grid region) chunk inside in
+        ⊎_elim
+        (λ (done : place < k). inr (fails.changed.mended place chunk done e))
+        (λ (ahead : k ≤ place). inl (held chunk is_chunk (λ other h e'.
+        let same : other ≡ place = met-once description region other place chunk e' e in absurd (omega (arith, h, same, ahead)))))
+        (cases_lt place k))
+        (λ (outside : is_among (chunks_meeting description.grid region) chunk ≡ false).
+        inl (held chunk is_chunk (λ other h e. never-among (chunks_meeting description.grid region) chunk outside other e)))
+        (cases_Bool (is_among (chunks_meeting description.grid region) chunk))
+      where
+        held : (chunk : List ℕ) → IsChunk description.grid chunk → ((place : ℕ) → place < k → ¬ (slice_get (chunks_meeting description.grid region) place ≡ Some chunk)) →
+            fails.mid.content (description.key chunk) ≡ old.content (description.key chunk)
+        held chunk is_chunk apart = changed-kept description options sound (write_change description region value) (chunks_meeting description.grid region) (met-chunks description.grid region)
+            k old fails.mid chunk fails.changed is_chunk apart
+
+    -- and so does the next one, over an honest store
+    next_stays : IsHonest (layout description options) old.content → (kind : SessionErrorKind) →
+        StopsBefore description options (write_change description region value) (chunks_meeting description.grid region) k fails.mid new kind → StaysOrDecodes description fails.mid.content new.content
+    next_stays honest kind (inl (memory, same)) chunk is_chunk = inl (same (description.key chunk))
+    next_stays honest (NotOpened error) (inr (next, here, never)) chunk is_chunk = absurd never
+    next_stays honest (ChunkDecode key error) (inr (next, here, (its_key, damaged, same))) chunk is_chunk = inl (same (description.key chunk))
+    next_stays honest OutOfMemory (inr (next, here, same)) chunk is_chunk = inl (same (description.key chunk))
+    next_stays honest Store (inr (next, here, (rose, stops))) chunk is_chunk = ⊎_elim
+        (λ (equal : bytes_eq chunk next ≡ true). subst (λ c. (new.content (description.key c) ≡ fails.mid.content (description.key c)) ⊎ DecodesForAll description new.content c)
+        (sym (same_bytes chunk next equal)) at_next)
+        (λ (differs : bytes_eq chunk next ≡ false). inl (stops.others (description.key chunk) (λ same.
+        true≢false (sym (bytes_eq-refl chunk) ∙ (ap (bytes_eq chunk) (sound.keys_apart chunk next is_chunk is_next same) ∙ differs)))))
+        (cases_Bool (bytes_eq chunk next))
+      where
+        is_next : IsChunk description.grid next
+        is_next = met-chunks description.grid region k next here
+
+        meant : Array Element
+        meant = stored_array (layout description options) old.content
+
+        had : ChunkHas (layout description options) fails.mid.content meant next
+        had = content-same (layout description options) old.content fails.mid.content next (next_kept next here)
+            ∙ (stored_array-meant (layout description options) covers sound old.content honest).each_chunk next is_next
+
+        at_next : (new.content (description.key next) ≡ fails.mid.content (description.key next)) ⊎ DecodesForAll description new.content next
+        at_next = ⊎_elim
+            (λ (kept : new.content (description.key next) ≡ fails.mid.content (description.key next)). inl kept)
+            (λ (rest : HoldsChunk description options (write_change description region value meant) next new.content ⊎ (new.content (description.key next) ≡ None)). inr (⊎_elim
+            (λ (holds : HoldsChunk description options (write_change description region value meant) next new.content) under. subst IsSome (sym (holds.has under)) refl)
+            (λ (gone : new.content (description.key next) ≡ None) under. subst IsSome (sym (ap (box_content (layout description under) (description.grid.chunk_box next)) gone)) refl)
+            rest))
+            (stops.here meant refl had)
+
+    write-stays : IsHonest (layout description options) old.content → StaysOrDecodes description old.content new.content
+    write-stays honest = stays-append description old.content fails.mid.content new.content first_stay (next_stays honest kind fails.stops)
+
     pub write-fails : FailsAt description options (write region value ∷ []) old new (Some (0, k)) kind
     write-fails = record {
       place = (write region value, refl, few);
@@ -264,5 +344,6 @@ module _ (description : Description) (covers : CoversShape description.shape des
             fails.asks,
       );
       keys = write-fails-keys;
+      stored = write-stays;
       cause = write-cause kind fails.stops;
     }

@@ -2,6 +2,7 @@
 use Rattle.std.specs.Prelude.{◌≡◌, ◌≤◌, List, IfOk, IfErr, OnOk}
 use Rattle.zarr_model.specs.Prelude.{Options, Shown, IsHonest, Command, Description, layout, all_asks, counted, Rose, MeetsNoDamage, KeepsDamage, LeavesKeys, ServesArray, RefusesRight, AreRefused, IsUntouched}
 use Rattle.zarr_array.specs.Session.{FailsAt}
+use Rattle.zarr_array.specs.Stored.{StoresForAll}
 use Rattle.zarr_array.specs.Ended.{Ended}
 use Rattle.zarr_array_regions.specs.declared.error.SessionErrorKind.TheVariants.{OutOfMemory}
 
@@ -21,6 +22,8 @@ pub record Runs (array : Description) (options : Options) (commands : List Comma
   pub undamaged : OnOk ended (MeetsNoDamage array options commands before.content)
   -- a value that does not decode stands until its chunk is erased
   pub damage : OnOk ended (KeepsDamage array options commands before.content now.content)
+  -- each chunk that was written or erased decodes under all options, and alike
+  pub stored : OnOk ended (StoresForAll array options commands before.content now.content)
   -- after every end: the keys that stay
   pub keys : LeavesKeys array options commands before.content now.content
   pub later : before.faults ≤ now.faults

@@ -1,12 +1,10 @@
 //! Arrays of texts and of optional numbers: what is written and read, and which elements are refused.
 
-use crate::made::{opened, region};
+use crate::made::{opened, read, region, reply_name, write};
 use std::alloc::Global;
 use std::borrow::CowSlice;
 use std::process::Abort;
-use std::test::Fail;
 use zarr_array::command::Command;
-use zarr_array::open::OpenArray;
 use zarr_array::session::run_session;
 use zarr_array::{CodecOptions, Reply, builtin_registries};
 use zarrs_codec_array_bytes::{ArrayBytes, ArrayBytesOffsets};
@@ -26,33 +24,19 @@ fn texts(bytes: &'static [u8], offsets: &'static [usize]) -> Option<ArrayBytes<'
     ArrayBytes::new_vlen(CowSlice::Borrowed(bytes), offsets).ok()
 }
 
-fn write(
-    alloc: Global,
-    array: &OpenArray,
-    number: u64,
-    bytes: &ArrayBytes<'_>,
-    store: &mut MemoryStore,
-) -> Result<Reply, Fail> {
-    let first = region(alloc, &[0..number])?;
-    let reply = array
-        .write(alloc, &first, bytes, store, &CodecOptions::default())
-        .ok()
-        .ok_or("a reply")?;
-    Ok(reply)
-}
-
-// The name of a session's reply to a write of the first elements of a document's array.
+// What a session replies to a write of the first elements of a document's array.
 fn reply_to(
+    rt: &impl Abort,
     alloc: Global,
     document: &str,
     number: u64,
     bytes: ArrayBytes<'static>,
-) -> Result<&'static str, Fail> {
-    let registries = builtin_registries(alloc)?;
+) -> &'static str {
+    let registries = builtin_registries(alloc).expect(rt, "memory");
     let options = CodecOptions::default();
     let mut store = MemoryStore::new(alloc);
-    let mut commands = Vec::with_capacity(alloc, 1)?;
-    commands.push(Command::Write(region(alloc, &[0..number])?, bytes))?;
+    let command = Command::Write(region(rt, alloc, &[0..number]), bytes);
+    let commands = vec![in alloc; command].expect(rt, "memory");
     let replies = run_session(
         alloc,
         document,
@@ -60,104 +44,100 @@ fn reply_to(
         &commands,
         &mut store,
         &options,
-    )
-    .ok()
-    .ok_or("replies")?;
-    match replies.first() {
-        Some(Reply::Refused(why)) => Ok(why.name()),
-        Some(Reply::Done) => Ok("done"),
-        _ => Ok("another reply"),
+    );
+    match replies.ok().expect(rt, "replies").first() {
+        Some(reply) => reply_name(reply),
+        None => "no reply",
     }
 }
 
 // The same of two texts between offsets.
-fn of_texts(alloc: Global, offsets: &'static [usize]) -> Result<&'static str, Fail> {
+fn of_texts(rt: &impl Abort, alloc: Global, offsets: &'static [usize]) -> &'static str {
     match texts(b"abc", offsets) {
-        Some(bytes) => reply_to(alloc, TEXTS, 2, bytes),
-        None => Ok("no offsets"),
+        Some(bytes) => reply_to(rt, alloc, TEXTS, 2, bytes),
+        None => "no offsets",
     }
 }
 
-// The same of three numbers under two masks, the inner one first.
+// The same of three numbers under one mask, or under two, the inner one first.
 fn of_masked(
-    alloc: Global,
-    inner: &'static [u8],
-    outer: &'static [u8],
-) -> Result<&'static str, Fail> {
-    let bytes = ArrayBytes::from(&[7, 8, 9])
-        .with_optional_mask(alloc, CowSlice::Borrowed(inner))?
-        .with_optional_mask(alloc, CowSlice::Borrowed(outer))?;
-    reply_to(alloc, OPTIONAL, 3, bytes)
-}
-
-// The same of three numbers under one mask.
-fn of_numbers(alloc: Global, mask: &'static [u8]) -> Result<&'static str, Fail> {
-    let bytes = ArrayBytes::from(&[7, 8, 9]).with_optional_mask(alloc, CowSlice::Borrowed(mask))?;
-    reply_to(alloc, OPTIONAL, 3, bytes)
-}
-
-#[test]
-fn texts_have_offsets(rt: HostRuntime) -> Result<(), Fail> {
-    let (alloc, wrong) = (rt.alloc(), "InvalidVariableSizedArrayOffsets");
-    assert_eq!(rt; of_texts(alloc, &[0, 1, 3])?, "done");
-    assert_eq!(rt; of_texts(alloc, &[0, 1, 2])?, wrong);
-    assert_eq!(rt; of_texts(alloc, &[1, 2, 3])?, wrong);
-    assert_eq!(rt; of_texts(alloc, &[0, 3])?, wrong);
-    assert_eq!(rt; of_texts(alloc, &[0, 2, 1])?, "no offsets");
-    assert_eq!(rt;
-        reply_to(alloc, TEXTS, 2, ArrayBytes::from(&[97, 98]))?,
-        "ExpectedVariableLengthBytes"
-    );
-    assert_eq!(rt;
-        reply_to(alloc, TEXTS, 3, ArrayBytes::from(&[97, 98]))?,
-        "SubsetOutOfBounds"
-    );
-    Ok(())
-}
-
-#[test]
-fn optional_numbers_have_masks(rt: HostRuntime) -> Result<(), Fail> {
-    let (alloc, wrong) = (rt.alloc(), "InvalidMask");
-    assert_eq!(rt; of_masked(alloc, &[0, 0, 1], &[1, 0, 1])?, "done");
-    assert_eq!(rt; of_masked(alloc, &[0, 0, 1], &[2, 1, 1])?, wrong);
-    assert_eq!(rt; of_masked(alloc, &[0, 0, 1], &[1, 1])?, wrong);
-    assert_eq!(rt; of_masked(alloc, &[0, 0, 2], &[1, 0, 1])?, wrong);
-    assert_eq!(rt; of_numbers(alloc, &[2, 1, 1])?, wrong);
-    assert_eq!(rt; of_numbers(alloc, &[1, 1, 1])?, "ExpectedOptionalBytes");
-    assert_eq!(rt;
-        reply_to(alloc, OPTIONAL, 3, ArrayBytes::from(&[7, 8, 9]))?,
-        "ExpectedOptionalBytes"
-    );
-    Ok(())
-}
-
-// What a read of both texts gives after the first is written: bytes with offsets.
-fn is_read(
     rt: &impl Abort,
     alloc: Global,
-    array: &OpenArray,
-    store: &mut MemoryStore,
-) -> Result<(), Fail> {
-    let both = region(alloc, &[0..2])?;
-    let reply = array
-        .read(alloc, &both, store, &CodecOptions::default())
-        .ok()
-        .ok_or("a read")?;
-    let Reply::Elements(ArrayBytes::Variable(variable)) = reply else {
-        return Err(Fail::from("texts"));
-    };
-    assert_eq!(rt; variable.items(), b"bca".as_slice());
-    assert_eq!(rt; variable.numbers(), [0, 2, 3].as_slice());
-    Ok(())
+    inner: &'static [u8],
+    outer: Option<&'static [u8]>,
+) -> &'static str {
+    let numbers = ArrayBytes::from(&[7, 8, 9]);
+    let inner = masked(rt, alloc, numbers, inner);
+    match outer {
+        Some(outer) => reply_to(rt, alloc, OPTIONAL, 3, masked(rt, alloc, inner, outer)),
+        None => reply_to(rt, alloc, OPTIONAL, 3, inner),
+    }
+}
+
+fn masked(
+    rt: &impl Abort,
+    alloc: Global,
+    bytes: ArrayBytes<'static>,
+    mask: &'static [u8],
+) -> ArrayBytes<'static> {
+    let optional = bytes.with_optional_mask(alloc, CowSlice::Borrowed(mask));
+    optional.expect(rt, "memory")
 }
 
 #[test]
-fn a_text_is_written_and_read(rt: HostRuntime) -> Result<(), Fail> {
+fn texts_have_offsets(rt: HostRuntime) {
+    let (alloc, wrong) = (rt.alloc(), "InvalidVariableSizedArrayOffsets");
+    assert_eq!(rt; of_texts(&rt, alloc, &[0, 1, 3]), "done");
+    assert_eq!(rt; of_texts(&rt, alloc, &[0, 1, 2]), wrong);
+    assert_eq!(rt; of_texts(&rt, alloc, &[1, 2, 3]), wrong);
+    assert_eq!(rt; of_texts(&rt, alloc, &[0, 3]), wrong);
+    assert_eq!(rt; of_texts(&rt, alloc, &[0, 2, 1]), "no offsets");
+}
+
+#[test]
+fn optional_numbers_have_masks(rt: HostRuntime) {
+    let (alloc, wrong) = (rt.alloc(), "InvalidMask");
+    assert_eq!(rt; of_masked(&rt, alloc, &[0, 0, 1], Some(&[1, 0, 1])), "done");
+    assert_eq!(rt; of_masked(&rt, alloc, &[0, 0, 1], Some(&[2, 1, 1])), wrong);
+    assert_eq!(rt; of_masked(&rt, alloc, &[0, 0, 1], Some(&[1, 1])), wrong);
+    assert_eq!(rt; of_masked(&rt, alloc, &[0, 0, 2], Some(&[1, 0, 1])), wrong);
+    assert_eq!(rt; of_masked(&rt, alloc, &[2, 1, 1], None), wrong);
+    assert_eq!(rt;
+        of_masked(&rt, alloc, &[1, 1, 1], None),
+        "ExpectedOptionalBytes"
+    );
+}
+
+#[test]
+fn numbers_alone_are_refused(rt: HostRuntime) {
     let alloc = rt.alloc();
-    let array = opened(alloc, TEXTS)?;
+    let texts = reply_to(&rt, alloc, TEXTS, 2, ArrayBytes::from(&[97, 98]));
+    assert_eq!(rt; texts, "ExpectedVariableLengthBytes");
+    let beyond = reply_to(&rt, alloc, TEXTS, 3, ArrayBytes::from(&[97, 98]));
+    assert_eq!(rt; beyond, "SubsetOutOfBounds");
+    let numbers = reply_to(&rt, alloc, OPTIONAL, 3, ArrayBytes::from(&[7, 8, 9]));
+    assert_eq!(rt; numbers, "ExpectedOptionalBytes");
+}
+
+// A reply has texts: these bytes between these offsets.
+fn has_texts(rt: &impl Abort, reply: &Reply, bytes: &[u8], offsets: &[usize]) {
+    match reply {
+        Reply::Elements(ArrayBytes::Variable(variable)) => {
+            assert_eq!(rt; variable.items(), bytes);
+            assert_eq!(rt; variable.numbers(), offsets);
+        }
+        _ => assert!(rt; false, "no texts"),
+    }
+}
+
+#[test]
+fn a_text_is_written_and_read(rt: HostRuntime) {
+    let (alloc, options) = (rt.alloc(), CodecOptions::default());
+    let array = opened(&rt, alloc, TEXTS);
     let mut store = MemoryStore::new(alloc);
-    let first = texts(b"bc", &[0, 2]).ok_or("offsets")?;
-    let done = matches!(write(alloc, &array, 1, &first, &mut store)?, Reply::Done);
-    assert_eq!(rt; done, true);
-    is_read(&rt, alloc, &array, &mut store)
+    let first = texts(b"bc", &[0, 2]).expect(&rt, "offsets");
+    let written = write(&rt, alloc, &array, &[0..1], &first, &mut store, &options);
+    assert_eq!(rt; written, "done");
+    let both = read(&rt, alloc, &array, &[0..2], &mut store);
+    has_texts(&rt, &both, b"bca", &[0, 2, 3]);
 }

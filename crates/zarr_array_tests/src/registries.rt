@@ -6,7 +6,7 @@ ghost use Rattle.zarrs_plugin.specs.Registry.{with_entry};
 ghost use Rattle.zarr_basics.specs.Registries.{names_of, builtin_names};
 
 use std::alloc::{AllocError, Global};
-use std::test::Fail;
+use std::process::Abort;
 use zarr_array::open::OpenArray;
 use zarr_array::{CodecKind, GridKind, NamePattern, Registries, builtin_registries};
 use zarr_test_parts::SQUARE;
@@ -30,43 +30,43 @@ fn with_grid_name(alloc: Global, name: String) -> Result<Registries, AllocError>
 }
 
 // The same, with names of the letter `b` and digits for the codec `bytes`.
-fn with_other_names(alloc: Global) -> Result<Registries, AllocError> {
-    let mut registries = with_grid_name(alloc, String::from_str(alloc, "even")?)?;
-    let mut names = Vec::with_capacity(alloc, 1)?;
-    names.push(NamePattern::LetterDigits(b'b'))?;
-    registries.codecs.register(names, CodecKind::Bytes)?;
-    Ok(registries)
+fn with_other_names(rt: &impl Abort, alloc: Global) -> Registries {
+    let even = String::from_str(alloc, "even").expect(rt, "memory");
+    let mut registries = with_grid_name(alloc, even).expect(rt, "memory");
+    let names = vec![in alloc; NamePattern::LetterDigits(b'b')].expect(rt, "memory");
+    let _handle = registries
+        .codecs
+        .register(names, CodecKind::Bytes)
+        .expect(rt, "memory");
+    registries
 }
 
 // The name of the refusal of a document with one text in place of another.
 fn answer(
+    rt: &impl Abort,
     alloc: Global,
     old: &str,
     new: &str,
     registries: &Registries,
-) -> Result<&'static str, AllocError> {
-    let text = SQUARE.replace(alloc, old, new)?;
+) -> &'static str {
+    let text = SQUARE.replace(alloc, old, new).expect(rt, "memory");
     match OpenArray::open(alloc, text.as_str(), registries) {
-        Ok(_) => Ok("opened"),
-        Err(error) => Ok(error.name()),
+        Ok(_) => "opened",
+        Err(error) => error.name(),
     }
 }
 
-// Whether a row of the table is so.
-fn is_so(alloc: Global, row: &str, registries: &Registries) -> Result<bool, AllocError> {
-    if let Some((old, rest)) = row.split_once(' ')
-        && let Some((new, want)) = rest.split_once(' ')
-    {
-        return Ok(answer(alloc, old, new, registries)? == want);
-    }
-    Ok(false)
+// A row of the table is so.
+fn is_so(rt: &impl Abort, alloc: Global, row: &str, registries: &Registries) {
+    let (old, rest) = row.split_once(' ').expect(rt, row);
+    let (new, want) = rest.split_once(' ').expect(rt, row);
+    assert_eq!(rt; answer(rt, alloc, old, new, registries), want, "{row}");
 }
 
 #[test]
-fn registered_names_are_known(rt: HostRuntime) -> Result<(), Fail> {
-    let registries = with_other_names(rt.alloc())?;
+fn registered_names_are_known(rt: HostRuntime) {
+    let registries = with_other_names(&rt, rt.alloc());
     for row in TABLE.lines() {
-        assert!(rt; is_so(rt.alloc(), row, &registries)?, "at {row}");
+        is_so(&rt, rt.alloc(), row, &registries);
     }
-    Ok(())
 }

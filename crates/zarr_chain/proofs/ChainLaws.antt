@@ -1,9 +1,12 @@
 -- What a chain gives, from what its codecs give.
-use Rattle.std.proofs.Common.{◌≡◌, ℕ, List, [], Option, Some, None, IsSome, Result, Ok, Err, IfOk, IfErr, IsErrAnd, MatchResult, refl, sym, ap, ◌∙◌, subst, subst₂, ◌⊎◌, ⊎_elim, inl, inr}
+use Rattle.std.proofs.Common.{◌≡◌, ℕ, List, [], Option, Some, None, IsSome, Result, Ok, Err, IfOk, IfErr, IsErrAnd, MatchResult, option_and_then, refl, sym, ap, ◌∙◌, subst, subst₂, ◌⊎◌, ⊎_elim, inl, inr}
 use Rattle.zarr_model.specs.Element.{Element, kind_of}
 use Rattle.zarr_model.specs.Region.{count_of}
 use Rattle.zarr_model.specs.ArrayBytes.{ArrayBytes}
 use Rattle.zarr_model.specs.Codec.{Level, ArrayCodec, Options, decode_bytes}
+use Rattle.zarr_model.proofs.ChainLaws.{then_some}
+use Rattle.zarrs_codec_array_bytes.specs.declared.array_bytes.ArrayBytes as code
+use Rattle.zarrs_codec_array_bytes.specs.Raw.{raw_of}
 use Rattle.zarrs_codec_array_bytes.specs.Refusals.{Told, fine, refused, wrong_length, unfit, other_fill, no_memory, odd, told_by, then_answer, validity}
 use Rattle.zarrs_codec_error.specs.declared.error.CodecError.{CodecError}
 use Rattle.zarrs_codec_error.specs.declared.error.CodecError.TheVariants as codec
@@ -119,13 +122,33 @@ module _ {A B C : Type 0} (array : A → ArrayCodec) (unserved : Serving A) (to_
       )) cause
 
   -- and one that it gives a list for
-  pub list_above : (value bytes : List ℕ) (list : List Element) (given : Option (List Element)) → AreLinked array unserved chain.levels.items (above chain.bottom) →
-      decode_bytes (byte_codecs opens under chain.codecs.items) value ≡ Some bytes → to_list chain.bottom.codec under (above chain.bottom) bytes ≡ Some list →
+  pub decoded-is : (value : List ℕ) (list : List Element) → AreLinked array unserved chain.levels.items (above chain.bottom) →
+      option_and_then (to_list chain.bottom.codec under (above chain.bottom)) (decode_bytes (byte_codecs opens under chain.codecs.items) value) ≡ Some list →
+      decoded array to_list opens chain under value ≡ elements_above array chain.levels.items (Some list)
+  decoded-is value list links next =
+      let (bytes, first, then) = then_some (to_list chain.bottom.codec under (above chain.bottom)) (decode_bytes (byte_codecs opens under chain.codecs.items) value) list next in
+      chain-value array unserved (above chain.bottom) chain.levels.items (to_list chain.bottom.codec under) (byte_codecs opens under chain.codecs.items) value bytes list links first then
+
+  pub decoded-above : (value : List ℕ) (list : List Element) (given : Option (List Element)) → AreLinked array unserved chain.levels.items (above chain.bottom) →
+      option_and_then (to_list chain.bottom.codec under (above chain.bottom)) (decode_bytes (byte_codecs opens under chain.codecs.items) value) ≡ Some list →
       Gives given (elements_above array chain.levels.items (Some list)) → Gives given (decoded array to_list opens chain under value)
-  list_above value bytes list given links first next gives = record {
-    same = gives.same ∙ sym (chain-value array unserved (above chain.bottom) chain.levels.items (to_list chain.bottom.codec under) (byte_codecs opens under chain.codecs.items) value bytes list links first next);
-    there = gives.there;
-  }
+  decoded-above value list given links next gives = record { same = gives.same ∙ sym (decoded-is value list links next); there = gives.there }
+
+  -- what the array-to-bytes codec answers of what the others give
+  module _ (value bytes : List ℕ) (r : Result code.ArrayBytes CodecError) where
+    pub gives_through : decode_bytes (byte_codecs opens under chain.codecs.items) value ≡ Some bytes →
+        MatchResult r (λ v. Gives (list_at (above chain.bottom) (raw_of v)) (to_list chain.bottom.codec under (above chain.bottom) bytes))
+        (IsDecodeError (to_list chain.bottom.codec under (above chain.bottom) bytes) (list_says chain.bottom.codec under (above chain.bottom) bytes)) →
+        IfOk r (λ v. Gives (list_at (above chain.bottom) (raw_of v))
+        (option_and_then (to_list chain.bottom.codec under (above chain.bottom)) (decode_bytes (byte_codecs opens under chain.codecs.items) value)))
+    gives_through first answers = ok_of _ _ _ r
+        (λ v given. subst (λ o. Gives (list_at (above chain.bottom) (raw_of v)) (option_and_then (to_list chain.bottom.codec under (above chain.bottom)) o)) (sym first) given) answers
+
+    pub fails_through : AreLinked array unserved chain.levels.items (above chain.bottom) → decode_bytes (byte_codecs opens under chain.codecs.items) value ≡ Some bytes →
+        MatchResult r (λ v. Gives (list_at (above chain.bottom) (raw_of v)) (to_list chain.bottom.codec under (above chain.bottom) bytes))
+        (IsDecodeError (to_list chain.bottom.codec under (above chain.bottom) bytes) (list_says chain.bottom.codec under (above chain.bottom) bytes)) →
+        IfErr r (IsDecodeError (decoded array to_list opens chain under value) (chain_says list_says opens says chain under value))
+    fails_through links first answers = err_of _ _ _ r (λ e cause. below_fails value bytes e links first cause) answers
 
   -- what was encoded
   pub list_back : (value bytes : List ℕ) (below : Option (List Element)) (list : List Element) → AreLinked array unserved chain.levels.items (above chain.bottom) →

@@ -1,6 +1,7 @@
 -- Regions taken down the levels and up again.
-use Rattle.std.proofs.Common.{◌≡◌, ℕ, zero, suc, ◌+◌, ◌-◌, ◌<◌, ◌≤◌, true, List, [], ◌∷◌, ◌++◌, map, length, get_or, take, drop, Option, Some, None, IsSome, refl, sym, ap, subst, ◌∙◌, arith, append_assoc}
+use Rattle.std.proofs.Common.{◌≡◌, ℕ, zero, suc, ◌+◌, ◌-◌, ◌<◌, ◌≤◌, true, List, [], ◌∷◌, ◌++◌, map, length, get_or, take, drop, Option, Some, None, IsSome, option_and_then, refl, sym, ap, subst, ◌∙◌, arith, append_assoc}
 use Rattle.std.proofs.lemmas.List.{take-map}
+use Rattle.std.proofs.lemmas.Option.{same_Some}
 use Rattle.zarr_model.specs.Region.{Region, count_of, ends_within}
 use Rattle.zarr_model.specs.Element.{Element}
 use Rattle.zarr_model.specs.Codec.{Level, ArrayCodec}
@@ -71,6 +72,19 @@ module _ {A : Type 0} (meaning : A → ArrayCodec) (unserved : Serving A) (regio
         let parts = then_some ((meaning step.codec).decode_list (above step)) (elements_above meaning steps below) xs e in
         counted_law step.codec (above step) (fill_bytes step.fill_value) parts.0 xs links.0.served
         (elements-counted steps below parts.0 counted links.1 parts.1 ∙ ap (λ (l : Level). count_of l.shape) (sym links.0.below)) parts.2
+
+    -- a list with an element for each place at the bottom decodes through all levels
+    module _ (decodes_law : (c : A) (level : Level) (fill : List ℕ) (below : List Element) → unserved_at (unserved c) level fill ≡ None → length below ≡ count_of ((meaning c).level_below level).shape → IsSome ((meaning c).decode_list level below)) where
+      pub all-decode : (steps : List (CodecLevel A)) (list : List Element) → AreLinked meaning unserved steps bottom → length list ≡ count_of bottom.shape →
+          IsSome (elements_above meaning steps (Some list))
+      all-decode [] list links long = refl
+      all-decode (step ∷ steps) list links long = go (elements_above meaning steps (Some list)) refl (all-decode steps list links.1 long)
+        where
+          go : (below : Option (List Element)) → elements_above meaning steps (Some list) ≡ below → IsSome below → IsSome (option_and_then ((meaning step.codec).decode_list (above step)) (elements_above meaning steps (Some list)))
+          go None is there = cc
+          go (Some xs) is there = subst (λ (o : Option (List Element)). IsSome (option_and_then ((meaning step.codec).decode_list (above step)) o)) (sym is)
+              (decodes_law step.codec (above step) (fill_bytes step.fill_value) xs links.0.served
+              (elements-counted steps (Some list) xs (λ other same. ap length (sym (same_Some list other same)) ∙ long) links.1 is ∙ ap (λ (l : Level). count_of l.shape) (sym links.0.below)))
 
 pub map_last : {A B : Type 0} (f : A → B) (items : List A) (other : A) → last_item (map f items) (f other) ≡ f (last_item items other)
 map_last f [] other = refl

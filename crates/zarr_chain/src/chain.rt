@@ -1,8 +1,8 @@
 //! A chain of codecs, each with its level.
 
-ghost use Rattle.std.specs.Prelude.{◌≡◌, List, Some, None, IfOk, IfErr, MatchResult, IsSome, false};
+ghost use Rattle.std.specs.Prelude.{◌≡◌, List, Some, None, IfOk, IfErr, MatchResult, IsSome, false, option_and_then};
 ghost use Rattle.zarr_model.specs.Element.{Element};
-ghost use Rattle.zarr_model.specs.Codec.{Options};
+ghost use Rattle.zarr_model.specs.Codec.{Options, decode_bytes};
 ghost use Rattle.zarr_model.specs.Command.{has_long_element};
 ghost use Rattle.zarrs_codec_array_bytes.specs.Raw.{raw_of};
 ghost use Rattle.zarrs_codec_error.specs.declared.error.CodecError.TheVariants as codec;
@@ -11,6 +11,7 @@ ghost use Rattle.zarrs_codec_traits.specs.Views.{options_of};
 ghost use Rattle.zarrs_codec_traits.specs.Words.{list_at, Gives};
 ghost use Rattle.zarr_chain.specs.Levels.{above, SaysInvalid};
 ghost use Rattle.zarr_chain.specs.Chain.{IsServed, first_level, decoded, chain_says};
+ghost use Rattle.zarr_chain.specs.Values.{byte_codecs};
 ghost use Rattle.zarr_chain.specs.Encoding.{AnswersBelow};
 
 use crate::decode::{decode_through, decode_up};
@@ -58,17 +59,40 @@ impl<A: ArrayToArrayCodecTraits, B: ArrayToBytesCodecTraits, C: BytesToBytesCode
             (chain_says B.says C.meaning C.says self.now under value.items)) }
         ensures short { IfOk result (λ v. has_long_element (raw_of v) ≡ false) }
     {
+        let below = self.decode_bottom(alloc, value, options)?;
+        decode_up(alloc, &self.levels, below, options)
+    }
+
+    /// The elements of a chunk at the bottom, below all array-to-array codecs, that its value decodes to.
+    ///
+    /// # Errors
+    /// The error of the first codec, in the order of decoding, that gives nothing; or [`CodecError::OutOfMemory`].
+    pub fn decode_bottom(
+        &self,
+        alloc: Global,
+        value: Vec<u8>,
+        options: &CodecOptions,
+    ) -> Result<ArrayBytes<'static>, CodecError>
+        requires { IsServed A.meaning A.unserved B.unserved self.now }
+        ensures value { let under = options_of options.now in let bottom = self.now.bottom in
+            IfOk result (λ v. Gives (list_at (above bottom) (raw_of v))
+            (option_and_then (B.meaning bottom.codec under (above bottom))
+            (decode_bytes (byte_codecs C.meaning under self.now.codecs.items) value.items))) }
+        ensures failed { let under = options_of options.now in IfErr result (IsDecodeError
+            (decoded A.meaning B.meaning C.meaning self.now under value.items)
+            (chain_says B.says C.meaning C.says self.now under value.items)) }
+        ensures short { IfOk result (λ v. has_long_element (raw_of v) ≡ false) }
+    {
         let bytes = decode_through(alloc, &self.codecs, value, options)?;
         let bottom = &self.bottom;
-        let below = bottom.codec.decode(
+        bottom.codec.decode(
             alloc,
             bytes,
             &bottom.shape,
             &bottom.data_type,
             &bottom.fill_value,
             options,
-        )?;
-        decode_up(alloc, &self.levels, below, options)
+        )
     }
 
     /// The value of a chunk, which decodes to these elements under all options.

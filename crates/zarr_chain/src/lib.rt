@@ -14,4 +14,5 @@ mod representation;
 
 pub use chain::CodecChain;
 pub use level::CodecLevel;
+pub use regions::last_or;
 pub use representation::ChunkRepresentation;

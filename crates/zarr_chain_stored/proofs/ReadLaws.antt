@@ -1,6 +1,7 @@
 -- A box of array bytes that are valid is refused for want of memory alone.
-use Rattle.std.proofs.Common.{◌≡◌, ⊎_elim, ℕ, ◌*◌, Bool, true, List, length, get_or, Some, None, Result, Ok, Err, IfOk, MatchResult, refl, sym, ap, ap₂, ◌∙◌}
+use Rattle.std.proofs.Common.{◌≡◌, ⊎_elim, ℕ, ◌*◌, Bool, true, List, [], length, get_or, Some, None, Result, Ok, Err, IfOk, MatchResult, refl, sym, ap, ap₂, ◌∙◌}
 use Rattle.std.proofs.lemmas.Simd.{map-map}
+use Rattle.std.proofs.lemmas.Option.{same_Some}
 use Rattle.zarr_model.specs.Element.{Element, Kind, fixed, variable, optional, fixed_size, null}
 use Rattle.zarr_model.specs.ArrayBytes.{ArrayBytes, fixed_bytes, variable_bytes, optional_bytes, meaning}
 use Rattle.zarr_model.specs.Region.{Region, count, tuples, linear_index}
@@ -14,7 +15,11 @@ use Rattle.zarrs_codec_array_bytes.specs.Levels.{inner_length}
 use Rattle.zarrs_codec_array_bytes.specs.Raw.{raw_of}
 use Rattle.zarrs_codec_array_bytes.specs.Selection.{linear}
 use Rattle.zarrs_codec_array_bytes.specs.Refusals.{fine, kind_refusal, first_answer, lengths_answer, sized_answer, extract_answer, told_by, Answers}
-use Rattle.zarrs_codec_traits.specs.Words.{select}
+use Rattle.zarr_model.specs.Codec.{Level, ArrayCodec}
+use Rattle.zarrs_codec_traits.specs.Words.{list_at, at_box, select}
+use Rattle.zarr_chain.specs.declared.level.CodecLevel.{CodecLevel}
+use Rattle.zarr_chain.specs.Levels.{top, elements_above}
+use Rattle.zarr_chain.specs.Regions.{HoldsBox}
 use Rattle.zarr_chain.proofs.LevelLaws.{says_some}
 use Rattle.zarr_chain_stored.proofs.UpdateLaws.{both_none, lengths_none, valid_of}
 
@@ -42,6 +47,23 @@ extract_gives kind fits n raw xs Wanted (Ok v) inside was answers gives = gives
 extract_gives kind fits n raw xs Wanted (Err e) inside was answers gives =
     ⊎_elim (λ (memory : e ≡ codec.OutOfMemory). memory)
     (λ (told : told_by e ≡ extract_answer kind fits n raw). absurd (says_some e (told ∙ extract_fine kind fits n raw xs inside was))) answers
+
+-- a fact that stands without a result
+pub ok_all : {T E : Type 0} (P : Type 0) (r : Result T E) → P → IfOk r (λ v. P)
+ok_all P (Ok v) fact = fact
+ok_all P (Err e) fact = tt
+
+-- the box of a list at the bottom
+pub box_of_list : {A : Type 0} (array : A → ArrayCodec) (bottom : Level) (xs : List Element) (box : Region) (raw : ArrayBytes) →
+    list_at (at_box box bottom) raw ≡ Some (select bottom.shape box xs) → HoldsBox array [] bottom (Some xs) box raw
+box_of_list array bottom xs box raw part ys same = part ∙ ap (λ list. Some (select bottom.shape box list)) (same_Some xs ys same)
+
+-- and what it decodes to
+pub held_of : {A : Type 0} (array : A → ArrayCodec) (steps : List (CodecLevel A)) (bottom : Level) (xs list : List Element) (box : Region) (r : Result code.ArrayBytes CodecError) →
+    elements_above array steps (Some xs) ≡ Some list → IfOk r (λ v. HoldsBox array steps bottom (Some xs) box (raw_of v)) →
+    IfOk r (λ v. list_at (at_box box (top steps bottom)) (raw_of v) ≡ Some (select (top steps bottom).shape box list))
+held_of array steps bottom xs list box (Ok v) is holds = holds list is
+held_of array steps bottom xs list box (Err e) is holds = tt
 
 -- what was picked is the selection
 pub picked_selects : {E : Type 0} (kind : Kind) (shape : List ℕ) (box : Region) (xs : List Element) (r : Result code.ArrayBytes E) →

@@ -51,10 +51,11 @@ fn filled_chunk(
 }
 
 // The same of a chain's chunks.
-fn blank<A: ArrayToArrayCodecTraits, B: ArrayToBytesCodecTraits, C: BytesToBytesCodecTraits>(
-    chain: &CodecChain<A, B, C>,
-    alloc: Global,
-) -> Result<ArrayBytes<'static>, CodecError>
+pub(crate) fn blank<
+    A: ArrayToArrayCodecTraits,
+    B: ArrayToBytesCodecTraits,
+    C: BytesToBytesCodecTraits,
+>(chain: &CodecChain<A, B, C>, alloc: Global) -> Result<ArrayBytes<'static>, CodecError>
     requires served { IsServed A.meaning A.unserved B.unserved chain.now }
     requires fill { HasFill chain.now }
     ensures value { let level = first_level chain.now in MatchResult result

@@ -1,25 +1,28 @@
 //! A region of a chunk in a store.
 
-ghost use Rattle.std.specs.Prelude.{◌≡◌, ◌≤◌, true, false, List, Some, IsSome, IfOk, IfErr, MatchResult};
+ghost use Rattle.std.specs.Prelude.{◌≡◌, ◌≤◌, true, false, List, map, replicate, Some, IsSome, IfOk, IfErr, MatchResult};
 ghost use Rattle.zarr_model.specs.Command.{has_long_element};
 ghost use Rattle.zarr_model.specs.Cost.{counted};
 ghost use Rattle.zarr_model.specs.ArrayBytes.{meaning};
 ghost use Rattle.zarr_model.specs.Element.{Element, kind_of};
 ghost use Rattle.zarr_model.specs.Region.{count, count_of, ends_within};
 ghost use Rattle.zarrs_array_subset.specs.ArraySubset.{region as box_of};
-ghost use Rattle.zarrs_storage.specs.Store.{SameContent};
+ghost use Rattle.zarrs_storage.specs.Store.{SameContent, value_bytes};
 ghost use Rattle.zarrs_data_type_names.specs.DataType.{type_of};
 ghost use Rattle.zarrs_codec_error.specs.declared.error.CodecError.TheVariants as codec;
 ghost use Rattle.zarrs_codec_array_bytes.specs.Raw.{raw_of};
+ghost use Rattle.zarrs_codec_traits.specs.Errors.{IsDecodeError};
 ghost use Rattle.zarrs_codec_traits.specs.Views.{lengths, options_of};
 ghost use Rattle.zarrs_codec_traits.specs.Words.{list_at, at_box, select, IsFit};
-ghost use Rattle.zarr_chain.specs.Chain.{IsServed, first_level};
-ghost use Rattle.zarr_chain_stored.specs.Fetch.{HasFill, chunk_content, ChunkFails};
+ghost use Rattle.zarr_chain.specs.Levels.{above};
+ghost use Rattle.zarr_chain.specs.Chain.{IsServed, first_level, decoded, chain_says};
+ghost use Rattle.zarr_chain.specs.Regions.{boxes_below, bottom_box};
+ghost use Rattle.zarr_chain_stored.specs.Fetch.{HasFill, chunk_content, chunk_says, ChunkFails};
 
-use crate::fetching::fetch;
+use crate::fetching::blank;
 use std::alloc::Global;
 use std::num::NonZeroU64;
-use zarr_chain::CodecChain;
+use zarr_chain::{CodecChain, last_or};
 use zarrs_array_subset::ArraySubset;
 use zarrs_codec_array_bytes::ArrayBytes;
 use zarrs_codec_error::CodecError;
@@ -71,7 +74,123 @@ fn part_of<A: ArrayToArrayCodecTraits, B: ArrayToBytesCodecTraits, C: BytesToByt
     region_of(alloc, whole, chain.shape(), chain.data_type(), region)
 }
 
-/// The elements of a region of a chunk, out of the whole chunk. One reading call. The region lies inside the chunk.
+// The elements of the box at the bottom that a region of a chunk needs, out of all that stand there.
+fn bottom_part<A: ArrayToArrayCodecTraits, B: ArrayToBytesCodecTraits, C: BytesToBytesCodecTraits>(
+    chain: &CodecChain<A, B, C>,
+    alloc: Global,
+    below: &ArrayBytes<'_>,
+    boxes: &[ArraySubset],
+    region: &ArraySubset,
+) -> Result<ArrayBytes<'static>, CodecError>
+    requires served { IsServed A.meaning A.unserved B.unserved chain.now }
+    requires inside { ends_within (box_of region.now) (first_level chain.now).shape ≡ true }
+    requires boxes { map box_of boxes.now
+        ≡ boxes_below A.region_below chain.now.levels.items (box_of region.now) }
+    ensures value { let bottom = above chain.now.bottom in
+        let box = bottom_box A.region_below chain.now.levels.items (box_of region.now) in
+        (list : List Element) → list_at bottom (raw_of below.now) ≡ Some list
+        → MatchResult result (λ v. list_at (at_box box bottom) (raw_of v)
+        ≡ Some (select bottom.shape box list)) (λ e. e ≡ codec.OutOfMemory) }
+    ensures short { has_long_element (raw_of below.now) ≡ false
+        → IfOk result (λ v. has_long_element (raw_of v) ≡ false) }
+{
+    let bottom = &chain.bottom;
+    region_of(
+        alloc,
+        below,
+        &bottom.shape,
+        &bottom.data_type,
+        last_or(boxes, region),
+    )
+}
+
+// The elements of a region of a chunk, by its value: the region is taken down the levels, and its elements up again.
+fn region_of_value<
+    A: ArrayToArrayCodecTraits,
+    B: ArrayToBytesCodecTraits,
+    C: BytesToBytesCodecTraits,
+>(
+    chain: &CodecChain<A, B, C>,
+    alloc: Global,
+    value: Vec<u8>,
+    region: &ArraySubset,
+    options: &CodecOptions,
+) -> Result<ArrayBytes<'static>, CodecError>
+    requires served { IsServed A.meaning A.unserved B.unserved chain.now }
+    requires inside { ends_within (box_of region.now) (first_level chain.now).shape ≡ true }
+    ensures elements { let level = first_level chain.now in (list : List Element)
+        → decoded A.meaning B.meaning C.meaning chain.now (options_of options.now) value.items
+        ≡ Some list
+        → IfOk result (λ v. list_at (at_box (box_of region.now) level) (raw_of v)
+        ≡ Some (select level.shape (box_of region.now) list)) }
+    ensures decodes { IfOk result (λ _. IsSome
+        (decoded A.meaning B.meaning C.meaning chain.now (options_of options.now) value.items)) }
+    ensures failed { let under = options_of options.now in IfErr result (IsDecodeError
+        (decoded A.meaning B.meaning C.meaning chain.now under value.items)
+        (chain_says B.says C.meaning C.says chain.now under value.items)) }
+    ensures short { IfOk result (λ v. has_long_element (raw_of v) ≡ false) }
+{
+    let below = chain.decode_bottom(alloc, value, options)?;
+    let boxes = chain.boxes_down(alloc, region)?;
+    let part = bottom_part(chain, alloc, &below, &boxes, region)?;
+    chain.decode_boxes_up(alloc, part, &boxes, region, options)
+}
+
+// The elements of a region of a chunk that is absent.
+fn region_of_blank<
+    A: ArrayToArrayCodecTraits,
+    B: ArrayToBytesCodecTraits,
+    C: BytesToBytesCodecTraits,
+>(
+    chain: &CodecChain<A, B, C>,
+    alloc: Global,
+    region: &ArraySubset,
+) -> Result<ArrayBytes<'static>, CodecError>
+    requires served { IsServed A.meaning A.unserved B.unserved chain.now }
+    requires fill { HasFill chain.now }
+    requires inside { ends_within (box_of region.now) (first_level chain.now).shape ≡ true }
+    ensures value { let level = first_level chain.now in MatchResult result
+        (λ v. list_at (at_box (box_of region.now) level) (raw_of v)
+        ≡ Some (select level.shape (box_of region.now)
+        (replicate (count_of level.shape) level.fill))) (λ e. e ≡ codec.OutOfMemory) }
+    ensures short { IfOk result (λ v. has_long_element (raw_of v) ≡ false) }
+{
+    let whole = blank(chain, alloc)?;
+    part_of(chain, alloc, &whole, region)
+}
+
+// The elements of a region of a chunk, by what stands under its key.
+fn region_held<A: ArrayToArrayCodecTraits, B: ArrayToBytesCodecTraits, C: BytesToBytesCodecTraits>(
+    chain: &CodecChain<A, B, C>,
+    alloc: Global,
+    value: Option<Vec<u8>>,
+    region: &ArraySubset,
+    options: &CodecOptions,
+) -> Result<ArrayBytes<'static>, CodecError>
+    requires served { IsServed A.meaning A.unserved B.unserved chain.now }
+    requires fill { HasFill chain.now }
+    requires inside { ends_within (box_of region.now) (first_level chain.now).shape ≡ true }
+    ensures elements { let level = first_level chain.now in (list : List Element)
+        → chunk_content A.meaning B.meaning C.meaning chain.now (options_of options.now)
+        (value_bytes value) ≡ Some list
+        → IfOk result (λ v. list_at (at_box (box_of region.now) level) (raw_of v)
+        ≡ Some (select level.shape (box_of region.now) list)) }
+    ensures decodes { IfOk result
+        (λ _. IsSome (chunk_content A.meaning B.meaning C.meaning chain.now
+        (options_of options.now) (value_bytes value))) }
+    ensures failed { let under = options_of options.now in IfErr result (IsDecodeError
+        (chunk_content A.meaning B.meaning C.meaning chain.now under (value_bytes value))
+        (chunk_says B.says C.meaning C.says chain.now under (value_bytes value))) }
+    ensures short { IfOk result (λ v. has_long_element (raw_of v) ≡ false) }
+{
+    match value {
+        Some(value) => region_of_value(chain, alloc, value, region, options),
+        None => region_of_blank(chain, alloc, region),
+    }
+}
+
+/// The elements of a region of a chunk: the region is taken down the levels of the chain, and its elements come up again;
+/// where the key is absent they are the fill value. One reading call. The region lies inside the chunk.
 ///
 /// # Errors
 /// As those of `fetch`.
@@ -107,6 +226,6 @@ pub fn read<
     ensures asks { (S.shown store.new).asks ≡ counted (S.shown store.old).asks 1 }
     ensures later { (S.shown store.old).faults ≤ (S.shown store.new).faults }
 {
-    let whole = fetch(chain, alloc, key, store, options)?;
-    part_of(chain, alloc, &whole, region)
+    let value = store.get(alloc, key)?;
+    region_held(chain, alloc, value, region, options)
 }

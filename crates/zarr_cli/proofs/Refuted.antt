@@ -10,6 +10,7 @@ use Rattle.std.proofs.lemmas.Str.{utf8_valid_len-IsValidUpTo, is_utf8-from_IsUtf
 use Rattle.hex.specs.Hex.{encode_with, decode_pairs}
 use Rattle.zarr_model.specs.Prelude.{of_bytes, fixed_bytes, regular_grid, Options, Content, with_key, WhollyMeans, stored_array, Command, elements, read, write, erase, Description, layout, LeavesArray, command_chunks, asks_store, counted, Rose, Shown, Given, IsPlace, AsksUpTo, IsUndecoded, IsStopped, erases_chunk, IsDamageMet}
 use Rattle.zarr_array_parts.specs.Document.{ArrayDocument, describe}
+use Rattle.zarr_array.proofs.StoredLaws.{stores-none}
 use Rattle.zarr_array_parts.specs.Opening.{opened, open_builtin}
 use Rattle.zarr_cli.specs.Input.{input_limit, document_line, lines_after_document, store_after_keys, command_grammar, IsBadLine}
 use Rattle.zarr_cli_runs.specs.Keys.{ListsStore, IsDump, IsDumpAsks}
@@ -238,6 +239,7 @@ right_run = (
       presence = λ array chunk meant is_chunk. refl;
       keys = record { same_chunks = λ chunk is_chunk e. refl; other_keys = λ key apart. refl };
     };
+    stored = stores-none _ _ _ _ _ (λ chunk. refl);
     undamaged = record { no_key = right_unmet };
     dumped = (codes "ok h00\n", [], refl, refl);
   },

@@ -1,6 +1,7 @@
 -- Commands that ran, and their text.
 use Rattle.std.proofs.Common.{◌≡◌, ℕ, ◌<◌, ◌≤◌, List, ◌++◌, Some, Result, Ok, Err, IfErr, sym, ap, ◌∙◌, subst, arith}
 use Rattle.zarr_model.specs.Prelude.{Command, Description, kind, replies, all_asks, LeavesArray, IsDamageMet, Shown, Options}
+use Rattle.zarr_array.specs.Stored.{StoresForAll}
 use Rattle.zarr_array.specs.declared.command.Reply.{Reply}
 use Rattle.zarr_cli.specs.Steps.{RepliesTo, PrintsAll}
 use Rattle.zarr_cli_runs.specs.Keys.{Dumps, IsDumpFault}
@@ -16,6 +17,7 @@ pub text_replied : (description : Description) (options : Options) (commands : L
 text_replied description options commands before now held text ran is = record {
   replied = λ meant means. is (replies description commands meant) (ran.matched meant means);
   left = ran.left;
+  stored = ran.stored;
   undamaged = ran.undamaged;
   asks = ran.asks;
 }
@@ -48,6 +50,7 @@ ran_all description settings commands before mid now replied text ran dumps = re
   prints = record {
     replied = λ array means. (dumps.text.0, dumps.text.1, dumps.text.2 ∙ ap (λ front. front ++ dumps.text.0) (ran.replied array means));
     left = subst (λ content. LeavesArray description settings.options commands before.content content) (sym dumps.same) ran.left;
+    stored = subst (λ content. StoresForAll description settings.options commands before.content content) (sym dumps.same) ran.stored;
     undamaged = ran.undamaged;
     dumped = (replied, dumps.text.0, dumps.text.1, dumps.text.2);
   };

@@ -4,6 +4,7 @@ use Rattle.zarr_model.specs.Prelude.{Element, Array, Content, Means, IsHonest, C
 use Rattle.zarr_cli_lines.specs.Text.{commands_of, replies_text}
 use Rattle.zarr_array_parts.specs.Document.{ArrayDocument, describe}
 use Rattle.zarr_array_parts.specs.Opening.{opened, open_builtin}
+use Rattle.zarr_array.specs.Stored.{StoresForAll}
 use Rattle.zarr_cli.specs.Words.{Settings, ReadsBy}
 use Rattle.zarr_cli.specs.Input.{input_limit, document_line, lines_after_document, command_grammar, store_after_keys, IsLineKey}
 use Rattle.zarr_cli_runs.specs.Keys.{IsDump}
@@ -33,8 +34,9 @@ pub record Prints (description : Description) (settings : Settings) (commands : 
   -- the replies of one plain array that the store meant, and the final keys
   pub replied : (array : Array Element) → Means (layout description settings.options) old array →
       IsOutput description commands array settings.dump new output
-  -- the store is left as that array's
+  -- the store is left as that array's, and what was stored decodes so under all options
   pub left : LeavesArray description settings.options commands old new
+  pub stored : StoresForAll description settings.options commands old new
   -- each value that was met decodes
   pub undamaged : MeetsNoDamage description settings.options commands old
   -- whatever the store meant, its final keys stand at the end

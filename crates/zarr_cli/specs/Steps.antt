@@ -4,6 +4,7 @@ use Rattle.zarr_model.specs.Prelude.{Element, Array, Options, Means, Shown, Told
 use Rattle.zarr_array_parts.specs.Document.{describe}
 use Rattle.zarr_array_parts.specs.Opening.{OpenRefusal, opened, open_builtin}
 use Rattle.zarr_array.specs.OpenArray.{documented}
+use Rattle.zarr_array.specs.Stored.{StoresForAll}
 use Rattle.zarr_array_parts.specs.OpenError.{open_refusal_of}
 use Rattle.zarr_array.specs.Command.{command_of}
 use Rattle.zarr_cli_lines.specs.Text.{commands_of, replies_text}
@@ -60,6 +61,7 @@ pub record RepliesTo (description : Description) (options : Options) (commands :
   pub replied : (array : Array Element) → Means (layout description options) before.content array →
       text ≡ replies_text (replies description commands array)
   pub left : LeavesArray description options commands before.content now.content
+  pub stored : StoresForAll description options commands before.content now.content
   pub undamaged : MeetsNoDamage description options commands before.content
   pub asks : now.asks ≡ counted before.asks (all_asks description commands)
 

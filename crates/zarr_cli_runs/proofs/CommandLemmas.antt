@@ -6,6 +6,7 @@ use Rattle.zarr_model.proofs.FailureLaws.{undecoded-met}
 use Rattle.zarr_array.specs.OpenArray.{described}
 use Rattle.zarr_array.specs.Command.{answer_of}
 use Rattle.zarr_array.specs.Session.{HasSessionCause}
+use Rattle.zarr_array.specs.Stored.{StoresForAll}
 use Rattle.zarr_array.specs.declared.open.OpenArray.{OpenArray}
 use Rattle.zarr_array.specs.declared.command.Reply.{Reply}
 use Rattle.zarr_array_regions.specs.declared.error.SessionErrorKind.{SessionErrorKind}
@@ -18,10 +19,11 @@ wholly_honest description options store array meant chunk is_chunk = subst IsSom
 
 pub replied_by : (array : OpenArray) (options : Options) (commands : List Command) (before now : Shown) (held : List Reply) →
     (IsHonest (layout (described array) options) before.content → ServesArray (described array) options commands before.content now.content (map answer_of held)) →
+    StoresForAll (described array) options commands before.content now.content →
     LeavesKeys (described array) options commands before.content now.content → MeetsNoDamage (described array) options commands before.content →
     RefusesRight (described array) commands (map answer_of held) →
     now.asks ≡ counted before.asks (all_asks (described array) commands) → RepliedBy (described array) options commands before now held
-replied_by array options commands before now held serves keys undamaged refusals asks = record {
+replied_by array options commands before now held serves stored keys undamaged refusals asks = record {
   matched = λ meant means. (serves means.honest).answers_match meant means;
   left = record {
     array_left = λ meant means. (serves means.honest).left.array_left meant means;
@@ -29,6 +31,7 @@ replied_by array options commands before now held serves keys undamaged refusals
     presence = λ meant chunk means is_chunk. (serves (wholly_honest (described array) options before.content meant means)).left.presence meant chunk means is_chunk;
     keys = keys;
   };
+  stored = stored;
   undamaged = undamaged;
   refusals = refusals;
   asks = asks;

@@ -9,6 +9,7 @@ use Rattle.zarr_array_parts.specs.Opening.{OpenRefusal, OpenAnswer, opened}
 use Rattle.zarr_array_parts.specs.OpenError.{open_refusal_of}
 use Rattle.zarr_array.specs.OpenArray.{documented, described}
 use Rattle.zarr_array.specs.Command.{answer_of}
+use Rattle.zarr_array.specs.Stored.{StoresForAll}
 use Rattle.zarr_array.specs.declared.open.OpenArray.{OpenArray}
 use Rattle.zarr_array.specs.declared.command.Reply.{Reply}
 use Rattle.zarr_cli_made.specs.Document.{made_document}
@@ -80,6 +81,7 @@ summed_up description n count options commands before mid now held text sized ra
     summed = λ array means. (keys.0, keys.1, sums (Model.replies description commands array) (subst (λ k. AllZip (Matches k) (map answer_of held) (Model.replies description commands array)) sized (ran.matched array means)) ∙ ap (summary_text (Model.replies description commands array)) keys.2);
     numbers = counts n count description commands held now.content text is.0 ran.refusals keys is.1;
     left = subst (λ content. LeavesArray description options commands before.content content) (sym same) ran.left;
+    stored = subst (λ content. StoresForAll description options commands before.content content) (sym same) ran.stored;
     undamaged = ran.undamaged;
   };
   asks = (let first : mid.asks ≡ counted before.asks (all_asks description commands) = ran.asks in counted_more before.asks mid.asks now.asks (all_asks description commands) 1 first asks);

@@ -4,6 +4,7 @@ use Rattle.std.specs.Prelude.{◌≡◌, ℕ, List, map, Some, true}
 use Rattle.std.specs.List.{AllZip, list_any}
 use Rattle.zarr_model.specs.Prelude.{Element, Array, Options, Means, Shown, Command, Description, kind, layout, replies, Matches, LeavesArray, MeetsNoDamage, RefusesRight, all_asks, counted, Rose, IsDamageMet, IsChunk, changes_chunk}
 use Rattle.zarr_array.specs.Command.{answer_of}
+use Rattle.zarr_array.specs.Stored.{StoresForAll}
 use Rattle.zarr_array.specs.declared.command.Reply.{Reply}
 use Rattle.zarr_cli_runs.specs.declared.status.Status.{Status}
 use Rattle.zarr_cli_runs.specs.declared.status.Status.TheVariants.{OutOfMemory, Document, Chunk, Store}
@@ -22,6 +23,7 @@ pub record RepliedBy (description : Description) (options : Options) (commands :
   pub matched : (array : Array Element) → Means (layout description options) before.content array →
       AllZip (Matches (kind description)) (map answer_of held) (replies description commands array)
   pub left : LeavesArray description options commands before.content now.content
+  pub stored : StoresForAll description options commands before.content now.content
   pub undamaged : MeetsNoDamage description options commands before.content
   pub refusals : RefusesRight description commands (map answer_of held)
   pub asks : now.asks ≡ counted before.asks (all_asks description commands)

@@ -4,6 +4,7 @@ use Rattle.std.specs.List.{sum_by}
 use Rattle.zarr_model.specs.Prelude.{Element, Array, Options, Content, Means, Command, Refusal, Description, refusal, layout, replies, all_asks, counted, LeavesArray, MeetsNoDamage, Shown}
 use Rattle.zarrs_storage.specs.Store.{ListsKeys}
 use Rattle.zarr_array_parts.specs.Document.{describe}
+use Rattle.zarr_array.specs.Stored.{StoresForAll}
 use Rattle.zarr_cli_made.specs.Document.{made_document}
 use Rattle.zarr_cli_made.specs.Summary.{summary_lines, summary_text}
 
@@ -49,8 +50,9 @@ pub record SumsUp (description : Description) (options : Options) (commands : Li
       IsSummary description commands array new output
   -- whatever the store meant, its lines are those of a summary
   pub numbers : Counts description commands new output
-  -- the store is left as that array's
+  -- the store is left as that array's, and what was stored decodes so under all options
   pub left : LeavesArray description options commands old new
+  pub stored : StoresForAll description options commands old new
   -- each value that was met decodes
   pub undamaged : MeetsNoDamage description options commands old
 

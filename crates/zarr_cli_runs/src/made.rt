@@ -119,6 +119,9 @@ fn summary_from<S: Store>(
 
 /// Runs the commands that are made from a number over a store, and gives the summary of their replies and of how many
 /// keys the store holds at the end.
+///
+/// # Errors
+/// `Chunk` where a read or a write met a value that does not decode, `Store` where the store failed, and `OutOfMemory`.
 pub fn run_made<S: Store>(
     alloc: Global,
     options: &CodecOptions,

@@ -1,2 +1,3 @@
 mod KindLaws
 mod InnerLaws
+mod ReadsBack

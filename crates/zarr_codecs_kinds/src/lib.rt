@@ -4,6 +4,7 @@
 mod array_to_array;
 mod bytes_to_bytes;
 mod codec_kind;
+pub mod laws;
 
 pub use array_to_array::BasicArrayToArray;
 pub use bytes_to_bytes::BasicBytesToBytes;

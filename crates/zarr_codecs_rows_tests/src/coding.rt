@@ -4,6 +4,7 @@ use crate::texts::{error_text, is_text, told};
 use std::alloc::{AllocError, Global};
 use std::borrow::CowSlice;
 use std::num::NonZeroU64;
+use std::process::Abort;
 use zarr_codecs::{BytesCodec, Sha256Codec};
 use zarr_codecs_offset::OffsetCodec;
 use zarrs_array_subset::ArraySubset;
@@ -25,9 +26,12 @@ fn elements(bytes: &'static [u8]) -> ArrayBytes<'static> {
     ArrayBytes::new_flen(CowSlice::Borrowed(bytes))
 }
 
-fn fill(alloc: Global, bytes: &[u8]) -> Result<FillValue, AllocError> {
-    let bytes = bytes.to_vec(alloc)?;
-    Ok(FillValue::new(bytes))
+fn owned(rt: &impl Abort, alloc: Global, bytes: &[u8]) -> Vec<u8> {
+    bytes.to_vec(alloc).expect(rt, "memory")
+}
+
+fn fill(rt: &impl Abort, alloc: Global, bytes: &[u8]) -> FillValue {
+    FillValue::new(owned(rt, alloc, bytes))
 }
 
 fn told_value(alloc: Global, made: Result<Vec<u8>, CodecError>) -> Result<String, AllocError> {
@@ -45,8 +49,8 @@ fn told_fill(alloc: Global, made: Result<FillValue, CodecError>) -> Result<Strin
 }
 
 // One number of a byte with 250 put on it.
-fn put_on(alloc: Global, bytes: &'static [u8]) -> Result<String, AllocError> {
-    let (codec, fill) = (OffsetCodec::new(250), fill(alloc, &[10])?);
+fn put_on(rt: &impl Abort, alloc: Global, bytes: &'static [u8]) -> Result<String, AllocError> {
+    let (codec, fill) = (OffsetCodec::new(250), fill(rt, alloc, &[10]));
     let options = CodecOptions::default();
     told(
         alloc,
@@ -62,8 +66,8 @@ fn put_on(alloc: Global, bytes: &'static [u8]) -> Result<String, AllocError> {
 }
 
 // The same taken off.
-fn taken_off(alloc: Global, bytes: &'static [u8]) -> Result<String, AllocError> {
-    let (codec, fill) = (OffsetCodec::new(250), fill(alloc, &[10])?);
+fn taken_off(rt: &impl Abort, alloc: Global, bytes: &'static [u8]) -> Result<String, AllocError> {
+    let (codec, fill) = (OffsetCodec::new(250), fill(rt, alloc, &[10]));
     let options = CodecOptions::default();
     told(
         alloc,
@@ -79,8 +83,8 @@ fn taken_off(alloc: Global, bytes: &'static [u8]) -> Result<String, AllocError> 
 }
 
 // A number of two bytes, with -2 put on it.
-fn put_on_two(alloc: Global, bytes: &'static [u8]) -> Result<String, AllocError> {
-    let (codec, fill) = (OffsetCodec::new(-2), fill(alloc, &[0, 0])?);
+fn put_on_two(rt: &impl Abort, alloc: Global, bytes: &'static [u8]) -> Result<String, AllocError> {
+    let (codec, fill) = (OffsetCodec::new(-2), fill(rt, alloc, &[0, 0]));
     let options = CodecOptions::default();
     told(
         alloc,
@@ -95,35 +99,40 @@ fn put_on_two(alloc: Global, bytes: &'static [u8]) -> Result<String, AllocError>
     )
 }
 
-fn fill_below(alloc: Global, data_type: &DataType, bytes: &[u8]) -> Result<String, AllocError> {
-    let (codec, fill) = (OffsetCodec::new(250), fill(alloc, bytes)?);
+fn fill_below(
+    rt: &impl Abort,
+    alloc: Global,
+    data_type: &DataType,
+    bytes: &[u8],
+) -> Result<String, AllocError> {
+    let (codec, fill) = (OffsetCodec::new(250), fill(rt, alloc, bytes));
     told_fill(alloc, codec.encoded_fill_value(alloc, data_type, &fill))
 }
 
 #[test]
 fn offsets_are_put_on_and_taken_off(rt: HostRuntime) {
     let alloc = rt.alloc();
-    is_text(&rt, put_on(alloc, &[11]), "[5]");
-    is_text(&rt, taken_off(alloc, &[5]), "[11]");
-    is_text(&rt, put_on_two(alloc, &[1, 0]), "[255, 255]");
+    is_text(&rt, put_on(&rt, alloc, &[11]), "[5]");
+    is_text(&rt, taken_off(&rt, alloc, &[5]), "[11]");
+    is_text(&rt, put_on_two(&rt, alloc, &[1, 0]), "[255, 255]");
     let long = "UnexpectedChunkDecodedSize(InvalidBytesLengthError { len: 2, expected_len: 1 })";
-    is_text(&rt, put_on(alloc, &[11, 12]), long);
-    is_text(&rt, fill_below(alloc, &DataType::UInt8, &[10]), "[4]");
+    is_text(&rt, put_on(&rt, alloc, &[11, 12]), long);
+    is_text(&rt, fill_below(&rt, alloc, &DataType::UInt8, &[10]), "[4]");
     is_text(
         &rt,
-        fill_below(alloc, &DataType::UInt8, &[10, 0]),
+        fill_below(&rt, alloc, &DataType::UInt8, &[10, 0]),
         "DataTypeFillValueError(DataTypeFillValueError)",
     );
     is_text(
         &rt,
-        fill_below(alloc, &DataType::Bool, &[1]),
+        fill_below(&rt, alloc, &DataType::Bool, &[1]),
         "UnsupportedDataTypeCodec(UnsupportedDataType { codec_name: Offset })",
     );
 }
 
 // A number of two bytes as a value.
-fn stored(alloc: Global, order: Option<Endianness>) -> Result<String, AllocError> {
-    let (codec, fill) = (BytesCodec::new(order), fill(alloc, &[0, 0])?);
+fn stored(rt: &impl Abort, alloc: Global, order: Option<Endianness>) -> Result<String, AllocError> {
+    let (codec, fill) = (BytesCodec::new(order), fill(rt, alloc, &[0, 0]));
     let options = CodecOptions::default();
     let bytes = elements(&[1, 0]);
     told_value(
@@ -133,16 +142,23 @@ fn stored(alloc: Global, order: Option<Endianness>) -> Result<String, AllocError
 }
 
 // A value with its first components last, decoded into a view of its element.
-fn decode_into(alloc: Global, bytes: &mut [u8], value: &[u8]) -> Result<(), CodecError> {
+fn decode_into(
+    rt: &impl Abort,
+    alloc: Global,
+    bytes: &mut [u8],
+    value: &[u8],
+) -> Result<(), CodecError> {
     let (codec, fill) = (
         BytesCodec::new(Some(Endianness::Big)),
-        fill(alloc, &[0, 0])?,
+        fill(rt, alloc, &[0, 0]),
     );
-    let all = ArraySubset::new_with_ranges(alloc, &[1..2])?;
-    let mut view = ArrayBytesFixedDisjointView::new(alloc, bytes, 2, &[2], all)?;
+    let all = ArraySubset::new_with_ranges(alloc, &[1..2]).expect(rt, "memory");
+    let mut view = ArrayBytesFixedDisjointView::new(alloc, bytes, 2, &[2], all).expect(
+        rt, "a view",
+    );
     codec.decode_into(
         alloc,
-        value.to_vec(alloc)?,
+        owned(rt, alloc, value),
         &ONE,
         &DataType::Int16,
         &fill,
@@ -151,9 +167,9 @@ fn decode_into(alloc: Global, bytes: &mut [u8], value: &[u8]) -> Result<(), Code
     )
 }
 
-fn put(alloc: Global, value: &[u8]) -> Result<String, AllocError> {
+fn put(rt: &impl Abort, alloc: Global, value: &[u8]) -> Result<String, AllocError> {
     let mut bytes: [u8; 4] = [9; 4];
-    match decode_into(alloc, &mut bytes, value) {
+    match decode_into(rt, alloc, &mut bytes, value) {
         Ok(()) => format!(in alloc; "{bytes:?}"),
         Err(error) => format!(in alloc; "{error:?} {bytes:?}"),
     }
@@ -162,13 +178,13 @@ fn put(alloc: Global, value: &[u8]) -> Result<String, AllocError> {
 #[test]
 fn components_have_an_order(rt: HostRuntime) {
     let alloc = rt.alloc();
-    is_text(&rt, stored(alloc, Some(Endianness::Big)), "[0, 1]");
-    is_text(&rt, stored(alloc, Some(Endianness::Little)), "[1, 0]");
-    is_text(&rt, stored(alloc, None), "EndiannessMissing");
-    is_text(&rt, put(alloc, &[1, 2]), "[9, 9, 2, 1]");
+    is_text(&rt, stored(&rt, alloc, Some(Endianness::Big)), "[0, 1]");
+    is_text(&rt, stored(&rt, alloc, Some(Endianness::Little)), "[1, 0]");
+    is_text(&rt, stored(&rt, alloc, None), "EndiannessMissing");
+    is_text(&rt, put(&rt, alloc, &[1, 2]), "[9, 9, 2, 1]");
     is_text(
         &rt,
-        put(alloc, &[1]),
+        put(&rt, alloc, &[1]),
         "UnexpectedChunkDecodedSize(InvalidBytesLengthError { len: 1, expected_len: 2 }) [9, 9, 9, 9]",
     );
 }
@@ -180,17 +196,22 @@ const ABC: [u8; 35] = [
     0x00, 0x15, 0xad,
 ];
 
-fn with_digest(alloc: Global) -> Result<bool, CodecError> {
-    let value = [0x61, 0x62, 0x63].as_slice().to_vec(alloc)?;
-    let value = Sha256Codec::new().encode(alloc, value, &CodecOptions::default())?;
-    Ok(value.as_slice() == ABC.as_slice())
+fn with_digest(rt: &impl Abort, alloc: Global) -> Vec<u8> {
+    let value = owned(rt, alloc, &[0x61, 0x62, 0x63]);
+    let value = Sha256Codec::new().encode(alloc, value, &CodecOptions::default());
+    value.expect(rt, "a value")
 }
 
 // What a value is without its digest, whose last byte is this.
-fn without_digest(alloc: Global, last: u8, validate: bool) -> Result<String, AllocError> {
-    let mut value = ABC.as_slice().to_vec(alloc)?;
+fn without_digest(
+    rt: &impl Abort,
+    alloc: Global,
+    last: u8,
+    validate: bool,
+) -> Result<String, AllocError> {
+    let mut value = owned(rt, alloc, &ABC);
     value.pop();
-    value.push(last)?;
+    value.push(last).expect(rt, "memory");
     let options = CodecOptions::default().with_validate_checksums(validate);
     let size = BytesRepresentation::FixedSize(3);
     told_value(
@@ -199,8 +220,8 @@ fn without_digest(alloc: Global, last: u8, validate: bool) -> Result<String, All
     )
 }
 
-fn short_value(alloc: Global) -> Result<String, AllocError> {
-    let value = [0x61, 0x62].as_slice().to_vec(alloc)?;
+fn short_value(rt: &impl Abort, alloc: Global) -> Result<String, AllocError> {
+    let value = owned(rt, alloc, &[0x61, 0x62]);
     let size = BytesRepresentation::FixedSize(3);
     told_value(
         alloc,
@@ -211,10 +232,14 @@ fn short_value(alloc: Global) -> Result<String, AllocError> {
 #[test]
 fn digests_are_tested(rt: HostRuntime) {
     let alloc = rt.alloc();
-    assert!(&rt; matches!(with_digest(alloc), Ok(true)));
-    is_text(&rt, without_digest(alloc, 0xad, true), "[97, 98, 99]");
-    is_text(&rt, without_digest(alloc, 0xae, true), "InvalidChecksum");
-    is_text(&rt, without_digest(alloc, 0xae, false), "[97, 98, 99]");
+    assert_eq!(rt; with_digest(&rt, alloc).as_slice(), ABC.as_slice());
+    is_text(&rt, without_digest(&rt, alloc, 0xad, true), "[97, 98, 99]");
+    is_text(
+        &rt,
+        without_digest(&rt, alloc, 0xae, true),
+        "InvalidChecksum",
+    );
+    is_text(&rt, without_digest(&rt, alloc, 0xae, false), "[97, 98, 99]");
     let short = "UnexpectedChunkDecodedSize(InvalidBytesLengthError { len: 2, expected_len: 32 })";
-    is_text(&rt, short_value(alloc), short);
+    is_text(&rt, short_value(&rt, alloc), short);
 }

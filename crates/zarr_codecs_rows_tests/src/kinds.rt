@@ -1,6 +1,6 @@
 //! The codecs of texts and of optional elements: what each call answers where all is well.
 
-ghost use Rattle.std.specs.Prelude.{◌≡◌, [], ◌∷◌, true, None, IfOk};
+ghost use Rattle.std.specs.Prelude.{◌≡◌, [], ◌∷◌, true, None};
 ghost use Rattle.zarr_model.specs.Region.{ends_within};
 ghost use Rattle.zarr_model.specs.Element.{optional_type, uint_type};
 ghost use Rattle.zarrs_array_subset.specs.ArraySubset.{region as box_of};
@@ -12,13 +12,12 @@ use crate::texts::{elements_text, is_text, written};
 use std::alloc::{AllocError, Global};
 use std::borrow::CowSlice;
 use std::num::NonZeroU64;
-use std::test::Fail;
+use std::process::Abort;
 use zarr_codecs::BytesCodec;
 use zarr_codecs_array_to_bytes::{BasicArrayToBytes, OptionalCodec};
 use zarr_codecs_vlen::VlenCodec;
 use zarrs_array_subset::ArraySubset;
 use zarrs_codec_array_bytes::{ArrayBytes, ArrayBytesOffsets};
-use zarrs_codec_error::CodecError;
 use zarrs_codec_options::{CodecMetadataOptions, CodecOptions};
 use zarrs_codec_traits::{ArrayCodecTraits, ArrayToBytesCodecTraits, CodecTraits, CodecTraitsV3};
 use zarrs_data_type_elements::FillValue;
@@ -36,160 +35,170 @@ fn told<C: CodecTraits>(alloc: Global, codec: &C) -> Result<String, AllocError> 
 
 // The value of elements.
 fn stored<C: ArrayToBytesCodecTraits>(
+    rt: &impl Abort,
     alloc: Global,
     codec: &C,
     elements: ArrayBytes<'static>,
     shape: &[NonZeroU64],
     data_type: &DataType,
-) -> Result<String, CodecError>
+) -> Result<String, AllocError>
     requires { IsFit (lengths shape.now) (type_of data_type.now) }
 {
     let (fill, options) = (FillValue::new(Vec::new(alloc)), CodecOptions::default());
-    let value = codec.encode(alloc, elements, shape, data_type, &fill, &options)?;
-    let text = format!(in alloc; "{value:?}")?;
-    Ok(text)
+    let value = codec.encode(alloc, elements, shape, data_type, &fill, &options);
+    format!(in alloc; "{:?}", value.expect(rt, "a value"))
 }
 
 // The elements of a value.
 fn taken<C: ArrayToBytesCodecTraits>(
+    rt: &impl Abort,
     alloc: Global,
     codec: &C,
     value: &[u8],
     shape: &[NonZeroU64],
     data_type: &DataType,
-) -> Result<String, CodecError>
+) -> Result<String, AllocError>
     requires { IsFit (lengths shape.now) (type_of data_type.now) }
 {
     let (fill, options) = (FillValue::new(Vec::new(alloc)), CodecOptions::default());
-    let value = value.to_vec(alloc)?;
-    let elements = codec.decode(alloc, value, shape, data_type, &fill, &options)?;
-    let text = elements_text(alloc, &elements)?;
-    Ok(text)
+    let value = value.to_vec(alloc).expect(rt, "memory");
+    let elements = codec.decode(alloc, value, shape, data_type, &fill, &options);
+    elements_text(alloc, &elements.expect(rt, "elements"))
 }
 
 // The shape that is decoded at once, and whether parts of a value are asked for a region.
 fn asked<C: ArrayToBytesCodecTraits>(
+    rt: &impl Abort,
     alloc: Global,
     codec: &C,
     region: &ArraySubset,
     shape: &[NonZeroU64],
     data_type: &DataType,
-) -> Result<String, CodecError>
+) -> Result<String, AllocError>
     requires fits { IsFit (lengths shape.now) (type_of data_type.now) }
     requires inside { ends_within (box_of region.now) (lengths shape.now) ≡ true }
 {
-    let at_once = codec.partial_decode_granularity(alloc, shape)?;
-    let parts = codec
-        .byte_request(alloc, region, shape, data_type)?
-        .is_some();
-    let text = format!(in alloc; "{at_once:?} {parts}")?;
-    Ok(text)
+    let at_once = codec
+        .partial_decode_granularity(alloc, shape)
+        .expect(rt, "a shape");
+    let request = codec.byte_request(alloc, region, shape, data_type);
+    let parts = request.expect(rt, "a request").is_some();
+    format!(in alloc; "{at_once:?} {parts}")
 }
 
 // The elements of a region, out of the whole value.
 fn part<C: ArrayToBytesCodecTraits>(
+    rt: &impl Abort,
     alloc: Global,
     codec: &C,
     value: &[u8],
     region: &ArraySubset,
     shape: &[NonZeroU64],
     data_type: &DataType,
-) -> Result<String, CodecError>
+) -> Result<String, AllocError>
     requires fits { IsFit (lengths shape.now) (type_of data_type.now) }
     requires inside { ends_within (box_of region.now) (lengths shape.now) ≡ true }
     requires whole { C.request codec.now (lengths shape.now) (type_of data_type.now)
         (box_of region.now) ≡ None }
 {
     let (fill, options) = (FillValue::new(Vec::new(alloc)), CodecOptions::default());
-    let value = value.to_vec(alloc)?;
-    let parts = vec![in alloc; value]?;
-    let elements = codec.decode_parts(alloc, parts, region, shape, data_type, &fill, &options)?;
-    let text = elements_text(alloc, &elements)?;
-    Ok(text)
+    let value = value.to_vec(alloc).expect(rt, "memory");
+    let parts = vec![in alloc; value].expect(rt, "memory");
+    let elements = codec.decode_parts(alloc, parts, region, shape, data_type, &fill, &options);
+    elements_text(alloc, &elements.expect(rt, "elements"))
 }
 
 // The second of two elements.
-fn second(alloc: Global) -> Result<ArraySubset, AllocError>
-    ensures { IfOk result (λ r. ends_within (box_of r) (2 ∷ []) ≡ true) }
+fn second(rt: &impl Abort, alloc: Global) -> ArraySubset
+    ensures { ends_within (box_of result) (2 ∷ []) ≡ true }
 {
-    ArraySubset::new_with_ranges(alloc, &[1..2])
+    ArraySubset::new_with_ranges(alloc, &[1..2]).expect(rt, "memory")
 }
 
 // Two texts.
-fn texts() -> Result<ArrayBytes<'static>, Fail> {
-    let offsets = ArrayBytesOffsets::new(CowSlice::Borrowed(&[0, 1, 3]))
-        .ok()
-        .ok_or("offsets")?;
-    let texts = ArrayBytes::new_vlen(CowSlice::Borrowed(b"abc"), offsets)
-        .ok()
-        .ok_or("texts")?;
-    Ok(texts)
+fn texts(rt: &impl Abort) -> ArrayBytes<'static> {
+    let offsets = ArrayBytesOffsets::new(CowSlice::Borrowed(&[0, 1, 3])).expect(rt, "offsets");
+    ArrayBytes::new_vlen(CowSlice::Borrowed(b"abc"), offsets).expect(rt, "texts")
 }
 
 // The metadata of the codec that metadata denotes.
-fn created(alloc: Global, text: &str) -> Result<String, Fail> {
-    let metadata = MetadataV3::try_from_text(alloc, text)
+fn created(rt: &impl Abort, alloc: Global, text: &str) -> Result<String, AllocError> {
+    let metadata = MetadataV3::try_from_text(alloc, text).expect(rt, "metadata");
+    let codec = VlenCodec::create(alloc, &metadata)
         .ok()
-        .ok_or("metadata")?;
-    let codec = VlenCodec::create(alloc, &metadata).ok().ok_or("a codec")?;
-    let text = told(alloc, &codec.try_clone(alloc)?)?;
-    Ok(text)
+        .expect(rt, "a codec");
+    told(alloc, &codec.try_clone(alloc).expect(rt, "memory"))
 }
 
 #[test]
-fn texts_are_coded(rt: HostRuntime) -> Result<(), Fail> {
-    let alloc = rt.alloc();
-    assert_eq!(rt; created(alloc, "\"vlen-utf8\"")?.as_str(), "vlen-utf8 {}");
-    let (codec, shape) = (VlenCodec::new(true), [NonZeroU64::new(2).ok_or("two")?]);
+fn texts_are_coded(rt: HostRuntime) {
+    let (alloc, codec) = (rt.alloc(), VlenCodec::new(true));
+    let shape = [NonZeroU64::new(2).expect(&rt, "two")];
     let value = [2, 0, 0, 0, 1, 0, 0, 0, 97, 2, 0, 0, 0, 98, 99];
+    is_text(&rt, created(&rt, alloc, "\"vlen-utf8\""), "vlen-utf8 {}");
     is_text(
         &rt,
-        stored(alloc, &codec, texts()?, &shape, &DataType::String),
+        stored(&rt, alloc, &codec, texts(&rt), &shape, &DataType::String),
         "[2, 0, 0, 0, 1, 0, 0, 0, 97, 2, 0, 0, 0, 98, 99]",
     );
     is_text(
         &rt,
-        taken(alloc, &codec, &value, &shape, &DataType::String),
+        taken(&rt, alloc, &codec, &value, &shape, &DataType::String),
         "[97, 98, 99] [0, 1, 3]",
     );
-    let region = second(alloc)?;
+}
+
+#[test]
+fn parts_of_texts_are_decoded(rt: HostRuntime) {
+    let (alloc, codec) = (rt.alloc(), VlenCodec::new(true));
+    let shape = [NonZeroU64::new(2).expect(&rt, "two")];
+    let value = [2, 0, 0, 0, 1, 0, 0, 0, 97, 2, 0, 0, 0, 98, 99];
+    let region = second(&rt, alloc);
     is_text(
         &rt,
-        asked(alloc, &codec, &region, &shape, &DataType::String),
+        asked(&rt, alloc, &codec, &region, &shape, &DataType::String),
         "[2] false",
     );
     is_text(
         &rt,
-        part(alloc, &codec, &value, &region, &shape, &DataType::String),
+        part(
+            &rt,
+            alloc,
+            &codec,
+            &value,
+            &region,
+            &shape,
+            &DataType::String,
+        ),
         "[98, 99] [0, 2]",
     );
-    Ok(())
 }
 
 // Two numbers of a byte, the first of which is null.
-fn numbers(alloc: Global) -> Result<ArrayBytes<'static>, AllocError> {
-    ArrayBytes::from(&[7, 8]).with_optional_mask(alloc, CowSlice::Borrowed(&[0, 1]))
+fn numbers(rt: &impl Abort, alloc: Global) -> ArrayBytes<'static> {
+    let numbers = ArrayBytes::from(&[7, 8]);
+    let optional = numbers.with_optional_mask(alloc, CowSlice::Borrowed(&[0, 1]));
+    optional.expect(rt, "memory")
 }
 
 // The codec of optional numbers of a byte.
-fn optional(alloc: Global) -> Result<OptionalCodec, AllocError> {
-    let inner = Box::new(alloc, BasicArrayToBytes::Bytes(BytesCodec::new(None)))?;
-    OptionalCodec::new(inner).try_clone(alloc)
+fn optional(rt: &impl Abort, alloc: Global) -> OptionalCodec {
+    let inner = BasicArrayToBytes::Bytes(BytesCodec::new(None));
+    let codec = OptionalCodec::new(Box::new(alloc, inner).expect(rt, "memory"));
+    codec.try_clone(alloc).expect(rt, "memory")
 }
 
-fn optional_type(alloc: Global) -> Result<DataType, AllocError>
-    ensures { IfOk result (λ r. type_of r ≡ optional_type (uint_type 1)) }
+fn optional_type(rt: &impl Abort, alloc: Global) -> DataType
+    ensures { type_of result ≡ optional_type (uint_type 1) }
 {
-    let inner = Box::new(alloc, DataType::UInt8)?;
-    Ok(DataType::Optional(inner))
+    DataType::Optional(Box::new(alloc, DataType::UInt8).expect(rt, "memory"))
 }
 
 #[test]
-fn optional_numbers_are_coded(rt: HostRuntime) -> Result<(), Fail> {
-    let alloc = rt.alloc();
-    let (codec, shape) = (optional(alloc)?, [NonZeroU64::new(2).ok_or("two")?]);
-    let numbers = numbers(alloc)?;
-    let kind = optional_type(alloc)?;
+fn optional_numbers_are_coded(rt: HostRuntime) {
+    let (alloc, shape) = (rt.alloc(), [NonZeroU64::new(2).expect(&rt, "two")]);
+    let codec = optional(&rt, alloc);
+    let kind = optional_type(&rt, alloc);
     is_text(
         &rt,
         told(alloc, &codec),
@@ -197,38 +206,36 @@ fn optional_numbers_are_coded(rt: HostRuntime) -> Result<(), Fail> {
     );
     is_text(
         &rt,
-        stored(alloc, &codec, numbers, &shape, &kind),
+        stored(&rt, alloc, &codec, numbers(&rt, alloc), &shape, &kind),
         "[0, 1, 7, 8]",
     );
     is_text(
         &rt,
-        taken(alloc, &codec, &[0, 1, 7, 8], &shape, &kind),
+        taken(&rt, alloc, &codec, &[0, 1, 7, 8], &shape, &kind),
         "[0, 1] [7, 8]",
     );
-    Ok(())
 }
 
 #[test]
-fn parts_of_optional_numbers_are_decoded(rt: HostRuntime) -> Result<(), Fail> {
-    let alloc = rt.alloc();
-    let (codec, shape) = (optional(alloc)?, [NonZeroU64::new(2).ok_or("two")?]);
-    let kind = optional_type(alloc)?;
-    let region = second(alloc)?;
+fn parts_of_optional_numbers_are_decoded(rt: HostRuntime) {
+    let (alloc, shape) = (rt.alloc(), [NonZeroU64::new(2).expect(&rt, "two")]);
+    let codec = optional(&rt, alloc);
+    let kind = optional_type(&rt, alloc);
+    let region = second(&rt, alloc);
     is_text(
         &rt,
-        asked(alloc, &codec, &region, &shape, &kind),
+        asked(&rt, alloc, &codec, &region, &shape, &kind),
         "[2] false",
     );
     is_text(
         &rt,
-        part(alloc, &codec, &[0, 1, 7, 8], &region, &shape, &kind),
+        part(&rt, alloc, &codec, &[0, 1, 7, 8], &region, &shape, &kind),
         "[1] [8]",
     );
     let either = BasicArrayToBytes::Optional(codec);
     is_text(
         &rt,
-        part(alloc, &either, &[0, 1, 7, 8], &region, &shape, &kind),
+        part(&rt, alloc, &either, &[0, 1, 7, 8], &region, &shape, &kind),
         "[1] [8]",
     );
-    Ok(())
 }

@@ -53,73 +53,66 @@ const VERSION_2: &str = r#"
 {"id":"blosc"} -> Unsupported(PluginUnsupportedError { name: "blosc", kind: Codec })
 "#;
 
-// Entries that go by these names.
-fn named(
-    alloc: Global,
-    names: &[(&str, CodecKind)],
-) -> Result<Vec<(NamePattern, CodecKind)>, AllocError> {
-    let mut entries = Vec::with_capacity(alloc, names.len())?;
-    for entry in names {
-        let name = String::from_str(alloc, entry.0)?;
-        entries.push((NamePattern::Exact(name), entry.1))?;
-    }
-    Ok(entries)
-}
+const KINDS: [(&str, CodecKind); 6] = [
+    ("bytes", CodecKind::Bytes),
+    ("vlen-utf8", CodecKind::VlenUtf8),
+    ("vlen-bytes", CodecKind::VlenBytes),
+    ("zarr_basics.optional", CodecKind::Optional),
+    ("zarr_basics.offset", CodecKind::Offset),
+    ("zarr_basics.sha256", CodecKind::Sha256),
+];
 
-fn codecs(alloc: Global) -> Result<Registry<CodecKind>, AllocError> {
-    let entries = named(
-        alloc,
-        &[
-            ("bytes", CodecKind::Bytes),
-            ("vlen-utf8", CodecKind::VlenUtf8),
-            ("vlen-bytes", CodecKind::VlenBytes),
-            ("zarr_basics.optional", CodecKind::Optional),
-            ("zarr_basics.offset", CodecKind::Offset),
-            ("zarr_basics.sha256", CodecKind::Sha256),
-        ],
-    )?;
-    Ok(Registry::with_builtin(alloc, entries))
+fn codecs(rt: &impl Abort, alloc: Global) -> Registry<CodecKind> {
+    let mut entries = Vec::new(alloc);
+    for (name, kind) in KINDS {
+        let name = String::from_str(alloc, name).expect(rt, "memory");
+        entries
+            .push((NamePattern::Exact(name), kind))
+            .expect(rt, "memory");
+    }
+    Registry::with_builtin(alloc, entries)
 }
 
 // The name and the configuration that a codec has in a version.
-fn told(alloc: Global, codec: &BasicCodec, version: ZarrVersion) -> Result<String, AllocError> {
+fn told(
+    rt: &impl Abort,
+    alloc: Global,
+    codec: &BasicCodec,
+    version: ZarrVersion,
+) -> Result<String, AllocError> {
     let options = CodecMetadataOptions::default();
-    let name = codec.name(alloc, version)?;
-    let configuration = codec.configuration(alloc, version, &options)?;
-    written(alloc, name, configuration)
+    let name = codec.name(alloc, version).expect(rt, "memory");
+    let configuration = codec.configuration(alloc, version, &options);
+    written(alloc, name, configuration.expect(rt, "memory"))
 }
 
 fn made(
+    rt: &impl Abort,
     alloc: Global,
     metadata: CodecMetadata<'_>,
     version: ZarrVersion,
 ) -> Result<String, AllocError> {
-    let codecs = codecs(alloc)?;
-    match BasicCodec::from_metadata(alloc, metadata, &codecs) {
-        Ok(codec) => told(alloc, &codec, version),
+    match BasicCodec::from_metadata(alloc, metadata, &codecs(rt, alloc)) {
+        Ok(codec) => told(rt, alloc, &codec, version),
         Err(error) => error_text(alloc, error),
     }
 }
 
-fn made_3(alloc: Global, text: &str) -> Result<String, AllocError> {
-    match MetadataV3::try_from_text(alloc, text) {
-        Ok(metadata) => made(alloc, CodecMetadata::V3(&metadata), ZarrVersion::V3),
-        Err(error) => error_text(alloc, error),
-    }
+fn made_3(rt: &impl Abort, alloc: Global, text: &str) -> Result<String, AllocError> {
+    let metadata = MetadataV3::try_from_text(alloc, text).expect(rt, text);
+    made(rt, alloc, CodecMetadata::V3(&metadata), ZarrVersion::V3)
 }
 
-fn made_2(alloc: Global, text: &str) -> Result<String, AllocError> {
-    match MetadataV2::try_from_text(alloc, text) {
-        Ok(metadata) => made(alloc, CodecMetadata::V2(&metadata), ZarrVersion::V2),
-        Err(error) => error_text(alloc, error),
-    }
+fn made_2(rt: &impl Abort, alloc: Global, text: &str) -> Result<String, AllocError> {
+    let metadata = MetadataV2::try_from_text(alloc, text).expect(rt, text);
+    made(rt, alloc, CodecMetadata::V2(&metadata), ZarrVersion::V2)
 }
 
 #[test]
 fn codecs_are_made_of_version_3(rt: HostRuntime) {
     for row in VERSION_3.trim().lines() {
         let (text, want) = cut(row);
-        is_text(&rt, made_3(rt.alloc(), text), want);
+        is_text(&rt, made_3(&rt, rt.alloc(), text), want);
     }
 }
 
@@ -127,6 +120,6 @@ fn codecs_are_made_of_version_3(rt: HostRuntime) {
 fn codecs_are_made_of_version_2(rt: HostRuntime) {
     for row in VERSION_2.trim().lines() {
         let (text, want) = cut(row);
-        is_text(&rt, made_2(rt.alloc(), text), want);
+        is_text(&rt, made_2(&rt, rt.alloc(), text), want);
     }
 }

@@ -4,6 +4,7 @@ use crate::texts::{error_text, is_text, told};
 use std::alloc::{AllocError, Global};
 use std::borrow::CowSlice;
 use std::num::NonZeroU64;
+use std::process::Abort;
 use zarr_codecs_vlen::{VlenCodec, vlen_fits};
 use zarrs_codec_array_bytes::{ArrayBytes, ArrayBytesOffsets};
 use zarrs_codec_error::CodecError;
@@ -47,8 +48,8 @@ fn stored(
 }
 
 // The text that a value has.
-fn taken(alloc: Global, value: &[u8]) -> Result<String, AllocError> {
-    let value = value.to_vec(alloc)?;
+fn taken(rt: &impl Abort, alloc: Global, value: &[u8]) -> Result<String, AllocError> {
+    let value = value.to_vec(alloc).expect(rt, "memory");
     let fill = FillValue::new(Vec::new(alloc));
     let options = CodecOptions::default();
     told(
@@ -78,14 +79,18 @@ fn values_have_one_form(rt: HostRuntime) {
     let wrong = "InvalidVariableSizedArrayOffsets";
     is_text(
         &rt,
-        taken(alloc, &[1, 0, 0, 0, 2, 0, 0, 0, 97, 97]),
+        taken(&rt, alloc, &[1, 0, 0, 0, 2, 0, 0, 0, 97, 97]),
         "[97, 97] [0, 2]",
     );
-    is_text(&rt, taken(alloc, &[1, 0, 0, 0, 2, 0, 0, 0, 97]), wrong);
-    is_text(&rt, taken(alloc, &[1, 0, 0, 0, 1, 0, 0, 0, 97, 97]), wrong);
-    is_text(&rt, taken(alloc, &[0, 0, 0, 0]), wrong);
-    is_text(&rt, taken(alloc, &[255, 255, 255, 255]), wrong);
-    is_text(&rt, taken(alloc, &[1, 0, 0]), wrong);
+    is_text(&rt, taken(&rt, alloc, &[1, 0, 0, 0, 2, 0, 0, 0, 97]), wrong);
+    is_text(
+        &rt,
+        taken(&rt, alloc, &[1, 0, 0, 0, 1, 0, 0, 0, 97, 97]),
+        wrong,
+    );
+    is_text(&rt, taken(&rt, alloc, &[0, 0, 0, 0]), wrong);
+    is_text(&rt, taken(&rt, alloc, &[255, 255, 255, 255]), wrong);
+    is_text(&rt, taken(&rt, alloc, &[1, 0, 0]), wrong);
 }
 
 #[test]

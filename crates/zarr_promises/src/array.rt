@@ -15,6 +15,9 @@ use zarrs_codec_array_bytes::ArrayBytes;
 use zarrs_storage::store::Store;
 
 /// A write, as `OpenArray::write`.
+///
+/// # Errors
+/// As of `OpenArray::write`.
 pub fn write_to<S: Store>(
     array: &OpenArray,
     alloc: Global,
@@ -34,6 +37,9 @@ pub fn write_to<S: Store>(
 }
 
 /// A read, as `OpenArray::read`.
+///
+/// # Errors
+/// As of `OpenArray::read`.
 pub fn read_from<S: Store>(
     array: &OpenArray,
     alloc: Global,

@@ -19,6 +19,9 @@ use zarrs_codec_error::CodecError;
 use zarrs_storage::{Store, StoreKey};
 
 /// A region of the chunk under a key: that region of what the chunk has.
+///
+/// # Errors
+/// As of `ChainHandle::partial_decode`.
 pub fn region_of_chunk<S: Store>(
     alloc: Global,
     array: &OpenArray,

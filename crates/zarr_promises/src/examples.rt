@@ -15,6 +15,9 @@ use zarrs_chunk_grid::{
 use zarrs_storage::{StorageError, Store, StoreKey};
 
 /// What stands under a key that was erased.
+///
+/// # Errors
+/// As of `Store::erase` and `Store::get`.
 pub fn erased<S: Store>(
     store: &mut S,
     alloc: Global,
@@ -27,6 +30,9 @@ pub fn erased<S: Store>(
 }
 
 /// The shape of what two subsets share.
+///
+/// # Errors
+/// As of `ArraySubset::overlap`.
 pub fn shared_shape(
     alloc: Global,
     a: &ArraySubset,
@@ -40,6 +46,9 @@ pub fn shared_shape(
 }
 
 /// The first linear index of a subset.
+///
+/// # Errors
+/// As of `LinearisedIndices::new`.
 pub fn first_index(
     alloc: Global,
     subset: ArraySubset,
@@ -54,6 +63,9 @@ pub fn first_index(
 }
 
 /// The linear indices of any indexer.
+///
+/// # Errors
+/// As of `append_linearised_indices`.
 pub fn gather<I: Indexer>(
     alloc: Global,
     indexer: &I,

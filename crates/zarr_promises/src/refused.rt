@@ -13,6 +13,9 @@ use zarrs_codec_array_bytes::ArrayBytes;
 use zarrs_storage::store::Store;
 
 /// A write, as `OpenArray::write`: what one that is refused leaves.
+///
+/// # Errors
+/// As of `OpenArray::write`.
 pub fn write_to<S: Store>(
     array: &OpenArray,
     alloc: Global,

@@ -9,6 +9,9 @@ use std::alloc::Global;
 use zarrs_chunk_grid::{ArraySubset, IndexerError, append_contiguous_linearised_indices};
 
 /// The runs of a subset, as `append_contiguous_linearised_indices`: as few as cover it.
+///
+/// # Errors
+/// As of `append_contiguous_linearised_indices`.
 pub fn runs_of(
     alloc: Global,
     subset: &ArraySubset,

@@ -2,4 +2,6 @@
 #![tactic(auto)]
 
 #[cfg(test)]
+mod heights;
+#[cfg(test)]
 mod runs;

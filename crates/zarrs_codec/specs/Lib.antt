@@ -23,3 +23,15 @@ pub use Rattle.zarrs_codec_view.specs.Answers
 pub use Rattle.zarrs_codec_view.specs.TargetViews
 pub use Rattle.zarrs_codec_view.specs.Held
 pub use Rattle.zarrs_codec_view.specs.Targets
+pub use Rattle.zarrs_codec_traits.specs.Words
+pub use Rattle.zarrs_codec_traits.specs.Views
+pub use Rattle.zarrs_codec_traits.specs.Errors
+pub use Rattle.zarrs_codec_traits.specs.Into
+pub use Rattle.zarrs_codec_traits.specs.Parts
+pub use Rattle.zarrs_codec_metadata.specs.CodecMetadata
+pub use Rattle.zarrs_codec_metadata.specs.CodecOf
+pub use Rattle.zarrs_codec_metadata.specs.Making
+pub use Rattle.zarrs_codec_partial_traits.specs.Lists
+pub use Rattle.zarrs_codec_partial_traits.specs.Selects
+pub use Rattle.zarrs_codec_partial_traits.specs.ListWrites
+pub use Rattle.zarrs_codec_partial_traits.specs.Updates

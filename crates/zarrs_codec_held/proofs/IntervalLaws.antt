@@ -9,7 +9,7 @@ use Rattle.zarrs_codec_held.specs.Held.{Held, HasPart, value_part, Seen, IsSound
 use Rattle.zarrs_codec_error.specs.declared.error.CodecError.{CodecError}
 use Rattle.zarrs_codec_error.specs.declared.error.CodecError.TheVariants as codec
 use Rattle.zarrs_codec_held.specs.Reads.{Keeps, Reads, GivesParts, AreParts, AreAbsent, RefusesSome, IsRangeError, IsHandleError, IsReadError, IsPartError, RefusesFirst}
-use Rattle.zarrs_codec_held.specs.Interval.{shifted, all_of, asked_of, interval_part, interval, interval_early}
+use Rattle.zarrs_codec_held.specs.Interval.{shifted, all_of, asked_of, interval_part, interval, interval_early, range_or, interval_tells}
 
 -- where a valid range lies
 record Lies (range : ByteRange) (size : ℕ) : Type 0 where
@@ -137,22 +137,41 @@ pub interval_given : (there : Bool) (part : ByteRange → Held) (offset len : �
 interval_given there part offset len ranges asked None valid same given = (given.0, absent_by part offset len ranges valid (subst (λ (a : List ByteRange). AreAbsent part a) same given.1))
 interval_given there part offset len ranges asked (Some parts) valid same given = (given.0, parts_by part offset len ranges parts valid (subst (λ (a : List ByteRange). AreParts part a parts) same given.1))
 
-pub interval_told : (part : ByteRange → Held) (offset len : ℕ) (ranges asked : List ByteRange) (tells : CodecError → Type 0) (before now : ℕ) (e : CodecError) → first_invalid len ranges ≡ None → asked ≡ map (shifted offset len) ranges
-    → IsPartError part asked tells before now e → IsPartError (interval_part part offset len) ranges (λ e. IsRangeError e ⊎ tells e) before now e
-interval_told part offset len ranges asked tells before now e valid same told =
-    ⊎_elim (λ (h : IsHandleError before now e). inl h)
-    (λ (r : RefusesSome part asked × tells e). inr (refused_by part offset len ranges valid (subst (λ (a : List ByteRange). RefusesSome part a) same r.0), inr r.1)) told
+module _ (part : ByteRange → Held) (offset len : ℕ) (tells : Option (List ByteRange) → CodecError → Type 0) (before now : ℕ) (e : CodecError) where
+  pub interval_told : (ranges asked : List ByteRange) → first_invalid len ranges ≡ None → asked ≡ map (shifted offset len) ranges
+      → IsPartError part asked (tells (Some asked)) before now e → IsPartError (interval_part part offset len) ranges (interval_tells offset len tells (Some ranges)) before now e
+  interval_told ranges asked valid same told = go (subst (λ (a : List ByteRange). IsPartError part a (tells (Some a)) before now e) same told)
+    where
+      go : IsPartError part (map (shifted offset len) ranges) (tells (Some (map (shifted offset len) ranges))) before now e → IsPartError (interval_part part offset len) ranges (interval_tells offset len tells (Some ranges)) before now e
+      go (inl handle) = inl handle
+      go (inr refuses) = inr (
+        refused_by part offset len ranges valid refuses.0,
+        subst (λ (o : Option ByteRange). range_or o (tells (Some (map (shifted offset len) ranges))) e) (sym valid) refuses.1,
+      )
 
-pub interval_refused : (part : ByteRange → Held) (offset len : ℕ) (ranges : List ByteRange) (tells : CodecError → Type 0) (before now : ℕ) (e : CodecError) → (e ≡ codec.OutOfMemory) ⊎ (IsSome (first_invalid len ranges) × IsRangeError e)
-    → IsPartError (interval_part part offset len) ranges (λ e. IsRangeError e ⊎ tells e) before now e
-interval_refused part offset len ranges tells before now e told =
-    ⊎_elim (λ (m : e ≡ codec.OutOfMemory). inl (inl m)) (λ (r : IsSome (first_invalid len ranges) × IsRangeError e). inr (invalid_by part offset len ranges r.0, inl r.1)) told
+  pub interval_refused : (ranges : List ByteRange) → (e ≡ codec.OutOfMemory) ⊎ (IsSome (first_invalid len ranges) × IsRangeError e)
+      → IsPartError (interval_part part offset len) ranges (interval_tells offset len tells (Some ranges)) before now e
+  interval_refused ranges (inl memory) = inl (inl memory)
+  interval_refused ranges (inr refuses) = inr (invalid_by part offset len ranges refuses.0, go (first_invalid len ranges) refuses.0)
+    where
+      go : (o : Option ByteRange) → IsSome o → range_or o (tells (Some (map (shifted offset len) ranges))) e
+      go (Some range) some = refuses.1
+      go None some = cc
 
-pub one_told : (part : ByteRange → Held) (range : ByteRange) (tells : CodecError → Type 0) (before now : ℕ) (e : CodecError) → IsPartError part (range ∷ []) tells before now e
-    → IsReadError (part range) (λ e. IsRangeError e ⊎ tells e) before now e
+-- what the handle tells after a call it told before
+pub told_below : (offset len : ℕ) (old new : Option (List ByteRange) → CodecError → Type 0) (asked : Option (List ByteRange)) (e : CodecError) → ((there : Option (List ByteRange)) → new there e → old there e)
+    → interval_tells offset len new asked e → interval_tells offset len old asked e
+told_below offset len old new None e back told = back _ told
+told_below offset len old new (Some ranges) e back told = go (first_invalid len ranges) told
+  where
+    go : (o : Option ByteRange) → range_or o (new (Some (map (shifted offset len) ranges))) e → range_or o (old (Some (map (shifted offset len) ranges))) e
+    go (Some range) told = told
+    go None told = back _ told
+
+pub one_told : (part : ByteRange → Held) (range : ByteRange) (tells : CodecError → Type 0) (before now : ℕ) (e : CodecError) → IsPartError part (range ∷ []) tells before now e → IsReadError (part range) tells before now e
 one_told part range tells before now e told =
     ⊎_elim (λ (h : IsHandleError before now e). inl h)
-    (λ (r : RefusesSome part (range ∷ []) × tells e). inr (⊎_elim (λ (is : part range ≡ None). is) (λ (none : (other : ByteRange) → part other ≡ None). none range) r.0, inr r.1)) told
+    (λ (r : RefusesSome part (range ∷ []) × tells e). inr (⊎_elim (λ (is : part range ≡ None). is) (λ (none : (other : ByteRange) → part other ≡ None). none range) r.0, r.1)) told
 
 pub interval_reads : {T E : Type 0} (offset len : ℕ) (asked : Option (List ByteRange)) (below : List ByteRange) (old new : Seen) (result : Result T E) → below ≡ asked_of offset len asked
     → Reads (Some below) old new result → Reads asked (interval offset len old) (interval offset len new) result

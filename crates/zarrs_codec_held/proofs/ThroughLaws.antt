@@ -1,5 +1,5 @@
 -- Handles on what a bytes-to-bytes codec makes of a value.
-use Rattle.std.proofs.Common.{◌≡◌, ◌⊎◌, ℕ, Bool, true, false, is_some, List, [], ◌∷◌, Option, Some, None, option_map, Result, Ok, Err, refl, sym, ap, ◌∙◌, subst, arith, inl, inr, ⊎_elim}
+use Rattle.std.proofs.Common.{◌≡◌, ◌⊎◌, ℕ, Bool, true, false, is_some, List, [], ◌∷◌, Option, Some, None, IsSome, option_map, Result, Ok, Err, OnOk, OnErr, refl, sym, ap, ◌∙◌, subst, arith, inl, inr, ⊎_elim}
 use Rattle.std.proofs.lemmas.Result.{on_ok_weaker, on_err_weaker}
 use Rattle.zarr_model.specs.Codec.{Options}
 use Rattle.zarrs_storage.specs.declared.byte_range.ByteRange.{ByteRange}
@@ -8,7 +8,7 @@ use Rattle.zarrs_codec_error.specs.declared.error.CodecError.{CodecError}
 use Rattle.zarrs_codec_error.specs.declared.error.CodecError.TheVariants as codec
 use Rattle.zarrs_codec_held.specs.Held.{Held, HasPart, value_part, part_of, Seen, IsSound}
 use Rattle.zarrs_codec_held.specs.Reads.{Keeps, Reads, GivesParts, AreParts, AreAbsent, RefusesSome, IsRangeError, IsHandleError, IsReadError, IsPartError}
-use Rattle.zarrs_codec_held.specs.Writes.{Holds, Stays, Stands, is_fault, Unless, UnlessFault, Writes}
+use Rattle.zarrs_codec_held.specs.Writes.{Holds, Stays, Stands, is_fault, Unless, UnlessFault, Writes, ToldAfter}
 use Rattle.zarrs_codec_held.specs.Through.{through, says_of, through_says, decoded}
 use Rattle.zarrs_codec_held.proofs.PartLaws.{within_value, value_there, none_absent}
 
@@ -161,3 +161,61 @@ writes_some meaning value encoded old new result gives writes = decoded_writes m
 pub writes_not : {T : Type 0} (value : Option (List ℕ)) (seen : Seen) (e : CodecError) → e ≡ codec.OutOfMemory → Writes {T = T} value seen seen (Err e)
 writes_not {T} value seen e is = subst (λ (x : CodecError). Writes {T = T} value seen seen (Err x)) (sym is)
     (record { ok = tt; failed = inl (record { there = refl; held = λ under. refl }); unchanged = record { there = refl; held = λ under. refl; content = λ key. refl }; others = λ other other_key. refl; key = refl; place = refl; cost = refl; later = omega arith })
+
+-- which errors tell of a refusal after a change
+pub told_weaker : (held : Held) (P Q : CodecError → Type 0) (e : CodecError) → (P e → Q e) → ToldAfter held P e → ToldAfter held Q e
+told_weaker None P Q e back told = back told
+told_weaker (Some value) P Q e back told = told
+
+module _ (decode : List ℕ → Option (List ℕ)) (says : List ℕ → CodecError → Type 0) (e : CodecError) where
+  said_still : (value : List ℕ) (d : Option (List ℕ)) → says_of d (says value) e → ToldAfter (option_map Some d) (λ e. says_of d (says value) e) e
+  said_still value None told = told
+  said_still value (Some bytes) told = told
+
+  -- of what is held as before
+  same_told : (old_tells new_tells : CodecError → Type 0) (held : Held) → (new_tells e → ToldAfter held old_tells e) → through_says decode says new_tells held e
+      → ToldAfter (through decode held) (through_says decode says old_tells held) e
+  same_told old_tells new_tells None back told = back told
+  same_told old_tells new_tells (Some None) back told = absurd told
+  same_told old_tells new_tells (Some (Some value)) back told = said_still value (decode value) told
+
+  -- of what decodes
+  decoded_told : (before tells : CodecError → Type 0) (held : Held) → IsSome (through decode held) → through_says decode says tells held e → ToldAfter (through decode held) before e
+  decoded_told before tells None some told = cc
+  decoded_told before tells (Some None) some told = absurd told
+  decoded_told before tells (Some (Some value)) some told = go (decode value) some told
+    where
+      go : (d : Option (List ℕ)) → IsSome (option_map Some d) → says_of d (says value) e → ToldAfter (option_map Some d) before e
+      go None some told = cc
+      go (Some bytes) some told = told
+
+  -- where nothing is changed, and where the value below is made another one
+  pub told_still : (tells : CodecError → Type 0) (held : Held) → through_says decode says tells held e → ToldAfter (through decode held) (through_says decode says tells held) e
+  told_still tells None told = told
+  told_still tells (Some None) told = absurd told
+  told_still tells (Some (Some value)) told = said_still value (decode value) told
+
+  module _ {T : Type 0} (old_tells new_tells : CodecError → Type 0) (under : Options) (old new : Seen) (result : Result T CodecError) where
+    told_written : (value : Option (List ℕ)) → IsSome (through decode (Some value)) → Writes value old new result → (new_tells e → ToldAfter (new.held under) old_tells e)
+        → through_says decode says new_tells (new.held under) e → ToldAfter (through decode (new.held under)) (through_says decode says old_tells (old.held under)) e
+    told_written value some writes back told = go result writes.ok writes.failed
+      where
+        holds : (other : Option (List ℕ)) → IsSome (through decode (Some other)) → Holds other new → ToldAfter (through decode (new.held under)) (through_says decode says old_tells (old.held under)) e
+        holds other there is = decoded_told (through_says decode says old_tells (old.held under)) new_tells (new.held under) (subst (λ (h : Held). IsSome (through decode h)) (sym (is under)) there) told
+
+        stands : Stands old new → ToldAfter (through decode (new.held under)) (through_says decode says old_tells (old.held under)) e
+        stands same = subst (λ (h : Held). ToldAfter (through decode (new.held under)) (through_says decode says old_tells h) e) (same.held under) (same_told old_tells new_tells (new.held under) back told)
+
+        go : (r : Result T CodecError) → OnOk r (Holds value new) → OnErr r (Stands old new ⊎ (Holds value new ⊎ Holds None new)) → ToldAfter (through decode (new.held under)) (through_says decode says old_tells (old.held under)) e
+        go (Ok v) ok failed = holds value some ok
+        go (Err error) ok (inl same) = stands same
+        go (Err error) ok (inr (inl is)) = holds value some is
+        go (Err error) ok (inr (inr none)) = holds None refl none
+
+    pub told_erased : Writes None old new result → (new_tells e → ToldAfter (new.held under) old_tells e)
+        → through_says decode says new_tells (new.held under) e → ToldAfter (through decode (new.held under)) (through_says decode says old_tells (old.held under)) e
+    told_erased writes back told = told_written None refl writes back told
+
+    pub told_replaced : (encoded bytes : List ℕ) → decode encoded ≡ Some bytes → Writes (Some encoded) old new result → (new_tells e → ToldAfter (new.held under) old_tells e)
+        → through_says decode says new_tells (new.held under) e → ToldAfter (through decode (new.held under)) (through_says decode says old_tells (old.held under)) e
+    told_replaced encoded bytes decodes writes back told = told_written (Some encoded) (subst (λ (o : Option (List ℕ)). IsSome (option_map Some o)) (sym decodes) refl) writes back told

@@ -3,7 +3,9 @@ use Rattle.std.specs.Prelude.{ℕ, ◌+◌, ◌-◌, Bool, true, is_some, if◌t
 use Rattle.zarrs_storage.specs.declared.byte_range.ByteRange.{ByteRange}
 use Rattle.zarrs_storage.specs.declared.byte_range.ByteRange.TheVariants.{FromStart}
 use Rattle.zarrs_storage.specs.ByteRange.{is_valid, start_in, end_in, first_invalid}
+use Rattle.zarrs_codec_error.specs.declared.error.CodecError.{CodecError}
 use Rattle.zarrs_codec_held.specs.Held.{Held, Seen}
+use Rattle.zarrs_codec_held.specs.Reads.{IsRangeError}
 
 -- where a range of so many bytes from an offset on lies in the value
 abbrev pub shifted : ℕ → ℕ → ByteRange → ByteRange
@@ -39,3 +41,15 @@ interval_early offset len below None = below (Some (all_of offset len ∷ []))
 interval_early offset len below (Some ranges) =
     if is_some (first_invalid len ranges) then true
     else below (Some (map (shifted offset len) ranges))
+
+-- which errors tell why it refuses what is asked for: where a range is not valid for its length
+-- that of a range, and else those of the handle for where this lies in the value
+abbrev pub range_or : Option ByteRange → (CodecError → Type 0) → CodecError → Type 0
+range_or (Some range) tells e = IsRangeError e
+range_or None tells e = tells e
+
+abbrev pub interval_tells : ℕ → ℕ → (Option (List ByteRange) → CodecError → Type 0)
+    → Option (List ByteRange) → CodecError → Type 0
+interval_tells offset len below None e = below (Some (all_of offset len ∷ [])) e
+interval_tells offset len below (Some ranges) e =
+    range_or (first_invalid len ranges) (below (Some (map (shifted offset len) ranges))) e

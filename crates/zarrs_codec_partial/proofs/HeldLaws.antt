@@ -147,7 +147,7 @@ module _ (level : Level) (fill : List ℕ) (decode : List ℕ → Option (List E
       none : {A : Type 0} {x : A} → None ≡ Some x → ⊥
       none e = cc
 
-module _ (level : Level) (fill : List ℕ) (decode : List ℕ → Option (List Element)) (says : List ℕ → CodecError → Type 0) (tells : CodecError → Type 0) (below : Seen) (under : Options) (asked : Option (List ByteRange)) (before now : ℕ) where
+module _ (level : Level) (fill : List ℕ) (decode : List ℕ → Option (List Element)) (says : List ℕ → CodecError → Type 0) (tells : Option (List ByteRange) → CodecError → Type 0) (below : Seen) (under : Options) (asked : Option (List ByteRange)) (before now : ℕ) where
   abbrev Fails : CodecError → Type 0
   Fails e = IsListError below.there (list_of decode (fills level fill) (held_in below under)) (list_says level fill says tells below under asked) before now e
 
@@ -164,9 +164,13 @@ module _ (level : Level) (fill : List ℕ) (decode : List ℕ → Option (List E
   value_found : (value : List ℕ) → below.held under ≡ Some (Some value) → list_of decode (fills level fill) (held_in below under) ≡ decode value
   value_found value is = ap (λ (h : Held). list_of decode (fills level fill) (found below.there h)) is
 
-  pub read_fails : asked ≡ None → (e : CodecError) → IsReadError (below.held under) tells before now e → Fails e
+  -- what was asked for is refused
+  is_refused : {e : CodecError} (other : Option (List ByteRange)) → asked ≡ other → IsRefused (below.held under) (below.part under) other × tells other e → IsRefused (below.held under) (below.part under) asked × tells asked e
+  is_refused {e} other is refuses = subst (λ (a : Option (List ByteRange)). IsRefused (below.held under) (below.part under) a × tells a e) (sym is) refuses
+
+  pub read_fails : asked ≡ None → (e : CodecError) → IsReadError (below.held under) (tells None) before now e → Fails e
   read_fails whole e told = ⊎_elim (λ (h : IsHandleError before now e). inl h)
-      (λ (none : (below.held under ≡ None) × tells e). inr (none_found none.0, inl (subst (λ (a : Option (List ByteRange)). IsRefused (below.held under) (below.part under) a) (sym whole) none.0, none.1))) told
+      (λ (none : (below.held under ≡ None) × tells None e). inr (none_found none.0, inl (is_refused None whole none))) told
 
   pub value_fails : (value : List ℕ) (e : CodecError) → below.held under ≡ Some (Some value) → IsDecodeError (decode value) (says value) e → Fails e
   value_fails value e is told = ⊎_elim (λ (m : e ≡ codec.OutOfMemory). inl (inl m))
@@ -189,10 +193,10 @@ module _ (level : Level) (fill : List ℕ) (decode : List ℕ → Option (List E
   -- ranges that are refused of a value that decodes are not all valid for it
   pub parts_fail : (ranges : List ByteRange) (e : CodecError) → asked ≡ Some ranges → ((value : List ℕ) → below.held under ≡ Some (Some value) → (range : ByteRange) → below.part under range ≡ value_part (Some value) range)
       → ((value : Option (List ℕ)) → below.held under ≡ Some value → is_some value ≡ below.there) → ((value : List ℕ) → ¬ (first_invalid (length value) ranges ≡ None) → decode value ≡ None)
-      → IsPartError (below.part under) ranges tells before now e → Fails e
+      → IsPartError (below.part under) ranges (tells (Some ranges)) before now e → Fails e
   parts_fail ranges e some whole all asks told =
       ⊎_elim (λ (h : IsHandleError before now e). inl h)
-      (λ (r : RefusesSome (below.part under) ranges × tells e). inr (go (below.held under) refl r.0, inl (subst (λ (a : Option (List ByteRange)). IsRefused (below.held under) (below.part under) a) (sym some) r.0, r.1))) told
+      (λ (r : RefusesSome (below.part under) ranges × tells (Some ranges) e). inr (go (below.held under) refl r.0, inl (is_refused (Some ranges) some r))) told
     where
       refused : (value : List ℕ) (ranges : List ByteRange) → ((range : ByteRange) → below.part under range ≡ value_part (Some value) range) → RefusesSome (below.part under) ranges → ¬ (first_invalid (length value) ranges ≡ None)
       refused value [] same refuses = λ none. given (sym (refuses (FromStart 0 None)) ∙ (same (FromStart 0 None) ∙ ap (λ (b : Bool). if b then Some (Some (slice_of (FromStart 0 None) value)) else None) (le-leb 0 (length value) (omega arith))))
@@ -292,7 +296,7 @@ module _ (level : Level) (fill : List ℕ) (decode : List ℕ → Option (List E
         go (Some (Some value)) is = box_of_value level fill decode absent (found there held) box value r (ap (found there) is) (λ xs e. gives value xs (parts_sliced part ranges value given (whole value is) are).slices e) valid short
 
 -- why elements of what a handle gives are refused
-module _ (level : Level) (fill : List ℕ) (decode : List ℕ → Option (List Element)) (says : List ℕ → CodecError → Type 0) (tells : CodecError → Type 0) (below : Seen) (under : Options) (sound : IsSound below) (asked : Option (List ByteRange)) (ranges : List ByteRange) (some : asked ≡ Some ranges) (before now : ℕ) where
+module _ (level : Level) (fill : List ℕ) (decode : List ℕ → Option (List Element)) (says : List ℕ → CodecError → Type 0) (tells : Option (List ByteRange) → CodecError → Type 0) (below : Seen) (under : Options) (sound : IsSound below) (asked : Option (List ByteRange)) (ranges : List ByteRange) (some : asked ≡ Some ranges) (before now : ℕ) where
   abbrev FailsSo : CodecError → Type 0
   FailsSo e = IsListError below.there (list_of decode (fills level fill) (held_in below under)) (list_says level fill says tells below under asked) before now e
 
@@ -394,14 +398,14 @@ module _ (level : Level) (fill : List ℕ) (says : List ℕ → CodecError → T
   abbrev Said : Bool → (ByteRange → Held) → Held → (CodecError → Type 0) → Type 0
   Said there part held tells = (IsRefused held part asked × tells e) ⊎ own_says level fill says (AreGiven there part asked) held e
 
-  pub list_told : (old_tells new_tells : CodecError → Type 0) (old new : Seen) (under : Options) → Keeps old new → (new_tells e → old_tells e) → list_says level fill says new_tells new under asked e → list_says level fill says old_tells old under asked e
+  pub list_told : (old_tells new_tells : Option (List ByteRange) → CodecError → Type 0) (old new : Seen) (under : Options) → Keeps old new → (new_tells asked e → old_tells asked e) → list_says level fill says new_tells new under asked e → list_says level fill says old_tells old under asked e
   list_told old_tells new_tells old new under keeps back told =
       let part : new.part under ≡ old.part under = fun_ext (λ range. keeps.part under range) in
-      let same : Said old.there (old.part under) (old.held under) new_tells =
-      subst (λ (h : Held). Said old.there (old.part under) h new_tells) (keeps.held under)
-      (subst (λ (p : ByteRange → Held). Said old.there p (new.held under) new_tells) part
-      (subst (λ (t : Bool). Said t (new.part under) (new.held under) new_tells) keeps.there told)) in
-      ⊎_elim (λ (t : IsRefused (old.held under) (old.part under) asked × new_tells e). inl (t.0, back t.1))
+      let same : Said old.there (old.part under) (old.held under) (new_tells asked) =
+      subst (λ (h : Held). Said old.there (old.part under) h (new_tells asked)) (keeps.held under)
+      (subst (λ (p : ByteRange → Held). Said old.there p (new.held under) (new_tells asked)) part
+      (subst (λ (t : Bool). Said t (new.part under) (new.held under) (new_tells asked)) keeps.there told)) in
+      ⊎_elim (λ (t : IsRefused (old.held under) (old.part under) asked × new_tells asked e). inl (t.0, back t.1))
       (λ (own : own_says level fill says (AreGiven old.there (old.part under) asked) (old.held under) e). inr own) same
 
 -- the box that is read by itself is the indexer's

@@ -36,9 +36,9 @@ use Rattle.zarrs_codec_partial_traits.specs.Lists.{ListSeen, by_codec, fills}
 use Rattle.zarrs_codec_partial_traits.specs.ListWrites.{given_answer, are_all, is_kept, updated, HoldsList, IsAbsent, SameList, IsLeft, ErasesList, PutsList, StaysList, KeepsRest}
 use Rattle.zarrs_codec_partial_traits.specs.Updates.{Stores}
 use Rattle.zarrs_codec_partial_traits.proofs.FaultLaws.{handle_faults, own_faults}
-use Rattle.zarrs_codec_partial_traits.proofs.UpdateLaws.{unless, fault_told, fault_only, handle_told}
+use Rattle.zarrs_codec_partial_traits.proofs.UpdateLaws.{unless, was_ok, fault_told, fault_only, handle_told}
 use Rattle.zarrs_codec_partial.specs.Level.{list_of, found, listed}
-use Rattle.zarrs_codec_partial.specs.Writing.{IsBeyond}
+use Rattle.zarrs_codec_partial.specs.Writing.{IsBeyond, IsTaken}
 use Rattle.zarrs_codec_partial.proofs.ExtractLaws.{says_some, masked, lengths_kept}
 
 -- a shape has elements
@@ -207,11 +207,11 @@ module _ (level : Level) (fill : List ℕ) (unserved : Option Unserved) (meaning
       unless result (λ (stays : Stays old new). let s : StaysList (see old) (see new) = let same = same_list old new (record { there = stays.there; held = stays.held }) in record { there = stays.there; list = same.list; content = stays.content } in s) writes.unchanged
 
   -- the value was replaced by one that decodes to these elements
-  pub stores_value : {T : Type 0} (under : Options) (raw : ArrayBytes) (unencoded : List Element → CodecError → Type 0) (Short : Type 0) (value : List ℕ) (old new : Seen) (result : Result T CodecError) → IsSound new
+  pub stores_value : {T : Type 0} (under : Options) (raw : ArrayBytes) (unencoded : List Element → CodecError → Type 0) (takes : List Element → Type 0) (Short : Type 0) (value : List ℕ) (old new : Seen) (result : Result T CodecError) → IsSound new
       → ((list : List Element) → IsSome (fill_element (kind_of level.data_type) fill) → list_at level raw ≡ Some list → true ≡ is_kept under (fill_element (kind_of level.data_type) fill) list)
       → (unserved ≡ None → (under : Options) → meaning under value ≡ list_at level raw) → Writes (Some value) old new result → Unasked old new → IfErr result (IsHandleError old.shown.faults new.shown.faults)
-      → unserved ≡ None → Stores under raw unencoded Short (see old) (see new) result
-  stores_value under raw unencoded Short value old new result sound kept decodes writes unasked cause is = record {
+      → ((list : List Element) → list_at level raw ≡ Some list → takes list) → unserved ≡ None → Stores under raw unencoded takes Short (see old) (see new) result
+  stores_value under raw unencoded takes Short value old new result sound kept decodes writes unasked cause encoded is = record {
     puts = λ list served filled means. subst (λ (b : Bool). PutsList b list (see old) (see new) result) (kept list filled means) (puts_value value list old new result sound (λ under. decodes is under ∙ means) writes);
     left = λ list served means.
         let all = kept_any under (fill_element (kind_of level.data_type) fill) list (λ filled. kept list filled means) in
@@ -221,15 +221,17 @@ module _ (level : Level) (fill : List ℕ) (unserved : Option Unserved) (meaning
     rest = written_rest (Some value) old new result writes;
     unasked = record { asks = unasked.asks; taken = unasked.taken };
     cause = λ list served filled means. handle_told _ _ (unencoded list) result cause;
-    encoded = λ served filled few takes there short. cause;
+    taken = λ list served means. was_ok result (encoded list means);
+    encoded = λ served filled few short_takes there short. cause;
     fault = handle_faults _ _ result cause;
   }
 
   -- it was erased
-  pub stores_none : {T : Type 0} (under : Options) (raw : ArrayBytes) (unencoded : List Element → CodecError → Type 0) (Short : Type 0) (old new : Seen) (result : Result T CodecError) → IsSound new
+  pub stores_none : {T : Type 0} (under : Options) (raw : ArrayBytes) (unencoded : List Element → CodecError → Type 0) (takes : List Element → Type 0) (Short : Type 0) (old new : Seen) (result : Result T CodecError) → IsSound new
       → ((list : List Element) → IsSome (fill_element (kind_of level.data_type) fill) → list_at level raw ≡ Some list → false ≡ is_kept under (fill_element (kind_of level.data_type) fill) list)
-      → Writes None old new result → Unasked old new → IfErr result (IsFault old.shown.faults new.shown.faults) → unserved ≡ None → Stores under raw unencoded Short (see old) (see new) result
-  stores_none under raw unencoded Short old new result sound dropped writes unasked cause is = record {
+      → Writes None old new result → Unasked old new → IfErr result (IsFault old.shown.faults new.shown.faults) → ((list : List Element) → list_at level raw ≡ Some list → takes list) → unserved ≡ None
+      → Stores under raw unencoded takes Short (see old) (see new) result
+  stores_none under raw unencoded takes Short old new result sound dropped writes unasked cause encoded is = record {
     puts = λ list served filled means.
         let long = length-meaning (kind_of level.data_type) (count_of level.shape) raw list means in
         let not_kept = dropped list filled means in
@@ -240,7 +242,8 @@ module _ (level : Level) (fill : List ℕ) (unserved : Option Unserved) (meaning
     rest = written_rest None old new result writes;
     unasked = record { asks = unasked.asks; taken = unasked.taken };
     cause = λ list served filled means. fault_told _ _ (unencoded list) result cause;
-    encoded = λ served filled few takes there short. fault_only _ _ result cause;
+    taken = λ list served means. was_ok result (encoded list means);
+    encoded = λ served filled few short_takes there short. fault_only _ _ result cause;
     fault = own_faults _ _ result cause;
   }
 
@@ -252,6 +255,11 @@ kept_false under element xs b is same = ap not same ∙ sym (ap (λ (s : Bool). 
 pub dropped_by : (under : Options) (kind : Kind) (fill : List ℕ) (number : ℕ) (list : List Element) (b : Bool) → under.store_empty_chunks ≡ false → IsSome (fill_element kind fill) → length list ≡ number
     → ((x : Element) → fill_element kind fill ≡ Some x → IsTrue b ↔ (list ≡ replicate number x)) → not b ≡ is_kept under (fill_element kind fill) list
 dropped_by under kind fill number list b off denotes long test = kept_false under (fill_element kind fill) list b off (tested (fill_element kind fill) number list b denotes long test)
+
+-- what a codec encodes
+pub taken_by : (level : Level) (raw : ArrayBytes) (list : List Element) (beyond : ArrayBytes → Told) → then_answer (validity (kind_of level.data_type) (count_of level.shape) raw) (beyond raw) ≡ fine → list_at level raw ≡ Some list
+    → IsTaken beyond level list
+taken_by level raw list beyond answer means = record { bytes = raw; means = means; fits = sym (ap (λ (t : Told). then_answer t (beyond raw)) (valid_some level raw (ap is_some means))) ∙ answer }
 
 -- why a codec does not encode elements
 pub beyond_told : (level : Level) (raw : ArrayBytes) (list : List Element) (beyond : ArrayBytes → Told) (before now : ℕ) (e : CodecError) → list_at level raw ≡ Some list

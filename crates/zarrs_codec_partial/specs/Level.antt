@@ -64,10 +64,11 @@ own_says level fill says Given (Some None) e = IsOtherFill level fill e
 own_says level fill says Given (Some (Some value)) e = says value e
 
 -- and the handle's where what is read is refused
-abbrev pub list_says : Level → List ℕ → (List ℕ → CodecError → Type 0) → (CodecError → Type 0)
-    → Seen → Options → Option (List ByteRange) → CodecError → Type 0
+abbrev pub list_says : Level → List ℕ → (List ℕ → CodecError → Type 0)
+    → (Option (List ByteRange) → CodecError → Type 0) → Seen → Options
+    → Option (List ByteRange) → CodecError → Type 0
 list_says level fill says tells below under asked e =
-    (IsRefused (below.held under) (below.part under) asked × tells e)
+    (IsRefused (below.held under) (below.part under) asked × tells asked e)
     ⊎ own_says level fill says (AreGiven below.there (below.part under) asked)
     (below.held under) e
 

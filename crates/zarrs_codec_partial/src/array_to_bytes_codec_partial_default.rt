@@ -152,7 +152,7 @@ impl<H: BytesPartialEncoderTraits, C: ArrayToBytesCodecTraits> ArrayPartialEncod
     ghost use Rattle.std.specs.Prelude.{◌&&◌};
     ghost use Rattle.std.proofs.Common.{subst, sym};
     ghost use Rattle.zarrs_codec_partial.specs.Level.{bottom_level};
-    ghost use Rattle.zarrs_codec_partial.specs.Writing.{IsBeyond};
+    ghost use Rattle.zarrs_codec_partial.specs.Writing.{IsBeyond, IsTaken};
 
     ghost writes_parts = { λ h. (C.encodes_parts h.level.codec).partial_encode
         && H.writes_parts h.handle };
@@ -160,10 +160,16 @@ impl<H: BytesPartialEncoderTraits, C: ArrayToBytesCodecTraits> ArrayPartialEncod
     ghost unencoded = { λ h list e. IsBeyond (C.beyond h.level.codec (bottom_level h.level))
         (bottom_level h.level) list e };
 
+    ghost encodes = { λ h list. IsTaken (C.beyond h.level.codec (bottom_level h.level))
+        (bottom_level h.level) list };
+
     ghost encodes_short = { λ h. C.takes h.level.codec (bottom_level h.level) };
 
     ghost same_unencoded = { λ a b list e same told. subst (λ at. IsBeyond
         (C.beyond at.codec (bottom_level at)) (bottom_level at) list e) (sym same.0) told };
+
+    ghost same_encodes = { λ a b list same is. subst (λ at. IsTaken
+        (C.beyond at.codec (bottom_level at)) (bottom_level at) list) (sym same.0) is };
 
     ghost same_short = { λ a b same takes. subst (λ at. C.takes at.codec (bottom_level at))
         same.0 takes };

@@ -1,6 +1,7 @@
 //! The elements of what a handle of bytes holds, by a codec with its level.
 
-ghost use Rattle.std.specs.Prelude.{◌≡◌, ◌∷◌, [], ◌⊎◌, ◌+◌, ◌<◌, ◌^◌, true, false, None, IsSome, IsOk, IfOk, IfErr, OnOk, option_map};
+ghost use Rattle.std.specs.Prelude.{◌≡◌, ◌∷◌, [], ◌⊎◌, ◌+◌, ◌<◌, ◌^◌, true, false, List, Option, None, IsSome, IsOk, IfOk, IfErr, OnOk, option_map};
+ghost use Rattle.zarrs_storage.specs.declared.byte_range.ByteRange.{ByteRange};
 ghost use Rattle.zarrs_storage.specs.ByteRange.{parts_of};
 ghost use Rattle.zarr_model.specs.Region.{count_of, ends_within};
 ghost use Rattle.zarr_model.specs.Element.{kind_of};
@@ -157,8 +158,8 @@ impl<C: ArrayToBytesCodecTraits> BottomLevel<C> {
         ensures fault { IfErr result
             (TellsFault (H.seen handle.old).shown.faults (H.seen handle.new).shown.faults) }
         ensures same { H.same handle.old handle.new }
-        ensures tells { (under : Options) (e : CodecError) → H.tells handle.new under e
-            → H.tells handle.old under e }
+        ensures tells { (under : Options) (asked : Option (List ByteRange)) (e : CodecError)
+            → H.tells handle.new under asked e → H.tells handle.old under asked e }
     {
         match handle.decode(alloc, options) {
             Ok(Some(value)) => self.codec.decode(
@@ -211,8 +212,8 @@ impl<C: ArrayToBytesCodecTraits> BottomLevel<C> {
         ensures fault { IfErr result
             (TellsFault (H.seen handle.old).shown.faults (H.seen handle.new).shown.faults) }
         ensures same { H.same handle.old handle.new }
-        ensures tells { (under : Options) (e : CodecError) → H.tells handle.new under e
-            → H.tells handle.old under e }
+        ensures tells { (under : Options) (asked : Option (List ByteRange)) (e : CodecError)
+            → H.tells handle.new under asked e → H.tells handle.old under asked e }
     {
         match handle.decode(alloc, options) {
             Ok(Some(value)) => match one(alloc, value) {
@@ -264,8 +265,8 @@ impl<C: ArrayToBytesCodecTraits> BottomLevel<C> {
         ensures fault { IfErr result
             (TellsFault (H.seen handle.old).shown.faults (H.seen handle.new).shown.faults) }
         ensures same { H.same handle.old handle.new }
-        ensures tells { (under : Options) (e : CodecError) → H.tells handle.new under e
-            → H.tells handle.old under e }
+        ensures tells { (under : Options) (asked : Option (List ByteRange)) (e : CodecError)
+            → H.tells handle.new under asked e → H.tells handle.old under asked e }
     {
         match handle.partial_decode_many(alloc, ranges, options) {
             Ok(Some(parts)) => self.codec.decode_parts(
@@ -325,8 +326,8 @@ impl<C: ArrayToBytesCodecTraits> BottomLevel<C> {
         ensures fault { IfErr result
             (TellsFault (H.seen handle.old).shown.faults (H.seen handle.new).shown.faults) }
         ensures same { H.same handle.old handle.new }
-        ensures tells { (under : Options) (e : CodecError) → H.tells handle.new under e
-            → H.tells handle.old under e }
+        ensures tells { (under : Options) (asked : Option (List ByteRange)) (e : CodecError)
+            → H.tells handle.new under asked e → H.tells handle.old under asked e }
     {
         match self
             .codec
@@ -383,8 +384,8 @@ impl<C: ArrayToBytesCodecTraits> BottomLevel<C> {
         ensures fault { IfErr result
             (TellsFault (H.seen handle.old).shown.faults (H.seen handle.new).shown.faults) }
         ensures same { H.same handle.old handle.new }
-        ensures tells { (under : Options) (e : CodecError) → H.tells handle.new under e
-            → H.tells handle.old under e }
+        ensures tells { (under : Options) (asked : Option (List ByteRange)) (e : CodecError)
+            → H.tells handle.new under asked e → H.tells handle.old under asked e }
     {
         match self.decode_whole(alloc, handle, options) {
             Ok(whole) => whole.extract_array_subset(alloc, indexer, numbers, &self.data_type),
@@ -441,8 +442,8 @@ impl<C: ArrayToBytesCodecTraits> BottomLevel<C> {
         ensures fault { IfErr result
             (TellsFault (H.seen handle.old).shown.faults (H.seen handle.new).shown.faults) }
         ensures same { H.same handle.old handle.new }
-        ensures tells { (under : Options) (e : CodecError) → H.tells handle.new under e
-            → H.tells handle.old under e }
+        ensures tells { (under : Options) (asked : Option (List ByteRange)) (e : CodecError)
+            → H.tells handle.new under asked e → H.tells handle.old under asked e }
     {
         match smaller_box(alloc, indexer, numbers) {
             Ok(Some(region)) => self.decode_box(alloc, handle, &region, options),
@@ -512,8 +513,8 @@ impl<C: ArrayToBytesCodecTraits> BottomLevel<C> {
         ensures fault { IfErr result
             (TellsFault (H.seen handle.old).shown.faults (H.seen handle.new).shown.faults) }
         ensures same { H.same handle.old handle.new }
-        ensures tells { (under : Options) (e : CodecError) → H.tells handle.new under e
-            → H.tells handle.old under e }
+        ensures tells { (under : Options) (asked : Option (List ByteRange)) (e : CodecError)
+            → H.tells handle.new under asked e → H.tells handle.old under asked e }
     {
         match fitting_numbers(alloc, indexer, &self.shape) {
             Ok(numbers) => match self.expect_served() {

@@ -17,7 +17,7 @@ ghost use Rattle.zarrs_codec_partial_traits.specs.ListWrites.{given_answer, is_k
 ghost use Rattle.zarrs_codec_partial_traits.specs.Updates.{change_of, ReadsListIf, GivesMade, Stores, Updates};
 ghost use Rattle.zarrs_codec_partial.specs.Boxes.{Denotes};
 ghost use Rattle.zarrs_codec_partial.specs.Level.{list_says};
-ghost use Rattle.zarrs_codec_partial.specs.Writing.{IsBeyond};
+ghost use Rattle.zarrs_codec_partial.specs.Writing.{IsBeyond, IsTaken};
 
 use crate::boxes::covers;
 use crate::fill::expect_denoted;
@@ -205,7 +205,8 @@ impl<C: ArrayToBytesCodecTraits> BottomLevel<C> {
         ensures stores { let level = bottom_level self.now in let see = seen_by self.now
             (C.unserved self.now.codec) (C.meaning self.now.codec) (C.request self.now.codec) in
             Stores (options_of options.now) (raw_of bytes.entry)
-            (IsBeyond (C.beyond self.now.codec level) level) (C.takes self.now.codec level)
+            (IsBeyond (C.beyond self.now.codec level) level)
+            (IsTaken (C.beyond self.now.codec level) level) (C.takes self.now.codec level)
             (see (H.seen handle.old)) (see (H.seen handle.new)) result }
         ensures same { H.same handle.old handle.new }
     {
@@ -253,7 +254,8 @@ impl<C: ArrayToBytesCodecTraits> BottomLevel<C> {
             (C.says self.now.codec (options_of options.now) level)
             (H.tells handle.old (options_of options.now)) (H.seen handle.old)
             (options_of options.now) None)
-            (IsBeyond (C.beyond self.now.codec level) level) (C.takes self.now.codec level)
+            (IsBeyond (C.beyond self.now.codec level) level)
+            (IsTaken (C.beyond self.now.codec level) level) (C.takes self.now.codec level)
             (see (H.seen handle.old)) (see (H.seen handle.new)) result }
         ensures same { H.same handle.old handle.new }
     {
@@ -303,7 +305,8 @@ impl<C: ArrayToBytesCodecTraits> BottomLevel<C> {
             (C.says self.now.codec (options_of options.now) level)
             (H.tells handle.old (options_of options.now)) (H.seen handle.old)
             (options_of options.now) None)
-            (IsBeyond (C.beyond self.now.codec level) level) (C.takes self.now.codec level)
+            (IsBeyond (C.beyond self.now.codec level) level)
+            (IsTaken (C.beyond self.now.codec level) level) (C.takes self.now.codec level)
             (see (H.seen handle.old)) (see (H.seen handle.new)) result }
         ensures named { given_answer (kind_of (bottom_level self.now).data_type)
             (I.fits indexer.now (bottom_level self.now).shape) (length (I.places indexer.now))

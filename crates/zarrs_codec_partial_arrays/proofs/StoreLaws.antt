@@ -1,5 +1,5 @@
 -- Elements above that are stored as elements below.
-use Rattle.std.proofs.Common.{◌≡◌, ◌⊎◌, ℕ, Bool, true, false, ◌||◌, ◌&&◌, List, replicate, Option, Some, None, IsSome, option_map, option_and_then, Result, Ok, Err, IfOk, IfErr, refl, sym, ap, ap₂, ◌∙◌, subst, inl, inr, ⊎_elim}
+use Rattle.std.proofs.Common.{◌≡◌, ◌⊎◌, ℕ, Bool, true, false, ◌||◌, ◌&&◌, List, replicate, Option, Some, None, IsSome, option_map, option_and_then, Result, Ok, Err, IfOk, IfErr, OnOk, refl, sym, ap, ap₂, ◌∙◌, subst, inl, inr, ⊎_elim}
 use Rattle.std.proofs.lemmas.Result.{on_ok_weaker, on_err_weaker}
 use Rattle.zarr_model.specs.Region.{Region, count_of, whole}
 use Rattle.zarr_model.specs.Element.{Element, Kind, DataType, fill_element, kind_of}
@@ -19,7 +19,7 @@ use Rattle.zarrs_codec_partial_traits.specs.Updates.{ReadsListIf, Stores, Update
 use Rattle.zarrs_codec_partial_traits.proofs.UpdateLaws.{unless}
 use Rattle.zarrs_codec_partial.specs.Kinds.{kind_code}
 use Rattle.zarrs_codec_partial.proofs.WriteLaws.{dropped_list, filled_list}
-use Rattle.zarrs_codec_partial_arrays.specs.Above.{IsBelow, IsFilled, HandsOn, raised, first_unserved, IsUnencodedBelow}
+use Rattle.zarrs_codec_partial_arrays.specs.Above.{IsBelow, IsFilled, HandsOn, raised, first_unserved, IsUnencodedBelow, IsEncodedBelow}
 use Rattle.zarrs_codec_partial_arrays.proofs.AboveLaws.{same_kind, below_fill, below_served, unserved_below, below_short, own_short, raised_keeps}
 
 -- what the codec's laws say of the fill
@@ -205,16 +205,24 @@ pub unencoded_back : (decode : List Element → Option (List Element)) (unencode
     → (list : List Element) (e : CodecError) → IsUnencodedBelow decode other list e → IsUnencodedBelow decode unencoded list e
 unencoded_back decode unencoded other back list e why = record { below = why.below; decodes = why.decodes; told = back why.below e why.told }
 
+taken_above : {T : Type 0} (decode : List Element → Option (List Element)) (takes : List Element → Type 0) (ys list : List Element) (r : Result T CodecError) → decode ys ≡ Some list → OnOk r (takes ys) → OnOk r (IsEncodedBelow decode takes list)
+taken_above decode takes ys list (Ok v) decodes taken = let b : IsEncodedBelow decode takes list = record { below = ys; decodes = decodes; taken = taken } in b
+taken_above decode takes ys list (Err e) decodes taken = tt
+
+pub encoded_back : (decode : List Element → Option (List Element)) (takes other : List Element → Type 0) → ((list : List Element) → other list → takes list) → (list : List Element) → IsEncodedBelow decode other list → IsEncodedBelow decode takes list
+encoded_back decode takes other back list is = record { below = is.below; decodes = is.decodes; taken = back is.below is.taken }
+
 -- a change below that all elements are given to
-pub record PutsAll {T : Type 0} (under : Options) (unencoded : List Element → CodecError → Type 0) (Short : Type 0) (bytes : ArrayBytes) (given : Option (List Element)) (old new : ListSeen) (result : Result T CodecError) : Type 0 where
+pub record PutsAll {T : Type 0} (under : Options) (unencoded : List Element → CodecError → Type 0) (takes : List Element → Type 0) (Short : Type 0) (bytes : ArrayBytes) (given : Option (List Element)) (old new : ListSeen) (result : Result T CodecError) : Type 0 where
   pub puts : (ys : List Element) → old.unserved ≡ None → HasFill old → given ≡ Some ys → PutsList (is_stored under old ys) ys old new result
   pub unserved : IsSome old.unserved → IsRefused old new result
   pub rewrites : Rewrites false old new result
   pub cause : (ys : List Element) → old.unserved ≡ None → HasFill old → given ≡ Some ys → IfErr result (λ e. IsHandleError old.shown.faults new.shown.faults e ⊎ unencoded ys e)
+  pub taken : (ys : List Element) → old.unserved ≡ None → given ≡ Some ys → OnOk result (takes ys)
   pub encoded : (ys : List Element) → old.unserved ≡ None → HasFill old → old.short ≡ true → Short → has_long_element bytes ≡ false → given ≡ Some ys → IfErr result (IsHandleError old.shown.faults new.shown.faults)
   pub fault : IfErr result (TellsFault old.shown.faults new.shown.faults)
 
-module _ {T : Type 0} (under : Options) (tells : CodecError → Type 0) (unencoded : List Element → CodecError → Type 0) (Short : Type 0) (indices : List ℕ) (number : ℕ) (bytes : ArrayBytes) (old new : ListSeen) (result : Result T CodecError) where
+module _ {T : Type 0} (under : Options) (tells : CodecError → Type 0) (unencoded : List Element → CodecError → Type 0) (takes : List Element → Type 0) (Short : Type 0) (indices : List ℕ) (number : ℕ) (bytes : ArrayBytes) (old new : ListSeen) (result : Result T CodecError) where
   told_all : (ys : List Element) (r : Result T CodecError) → IfErr r (λ e. IsHandleError old.shown.faults new.shown.faults e ⊎ (⊥ ⊎ unencoded ys e)) → IfErr r (λ e. IsHandleError old.shown.faults new.shown.faults e ⊎ unencoded ys e)
   told_all ys (Ok v) told = tt
   told_all ys (Err e) told = ⊎_elim (λ (h : IsHandleError old.shown.faults new.shown.faults e). inl h) (λ (m : ⊥ ⊎ unencoded ys e). inr (⊎_elim (λ (no : ⊥). absurd no) (λ (u : unencoded ys e). u) m)) told
@@ -223,14 +231,15 @@ module _ {T : Type 0} (under : Options) (tells : CodecError → Type 0) (unencod
   told_short (Ok v) told = tt
   told_short (Err e) told = ⊎_elim (λ (h : IsHandleError old.shown.faults new.shown.faults e). h) (λ (no : ⊥). absurd no) told
 
-  pub puts_all : (all fits : Bool) → all ≡ true → fits ≡ true → Updates under (record { all = all; fits = fits; indices = indices; number = number; bytes = bytes }) tells unencoded Short old new result
-      → PutsAll under unencoded Short bytes (meaning (kind_of old.level.data_type) number bytes) old new result
+  pub puts_all : (all fits : Bool) → all ≡ true → fits ≡ true → Updates under (record { all = all; fits = fits; indices = indices; number = number; bytes = bytes }) tells unencoded takes Short old new result
+      → PutsAll under unencoded takes Short bytes (meaning (kind_of old.level.data_type) number bytes) old new result
   puts_all true true is fit updates = record {
     puts = λ ys served filled means. updates.puts ys served filled means;
     unserved = updates.unserved;
     rewrites = updates.rewrites;
     cause = λ ys served filled means. told_all ys result (updates.cause ys served filled refl means);
-    encoded = λ ys served filled few takes short means. told_short result (updates.encoded ys served filled few takes short refl means);
+    taken = λ ys served means. updates.taken ys served means;
+    encoded = λ ys served filled few short_takes short means. told_short result (updates.encoded ys served filled few short_takes short refl means);
     fault = updates.fault;
   }
   puts_all true false is fit updates = cc
@@ -241,12 +250,13 @@ module _ (codec : ArrayCodec) (fill_below : DataType → List ℕ → List ℕ) 
   abbrev shown : ListSeen → ListSeen
   shown below = raised level fill unserved codec region_below below
 
-  pub stores_above : {T : Type 0} (under : Options) (bytes encoded : ArrayBytes) (number : ℕ) (unencoded : List Element → CodecError → Type 0) (Short : Type 0) (old new : ListSeen) (result : Result T CodecError) (x : Element)
+  pub stores_above : {T : Type 0} (under : Options) (bytes encoded : ArrayBytes) (number : ℕ) (unencoded : List Element → CodecError → Type 0) (takes : List Element → Type 0) (Short : Type 0) (old new : ListSeen) (result : Result T CodecError) (x : Element)
       → fill_element (kind_of (codec.level_below level).data_type) (fill_below level.data_type fill) ≡ Some x
       → unserved ≡ None → IsSome (fill_element (kind_of level.data_type) fill) → IsBelow codec fill_below level fill old → HandsOn codec level fill (fill_below level.data_type fill) under bytes encoded
       → meaning (kind_of old.level.data_type) number encoded ≡ list_at (codec.level_below level) encoded
-      → PutsAll under unencoded Short encoded (meaning (kind_of old.level.data_type) number encoded) old new result → Stores under bytes (IsUnencodedBelow (codec.decode_list level) unencoded) Short (shown old) (shown new) result
-  stores_above under bytes encoded number unencoded Short old new result x denotes own filled is hands same puts =
+      → PutsAll under unencoded takes Short encoded (meaning (kind_of old.level.data_type) number encoded) old new result
+      → Stores under bytes (IsUnencodedBelow (codec.decode_list level) unencoded) (IsEncodedBelow (codec.decode_list level) takes) Short (shown old) (shown new) result
+  stores_above under bytes encoded number unencoded takes Short old new result x denotes own filled is hands same puts =
       let decode = codec.decode_list level in
       let given = meaning (kind_of old.level.data_type) number encoded in
       let filled_below = below_fill codec fill_below level fill old x is denotes in
@@ -270,9 +280,12 @@ module _ (codec : ArrayCodec) (fill_below : DataType → List ℕ → List ℕ) 
         cause = λ list served some means.
             let g = given_of decode given list (decodes list means) in
             told_above _ _ decode unencoded g.0 list result g.1.1 (puts.cause g.0 (below_served _ _ _ served) filled_below g.1.0);
-        encoded = λ served some few takes there short. some_given (list_at level bytes) there
+        taken = λ list served means.
+            let g = given_of decode given list (decodes list means) in
+            taken_above decode takes g.0 list result g.1.1 (puts.taken g.0 (below_served _ _ _ served) g.1.0);
+        encoded = λ served some few short_takes there short. some_given (list_at level bytes) there
             (λ list means. let g = given_of decode given list (decodes list means) in
-            puts.encoded g.0 (below_served _ _ _ served) filled_below (below_short _ _ few) takes (hands.short filled (own_short _ _ few) short) g.1.0);
+            puts.encoded g.0 (below_served _ _ _ served) filled_below (below_short _ _ few) short_takes (hands.short filled (own_short _ _ few) short) g.1.0);
         fault = puts.fault;
       }
     where

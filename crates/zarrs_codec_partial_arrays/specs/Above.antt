@@ -92,6 +92,13 @@ pub record IsUnencodedBelow (decode : List Element → Option (List Element))
   pub decodes : decode below ≡ Some list
   pub told : unencoded below e
 
+-- some list below that decodes to these elements is encoded
+pub record IsEncodedBelow (decode : List Element → Option (List Element))
+    (encodes : List Element → Type 0) (list : List Element) : Type 0 where
+  pub below : List Element
+  pub decodes : decode below ≡ Some list
+  pub taken : encodes below
+
 -- what is handed on of elements: others that decode to them, that are stored where these are, and
 -- that are short where these and the fill value are
 pub record HandsOn (codec : ArrayCodec) (level : Level) (fill fill_below : List ℕ)

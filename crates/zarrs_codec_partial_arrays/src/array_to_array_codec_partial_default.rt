@@ -190,13 +190,16 @@ impl<H: ArrayPartialEncoderTraits, C: ArrayToArrayCodecTraits> ArrayPartialEncod
     for ArrayToArrayCodecPartialDefault<H, C> {
     ghost use Rattle.std.specs.Prelude.{Some, ◌&&◌};
     ghost use Rattle.std.proofs.Common.{subst, sym};
-    ghost use Rattle.zarrs_codec_partial_arrays.specs.Above.{array_level, IsUnencodedBelow};
+    ghost use Rattle.zarrs_codec_partial_arrays.specs.Above.{array_level, IsUnencodedBelow, IsEncodedBelow};
 
     ghost writes_parts = { λ h. (C.encodes_parts h.level.codec).partial_encode
         && H.writes_parts h.handle };
 
     ghost unencoded = { λ h list e. IsUnencodedBelow ((C.meaning h.level.codec).decode_list
         (array_level h.level)) (H.unencoded h.handle) list e };
+
+    ghost encodes = { λ h list. IsEncodedBelow ((C.meaning h.level.codec).decode_list
+        (array_level h.level)) (H.encodes h.handle) list };
 
     ghost encodes_short = { λ h. H.encodes_short h.handle };
 
@@ -205,6 +208,13 @@ impl<H: ArrayPartialEncoderTraits, C: ArrayToArrayCodecTraits> ArrayPartialEncod
       decodes = subst (λ at. (C.meaning at.codec).decode_list (array_level at) why.below
           ≡ Some list) (sym same.0) why.decodes;
       told = H.same_unencoded a.handle b.handle why.below e same.1 why.told;
+    } };
+
+    ghost same_encodes = { λ a b list same is. record {
+      below = is.below;
+      decodes = subst (λ at. (C.meaning at.codec).decode_list (array_level at) is.below
+          ≡ Some list) (sym same.0) is.decodes;
+      taken = H.same_encodes a.handle b.handle is.below same.1 is.taken;
     } };
 
     ghost same_short = { λ a b same takes. H.same_short a.handle b.handle same.1 takes };

@@ -19,7 +19,7 @@ ghost use Rattle.zarrs_codec_partial_traits.specs.Boxes.{is_all};
 ghost use Rattle.zarrs_codec_partial_traits.specs.Lists.{AreFew, RefusesFor, is_short};
 ghost use Rattle.zarrs_codec_partial_traits.specs.ListWrites.{given_answer, KeepsRest, IsUntouched};
 ghost use Rattle.zarrs_codec_partial_traits.specs.Updates.{change_of, ReadsListIf, GivesMade, Stores, Updates};
-ghost use Rattle.zarrs_codec_partial_arrays.specs.Above.{IsBelow, HandsOn, IsUnencodedBelow};
+ghost use Rattle.zarrs_codec_partial_arrays.specs.Above.{IsBelow, HandsOn, IsUnencodedBelow, IsEncodedBelow};
 
 use crate::level::ArrayLevel;
 use std::alloc::Global;
@@ -250,7 +250,9 @@ impl<C: ArrayToArrayCodecTraits> ArrayLevel<C> {
             (C.region_below self.now.codec) in
             Stores (options_of options.now) (raw_of bytes.entry)
             (IsUnencodedBelow ((C.meaning self.now.codec).decode_list level)
-            (H.unencoded handle.old)) (H.encodes_short handle.old)
+            (H.unencoded handle.old))
+            (IsEncodedBelow ((C.meaning self.now.codec).decode_list level)
+            (H.encodes handle.old)) (H.encodes_short handle.old)
             (see (H.seen handle.old)) (see (H.seen handle.new)) result }
         ensures rest { KeepsRest (H.seen handle.old) (H.seen handle.new) }
         ensures named { Denotes (array_level self.now) (array_fill self.now)
@@ -292,7 +294,9 @@ impl<C: ArrayToArrayCodecTraits> ArrayLevel<C> {
             (H.tells handle.old (options_of options.now)
             (Some (whole ((C.meaning self.now.codec).level_below level).shape)))
             (IsUnencodedBelow ((C.meaning self.now.codec).decode_list level)
-            (H.unencoded handle.old)) (H.encodes_short handle.old)
+            (H.unencoded handle.old))
+            (IsEncodedBelow ((C.meaning self.now.codec).decode_list level)
+            (H.encodes handle.old)) (H.encodes_short handle.old)
             (see (H.seen handle.old)) (see (H.seen handle.new)) result }
         ensures rest { KeepsRest (H.seen handle.old) (H.seen handle.new) }
         ensures named { Denotes (array_level self.now) (array_fill self.now)
@@ -352,7 +356,9 @@ impl<C: ArrayToArrayCodecTraits> ArrayLevel<C> {
             (H.tells handle.old (options_of options.now)
             (Some (whole ((C.meaning self.now.codec).level_below level).shape)))
             (IsUnencodedBelow ((C.meaning self.now.codec).decode_list level)
-            (H.unencoded handle.old)) (H.encodes_short handle.old)
+            (H.unencoded handle.old))
+            (IsEncodedBelow ((C.meaning self.now.codec).decode_list level)
+            (H.encodes handle.old)) (H.encodes_short handle.old)
             (see (H.seen handle.old)) (see (H.seen handle.new)) result }
         ensures rest { KeepsRest (H.seen handle.old) (H.seen handle.new) }
         ensures named { let level = array_level self.now in let see = raised_by self.now

@@ -1,16 +1,25 @@
 -- What handles tell of values is no fault of a store.
-use Rattle.std.proofs.Common.{◌⊎◌, ℕ, List, Option, Some, None, ⊎_elim}
+use Rattle.std.proofs.Common.{ℕ, List, map, Option, Some, None}
+use Rattle.zarrs_storage.specs.declared.byte_range.ByteRange.{ByteRange}
+use Rattle.zarrs_storage.specs.ByteRange.{first_invalid}
 use Rattle.zarrs_codec_error.specs.declared.error.CodecError.{CodecError}
 use Rattle.zarrs_codec_traits.specs.Errors.{IsNoFault}
 use Rattle.zarrs_codec_held.specs.Held.{Held}
-use Rattle.zarrs_codec_held.specs.Reads.{IsRangeError}
+use Rattle.zarrs_codec_held.specs.Interval.{shifted, range_or, interval_tells}
 use Rattle.zarrs_codec_held.specs.Through.{says_of, through_says}
 use Rattle.zarrs_codec_partial_traits.specs.Ranges.{range_no_fault}
 
-pub either_no_fault : (tells : CodecError → Type 0) (e : CodecError) → (tells e → IsNoFault e)
-    → IsRangeError e ⊎ tells e → IsNoFault e
-either_no_fault tells e law told =
-    ⊎_elim (λ (r : IsRangeError e). range_no_fault e r) (λ (t : tells e). law t) told
+pub interval_no_fault : (offset len : ℕ)
+    (tells : Option (List ByteRange) → CodecError → Type 0) (asked : Option (List ByteRange))
+    (e : CodecError) → ((there : Option (List ByteRange)) → tells there e → IsNoFault e)
+    → interval_tells offset len tells asked e → IsNoFault e
+interval_no_fault offset len tells None e law told = law _ told
+interval_no_fault offset len tells (Some ranges) e law told = go (first_invalid len ranges) told
+  where
+    go : (o : Option ByteRange)
+        → range_or o (tells (Some (map (shifted offset len) ranges))) e → IsNoFault e
+    go (Some range) told = range_no_fault e told
+    go None told = law _ told
 
 pub through_no_fault : (decode : List ℕ → Option (List ℕ))
     (says : List ℕ → CodecError → Type 0) (tells : CodecError → Type 0) (held : Held)

@@ -84,13 +84,14 @@ impl<H> ByteIntervalPartialDecoder<H> {
 
 impl<H: BytesPartialDecoderTraits> BytesPartialDecoderTraits for ByteIntervalPartialDecoder<H> {
     ghost use Rattle.std.proofs.Common.{refl, ◌∙◌};
-    ghost use Rattle.zarrs_codec_held.specs.Interval.{interval, interval_early};
+    ghost use Rattle.zarrs_codec_held.specs.Interval.{interval, interval_early, interval_tells};
     ghost use Rattle.zarrs_codec_held.proofs.IntervalLaws.{interval_sound};
-    ghost use Rattle.zarrs_codec_partial_bytes.specs.NoFault.{either_no_fault};
+    ghost use Rattle.zarrs_codec_partial_bytes.specs.NoFault.{interval_no_fault};
 
     ghost seen = { λ h. interval h.byte_offset h.byte_length (H.seen h.handle) };
 
-    ghost tells = { λ h under e. IsRangeError e ⊎ H.tells h.handle under e };
+    ghost tells = { λ h under asked e. interval_tells h.byte_offset h.byte_length
+        (H.tells h.handle under) asked e };
 
     ghost same = { λ a b. (a.byte_offset ≡ b.byte_offset)
         × ((a.byte_length ≡ b.byte_length) × H.same a.handle b.handle) };
@@ -109,8 +110,9 @@ impl<H: BytesPartialDecoderTraits> BytesPartialDecoderTraits for ByteIntervalPar
 
     ghost reads_parts = { λ h. H.reads_parts h.handle };
 
-    ghost no_fault = { λ h under e told. either_no_fault (H.tells h.handle under) e
-        (λ more. H.no_fault h.handle under e more) told };
+    ghost no_fault = { λ h under asked e told. interval_no_fault h.byte_offset h.byte_length
+        (H.tells h.handle under) asked e (λ there more. H.no_fault h.handle under there e more)
+        told };
 
     ghost sound = { λ h. interval_sound h.byte_offset h.byte_length (H.seen h.handle)
         (H.sound h.handle) };
@@ -119,7 +121,7 @@ impl<H: BytesPartialDecoderTraits> BytesPartialDecoderTraits for ByteIntervalPar
         self.handle.faults()
     }
 
-    #[tactic(auto, using(zarrs_codec_held::proofs::IntervalLaws::interval_keeps))]
+    #[tactic(auto, using(zarrs_codec_held::proofs::IntervalLaws::interval_keeps, zarrs_codec_held::proofs::IntervalLaws::told_below))]
     fn exists(&mut self) -> Result<bool, StorageError> {
         self.handle.exists()
     }
@@ -132,7 +134,7 @@ impl<H: BytesPartialDecoderTraits> BytesPartialDecoderTraits for ByteIntervalPar
         self.handle.supports_partial_decode()
     }
 
-    #[tactic(auto, using(zarrs_codec_held::proofs::IntervalLaws::interval_given, zarrs_codec_held::proofs::IntervalLaws::interval_told, zarrs_codec_held::proofs::IntervalLaws::interval_refused, zarrs_codec_held::proofs::IntervalLaws::first_refused, zarrs_codec_held::proofs::IntervalLaws::first_passed, zarrs_codec_held::proofs::IntervalLaws::interval_reads, zarrs_codec_held::proofs::IntervalLaws::unread))]
+    #[tactic(auto, using(zarrs_codec_held::proofs::IntervalLaws::interval_given, zarrs_codec_held::proofs::IntervalLaws::interval_told, zarrs_codec_held::proofs::IntervalLaws::interval_refused, zarrs_codec_held::proofs::IntervalLaws::first_refused, zarrs_codec_held::proofs::IntervalLaws::first_passed, zarrs_codec_held::proofs::IntervalLaws::interval_reads, zarrs_codec_held::proofs::IntervalLaws::unread, zarrs_codec_held::proofs::IntervalLaws::told_below))]
     fn partial_decode_many(
         &mut self,
         alloc: Global,
@@ -145,7 +147,7 @@ impl<H: BytesPartialDecoderTraits> BytesPartialDecoderTraits for ByteIntervalPar
         }
     }
 
-    #[tactic(auto, using(zarrs_codec_held::proofs::IntervalLaws::one_told, zarrs_codec_held::proofs::IntervalLaws::interval_reads))]
+    #[tactic(auto, using(zarrs_codec_held::proofs::IntervalLaws::one_told, zarrs_codec_held::proofs::IntervalLaws::interval_reads, zarrs_codec_held::proofs::IntervalLaws::told_below))]
     fn decode(
         &mut self,
         alloc: Global,

@@ -1,15 +1,16 @@
 //! What a bytes-to-bytes codec makes of the value that a handle holds.
 
-ghost use Rattle.std.specs.Prelude.{◌≡◌, ◌⊎◌, Some, None, IfOk, IfErr};
+ghost use Rattle.std.specs.Prelude.{◌≡◌, List, Option, Some, None, IfOk, IfErr};
 ghost use Rattle.zarr_model.specs.Codec.{Options};
+ghost use Rattle.zarrs_storage.specs.declared.byte_range.ByteRange.{ByteRange};
 ghost use Rattle.zarrs_storage.specs.Parts.{PartsFit, held_bytes, with_parts};
 ghost use Rattle.zarrs_storage.specs.Store.{value_bytes, part_bytes};
 ghost use Rattle.zarrs_codec_error.specs.declared.error.CodecError.{CodecError};
 ghost use Rattle.zarrs_codec_error.specs.declared.error.CodecError.TheVariants as codec;
 ghost use Rattle.zarrs_codec_traits.specs.Views.{options_of};
 ghost use Rattle.zarrs_codec_held.specs.Held.{part_of};
-ghost use Rattle.zarrs_codec_held.specs.Reads.{Reads, GivesParts, IsHandleError, IsReadError, IsPartError, IsRangeError, RefusesFirst};
-ghost use Rattle.zarrs_codec_held.specs.Writes.{Writes, Unasked};
+ghost use Rattle.zarrs_codec_held.specs.Reads.{Reads, GivesParts, IsHandleError, IsReadError, IsPartError, RefusesFirst};
+ghost use Rattle.zarrs_codec_held.specs.Writes.{Writes, ToldAfter, Unasked};
 ghost use Rattle.zarrs_codec_held.specs.Through.{through, through_says, decoded};
 
 use std::alloc::{AllocError, Global};
@@ -97,14 +98,14 @@ impl<H: BytesPartialDecoderTraits, C: BytesToBytesCodecTraits> BytesToBytesCodec
             ((H.seen self.old.handle).held (options_of options.now)))
             (through_says (C.meaning self.old.codec (options_of options.now))
             (C.says self.old.codec (options_of options.now))
-            (H.tells self.old.handle (options_of options.now))
+            (H.tells self.old.handle (options_of options.now) None)
             ((H.seen self.old.handle).held (options_of options.now)))
             (H.seen self.old.handle).shown.faults (H.seen self.new.handle).shown.faults) }
         ensures first { RefusesFirst (H.early self.old.handle None)
             (H.seen self.old.handle).shown (H.seen self.new.handle).shown result }
         ensures reads { Reads None (H.seen self.old.handle) (H.seen self.new.handle) result }
-        ensures tells { (under : Options) (e : CodecError) → H.tells self.new.handle under e
-            → H.tells self.old.handle under e }
+        ensures tells { (under : Options) (asked : Option (List ByteRange)) (e : CodecError)
+            → H.tells self.new.handle under asked e → H.tells self.old.handle under asked e }
         ensures same { (self.old.codec ≡ self.new.codec)
             × ((self.old.decoded_representation ≡ self.new.decoded_representation)
             × H.same self.old.handle self.new.handle) }
@@ -135,8 +136,8 @@ impl<H: BytesPartialDecoderTraits, C: BytesToBytesCodecTraits> BytesPartialDecod
 
     ghost seen = { λ h. decoded (C.meaning h.codec) (H.seen h.handle) };
 
-    ghost tells = { λ h under e. through_says (C.meaning h.codec under) (C.says h.codec under)
-        (H.tells h.handle under) ((H.seen h.handle).held under) e };
+    ghost tells = { λ h under asked e. through_says (C.meaning h.codec under)
+        (C.says h.codec under) (H.tells h.handle under None) ((H.seen h.handle).held under) e };
 
     ghost same = { λ a b. (a.codec ≡ b.codec)
         × ((a.decoded_representation ≡ b.decoded_representation) × H.same a.handle b.handle) };
@@ -155,9 +156,9 @@ impl<H: BytesPartialDecoderTraits, C: BytesToBytesCodecTraits> BytesPartialDecod
 
     ghost reads_parts = { λ h. (C.decodes_parts h.codec).partial_decode && H.reads_parts h.handle };
 
-    ghost no_fault = { λ h under e told. through_no_fault (C.meaning h.codec under)
-        (C.says h.codec under) (H.tells h.handle under) ((H.seen h.handle).held under) e
-        (λ more. H.no_fault h.handle under e more)
+    ghost no_fault = { λ h under asked e told. through_no_fault (C.meaning h.codec under)
+        (C.says h.codec under) (H.tells h.handle under None) ((H.seen h.handle).held under) e
+        (λ more. H.no_fault h.handle under None e more)
         (λ value said. C.no_fault h.codec under value e said) told };
 
     ghost sound = { λ h. decoded_sound (C.meaning h.codec) (H.seen h.handle)
@@ -213,7 +214,7 @@ impl<H: BytesPartialEncoderTraits, C: BytesToBytesCodecTraits> BytesToBytesCodec
     C,
 > {
     // Makes the handle's value one that decodes to these bytes.
-    #[tactic(auto, using(zarrs_codec_held::proofs::ThroughLaws::writes_some, zarrs_codec_held::proofs::ThroughLaws::writes_not))]
+    #[tactic(auto, using(zarrs_codec_held::proofs::ThroughLaws::writes_some, zarrs_codec_held::proofs::ThroughLaws::writes_not, zarrs_codec_held::proofs::ThroughLaws::told_replaced, zarrs_codec_held::proofs::ThroughLaws::told_still))]
     fn replace_value(
         &mut self,
         alloc: Global,
@@ -226,10 +227,11 @@ impl<H: BytesPartialEncoderTraits, C: BytesToBytesCodecTraits> BytesToBytesCodec
         ensures unasked { Unasked (H.seen self.old.handle) (H.seen self.new.handle) }
         ensures tells { (under : Options) (e : CodecError)
             → through_says (C.meaning self.old.codec under) (C.says self.old.codec under)
-            (H.tells self.new.handle under) ((H.seen self.new.handle).held under) e
-            → through_says (C.meaning self.old.codec under) (C.says self.old.codec under)
-            (H.tells self.old.handle under) ((H.seen self.old.handle).held under) e
-            ⊎ IsRangeError e }
+            (H.tells self.new.handle under None) ((H.seen self.new.handle).held under) e
+            → ToldAfter
+            (through (C.meaning self.old.codec under) ((H.seen self.new.handle).held under))
+            (through_says (C.meaning self.old.codec under) (C.says self.old.codec under)
+            (H.tells self.old.handle under None) ((H.seen self.old.handle).held under)) e }
         ensures cause { IfErr result (IsHandleError (H.seen self.old.handle).shown.faults
             (H.seen self.new.handle).shown.faults) }
         ensures same { (self.old.codec ≡ self.new.codec)
@@ -253,7 +255,7 @@ impl<H: BytesPartialEncoderTraits, C: BytesToBytesCodecTraits> BytesPartialEncod
 
     ghost rereads = { λ h. true };
 
-    #[tactic(auto, using(zarrs_codec_held::proofs::ThroughLaws::writes_none))]
+    #[tactic(auto, using(zarrs_codec_held::proofs::ThroughLaws::writes_none, zarrs_codec_held::proofs::ThroughLaws::told_erased))]
     fn erase(&mut self) -> Result<(), CodecError> {
         self.handle.erase()
     }
@@ -278,7 +280,7 @@ impl<H: BytesPartialEncoderTraits, C: BytesToBytesCodecTraits> BytesPartialEncod
         }
     }
 
-    #[tactic(auto, using(zarrs_codec_held::proofs::ThroughLaws::writes_not))]
+    #[tactic(auto, using(zarrs_codec_held::proofs::ThroughLaws::writes_not, zarrs_codec_held::proofs::ThroughLaws::told_still))]
     fn replace(
         &mut self,
         alloc: Global,

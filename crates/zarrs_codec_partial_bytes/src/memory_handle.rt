@@ -44,7 +44,7 @@ impl BytesPartialDecoderTraits for MemoryHandle {
 
     ghost seen = { λ h. in_memory (value_bytes h.value) };
 
-    ghost tells = { λ h under e. IsRangeError e };
+    ghost tells = { λ h under asked e. IsRangeError e };
 
     ghost same = { λ a b. Unit {0} };
 
@@ -56,7 +56,7 @@ impl BytesPartialDecoderTraits for MemoryHandle {
 
     ghost reads_parts = { λ h. true };
 
-    ghost no_fault = { λ h under e told. range_no_fault e told };
+    ghost no_fault = { λ h under asked e told. range_no_fault e told };
 
     ghost sound = { λ h. sound_memory (value_bytes h.value) };
 

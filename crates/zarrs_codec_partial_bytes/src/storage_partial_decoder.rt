@@ -45,7 +45,7 @@ impl<S: Store> BytesPartialDecoderTraits for StoragePartialDecoder<'_, S> {
 
     ghost seen = { λ h. stored h.storage.ghost_name h.key (S.shown h.storage.now) };
 
-    ghost tells = { λ h under e. IsRangeError e };
+    ghost tells = { λ h under asked e. IsRangeError e };
 
     ghost same = { λ a b. Unit {0} };
 
@@ -57,7 +57,7 @@ impl<S: Store> BytesPartialDecoderTraits for StoragePartialDecoder<'_, S> {
 
     ghost reads_parts = { λ h. S.gets_parts h.storage.now };
 
-    ghost no_fault = { λ h under e told. range_no_fault e told };
+    ghost no_fault = { λ h under asked e told. range_no_fault e told };
 
     ghost sound = { λ h. sound_by (stored h.storage.ghost_name h.key (S.shown h.storage.now))
         ((S.shown h.storage.now).content h.key) refl (λ under. refl) (λ under range. refl) };

@@ -1,6 +1,5 @@
 //! Handles on bytes.
 
-use crate::reversed::ReversedCodec;
 use std::alloc::{AllocError, Global};
 use std::test::Fail;
 use zarrs_codec_error::CodecError;
@@ -8,6 +7,7 @@ use zarrs_codec_options::{BytesRepresentation, CodecOptions};
 use zarrs_codec_partial_bytes::{
     ByteIntervalPartialDecoder, BytesToBytesCodecPartialDefault, MemoryHandle,
 };
+use zarrs_codec_partial_callers::ReversedCodec;
 use zarrs_codec_partial_traits::{BytesPartialDecoderTraits, BytesPartialEncoderTraits};
 use zarrs_storage::ByteRange;
 

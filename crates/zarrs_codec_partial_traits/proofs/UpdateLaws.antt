@@ -16,7 +16,7 @@ use Rattle.zarrs_codec_held.specs.Reads.{IsFault, IsHandleError}
 use Rattle.zarrs_codec_held.specs.Writes.{is_fault, Unless, UnlessFault, CountsIf, MayCountIf}
 use Rattle.zarrs_codec_held.proofs.EditLaws.{fault_later}
 use Rattle.zarrs_codec_partial_traits.specs.Lists.{Refused, ListSeen, HasFill, HasShortFill, KeepsList, ReadsList}
-use Rattle.zarrs_codec_partial_traits.specs.ListWrites.{is_kept, is_stored, HoldsStored, IsAbsent, SameList, IsLeft, IsRefused, PutsList, StaysList, KeepsRest, UnaskedList, MayPutList, Rewrites, IsUnencoded}
+use Rattle.zarrs_codec_partial_traits.specs.ListWrites.{is_kept, is_stored, HoldsStored, IsAbsent, SameList, IsLeft, IsRefused, PutsList, StaysList, KeepsRest, UnaskedList, MayPutList, Rewrites, IsUnencoded, IsEncoded}
 use Rattle.zarrs_codec_partial_traits.proofs.FaultLaws.{no_fault, faults_after}
 use Rattle.zarrs_codec_partial_traits.specs.Updates.{Change, given_by, made_by, ReadsListIf, GivesMade, Stores, Updates}
 
@@ -213,6 +213,12 @@ told_before : {T : Type 0} (before now : ℕ) (A B : CodecError → Type 0) (r :
 told_before before now A B (Ok v) to told = tt
 told_before before now A B (Err e) to told = ⊎_elim (λ (h : IsHandleError before now e). inl h) (λ (a : A e). inr (to e a)) told
 
+taken_by : {T : Type 0} (takes_then takes : List Element → Type 0) (given wanted : Option (List Element)) (r : Result T CodecError) → Gives given wanted → ((list : List Element) → takes_then list → takes list)
+    → ((xs : List Element) → given ≡ Some xs → OnOk r (takes_then xs)) → OnOk r (IsEncoded wanted takes)
+taken_by takes_then takes given wanted (Err e) gives to taken = tt
+taken_by takes_then takes given None (Ok v) gives to taken = absurd (none_some given gives.same gives.there)
+taken_by takes_then takes given (Some xs) (Ok v) gives to taken = to xs (taken xs gives.same)
+
 -- only what is below failed
 pub fault_told : {T : Type 0} (before now : ℕ) (P : CodecError → Type 0) (r : Result T CodecError) → IfErr r (IsFault before now) → IfErr r (λ e. IsHandleError before now e ⊎ P e)
 fault_told before now P (Ok v) told = tt
@@ -227,11 +233,11 @@ handle_told before now P (Ok v) told = tt
 handle_told before now P (Err e) told = inl told
 
 -- elements were not stored
-pub stores_not : {T : Type 0} (under : Options) (bytes : ArrayBytes) (unencoded : List Element → CodecError → Type 0) (Short : Type 0) (seen : ListSeen) (e : CodecError)
+pub stores_not : {T : Type 0} (under : Options) (bytes : ArrayBytes) (unencoded : List Element → CodecError → Type 0) (takes : List Element → Type 0) (Short : Type 0) (seen : ListSeen) (e : CodecError)
     → ((list : List Element) → seen.unserved ≡ None → HasFill seen → list_at seen.level bytes ≡ Some list → IsHandleError seen.shown.faults seen.shown.faults e ⊎ unencoded list e)
     → (seen.unserved ≡ None → HasFill seen → HasShortFill seen → Short → IsSome (list_at seen.level bytes) → has_long_element bytes ≡ false → IsHandleError seen.shown.faults seen.shown.faults e)
-    → IsNoFault e → Stores {T = T} under bytes unencoded Short seen seen (Err e)
-stores_not {T} under bytes unencoded Short seen e cause encoded own = record {
+    → IsNoFault e → Stores {T = T} under bytes unencoded takes Short seen seen (Err e)
+stores_not {T} under bytes unencoded takes Short seen e cause encoded own = record {
   puts = λ list served filled means. let p : PutsList {T = T} (is_stored under seen list) list seen seen (Err e) = record { ok = tt; failed = inl (keeps_same seen seen (keeps_self seen)) } in p;
   left = λ list served means. inl (keeps_same seen seen (keeps_self seen));
   unserved = λ some. let r : IsRefused {T = T} seen seen (Err e) = record { err = tt; stays = keeps_stays seen seen (keeps_self seen) } in r;
@@ -239,16 +245,17 @@ stores_not {T} under bytes unencoded Short seen e cause encoded own = record {
   rest = keeps_rest seen seen (keeps_self seen);
   unasked = record { asks = refl; taken = refl };
   cause = cause;
+  taken = λ list served means. tt;
   encoded = encoded;
   fault = no_fault _ _ e own;
 }
 
-module _ (under : Options) (change : Change) (tells : CodecError → Type 0) (unencoded : List Element → CodecError → Type 0) (Short : Type 0) where
+module _ (under : Options) (change : Change) (tells : CodecError → Type 0) (unencoded : List Element → CodecError → Type 0) (takes : List Element → Type 0) (Short : Type 0) where
   -- new elements were made, and then stored
-  pub updates_after : {T : Type 0} (unencoded_then : List Element → CodecError → Type 0) (ShortThen : Type 0) (first mid new : ListSeen) (elements : code.ArrayBytes) (result : Result T CodecError)
-      → GivesMade under change tells first mid (Ok elements) → ReadsListIf {E = CodecError} (not change.all) None first mid (Ok elements) → Stores under (raw_of elements) unencoded_then ShortThen mid new result
-      → ((list : List Element) (e : CodecError) → unencoded_then list e → unencoded list e) → (Short → ShortThen) → Updates under change tells unencoded Short first new result
-  updates_after unencoded_then ShortThen first mid new elements result made reads stores back to =
+  pub updates_after : {T : Type 0} (unencoded_then : List Element → CodecError → Type 0) (takes_then : List Element → Type 0) (ShortThen : Type 0) (first mid new : ListSeen) (elements : code.ArrayBytes) (result : Result T CodecError)
+      → GivesMade under change tells first mid (Ok elements) → ReadsListIf {E = CodecError} (not change.all) None first mid (Ok elements) → Stores under (raw_of elements) unencoded_then takes_then ShortThen mid new result
+      → ((list : List Element) (e : CodecError) → unencoded_then list e → unencoded list e) → ((list : List Element) → takes_then list → takes list) → (Short → ShortThen) → Updates under change tells unencoded takes Short first new result
+  updates_after unencoded_then takes_then ShortThen first mid new elements result made reads stores back encodes to =
       let keeps = reads.keeps in
       let raw = raw_of elements in
       let means = (λ (xs : List Element) (is : list_at first.level raw ≡ Some xs). ap (λ (level : Level). list_at level raw) keeps.level ∙ is) in
@@ -260,9 +267,11 @@ module _ (under : Options) (change : Change) (tells : CodecError → Type 0) (un
         rewrites = rewrites_after first mid new keeps (not change.all) elements result reads stores.unchanged stores.rest stores.unasked;
         cause = λ given served filled fits is. stored_told (list_at first.level raw) (made_by change given (first.list under)) _ unencoded _ _ _ result (made.gives given served is) keeps.later
             (λ xs here. told_before _ _ (unencoded_then xs) (unencoded xs) result (back xs) (stores.cause xs (keeps.unserved ∙ served) (filled_after first mid new keeps filled) (means xs here)));
-        encoded = λ given served filled few takes short fits is.
+        taken = λ given served is. taken_by takes_then takes (list_at first.level raw) (made_by change given (first.list under)) result (made.gives given served is) encodes
+            (λ xs here. stores.taken xs (keeps.unserved ∙ served) (means xs here));
+        encoded = λ given served filled few short_takes short fits is.
             let gives = made.gives given served is in
-            stored_short _ _ _ _ result keeps.later (stores.encoded (keeps.unserved ∙ served) (filled_after first mid new keeps filled) (keeps.short ∙ few) (to takes) (subst (λ (level : Level). IsSome (list_at level raw)) (sym keeps.level) gives.there)
+            stored_short _ _ _ _ result keeps.later (stores.encoded (keeps.unserved ∙ served) (filled_after first mid new keeps filled) (keeps.short ∙ few) (to short_takes) (subst (λ (level : Level). IsSome (list_at level raw)) (sym keeps.level) gives.there)
             (made.short served few short));
         fault = faults_after first.shown.faults mid.shown.faults new.shown.faults result keeps.later stores.fault;
       }
@@ -280,26 +289,28 @@ module _ (under : Options) (change : Change) (tells : CodecError → Type 0) (un
           was_err result (left_same (is_stored under first) (made_by change given (first.list under)) first new (stays_same first new (unserved_by (subst (λ (o : Option Refused). IsSome o) (sym because) refl)).stays))
 
   -- they were not made
-  pub updates_not : {T : Type 0} (first mid : ListSeen) (e : CodecError) → GivesMade under change tells first mid (Err e) → ReadsListIf {T = code.ArrayBytes} (not change.all) None first mid (Err e) → Updates {T = T} under change tells unencoded Short first mid (Err e)
+  pub updates_not : {T : Type 0} (first mid : ListSeen) (e : CodecError) → GivesMade under change tells first mid (Err e) → ReadsListIf {T = code.ArrayBytes} (not change.all) None first mid (Err e) → Updates {T = T} under change tells unencoded takes Short first mid (Err e)
   updates_not {T} first mid e made reads = record {
     puts = λ given served filled is. may_not T (is_stored under first) (made_by change given (first.list under)) first mid e reads.keeps;
     left = λ given is. left_same (is_stored under first) (made_by change given (first.list under)) first mid (keeps_same first mid reads.keeps);
     unserved = λ some. let r : IsRefused {T = T} first mid (Err e) = record { err = tt; stays = keeps_stays first mid reads.keeps } in r;
     rewrites = rewrites_not (not change.all) first mid e reads;
     cause = λ given served filled fits is. ⊎_elim (λ h. inl h) (λ u. inr (inl u)) (made.failed given served filled is);
-    encoded = λ given served filled few takes short fits is. made.failed given served filled is;
+    taken = λ given served is. tt;
+    encoded = λ given served filled few short_takes short fits is. made.failed given served filled is;
     fault = made.fault;
   }
 
   -- nothing was done, for want of memory where the elements and their indexer are in order
   pub updates_early : {T : Type 0} (seen : ListSeen) (e : CodecError) → ((given : List Element) → seen.unserved ≡ None → HasFill seen → change.fits ≡ true → given_by seen.level change ≡ Some given → e ≡ codec.OutOfMemory)
-      → IsNoFault e → Updates {T = T} under change tells unencoded Short seen seen (Err e)
+      → IsNoFault e → Updates {T = T} under change tells unencoded takes Short seen seen (Err e)
   updates_early {T} seen e memory own = record {
     puts = λ given served filled is. may_not T (is_stored under seen) (made_by change given (seen.list under)) seen seen e (keeps_self seen);
     left = λ given is. left_same (is_stored under seen) (made_by change given (seen.list under)) seen seen (keeps_same seen seen (keeps_self seen));
     unserved = λ some. let r : IsRefused {T = T} seen seen (Err e) = record { err = tt; stays = keeps_stays seen seen (keeps_self seen) } in r;
     rewrites = rewrites_not {U = code.ArrayBytes} (not change.all) seen seen e (unread_if (not change.all) None seen e);
     cause = λ given served filled fits is. inl (inl (memory given served filled fits is));
-    encoded = λ given served filled few takes short fits is. inl (inl (memory given served filled fits is));
+    taken = λ given served is. tt;
+    encoded = λ given served filled few short_takes short fits is. inl (inl (memory given served filled fits is));
     fault = no_fault _ _ e own;
   }

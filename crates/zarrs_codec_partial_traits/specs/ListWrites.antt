@@ -136,6 +136,11 @@ abbrev pub IsUnencoded : Option (List Element) → (List Element → CodecError 
 IsUnencoded None refuses e = ⊥
 IsUnencoded (Some list) refuses e = refuses list e
 
+-- a new list, if there is one, is one that is encoded
+abbrev pub IsEncoded : Option (List Element) → (List Element → Type 0) → Type 0
+IsEncoded None takes = ⊥
+IsEncoded (Some list) takes = takes list
+
 abbrev pub IsUnreadList : Bool → Bool → Option (List Element) → (CodecError → Type 0) → CodecError
     → Type 0
 IsUnreadList true there list tells e = ⊥

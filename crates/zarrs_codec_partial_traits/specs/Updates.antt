@@ -14,7 +14,7 @@ use Rattle.zarrs_codec_held.specs.Reads.{IsHandleError}
 use Rattle.zarrs_codec_held.specs.Writes.{UnlessFault, CountsIf, MayCountIf}
 use Rattle.zarrs_codec_partial_traits.specs.Boxes.{is_all}
 use Rattle.zarrs_codec_partial_traits.specs.Lists.{ListSeen, HasFill, HasShortFill, KeepsList, TellsFault}
-use Rattle.zarrs_codec_partial_traits.specs.ListWrites.{updated, is_stored, IsLeft, IsRefused, PutsList, StaysList, KeepsRest, UnaskedList, MayPutList, Rewrites, IsUnencoded, IsUnreadList}
+use Rattle.zarrs_codec_partial_traits.specs.ListWrites.{updated, is_stored, IsLeft, IsRefused, PutsList, StaysList, KeepsRest, UnaskedList, MayPutList, Rewrites, IsUnencoded, IsEncoded, IsUnreadList}
 
 -- elements that are put in: whether these are all, and whether their indexer fits; their linear
 -- indices, how many there are, and their bytes
@@ -67,8 +67,8 @@ pub record GivesMade (under : Options) (change : Change) (tells : CodecError →
 
 -- a change of what is held to the elements of these bytes, with nothing read
 pub record Stores {T : Type 0} (under : Options) (bytes : ArrayBytes)
-    (unencoded : List Element → CodecError → Type 0) (Short : Type 0) (old new : ListSeen)
-    (result : Result T CodecError) : Type 0 where
+    (unencoded : List Element → CodecError → Type 0) (takes : List Element → Type 0)
+    (Short : Type 0) (old new : ListSeen) (result : Result T CodecError) : Type 0 where
   pub puts : (list : List Element) → old.unserved ≡ None → HasFill old
       → list_at old.level bytes ≡ Some list
       → PutsList (is_stored under old list) list old new result
@@ -82,6 +82,9 @@ pub record Stores {T : Type 0} (under : Options) (bytes : ArrayBytes)
   pub cause : (list : List Element) → old.unserved ≡ None → HasFill old
       → list_at old.level bytes ≡ Some list → IfErr result
       (λ e. IsHandleError old.shown.faults new.shown.faults e ⊎ unencoded list e)
+  -- a list is encoded first, also where it is not stored
+  pub taken : (list : List Element) → old.unserved ≡ None
+      → list_at old.level bytes ≡ Some list → OnOk result (takes list)
   pub encoded : old.unserved ≡ None → HasFill old → HasShortFill old → Short
       → IsSome (list_at old.level bytes) → has_long_element bytes ≡ false
       → IfErr result (IsHandleError old.shown.faults new.shown.faults)
@@ -89,8 +92,8 @@ pub record Stores {T : Type 0} (under : Options) (bytes : ArrayBytes)
 
 -- both: what is left, what is read, and why a call fails, also where all is short
 pub record Updates {T : Type 0} (under : Options) (change : Change) (tells : CodecError → Type 0)
-    (unencoded : List Element → CodecError → Type 0) (Short : Type 0) (old new : ListSeen)
-    (result : Result T CodecError) : Type 0 where
+    (unencoded : List Element → CodecError → Type 0) (takes : List Element → Type 0)
+    (Short : Type 0) (old new : ListSeen) (result : Result T CodecError) : Type 0 where
   pub puts : (given : List Element) → old.unserved ≡ None → HasFill old
       → given_by old.level change ≡ Some given → MayPutList (is_stored under old)
       (made_by change given (old.list under)) old new result
@@ -105,6 +108,10 @@ pub record Updates {T : Type 0} (under : Options) (change : Change) (tells : Cod
       (λ e. IsHandleError old.shown.faults new.shown.faults e
       ⊎ (IsUnreadList change.all old.there (old.list under) tells e
       ⊎ IsUnencoded (made_by change given (old.list under)) unencoded e))
+  -- the new list is encoded, also where it is not stored
+  pub taken : (given : List Element) → old.unserved ≡ None
+      → given_by old.level change ≡ Some given
+      → OnOk result (IsEncoded (made_by change given (old.list under)) takes)
   pub encoded : (given : List Element) → old.unserved ≡ None → HasFill old → HasShortFill old
       → Short → has_long_element change.bytes ≡ false → change.fits ≡ true
       → given_by old.level change ≡ Some given → IfErr result

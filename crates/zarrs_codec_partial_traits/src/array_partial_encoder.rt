@@ -24,8 +24,10 @@ pub trait ArrayPartialEncoderTraits: ArrayPartialDecoderTraits {
     // Whether it writes some elements without the rest.
     ghost writes_parts: { Self → Bool };
 
-    // Which errors tell that a list of elements is not encoded, and where each list of short ones is.
+    // Which errors tell that a list of elements is not encoded, which lists are, and where each list of short ones is.
     ghost unencoded: { Self → List Element → CodecError → Type 0 };
+
+    ghost encodes: { Self → List Element → Type 0 };
 
     ghost encodes_short: { Self → Type 0 };
 
@@ -82,15 +84,18 @@ pub trait ArrayPartialEncoderTraits: ArrayPartialDecoderTraits {
             (I.fits indexer.now (Self.seen self.old).level.shape)
             (I.as_region indexer.now) (I.places indexer.now) (raw_of bytes.now))
             (Self.tells self.old (options_of options.now) None) (unencoded self.old)
-            (encodes_short self.old) (Self.seen self.old) (Self.seen self.new) result }
+            (encodes self.old) (encodes_short self.old) (Self.seen self.old) (Self.seen self.new) result }
         ensures named { given_answer (kind_of (Self.seen self.old).level.data_type)
             (I.fits indexer.now (Self.seen self.old).level.shape) (length (I.places indexer.now))
             (raw_of bytes.now) ≡ fine → RefusesFor (Self.seen self.old).unserved result }
         ensures same { Self.same self.old self.new };
 
-    // Both are so wherever the settings are the same.
+    // These are so wherever the settings are the same.
     ghost same_unencoded: { (a b : Self) (list : List Element) (e : CodecError) → Self.same a b
         → unencoded b list e → unencoded a list e };
+
+    ghost same_encodes: { (a b : Self) (list : List Element) → Self.same a b → encodes b list
+        → encodes a list };
 
     ghost same_short: { (a b : Self) → Self.same a b → encodes_short a → encodes_short b };
 }

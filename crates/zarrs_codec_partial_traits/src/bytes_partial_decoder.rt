@@ -23,8 +23,8 @@ pub trait BytesPartialDecoderTraits {
     // What it holds, and what it shows of what is below.
     ghost seen: { Self → Seen };
 
-    // Which errors tell why a read is refused.
-    ghost tells: { Self → Options → CodecError → Type 0 };
+    // Which errors tell why a read is refused of the ranges that are asked for, or of the whole value.
+    ghost tells: { Self → Options → Option (List ByteRange) → CodecError → Type 0 };
 
     // Two states have the same settings, which are what a handle has beside its value: a codec, or where an interval lies.
     ghost same: { Self → Self → Type 0 };
@@ -50,8 +50,8 @@ pub trait BytesPartialDecoderTraits {
             × Rose (seen self.old).shown.faults (seen self.new).shown.faults) }
         ensures looks { Looks (seen self.old) (seen self.new) result }
         ensures same { same self.old self.new }
-        ensures tells { (under : Options) (e : CodecError) → tells self.new under e
-            → tells self.old under e };
+        ensures tells { (under : Options) (asked : Option (List ByteRange)) (e : CodecError)
+            → tells self.new under asked e → tells self.old under asked e };
 
     /// How many bytes of the value are in memory; 0 over a store.
     fn size_held(&self) -> usize
@@ -76,14 +76,15 @@ pub trait BytesPartialDecoderTraits {
             (λ bytes. (seen self.old).part (options_of options.now) decoded_region
             ≡ Some (value_bytes bytes)) }
         ensures cause { IfErr result (IsPartError ((seen self.old).part (options_of options.now))
-            (decoded_region ∷ []) (tells self.old (options_of options.now))
+            (decoded_region ∷ [])
+            (tells self.old (options_of options.now) (Some (decoded_region ∷ [])))
             (seen self.old).shown.faults (seen self.new).shown.faults) }
         ensures first { RefusesFirst (early self.old (Some (decoded_region ∷ [])))
             (seen self.old).shown (seen self.new).shown result }
         ensures reads { Reads (Some (decoded_region ∷ [])) (seen self.old) (seen self.new) result }
         ensures same { same self.old self.new }
-        ensures tells { (under : Options) (e : CodecError) → tells self.new under e
-            → tells self.old under e }
+        ensures tells { (under : Options) (asked : Option (List ByteRange)) (e : CodecError)
+            → tells self.new under asked e → tells self.old under asked e }
     {
         let regions = [decoded_region];
         match self.partial_decode_many(alloc, &regions, options) {
@@ -109,14 +110,15 @@ pub trait BytesPartialDecoderTraits {
             ((seen self.old).part (options_of options.now)) decoded_regions.now
             (part_bytes parts)) }
         ensures cause { IfErr result (IsPartError ((seen self.old).part (options_of options.now))
-            decoded_regions.now (tells self.old (options_of options.now))
+            decoded_regions.now
+            (tells self.old (options_of options.now) (Some decoded_regions.now))
             (seen self.old).shown.faults (seen self.new).shown.faults) }
         ensures first { RefusesFirst (early self.old (Some decoded_regions.now))
             (seen self.old).shown (seen self.new).shown result }
         ensures reads { Reads (Some decoded_regions.now) (seen self.old) (seen self.new) result }
         ensures same { same self.old self.new }
-        ensures tells { (under : Options) (e : CodecError) → tells self.new under e
-            → tells self.old under e };
+        ensures tells { (under : Options) (asked : Option (List ByteRange)) (e : CodecError)
+            → tells self.new under asked e → tells self.old under asked e };
 
     /// The whole value, or [`None`] where it is absent.
     ///
@@ -131,14 +133,14 @@ pub trait BytesPartialDecoderTraits {
         ensures value { IfOk result
             (λ v. (seen self.old).held (options_of options.now) ≡ Some (value_bytes v)) }
         ensures cause { IfErr result (IsReadError ((seen self.old).held (options_of options.now))
-            (tells self.old (options_of options.now))
+            (tells self.old (options_of options.now) None)
             (seen self.old).shown.faults (seen self.new).shown.faults) }
         ensures first { RefusesFirst (early self.old None)
             (seen self.old).shown (seen self.new).shown result }
         ensures reads { Reads None (seen self.old) (seen self.new) result }
         ensures same { same self.old self.new }
-        ensures tells { (under : Options) (e : CodecError) → tells self.new under e
-            → tells self.old under e };
+        ensures tells { (under : Options) (asked : Option (List ByteRange)) (e : CodecError)
+            → tells self.new under asked e → tells self.old under asked e };
 
     // Settings that are kept by two calls are kept.
     ghost same_self: { (h : Self) → same h h };
@@ -146,8 +148,8 @@ pub trait BytesPartialDecoderTraits {
     ghost same_twice: { (a b c : Self) → same a b → same b c → same a c };
 
     // What tells why a read is refused is no fault of a store.
-    ghost no_fault: { (h : Self) (under : Options) (e : CodecError) → tells h under e
-        → IsNoFault e };
+    ghost no_fault: { (h : Self) (under : Options) (asked : Option (List ByteRange))
+        (e : CodecError) → tells h under asked e → IsNoFault e };
 
     // What is read belongs together.
     ghost sound: { (h : Self) → IsSound (seen h) };

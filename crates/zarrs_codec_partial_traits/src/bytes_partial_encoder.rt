@@ -1,12 +1,13 @@
 //! Handles on bytes that are read and written.
 
-ghost use Rattle.std.specs.Prelude.{◌≡◌, ◌⊎◌, ◌∷◌, [], ◌≤◌, ◌+◌, ◌-◌, ◌^◌, Bool, length, Some, None, IfErr};
+ghost use Rattle.std.specs.Prelude.{◌≡◌, ◌∷◌, [], ◌≤◌, ◌+◌, ◌-◌, ◌^◌, Bool, List, length, Option, Some, None, IfErr};
+ghost use Rattle.zarrs_storage.specs.declared.byte_range.ByteRange.{ByteRange};
 ghost use Rattle.zarrs_storage.specs.Parts.{PartsFit, with_parts};
 ghost use Rattle.zarrs_codec_error.specs.declared.error.CodecError.{CodecError};
 ghost use Rattle.zarr_model.specs.Codec.{Options};
 ghost use Rattle.zarrs_codec_traits.specs.Views.{options_of};
-ghost use Rattle.zarrs_codec_held.specs.Reads.{IsReadError, IsHandleError, IsFault, IsRangeError};
-ghost use Rattle.zarrs_codec_held.specs.Writes.{Writes, Edits, Unasked};
+ghost use Rattle.zarrs_codec_held.specs.Reads.{IsReadError, IsHandleError, IsFault};
+ghost use Rattle.zarrs_codec_held.specs.Writes.{Writes, ToldAfter, Edits, Unasked};
 
 use crate::bytes_partial_decoder::BytesPartialDecoderTraits;
 use std::alloc::Global;
@@ -28,8 +29,9 @@ pub trait BytesPartialEncoderTraits: BytesPartialDecoderTraits {
     /// [`CodecError::StorageError`] where what is below fails. The value is then as before, or absent.
     fn erase(&mut self) -> Result<(), CodecError>
         ensures same { Self.same self.old self.new }
-        ensures tells { (under : Options) (e : CodecError) → Self.tells self.new under e
-            → Self.tells self.old under e ⊎ IsRangeError e }
+        ensures tells { (under : Options) (asked : Option (List ByteRange)) (e : CodecError)
+            → Self.tells self.new under asked e
+            → ToldAfter ((Self.seen self.new).held under) (Self.tells self.old under asked) e }
         ensures writes { Writes None (Self.seen self.old) (Self.seen self.new) result }
         ensures unasked { Unasked (Self.seen self.old) (Self.seen self.new) }
         ensures cause { IfErr result (IsFault (Self.seen self.old).shown.faults
@@ -52,15 +54,16 @@ pub trait BytesPartialEncoderTraits: BytesPartialDecoderTraits {
     ) -> Result<(), CodecError>
         requires fit { offset + length bytes.items ≤ 2 ^ 64 - 1 }
         ensures same { Self.same self.old self.new }
-        ensures tells { (under : Options) (e : CodecError) → Self.tells self.new under e
-            → Self.tells self.old under e ⊎ IsRangeError e }
+        ensures tells { (under : Options) (asked : Option (List ByteRange)) (e : CodecError)
+            → Self.tells self.new under asked e
+            → ToldAfter ((Self.seen self.new).held under) (Self.tells self.old under asked) e }
         ensures edits { Edits
             (λ value. with_parts (record { offset = offset; bytes = bytes } ∷ []) value)
             (rereads self.old) (options_of options.now)
             (Self.seen self.old) (Self.seen self.new) result }
         ensures cause { IfErr result
             (IsReadError ((Self.seen self.old).held (options_of options.now))
-            (Self.tells self.old (options_of options.now))
+            (Self.tells self.old (options_of options.now) None)
             (Self.seen self.old).shown.faults (Self.seen self.new).shown.faults) }
     {
         let parts = [OffsetBytes { offset, bytes }];
@@ -81,13 +84,14 @@ pub trait BytesPartialEncoderTraits: BytesPartialDecoderTraits {
     ) -> Result<(), CodecError>
         requires fit { PartsFit offset_values.now }
         ensures same { Self.same self.old self.new }
-        ensures tells { (under : Options) (e : CodecError) → Self.tells self.new under e
-            → Self.tells self.old under e ⊎ IsRangeError e }
+        ensures tells { (under : Options) (asked : Option (List ByteRange)) (e : CodecError)
+            → Self.tells self.new under asked e
+            → ToldAfter ((Self.seen self.new).held under) (Self.tells self.old under asked) e }
         ensures edits { Edits (with_parts offset_values.now) (rereads self.old)
             (options_of options.now) (Self.seen self.old) (Self.seen self.new) result }
         ensures cause { IfErr result
             (IsReadError ((Self.seen self.old).held (options_of options.now))
-            (Self.tells self.old (options_of options.now))
+            (Self.tells self.old (options_of options.now) None)
             (Self.seen self.old).shown.faults (Self.seen self.new).shown.faults) };
 
     /// Makes the value exactly these bytes.
@@ -102,8 +106,9 @@ pub trait BytesPartialEncoderTraits: BytesPartialDecoderTraits {
         options: &CodecOptions,
     ) -> Result<(), CodecError>
         ensures same { Self.same self.old self.new }
-        ensures tells { (under : Options) (e : CodecError) → Self.tells self.new under e
-            → Self.tells self.old under e ⊎ IsRangeError e }
+        ensures tells { (under : Options) (asked : Option (List ByteRange)) (e : CodecError)
+            → Self.tells self.new under asked e
+            → ToldAfter ((Self.seen self.new).held under) (Self.tells self.old under asked) e }
         ensures writes { Writes (Some bytes.now) (Self.seen self.old) (Self.seen self.new) result }
         ensures unasked { Unasked (Self.seen self.old) (Self.seen self.new) }
         ensures cause { IfErr result (IsHandleError (Self.seen self.old).shown.faults

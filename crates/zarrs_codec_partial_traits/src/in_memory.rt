@@ -20,7 +20,7 @@ impl BytesPartialDecoderTraits for Vec<u8> {
 
     ghost seen = { λ v. in_memory (Some v.items) };
 
-    ghost tells = { λ v under e. IsRangeError e };
+    ghost tells = { λ v under asked e. IsRangeError e };
 
     ghost same = { λ a b. Unit {0} };
 
@@ -32,7 +32,7 @@ impl BytesPartialDecoderTraits for Vec<u8> {
 
     ghost reads_parts = { λ v. true };
 
-    ghost no_fault = { λ v under e told. range_no_fault e told };
+    ghost no_fault = { λ v under asked e told. range_no_fault e told };
 
     ghost sound = { λ v. sound_memory (Some v.items) };
 
@@ -92,7 +92,7 @@ impl BytesPartialDecoderTraits for CowSlice<'_, u8> {
 
     ghost seen = { λ v. in_memory (Some (cow_slice_items v)) };
 
-    ghost tells = { λ v under e. IsRangeError e };
+    ghost tells = { λ v under asked e. IsRangeError e };
 
     ghost same = { λ a b. Unit {0} };
 
@@ -104,7 +104,7 @@ impl BytesPartialDecoderTraits for CowSlice<'_, u8> {
 
     ghost reads_parts = { λ v. true };
 
-    ghost no_fault = { λ v under e told. range_no_fault e told };
+    ghost no_fault = { λ v under asked e told. range_no_fault e told };
 
     ghost sound = { λ v. sound_memory (Some (cow_slice_items v)) };
 

@@ -2,6 +2,7 @@
 
 use crate::texts::is_text;
 use std::alloc::{AllocError, Global};
+use std::process::Abort;
 use zarrs_array_subset::ArraySubset;
 use zarrs_codec_error::{CodecError, InvalidBytesLengthError, SubsetOutOfBoundsError};
 use zarrs_storage::StorageError;
@@ -10,10 +11,10 @@ fn text_of(alloc: Global, error: CodecError) -> Result<String, AllocError> {
     format!(in alloc; "{error}")
 }
 
-fn out_of_bounds(alloc: Global) -> Result<CodecError, AllocError> {
-    let subset = ArraySubset::new_with_ranges(alloc, &[1..5])?;
-    let array = ArraySubset::new_with_ranges(alloc, &[0..4])?;
-    Ok(SubsetOutOfBoundsError::new(subset, array).into())
+fn out_of_bounds(rt: &impl Abort, alloc: Global) -> CodecError {
+    let subset = ArraySubset::new_with_ranges(alloc, &[1..5]).expect(rt, "memory");
+    let array = ArraySubset::new_with_ranges(alloc, &[0..4]).expect(rt, "memory");
+    SubsetOutOfBoundsError::new(subset, array).into()
 }
 
 #[test]
@@ -31,10 +32,7 @@ fn errors_have_texts(rt: HostRuntime) {
     );
     is_text(
         &rt,
-        text_of(
-            alloc,
-            out_of_bounds(alloc).unwrap_or(CodecError::OutOfMemory),
-        ),
+        text_of(alloc, out_of_bounds(&rt, alloc)),
         "the subset [1..5] does not lie within [0..4]",
     );
 }

@@ -1,8 +1,6 @@
-//! Worked examples of byte ranges, of options of codecs, of the texts of their errors, of array bytes and of views.
+//! Worked examples of byte ranges, of options of codecs, of the texts of their errors, and of views.
 #![tactic(auto)]
 
-#[cfg(test)]
-mod array_bytes;
 #[cfg(test)]
 mod errors;
 #[cfg(test)]

@@ -27,12 +27,12 @@ fn range_of(word: &str) -> ByteRange {
     }
 }
 
-fn ranges_of(alloc: Global, words: &str) -> Result<Vec<ByteRange>, AllocError> {
+fn ranges_of(rt: &impl Abort, alloc: Global, words: &str) -> Vec<ByteRange> {
     let mut ranges = Vec::new(alloc);
     for word in words.split_whitespace() {
-        ranges.push(range_of(word))?;
+        ranges.push(range_of(word)).expect(rt, "memory");
     }
-    Ok(ranges)
+    ranges
 }
 
 fn parts(alloc: Global, ranges: &[ByteRange]) -> Result<String, AllocError> {
@@ -52,7 +52,7 @@ fn joined(alloc: Global, ranges: &[ByteRange]) -> Result<String, AllocError> {
 fn is_row(rt: &impl Abort, alloc: Global, row: &str) {
     let (words, rest) = cut(row);
     let (want_parts, want_joined) = cut(rest);
-    let ranges = ranges_of(alloc, words).unwrap_or(Vec::new(alloc));
+    let ranges = ranges_of(rt, alloc, words);
     is_text(rt, parts(alloc, &ranges), want_parts);
     is_text(rt, joined(alloc, &ranges), want_joined);
 }

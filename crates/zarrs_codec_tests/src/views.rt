@@ -6,6 +6,7 @@ use crate::texts::is_text;
 use std::alloc::{AllocError, Global};
 use std::borrow::CowSlice;
 use std::ops::Range;
+use std::process::Abort;
 use zarrs_array_subset::ArraySubset;
 use zarrs_codec_array_bytes::ArrayBytes;
 use zarrs_codec_error::{ArrayBytesFixedDisjointViewCreateError, CodecError};
@@ -16,74 +17,85 @@ use zarrs_codec_view::{
 use zarrs_data_type_elements::FillValue;
 use zarrs_data_type_names::DataType;
 
-// A box of three rows of three elements is written, through a view of it.
+fn region(rt: &impl Abort, alloc: Global, ranges: &[Range<u64>]) -> ArraySubset {
+    ArraySubset::new_with_ranges(alloc, ranges).expect(rt, "memory")
+}
+
+// A view of a box of three rows of three elements.
+fn view_in<'b>(
+    rt: &impl Abort,
+    alloc: Global,
+    bytes: &'b mut [u8],
+    ranges: &[Range<u64>],
+) -> ArrayBytesFixedDisjointView<'b> {
+    let subset = region(rt, alloc, ranges);
+    let view = ArrayBytesFixedDisjointView::new(alloc, bytes, 1, &[3, 3], subset);
+    view.ok().expect(rt, "a view")
+}
+
+// A box is written, through a view of it.
 fn copy_box(
+    rt: &impl Abort,
     alloc: Global,
     bytes: &mut [u8],
     ranges: &[Range<u64>],
     source: &[u8],
-) -> Result<(), CodecError> {
-    let subset = ArraySubset::new_with_ranges(alloc, ranges)?;
-    let mut view = ArrayBytesFixedDisjointView::new(alloc, bytes, 1, &[3, 3], subset)?;
-    view.copy_from_slice(source)?;
-    Ok(())
+) {
+    let mut view = view_in(rt, alloc, bytes, ranges);
+    view.copy_from_slice(source).ok().expect(rt, "a copy");
 }
 
 // It is written through a smaller view of a view of the two last columns.
 fn copy_inner(
+    rt: &impl Abort,
     alloc: Global,
     bytes: &mut [u8],
     ranges: &[Range<u64>],
     source: &[u8],
-) -> Result<(), CodecError> {
-    let columns = ArraySubset::new_with_ranges(alloc, &[0..3, 1..3])?;
-    let mut view = ArrayBytesFixedDisjointView::new(alloc, bytes, 1, &[3, 3], columns)?;
-    let subset = ArraySubset::new_with_ranges(alloc, ranges)?;
-    let mut inner = view.subdivide(alloc, subset)?;
-    inner.copy_from_slice(source)?;
-    Ok(())
+) {
+    let mut view = view_in(rt, alloc, bytes, &[0..3, 1..3]);
+    let inner = view.subdivide(alloc, region(rt, alloc, ranges));
+    let mut inner = inner.ok().expect(rt, "a view");
+    inner.copy_from_slice(source).ok().expect(rt, "a copy");
 }
 
 // It is filled.
-fn fill_box(
-    alloc: Global,
-    bytes: &mut [u8],
-    ranges: &[Range<u64>],
-    fill_value: &[u8],
-) -> Result<(), CodecError> {
-    let subset = ArraySubset::new_with_ranges(alloc, ranges)?;
-    let mut view = ArrayBytesFixedDisjointView::new(alloc, bytes, 1, &[3, 3], subset)?;
-    view.fill(fill_value)?;
-    Ok(())
+fn fill_box(rt: &impl Abort, alloc: Global, bytes: &mut [u8], ranges: &[Range<u64>], fill: &[u8]) {
+    let mut view = view_in(rt, alloc, bytes, ranges);
+    view.fill(fill).ok().expect(rt, "a fill value");
 }
 
 // Smaller boxes are written and filled through a view of the two last columns.
-fn write_subsets(alloc: Global, bytes: &mut [u8]) -> Result<(), CodecError> {
-    let columns = ArraySubset::new_with_ranges(alloc, &[0..3, 1..3])?;
-    let mut view = ArrayBytesFixedDisjointView::new(alloc, bytes, 1, &[3, 3], columns)?;
-    let last = ArraySubset::new_with_ranges(alloc, &[0..2, 2..3])?;
-    view.copy_subset_from_slice(alloc, last, &[32, 35])?;
-    let middle = ArraySubset::new_with_ranges(alloc, &[1..2, 1..2])?;
-    view.fill_subset(alloc, middle, &[7])?;
-    Ok(())
+fn write_subsets(rt: &impl Abort, alloc: Global, bytes: &mut [u8]) {
+    let mut view = view_in(rt, alloc, bytes, &[0..3, 1..3]);
+    let last = region(rt, alloc, &[0..2, 2..3]);
+    let copied = view.copy_subset_from_slice(alloc, last, &[32, 35]);
+    copied.ok().expect(rt, "a copy");
+    let middle = region(rt, alloc, &[1..2, 1..2]);
+    let filled = view.fill_subset(alloc, middle, &[7]);
+    filled.ok().expect(rt, "a fill value");
 }
 
-fn written(alloc: Global) -> Result<String, CodecError> {
+fn written(rt: &impl Abort, alloc: Global) -> Result<String, AllocError> {
     let mut bytes: [u8; 9] = [0, 1, 2, 3, 4, 5, 6, 7, 8];
-    copy_box(alloc, &mut bytes, &[0..2, 1..3], &[11, 12, 14, 15])?;
-    copy_inner(alloc, &mut bytes, &[1..2, 1..3], &[24, 25])?;
-    fill_box(alloc, &mut bytes, &[2..3, 1..3], &[255])?;
-    write_subsets(alloc, &mut bytes)?;
-    let text = format!(in alloc; "{bytes:?}")?;
-    Ok(text)
+    copy_box(rt, alloc, &mut bytes, &[0..2, 1..3], &[11, 12, 14, 15]);
+    copy_inner(rt, alloc, &mut bytes, &[1..2, 1..3], &[24, 25]);
+    fill_box(rt, alloc, &mut bytes, &[2..3, 1..3], &[255]);
+    write_subsets(rt, alloc, &mut bytes);
+    format!(in alloc; "{bytes:?}")
 }
 
 // What is told of a view of nine bytes.
-fn told(alloc: Global, size: usize, ranges: &[Range<u64>]) -> Result<String, AllocError>
+fn told(
+    rt: &impl Abort,
+    alloc: Global,
+    size: usize,
+    ranges: &[Range<u64>],
+) -> Result<String, AllocError>
     requires { 0 < size }
 {
     let mut bytes: [u8; 9] = [0; 9];
-    let subset = ArraySubset::new_with_ranges(alloc, ranges)?;
+    let subset = region(rt, alloc, ranges);
     match ArrayBytesFixedDisjointView::new(alloc, &mut bytes, size, &[3, 3], subset) {
         Ok(view) => {
             format!(in alloc;
@@ -106,30 +118,39 @@ fn told_error(
 #[test]
 fn views_write_their_boxes(rt: HostRuntime) {
     let alloc = rt.alloc();
-    is_text(&rt, written(alloc), "[0, 11, 32, 3, 7, 35, 6, 255, 255]");
-    is_text(&rt, told(alloc, 1, &[1..3, 0..3]), "6 elements, 6 together");
     is_text(
         &rt,
-        told(alloc, 2, &[0..3, 0..3]),
+        written(&rt, alloc),
+        "[0, 11, 32, 3, 7, 35, 6, 255, 255]",
+    );
+    is_text(
+        &rt,
+        told(&rt, alloc, 1, &[1..3, 0..3]),
+        "6 elements, 6 together",
+    );
+    is_text(
+        &rt,
+        told(&rt, alloc, 2, &[0..3, 0..3]),
         "9 bytes, where 18 are expected",
     );
     is_text(
         &rt,
-        told(alloc, 1, &[0..2, 1..10]),
+        told(&rt, alloc, 1, &[0..2, 1..10]),
         "the subset [0..2, 1..10] does not lie within [0..3, 0..3]",
     );
 }
 
 fn view_of<'b>(
+    rt: &impl Abort,
     alloc: Global,
     bytes: &'b mut [u8],
     size: usize,
-) -> Result<ArrayBytesFixedDisjointView<'b>, CodecError>
+) -> ArrayBytesFixedDisjointView<'b>
     requires { 0 < size }
 {
-    let all = ArraySubset::new_with_ranges(alloc, &[0..2])?;
-    let view = ArrayBytesFixedDisjointView::new(alloc, bytes, size, &[2], all)?;
-    Ok(view)
+    let all = region(rt, alloc, &[0..2]);
+    let view = ArrayBytesFixedDisjointView::new(alloc, bytes, size, &[2], all);
+    view.ok().expect(rt, "a view")
 }
 
 fn put_views<'b>(
@@ -148,56 +169,53 @@ fn put_views<'b>(
 
 // Two optional elements of two bytes are put into two buffers.
 fn put<'b>(
+    rt: &impl Abort,
     alloc: Global,
     inner: &'b mut [u8],
     mask: &'b mut [u8],
     given: &[u8],
 ) -> Result<(), CodecError> {
     let bytes = ArrayBytes::new_flen(CowSlice::Borrowed(&[1, 2, 3, 4]));
-    let bytes = bytes.with_optional_mask(alloc, CowSlice::Borrowed(given))?;
-    let view = view_of(alloc, inner, 2)?;
-    let mask = view_of(alloc, mask, 1)?;
+    let bytes = bytes
+        .with_optional_mask(alloc, CowSlice::Borrowed(given))
+        .expect(rt, "memory");
+    let view = view_of(rt, alloc, inner, 2);
+    let mask = view_of(rt, alloc, mask, 1);
     put_views(alloc, view, mask, &bytes)
 }
 
-fn put_text(alloc: Global, given: &[u8]) -> Result<String, AllocError> {
+fn put_text(rt: &impl Abort, alloc: Global, given: &[u8]) -> Result<String, AllocError> {
     let (mut inner, mut mask): ([u8; 4], [u8; 2]) = ([0; 4], [9; 2]);
-    match put(alloc, &mut inner, &mut mask, given) {
+    match put(rt, alloc, &mut inner, &mut mask, given) {
         Ok(()) => format!(in alloc; "{inner:?} {mask:?}"),
         Err(error) => format!(in alloc; "{error} {inner:?} {mask:?}"),
     }
 }
 
 // Two elements of two bytes are filled.
-fn fill_target(alloc: Global, bytes: &mut [u8]) -> Result<(), CodecError> {
-    let fill_value = FillValue::new(vec![in alloc; 7, 8]?);
-    let mut view = view_of(alloc, bytes, 2)?;
-    if view.num_elements() != 2 {
-        return Ok(());
-    }
-    copy_fill_value_into(
-        alloc,
-        &DataType::UInt16,
-        &fill_value,
-        ArrayBytesDecodeIntoTarget::Fixed(&mut view),
-    )
+fn fill_target(rt: &impl Abort, alloc: Global, bytes: &mut [u8]) {
+    let fill_value = FillValue::new(vec![in alloc; 7, 8].expect(rt, "memory"));
+    let mut view = view_of(rt, alloc, bytes, 2);
+    assert_eq!(rt; view.num_elements(), 2);
+    let target = ArrayBytesDecodeIntoTarget::Fixed(&mut view);
+    let filled = copy_fill_value_into(alloc, &DataType::UInt16, &fill_value, target);
+    filled.ok().expect(rt, "a fill value");
 }
 
-fn filled_text(alloc: Global) -> Result<String, CodecError> {
+fn filled_text(rt: &impl Abort, alloc: Global) -> Result<String, AllocError> {
     let mut bytes: [u8; 4] = [0; 4];
-    fill_target(alloc, &mut bytes)?;
-    let text = format!(in alloc; "{bytes:?}")?;
-    Ok(text)
+    fill_target(rt, alloc, &mut bytes);
+    format!(in alloc; "{bytes:?}")
 }
 
 #[test]
 fn targets_hold_what_is_put(rt: HostRuntime) {
     let alloc = rt.alloc();
-    is_text(&rt, filled_text(alloc), "[7, 8, 7, 8]");
-    is_text(&rt, put_text(alloc, &[1, 0]), "[1, 2, 3, 4] [1, 0]");
+    is_text(&rt, filled_text(&rt, alloc), "[7, 8, 7, 8]");
+    is_text(&rt, put_text(&rt, alloc, &[1, 0]), "[1, 2, 3, 4] [1, 0]");
     is_text(
         &rt,
-        put_text(alloc, &[1]),
+        put_text(&rt, alloc, &[1]),
         "a chunk has another size than it must: 1 bytes, where 2 are expected [0, 0, 0, 0] [9, 9]",
     );
 }

@@ -4,7 +4,6 @@ use crate::texts::{cut, is_text};
 use crate::types::type_of;
 use std::alloc::{AllocError, Global};
 use std::process::Abort;
-use std::test::Fail;
 use zarrs_data_type::{DataType, DataTypeTraits, FillMetadataFault, FillValue, OptionalDataType};
 use zarrs_metadata_parts::{Configuration, FillValueMetadataV3, MetadataV3};
 use zarrs_plugin::ZarrVersion;
@@ -22,17 +21,17 @@ const FILLS: &str = r#""bool" | true | [1] true
 {"name":"optional","configuration":{"name":"int16","configuration":{}}} | null | [0] null
 {"name":"optional","configuration":{"name":"int16","configuration":{}}} | [5] | [5, 0, 1] [5]"#;
 
+// A fill value, and what is written of it.
 fn told<T: DataTypeTraits>(
+    rt: &impl Abort,
     alloc: Global,
     data_type: &T,
     fill: &FillValue,
-) -> Result<String, AllocError> {
-    let Ok(metadata) = data_type.metadata_fill_value(alloc, fill) else {
-        return Err(AllocError);
-    };
-    let value = metadata.to_value(alloc)?;
-    let written = value.to_string(alloc)?;
-    format!(in alloc; "{fill} {written}")
+) -> String {
+    let metadata = data_type.metadata_fill_value(alloc, fill);
+    let value = metadata.expect(rt, "metadata").to_value(alloc);
+    let written = value.expect(rt, "memory").to_string(alloc);
+    format!(in alloc; "{fill} {}", written.expect(rt, "memory")).expect(rt, "memory")
 }
 
 fn is_fill<T: DataTypeTraits>(
@@ -43,7 +42,7 @@ fn is_fill<T: DataTypeTraits>(
     want: &str,
 ) {
     match made {
-        Ok(fill) => is_text(rt, told(alloc, data_type, &fill), want),
+        Ok(fill) => is_text(rt, told(rt, alloc, data_type, &fill), want),
         Err(FillMetadataFault::Metadata(_)) => assert_eq!(rt; want, "refused"),
         Err(FillMetadataFault::OutOfMemory) => assert!(rt; false, "no memory: {want}"),
     }
@@ -65,80 +64,91 @@ fn are_fills<T: DataTypeTraits>(
     is_fill(rt, alloc, data_type, made, want);
 }
 
-// An optional type also as the type inside.
-fn is_row(rt: &impl Abort, alloc: Global, row: &str) -> Result<(), Fail> {
+// The same of a copy of the optional type of a type.
+fn are_optional_fills(
+    rt: &impl Abort,
+    alloc: Global,
+    inner: &DataType,
+    metadata: &FillValueMetadataV3,
+    want: &str,
+) {
+    let optional = OptionalDataType::new(inner.try_clone(alloc).expect(rt, "memory"));
+    let copy = optional.try_clone(alloc).expect(rt, "memory");
+    are_fills(rt, alloc, &copy, metadata, want);
+    let made = copy.fill_value_from_metadata(alloc, metadata, ZarrVersion::V3);
+    is_fill(rt, alloc, &copy, made, want);
+}
+
+fn is_row(rt: &impl Abort, alloc: Global, row: &str) {
     let (document, rest) = cut(row);
     let (fill, want) = cut(rest);
-    let data_type = type_of(alloc, document).ok_or("a type")?;
-    let metadata = FillValueMetadataV3::try_from_text(alloc, fill)
-        .ok()
-        .ok_or("metadata")?;
+    let data_type = type_of(rt, alloc, document).expect(rt, row);
+    let metadata = FillValueMetadataV3::try_from_text(alloc, fill).expect(rt, row);
     are_fills(rt, alloc, &data_type, &metadata, want);
-    let Some(inner) = data_type.optional_inner() else {
-        return Ok(());
-    };
-    let optional = OptionalDataType::new(inner.try_clone(alloc)?);
-    let copy = optional.try_clone(alloc)?;
-    are_fills(rt, alloc, &copy, &metadata, want);
-    let made = copy.fill_value_from_metadata(alloc, &metadata, ZarrVersion::V3);
-    is_fill(rt, alloc, &copy, made, want);
-    Ok(())
+    if let Some(inner) = data_type.optional_inner() {
+        are_optional_fills(rt, alloc, inner, &metadata, want);
+    }
 }
 
 #[test]
-fn fills_are_read(rt: HostRuntime) -> Result<(), Fail> {
+fn fills_are_read(rt: HostRuntime) {
     for row in FILLS.lines() {
-        is_row(&rt, rt.alloc(), row)?;
+        is_row(&rt, rt.alloc(), row);
     }
-    Ok(())
 }
 
 // The name and the configuration in a version.
 fn named<T: DataTypeTraits>(
+    rt: &impl Abort,
     alloc: Global,
     data_type: &T,
     version: ZarrVersion,
-) -> Result<String, AllocError> {
-    let Some(name) = data_type.name(alloc, version)? else {
-        return "no name".to_string(alloc);
+) -> String {
+    let Some(name) = data_type.name(alloc, version).expect(rt, "memory") else {
+        return "no name".to_string(alloc).expect(rt, "memory");
     };
-    let configuration = data_type.configuration(alloc, version)?;
-    MetadataV3::new_with_configuration(name, configuration).to_display(alloc)
+    let configuration = data_type.configuration(alloc, version).expect(rt, "memory");
+    written(rt, alloc, name, configuration)
 }
 
-// The configuration alone.
-fn configured(
+fn written(rt: &impl Abort, alloc: Global, name: String, configuration: Configuration) -> String {
+    let metadata = MetadataV3::new_with_configuration(name, configuration);
+    metadata.to_display(alloc).expect(rt, "memory")
+}
+
+// The configuration alone is this.
+fn is_configuration(
+    rt: &impl Abort,
     alloc: Global,
     made: Result<Configuration, AllocError>,
-) -> Result<String, AllocError> {
-    let name = "only".to_string(alloc)?;
-    MetadataV3::new_with_configuration(name, made?).to_display(alloc)
+    want: &str,
+) {
+    let name = "only".to_string(alloc).expect(rt, "memory");
+    is_text(
+        rt,
+        written(rt, alloc, name, made.expect(rt, "memory")),
+        want,
+    );
 }
 
 #[test]
 fn types_are_named(rt: HostRuntime) {
     let (optional, alloc) = (OptionalDataType::new(DataType::Int16), rt.alloc());
     let third = r#"zarrs.optional {"configuration":{},"name":"int16"}"#;
-    is_text(&rt, named(alloc, &optional, ZarrVersion::V3), third);
+    is_text(&rt, named(&rt, alloc, &optional, ZarrVersion::V3), third);
     let second = r#"zarrs.optional {"configuration":{},"name":""}"#;
-    is_text(&rt, named(alloc, &optional, ZarrVersion::V2), second);
-    is_text(
-        &rt,
-        named(alloc, &DataType::UInt8, ZarrVersion::V2),
-        "no name",
-    );
+    is_text(&rt, named(&rt, alloc, &optional, ZarrVersion::V2), second);
+    let plain = named(&rt, alloc, &DataType::UInt8, ZarrVersion::V2);
+    is_text(&rt, plain, "no name");
+}
+
+#[test]
+fn types_have_configurations(rt: HostRuntime) {
+    let (optional, alloc) = (OptionalDataType::new(DataType::Int16), rt.alloc());
     let third = r#"only {"configuration":{},"name":"int16"}"#;
     let made = optional.configuration(alloc, ZarrVersion::V3);
-    is_text(&rt, configured(alloc, made), third);
-    is_text(
-        &rt,
-        configured(alloc, optional.configuration_v3(alloc)),
-        third,
-    );
+    is_configuration(&rt, alloc, made, third);
+    is_configuration(&rt, alloc, optional.configuration_v3(alloc), third);
     let second = r#"only {"configuration":{},"name":""}"#;
-    is_text(
-        &rt,
-        configured(alloc, optional.configuration_v2(alloc)),
-        second,
-    );
+    is_configuration(&rt, alloc, optional.configuration_v2(alloc), second);
 }

@@ -3,7 +3,6 @@
 use crate::texts::{bytes_of, cut, is_text};
 use std::alloc::{AllocError, Global};
 use std::process::Abort;
-use std::test::Fail;
 use zarrs_data_type_elements::FillValue;
 
 type Made = Result<FillValue, AllocError>;
@@ -11,7 +10,7 @@ type Made = Result<FillValue, AllocError>;
 // The fill value was made, and its bytes are these.
 fn says(rt: &impl Abort, alloc: Global, made: Made, want: &str) {
     match made {
-        Ok(fill) => is_text(rt, format!(in alloc; "{fill}"), want),
+        Ok(fill) => is_text(rt, format!(in alloc; "{fill}").expect(rt, want), want),
         Err(_) => assert!(rt; false, "no memory: {want}"),
     }
 }
@@ -58,17 +57,13 @@ fn owned_text(alloc: Global) -> Made {
     Ok(FillValue::from("a".to_string(alloc)?))
 }
 
-fn listed(alloc: Global) -> Made {
-    Ok(FillValue::from(bytes_of(alloc, "9")?))
-}
-
-fn again(alloc: Global, fill: Made, count: usize) -> Made {
-    let bytes = fill?.repeated(alloc, count)?;
+fn again(rt: &impl Abort, alloc: Global, fill: Made, count: usize) -> Made {
+    let bytes = fill.expect(rt, "memory").repeated(alloc, count)?;
     Ok(FillValue::new(bytes))
 }
 
-fn copied(alloc: Global) -> Made {
-    let fill = FillValue::from_u8(alloc, 5)?;
+fn copied(rt: &impl Abort, alloc: Global) -> Made {
+    let fill = FillValue::from_u8(alloc, 5).expect(rt, "memory");
     fill.try_clone(alloc)
 }
 
@@ -78,32 +73,41 @@ fn bytes_and_texts(rt: HostRuntime) {
     says(&rt, alloc, FillValue::from_slice(alloc, &[7, 0]), "[7, 0]");
     says(&rt, alloc, FillValue::from_text(alloc, "é"), "[195, 169]");
     says(&rt, alloc, owned_text(alloc), "[97]");
-    says(&rt, alloc, listed(alloc), "[9]");
+    says(
+        &rt,
+        alloc,
+        Ok(FillValue::from(bytes_of(&rt, alloc, "9"))),
+        "[9]",
+    );
     says(&rt, alloc, Ok(FillValue::from_unit(alloc)), "[]");
     says(
         &rt,
         alloc,
-        again(alloc, FillValue::from_array(alloc, [1, 2]), 2),
+        again(&rt, alloc, FillValue::from_array(alloc, [1, 2]), 2),
         "[1, 2, 1, 2]",
     );
-    says(&rt, alloc, again(alloc, copied(alloc), 3), "[5, 5, 5]");
+    says(
+        &rt,
+        alloc,
+        again(&rt, alloc, copied(&rt, alloc), 3),
+        "[5, 5, 5]",
+    );
 }
 
-fn some(fill: Made) -> Made {
-    fill?.into_optional()
+fn some(rt: &impl Abort, fill: Made) -> Made {
+    fill.expect(rt, "memory").into_optional()
 }
 
-fn some_42(alloc: Global) -> Made {
-    some(FillValue::from_u8(alloc, 42))
+fn some_42(rt: &impl Abort, alloc: Global) -> FillValue {
+    some(rt, FillValue::from_u8(alloc, 42)).expect(rt, "memory")
 }
 
-fn some_by_option(alloc: Global, fill: Made) -> Made {
-    FillValue::from_option(alloc, Some(fill?))
+fn some_by_option(rt: &impl Abort, alloc: Global, fill: Made) -> Made {
+    FillValue::from_option(alloc, Some(fill.expect(rt, "memory")))
 }
 
-fn inner_of_some(alloc: Global) -> Made {
-    let fill = some_42(alloc)?;
-    FillValue::from_slice(alloc, fill.inner_bytes())
+fn inner_of_some(rt: &impl Abort, alloc: Global) -> Made {
+    FillValue::from_slice(alloc, some_42(rt, alloc).inner_bytes())
 }
 
 #[test]
@@ -113,16 +117,16 @@ fn optional_types(rt: HostRuntime) {
     says(
         &rt,
         alloc,
-        some(FillValue::new_optional_null(alloc)),
+        some(&rt, FillValue::new_optional_null(alloc)),
         "[0, 1]",
     );
-    says(&rt, alloc, some(some_42(alloc)), "[42, 1, 1]");
-    says(&rt, alloc, inner_of_some(alloc), "[42]");
+    says(&rt, alloc, some(&rt, Ok(some_42(&rt, alloc))), "[42, 1, 1]");
+    says(&rt, alloc, inner_of_some(&rt, alloc), "[42]");
     says(&rt, alloc, FillValue::from_option(alloc, None), "[0]");
     says(
         &rt,
         alloc,
-        some_by_option(alloc, FillValue::from_u8(alloc, 7)),
+        some_by_option(&rt, alloc, FillValue::from_u8(alloc, 7)),
         "[7, 1]",
     );
 }
@@ -140,16 +144,11 @@ const REPEATED: &str = " | | true
 0 | 0 0 0 0 0 0 0 0 0 0 0 0 0 0 0 0 1 | false
 1 2 | 1 | false";
 
-fn is_repeated(alloc: Global, fill: &str, bytes: &str) -> Result<bool, AllocError> {
-    let fill = FillValue::new(bytes_of(alloc, fill)?);
-    let bytes = bytes_of(alloc, bytes)?;
-    Ok(fill.equals_all(&bytes))
-}
-
 fn is_row(rt: &impl Abort, alloc: Global, row: &str) {
     let (fill, rest) = cut(row);
     let (bytes, want) = cut(rest);
-    let repeated = is_repeated(alloc, fill, bytes).unwrap_or(false);
+    let fill = FillValue::new(bytes_of(rt, alloc, fill));
+    let repeated = fill.equals_all(&bytes_of(rt, alloc, bytes));
     assert_eq!(rt; repeated, want == "true", "{row}");
 }
 
@@ -161,9 +160,9 @@ fn fills_are_repeated(rt: HostRuntime) {
 }
 
 #[test]
-fn nulls(rt: HostRuntime) -> Result<(), Fail> {
-    let null = FillValue::new_optional_null(rt.alloc())?;
-    let some = some_42(rt.alloc())?;
+fn nulls(rt: HostRuntime) {
+    let null = FillValue::new_optional_null(rt.alloc()).expect(&rt, "memory");
+    let some = some_42(&rt, rt.alloc());
     let seen = (
         null.is_optional_null(),
         some.is_optional_null(),
@@ -171,5 +170,4 @@ fn nulls(rt: HostRuntime) -> Result<(), Fail> {
         some.size(),
     );
     assert_eq!(rt; seen, (true, false, false, 2));
-    Ok(())
 }

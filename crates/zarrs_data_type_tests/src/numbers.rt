@@ -1,7 +1,7 @@
 //! Whole numbers that are rounded, the lowest byte first.
 
-use crate::texts::{are_bytes, bytes_of, cut};
-use std::alloc::{AllocError, Global};
+use crate::texts::{bytes_of, cut};
+use std::alloc::Global;
 use std::process::Abort;
 use zarrs_data_type_elements::{
     BitroundDataTypeTraits, BitroundElementType, BitroundSupport, round_bytes_int8,
@@ -31,19 +31,14 @@ fn round_by<T: BitroundDataTypeTraits>(support: &T, bytes: &mut [u8], keepbits: 
     }
 }
 
-fn rounded(alloc: Global, size: &str, keep: &str, bytes: &str) -> Result<Vec<u8>, AllocError> {
-    let support = BitroundSupport::new(of_size(size));
-    let mut bytes = bytes_of(alloc, bytes)?;
-    round_by(&support, &mut bytes, keep.parse().unwrap_or(0));
-    Ok(bytes)
-}
-
 fn is_row(rt: &impl Abort, alloc: Global, row: &str) {
     let (size, rest) = cut(row);
     let (keep, rest) = cut(rest);
     let (bytes, want) = cut(rest);
-    let want = bytes_of(alloc, want).unwrap_or(Vec::new(alloc));
-    are_bytes(rt, rounded(alloc, size, keep, bytes), &want, row);
+    let support = BitroundSupport::new(of_size(size));
+    let mut bytes = bytes_of(rt, alloc, bytes);
+    round_by(&support, &mut bytes, keep.parse().unwrap_or(0));
+    assert_eq!(rt; bytes, bytes_of(rt, alloc, want), "{row}");
 }
 
 #[test]

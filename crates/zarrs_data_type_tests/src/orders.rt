@@ -1,7 +1,7 @@
 //! Bytes that are brought into an order.
 
 use crate::texts::{bytes_of, cut, is_text};
-use std::alloc::{AllocError, Global};
+use std::alloc::Global;
 use std::borrow::CowSlice;
 use std::process::Abort;
 use zarrs_data_type_elements::{BytesCodecFault, BytesDataTypeTraits, BytesSupport};
@@ -45,10 +45,11 @@ fn turned(support: &BytesSupport, bytes: Vec<u8>, order: Option<Endianness>) -> 
     support.order_bytes(bytes, order).ok()
 }
 
-fn told<E: Drop>(alloc: Global, made: Result<Vec<u8>, E>) -> Result<String, AllocError> {
-    match made {
-        Ok(bytes) => format!(in alloc; "{bytes:?}"),
-        Err(_) => "missing".to_string(alloc),
+// The bytes are these, or there are none.
+fn are(rt: &impl Abort, alloc: Global, bytes: Option<Vec<u8>>, want: &str) {
+    match bytes {
+        Some(bytes) => is_text(rt, format!(in alloc; "{bytes:?}").expect(rt, want), want),
+        None => assert_eq!(rt; want, "missing"),
     }
 }
 
@@ -56,17 +57,9 @@ fn is_row(rt: &impl Abort, alloc: Global, support: &BytesSupport, rest: &str) {
     let (order, rest) = cut(rest);
     let (bytes, want) = cut(rest);
     let order = order_of(order);
-    let bytes = bytes_of(alloc, bytes).unwrap_or(Vec::new(alloc));
-    is_text(
-        rt,
-        told(alloc, encoded(alloc, support, &bytes, order)),
-        want,
-    );
-    is_text(
-        rt,
-        told(alloc, turned(support, bytes, order).ok_or(())),
-        want,
-    );
+    let bytes = bytes_of(rt, alloc, bytes);
+    are(rt, alloc, encoded(alloc, support, &bytes, order).ok(), want);
+    are(rt, alloc, turned(support, bytes, order), want);
 }
 
 #[test]

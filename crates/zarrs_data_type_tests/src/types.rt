@@ -1,9 +1,8 @@
 //! Data types of documents, and what codecs ask of them.
 
 use crate::texts::{cut, is_text};
-use std::alloc::{AllocError, Global};
+use std::alloc::Global;
 use std::process::Abort;
-use std::test::Fail;
 use zarrs_data_type::{
     DataType, DataTypeKind, DataTypeMetadata, DataTypeTraitsV2, DataTypeTraitsV3,
     FixedScaleOffsetDataTypeTraits, FixedScaleOffsetElementType, FixedScaleOffsetFloatType,
@@ -23,27 +22,30 @@ const KINDS: [(&str, DataTypeKind); 7] = [
     ("optional", DataTypeKind::Optional),
 ];
 
-fn registry(alloc: Global) -> Result<Registry<DataTypeKind>, AllocError> {
+fn registry(rt: &impl Abort, alloc: Global) -> Registry<DataTypeKind> {
     let mut entries = Vec::new(alloc);
     for (name, kind) in KINDS {
-        entries.push((NamePattern::Exact(name.to_string(alloc)?), kind))?;
+        let name = name.to_string(alloc).expect(rt, "memory");
+        entries
+            .push((NamePattern::Exact(name), kind))
+            .expect(rt, "memory");
     }
-    entries.push((NamePattern::LetterDigits(b'r'), DataTypeKind::RawBits))?;
-    Ok(Registry::with_builtin(alloc, entries))
+    let raw = (NamePattern::LetterDigits(b'r'), DataTypeKind::RawBits);
+    entries.push(raw).expect(rt, "memory");
+    Registry::with_builtin(alloc, entries)
 }
 
 // The type of a document's extension, if it is one.
-pub fn type_of(alloc: Global, document: &str) -> Option<DataType> {
-    let metadata = MetadataV3::try_from_text(alloc, document).ok()?;
-    let registry = registry(alloc).ok()?;
+pub fn type_of(rt: &impl Abort, alloc: Global, document: &str) -> Option<DataType> {
+    let metadata = MetadataV3::try_from_text(alloc, document).expect(rt, document);
+    let registry = registry(rt, alloc);
     DataType::from_metadata(alloc, DataTypeMetadata::V3(&metadata), &registry).ok()
 }
 
 // The same by the bound of every type that is made of version 3 metadata.
-fn created<T: DataTypeTraitsV3>(alloc: Global, document: &str) -> Option<T> {
-    let metadata = MetadataV3::try_from_text(alloc, document).ok()?;
-    let registry = registry(alloc).ok()?;
-    T::create(alloc, &metadata, &registry).ok()
+fn created<T: DataTypeTraitsV3>(rt: &impl Abort, alloc: Global, document: &str) -> T {
+    let metadata = MetadataV3::try_from_text(alloc, document).expect(rt, document);
+    T::create(alloc, &metadata, &registry(rt, alloc)).expect(rt, document)
 }
 
 fn sized(data_type: &DataType) -> Option<usize> {
@@ -106,11 +108,11 @@ fn encoded(data_type: &DataType) -> Option<(ZfpEncoding, ZfpNativeType)> {
 }
 
 // The size of an element, and what the six codecs ask.
-fn told(alloc: Global, data_type: &DataType) -> Result<String, AllocError> {
+fn told(rt: &impl Abort, alloc: Global, data_type: &DataType) -> String {
     let numbers = (scaled(data_type), compressed(data_type), encoded(data_type));
     let bits = (sized(data_type), rounded(data_type), packed(data_type));
     let size = data_type.fixed_size();
-    format!(in alloc; "{data_type:?} {size:?} {bits:?} {numbers:?}")
+    format!(in alloc; "{data_type:?} {size:?} {bits:?} {numbers:?}").expect(rt, "memory")
 }
 
 // A document, and its type, the size of an element, and what codecs ask: `bytes`, `bitround` and `packbits`, and then
@@ -126,27 +128,29 @@ const TYPES: &str = r#""bool" | Bool Some(1) (Some(1), None, Some((1, 1, false))
 {"name":"optional","configuration":{"name":"int16","configuration":{}}} | Optional(Int16) Some(2) (None, None, None) (None, None, None)"#;
 
 // The type that is found, and the type inside the optional one over a copy.
-fn is_row(rt: &impl Abort, alloc: Global, row: &str) -> Result<(), Fail> {
+fn is_row(rt: &impl Abort, alloc: Global, row: &str) {
     let (document, want) = cut(row);
-    let Some(data_type) = type_of(alloc, document) else {
-        assert_eq!(rt; want, "refused", "{row}");
-        return Ok(());
-    };
-    is_text(rt, told(alloc, &data_type), want);
-    let created = created::<DataType>(alloc, document).ok_or("a type")?;
-    let copy = created.try_clone(alloc)?;
-    let optional = copy.to_optional(alloc)?;
-    let inner = optional.optional_inner().ok_or("an optional type")?;
-    is_text(rt, told(alloc, inner), want);
-    Ok(())
+    match type_of(rt, alloc, document) {
+        Some(data_type) => {
+            is_text(rt, told(rt, alloc, &data_type), want);
+            is_inside(rt, alloc, created(rt, alloc, document), want);
+        }
+        None => assert_eq!(rt; want, "refused", "{row}"),
+    }
+}
+
+fn is_inside(rt: &impl Abort, alloc: Global, data_type: DataType, want: &str) {
+    let copy = data_type.try_clone(alloc).expect(rt, "memory");
+    let optional = copy.to_optional(alloc).expect(rt, "memory");
+    let inner = optional.optional_inner().expect(rt, "an optional type");
+    is_text(rt, told(rt, alloc, inner), want);
 }
 
 #[test]
-fn types_are_found(rt: HostRuntime) -> Result<(), Fail> {
+fn types_are_found(rt: HostRuntime) {
     for row in TYPES.lines() {
-        is_row(&rt, rt.alloc(), row)?;
+        is_row(&rt, rt.alloc(), row);
     }
-    Ok(())
 }
 
 // A data type of version 2, and what it is here or why it is none.
@@ -164,28 +168,25 @@ fn created_v2<T: DataTypeTraitsV2>(
 }
 
 fn says(rt: &impl Abort, alloc: Global, made: Result<DataType, PluginCreateError>, want: &str) {
-    match made {
-        Ok(data_type) => is_text(rt, format!(in alloc; "{data_type:?}"), want),
-        Err(error) => is_text(rt, format!(in alloc; "{error}"), want),
-    }
+    let text = match made {
+        Ok(data_type) => format!(in alloc; "{data_type:?}"),
+        Err(error) => format!(in alloc; "{error}"),
+    };
+    is_text(rt, text.expect(rt, "memory"), want);
 }
 
-fn is_row_v2(rt: &impl Abort, alloc: Global, row: &str) -> Result<(), Fail> {
+fn is_row_v2(rt: &impl Abort, alloc: Global, row: &str) {
     let (document, want) = cut(row);
-    let metadata = DataTypeMetadataV2::try_from_text(alloc, document)
-        .ok()
-        .ok_or("metadata")?;
-    let registry = registry(alloc)?;
+    let metadata = DataTypeMetadataV2::try_from_text(alloc, document).expect(rt, row);
+    let registry = registry(rt, alloc);
     let made = DataType::from_metadata(alloc, DataTypeMetadata::V2(&metadata), &registry);
     says(rt, alloc, made, want);
     says(rt, alloc, created_v2(alloc, &metadata, &registry), want);
-    Ok(())
 }
 
 #[test]
-fn types_of_version_2_are_found(rt: HostRuntime) -> Result<(), Fail> {
+fn types_of_version_2_are_found(rt: HostRuntime) {
     for row in TYPES_V2.lines() {
-        is_row_v2(&rt, rt.alloc(), row)?;
+        is_row_v2(&rt, rt.alloc(), row);
     }
-    Ok(())
 }

@@ -3,12 +3,13 @@
 ghost use Rattle.std.specs.Prelude.{◌≡◌, true};
 ghost use Rattle.zarrs_metadata_parts.specs.Configuration.{configuration_seen};
 
-use crate::texts::is_text;
+use crate::texts::{is_text, owned};
 use serde_json::{Map, Value};
 use std::alloc::{AllocError, Global};
+use std::process::Abort;
 use zarrs_metadata_parts::{
     Configuration, ConfigurationError, EmptyConfiguration, FillValueMetadataV3, FromConfiguration,
-    FromConfigurationError, MetadataError, MetadataV3, ToConfiguration, ToConfigurationFault,
+    FromConfigurationError, MetadataV3, ToConfiguration, ToConfigurationFault,
 };
 
 // Stands for every configuration.
@@ -36,94 +37,98 @@ impl ToConfiguration for Any {
     }
 }
 
-fn level(alloc: Global) -> Result<Configuration, AllocError> {
+fn level(rt: &impl Abort, alloc: Global) -> Configuration {
     let mut members = Map::new(alloc);
-    serde_json::put(&mut members, alloc, "level", Value::from(5u64))?;
-    Ok(Configuration::new(members))
+    serde_json::put(&mut members, alloc, "level", Value::from(5u64)).expect(rt, "memory");
+    Configuration::new(members)
 }
 
 // How many members a configuration has once it was taken as a type, and made of it.
-fn taken(alloc: Global) -> Result<usize, FromConfigurationError> {
-    let any: Any = level(alloc)?.to_typed(alloc)?;
-    let configuration = any.to_configuration(alloc)?;
-    Ok(configuration.into_map().len())
+fn taken(rt: &impl Abort, alloc: Global) -> usize {
+    let any: Any = level(rt, alloc).to_typed(alloc).expect(rt, "a type");
+    let configuration = any.to_configuration(alloc).expect(rt, "memory");
+    configuration.into_map().len()
 }
 
 // What the empty configuration is, made of its type and taken as it.
-fn emptied(alloc: Global) -> Result<EmptyConfiguration, FromConfigurationError> {
-    let configuration = EmptyConfiguration.to_configuration(alloc)?;
-    configuration.to_typed(alloc)
+fn emptied(rt: &impl Abort, alloc: Global) -> EmptyConfiguration {
+    let configuration = EmptyConfiguration
+        .to_configuration(alloc)
+        .expect(rt, "memory");
+    configuration.to_typed(alloc).expect(rt, "a type")
 }
 
 // An extension without a configuration, taken as the type.
-fn plain(alloc: Global) -> Result<EmptyConfiguration, ToConfigurationFault> {
-    let name = String::from_str(alloc, "crc32c")?;
-    MetadataV3::new(name).to_configuration(alloc)
+fn plain(rt: &impl Abort, alloc: Global) -> EmptyConfiguration {
+    let extension = MetadataV3::new(owned(rt, alloc, "crc32c"));
+    extension.to_configuration(alloc).expect(rt, "a type")
 }
 
 #[test]
 fn configurations_are_taken_as_types(rt: HostRuntime) {
-    assert!(rt; matches!(taken(rt.alloc()), Ok(1)));
-    assert!(rt; matches!(emptied(rt.alloc()), Ok(EmptyConfiguration)));
-    assert!(rt; matches!(plain(rt.alloc()), Ok(EmptyConfiguration)));
+    let alloc = rt.alloc();
+    assert!(rt; taken(&rt, alloc) == 1);
+    assert!(rt; emptied(&rt, alloc) == EmptyConfiguration);
+    assert!(rt; plain(&rt, alloc) == EmptyConfiguration);
 }
 
 // The extension of that name with the configuration above.
-fn named_any(alloc: Global, name: &str) -> Result<MetadataV3, AllocError> {
-    let any = Any(level(alloc)?);
-    let name = String::from_str(alloc, name)?;
-    MetadataV3::new_with_serializable_configuration(alloc, name, &any)
+fn named_any(rt: &impl Abort, alloc: Global, name: &str) -> MetadataV3 {
+    let any = Any(level(rt, alloc));
+    let name = owned(rt, alloc, name);
+    MetadataV3::new_with_serializable_configuration(alloc, name, &any).expect(rt, "memory")
 }
 
-fn shown(alloc: Global) -> Result<String, AllocError> {
-    let named = named_any(alloc, "any")?;
-    named.to_display(alloc)
+fn shown(rt: &impl Abort, alloc: Global) -> String {
+    named_any(rt, alloc, "any")
+        .to_display(alloc)
+        .expect(rt, "memory")
 }
 
 // The text of why an extension is not of the empty configuration.
-fn fault(alloc: Global) -> Result<String, AllocError> {
-    let named = named_any(alloc, "gzip")?;
-    let empty: Result<EmptyConfiguration, ToConfigurationFault> = named.to_configuration(alloc);
-    match empty {
-        Ok(_) => String::from_str(alloc, ""),
-        Err(fault) => format!(in alloc; "{fault}"),
-    }
+fn fault(rt: &impl Abort, alloc: Global) -> String {
+    let empty: Result<EmptyConfiguration, ToConfigurationFault> = named_any(
+        rt, alloc, "gzip",
+    ).to_configuration(alloc);
+    let fault = empty.expect_err(rt, "a fault");
+    format!(in alloc; "{fault}").expect(rt, "memory")
 }
 
 // The text of a copy of such an error.
-fn copied(alloc: Global) -> Result<String, AllocError> {
-    let name = String::from_str(alloc, "a")?;
-    let error = ConfigurationError::new(name, None).try_clone(alloc)?;
-    format!(in alloc; "{error}")
+fn copied(rt: &impl Abort, alloc: Global) -> String {
+    let error = ConfigurationError::new(owned(rt, alloc, "a"), None);
+    let copy = error.try_clone(alloc).expect(rt, "memory");
+    format!(in alloc; "{copy}").expect(rt, "memory")
 }
 
 #[test]
 fn types_and_faults_are_told(rt: HostRuntime) {
-    is_text(&rt, "a type", shown(rt.alloc()), "any {\"level\":5}");
+    let alloc = rt.alloc();
+    is_text(&rt, "a type", shown(&rt, alloc), "any {\"level\":5}");
     is_text(
         &rt,
         "a fault",
-        fault(rt.alloc()),
+        fault(&rt, alloc),
         "the configuration of gzip is not supported",
     );
     is_text(
         &rt,
         "a copy",
-        copied(rt.alloc()),
+        copied(&rt, alloc),
         "the configuration of a is not supported",
     );
 }
 
 // Whether a text is a fill value that stands for a configuration.
-fn custom(alloc: Global, text: &str) -> Result<bool, MetadataError> {
-    let fill = FillValueMetadataV3::try_from_text(alloc, text)?;
-    let any: Option<Any> = fill.as_custom(alloc)?;
-    Ok(any.is_some())
+fn custom(rt: &impl Abort, alloc: Global, text: &str) -> bool {
+    let fill = FillValueMetadataV3::try_from_text(alloc, text).expect(rt, "a fill value");
+    let any: Option<Any> = fill.as_custom(alloc).expect(rt, "memory");
+    any.is_some()
 }
 
 #[test]
 fn objects_alone_stand_for_configurations(rt: HostRuntime) {
-    let object = "{\"a\":1,\"b\":null}";
-    assert!(rt; matches!(custom(rt.alloc(), object), Ok(true)));
-    assert!(rt; matches!(custom(rt.alloc(), "[{}]"), Ok(false)));
+    let alloc = rt.alloc();
+    assert!(rt; custom(&rt, alloc, "{\"a\":1,\"b\":null}"));
+    assert!(rt; !custom(&rt, alloc, "[{}]"));
 }

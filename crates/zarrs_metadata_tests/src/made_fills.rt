@@ -2,23 +2,38 @@
 
 use crate::texts::is_text;
 use std::alloc::{AllocError, Global};
+use std::process::Abort;
 use zarrs_metadata_parts::FillValueMetadataV3;
 
-fn text_of(alloc: Global, fill: FillValueMetadataV3) -> Result<String, AllocError> {
-    let value = fill.to_value(alloc)?;
-    value.to_string(alloc)
-}
-
-fn listed(alloc: Global) -> Result<String, AllocError> {
-    text_of(alloc, FillValueMetadataV3::from_bytes(alloc, &[0, 255])?)
-}
-
-fn named(alloc: Global) -> Result<String, AllocError> {
-    text_of(alloc, FillValueMetadataV3::from_text(alloc, "NaN")?)
+// That a fill value was made, and is written so.
+fn is_written(
+    rt: &impl Abort,
+    alloc: Global,
+    fill: Result<FillValueMetadataV3, AllocError>,
+    wanted: &str,
+) {
+    let value = fill.expect(rt, wanted).to_value(alloc).expect(rt, wanted);
+    is_text(
+        rt,
+        "a fill value",
+        value.to_string(alloc).expect(rt, wanted),
+        wanted,
+    );
 }
 
 #[test]
 fn fill_values_are_made(rt: HostRuntime) {
-    is_text(&rt, "bytes", listed(rt.alloc()), "[0,255]");
-    is_text(&rt, "a text", named(rt.alloc()), "\"NaN\"");
+    let alloc = rt.alloc();
+    is_written(
+        &rt,
+        alloc,
+        FillValueMetadataV3::from_bytes(alloc, &[0, 255]),
+        "[0,255]",
+    );
+    is_written(
+        &rt,
+        alloc,
+        FillValueMetadataV3::from_text(alloc, "NaN"),
+        "\"NaN\"",
+    );
 }

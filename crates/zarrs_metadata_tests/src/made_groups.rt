@@ -3,23 +3,23 @@
 use crate::parts::{attribute, put_field};
 use crate::texts::{is_text, node_text};
 use serde_json::{Map, Value};
-use std::alloc::{AllocError, Global};
+use std::alloc::Global;
 use std::collections::BTreeMap;
+use std::process::Abort;
 use zarrs_metadata::{AdditionalFieldV3, AdditionalFieldsV3, GroupMetadataV3, NodeMetadataV3};
 
-fn more(alloc: Global) -> Result<AdditionalFieldsV3, AllocError> {
+fn more(rt: &impl Abort, alloc: Global) -> AdditionalFieldsV3 {
     let mut fields = BTreeMap::new(alloc);
     let field = AdditionalFieldV3::from(Value::Object(Map::new(alloc)));
-    put_field(alloc, &mut fields, "more", field)?;
-    Ok(fields)
+    put_field(rt, alloc, &mut fields, "more", field);
+    fields
 }
 
 // The new group with an attribute and an additional field.
-fn changed(alloc: Global) -> Result<GroupMetadataV3, AllocError> {
-    let title = attribute(alloc, "title", "height")?;
-    let more = more(alloc)?;
-    let group = GroupMetadataV3::new(alloc).with_attributes(title);
-    Ok(group.with_additional_fields(more))
+fn changed(rt: &impl Abort, alloc: Global) -> GroupMetadataV3 {
+    GroupMetadataV3::new(alloc)
+        .with_attributes(attribute(rt, alloc, "title", "height"))
+        .with_additional_fields(more(rt, alloc))
 }
 
 const PRETTY: &str = r#"{
@@ -33,11 +33,9 @@ const PRETTY: &str = r#"{
   "zarr_format": 3
 }"#;
 
-fn pretty_node(alloc: Global) -> Result<String, AllocError> {
-    node_text(alloc, NodeMetadataV3::Group(changed(alloc)?))
-}
-
 #[test]
 fn groups_are_made(rt: HostRuntime) {
-    is_text(&rt, "a node", pretty_node(rt.alloc()), PRETTY);
+    let alloc = rt.alloc();
+    let node = NodeMetadataV3::Group(changed(&rt, alloc));
+    is_text(&rt, "a node", node_text(&rt, alloc, node), PRETTY);
 }

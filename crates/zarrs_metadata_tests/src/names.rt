@@ -1,29 +1,22 @@
 //! Names of dimensions.
 
-use crate::texts::is_text;
-use std::alloc::{AllocError, Global};
+use crate::texts::{is_text, owned};
+use std::alloc::Global;
+use std::process::Abort;
 use zarrs_metadata_parts::IntoDimensionName;
 
-// What a value names a dimension.
-fn name_of<N: IntoDimensionName>(alloc: Global, name: N) -> Result<String, AllocError> {
-    let name = name.into_dimension_name(alloc)?;
-    format!(in alloc; "{name:?}")
+// That a value names a dimension `x`.
+fn is_x<N: IntoDimensionName>(rt: &impl Abort, alloc: Global, what: &str, name: N) {
+    let name = name.into_dimension_name(alloc).expect(rt, what);
+    let text = format!(in alloc; "{name:?}").expect(rt, what);
+    is_text(rt, what, text, "Some(\"x\")");
 }
-
-fn of_a_text(alloc: Global) -> Result<String, AllocError> {
-    name_of(alloc, String::from_str(alloc, "x")?)
-}
-
-fn of_some_text(alloc: Global) -> Result<String, AllocError> {
-    name_of(alloc, Some(String::from_str(alloc, "x")?))
-}
-
-const X: &str = "Some(\"x\")";
 
 #[test]
 fn dimensions_have_names(rt: HostRuntime) {
-    is_text(&rt, "a slice", name_of(rt.alloc(), "x"), X);
-    is_text(&rt, "some slice", name_of(rt.alloc(), Some("x")), X);
-    is_text(&rt, "a text", of_a_text(rt.alloc()), X);
-    is_text(&rt, "some text", of_some_text(rt.alloc()), X);
+    let alloc = rt.alloc();
+    is_x(&rt, alloc, "a slice", "x");
+    is_x(&rt, alloc, "some slice", Some("x"));
+    is_x(&rt, alloc, "a text", owned(&rt, alloc, "x"));
+    is_x(&rt, alloc, "some text", Some(owned(&rt, alloc, "x")));
 }

@@ -3,8 +3,9 @@
 ghost use Rattle.std.specs.Prelude.{Some, codes, ◌||◌};
 ghost use Rattle.std.specs.Str.{bytes_eq};
 
-use crate::texts::is_text;
+use crate::texts::{is_text, owned};
 use std::alloc::{AllocError, Global};
+use std::process::Abort;
 use zarrs_plugin::{
     ExtensionAliases, ExtensionName, NamePattern, PluginCreateError, PluginKind,
     PluginUnsupportedError, Registry, RegistryHandle, ZarrVersion,
@@ -44,49 +45,47 @@ fn an_extension_has_its_names(rt: HostRuntime) {
     assert!(rt; !goes_by(&Regular, "odd"));
 }
 
-fn error_text(alloc: Global) -> Result<String, AllocError> {
-    let name = String::from_str(alloc, "zstd")?;
-    let error = PluginUnsupportedError::new(name, PluginKind::Codec);
-    format!(in alloc; "{}", PluginCreateError::Unsupported(error))
+fn error_text(rt: &impl Abort, alloc: Global) -> String {
+    let error = PluginUnsupportedError::new(owned(rt, alloc, "zstd"), PluginKind::Codec);
+    format!(in alloc; "{}", PluginCreateError::Unsupported(error)).expect(rt, "memory")
 }
 
 #[test]
 fn an_error_says_what_is_not_supported(rt: HostRuntime) {
     let wanted = "zstd is no supported extension of the kind Codec";
-    is_text(&rt, "an error", error_text(rt.alloc()), wanted);
+    is_text(&rt, "an error", error_text(&rt, rt.alloc()), wanted);
 }
 
-fn exact(alloc: Global, name: &str) -> Result<NamePattern, AllocError> {
-    Ok(NamePattern::Exact(String::from_str(alloc, name)?))
+fn exact(rt: &impl Abort, alloc: Global, name: &str) -> NamePattern {
+    NamePattern::Exact(owned(rt, alloc, name))
 }
 
-fn builtin(alloc: Global) -> Result<Registry<u8>, AllocError> {
-    let entries = vec![in alloc;
-        (exact(alloc, "bytes")?, 1),
-        (NamePattern::LetterDigits(b'r'), 2),
-    ]?;
-    Ok(Registry::with_builtin(alloc, entries))
+fn builtin(rt: &impl Abort, alloc: Global) -> Registry<u8> {
+    let bytes = (exact(rt, alloc, "bytes"), 1);
+    let raw = (NamePattern::LetterDigits(b'r'), 2);
+    Registry::with_builtin(alloc, vec![in alloc; bytes, raw].expect(rt, "memory"))
 }
 
 fn register(
+    rt: &impl Abort,
     alloc: Global,
     registry: &mut Registry<u8>,
     name: &str,
     kind: u8,
-) -> Result<RegistryHandle, AllocError> {
-    let names = vec![in alloc; exact(alloc, name)?]?;
-    registry.register(names, kind)
+) -> RegistryHandle {
+    let names = vec![in alloc; exact(rt, alloc, name)].expect(rt, "memory");
+    registry.register(names, kind).expect(rt, "memory")
 }
 
 // The kinds of some names before anything was registered, after `bytes` and `zstd` were, and after `bytes` was removed.
-fn found(alloc: Global) -> Result<String, AllocError> {
-    let mut registry = builtin(alloc)?;
+fn found(rt: &impl Abort, alloc: Global) -> String {
+    let mut registry = builtin(rt, alloc);
     let before = kinds(&registry);
-    let bytes = register(alloc, &mut registry, "bytes", 3)?;
-    register(alloc, &mut registry, "zstd", 4)?;
+    let bytes = register(rt, alloc, &mut registry, "bytes", 3);
+    let _zstd = register(rt, alloc, &mut registry, "zstd", 4);
     let between = kinds(&registry);
     registry.unregister(&bytes);
-    format!(in alloc; "{before:?} {between:?} {:?}", kinds(&registry))
+    format!(in alloc; "{before:?} {between:?} {:?}", kinds(&registry)).expect(rt, "memory")
 }
 
 fn kinds(registry: &Registry<u8>) -> [u8; 6] {
@@ -98,7 +97,7 @@ fn the_first_match_is_found(rt: HostRuntime) {
     is_text(
         &rt,
         "kinds",
-        found(rt.alloc()),
+        found(&rt, rt.alloc()),
         "[1, 0, 2, 0, 0, 0] [3, 4, 2, 0, 0, 0] [1, 4, 2, 0, 0, 0]",
     );
 }

@@ -71,6 +71,9 @@ pub trait Store {
     ghost sets_parts: { Self → Bool };
 
     /// The value under `key`, or None where the key is absent. A reading call.
+    ///
+    /// # Errors
+    /// [`StorageError::Failed`] where the store fails, which its count of faults tells, or [`StorageError::OutOfMemory`].
     fn get(&mut self, alloc: Global, key: &StoreKey) -> Result<Option<Vec<u8>>, StorageError>
         ensures { Gets key.now (shown self.old) (shown self.new) result };
 
@@ -79,6 +82,7 @@ pub trait Store {
     ///
     /// # Errors
     /// [`StorageError::InvalidByteRange`] names the first range that is not valid for the value. It comes of no other call.
+    /// [`StorageError::Failed`] where the store fails, which its count of faults tells, or [`StorageError::OutOfMemory`].
     fn get_partial_many(
         &mut self,
         alloc: Global,
@@ -89,19 +93,33 @@ pub trait Store {
 
     /// How many bytes the value under `key` has, or None where the key is absent. A reading call that hands out no value
     /// and takes no memory.
+    ///
+    /// # Errors
+    /// [`StorageError::Failed`] where the store fails, which its count of faults tells.
     fn size_key(&mut self, key: &StoreKey) -> Result<Option<u64>, StorageError>
         ensures { Sizes key.now (shown self.old) (shown self.new) result };
 
     /// All keys, in the order of their bytes. A reading call that hands out no value.
+    ///
+    /// # Errors
+    /// [`StorageError::Failed`] where the store fails, which its count of faults tells, or [`StorageError::OutOfMemory`].
     fn list(&mut self, alloc: Global) -> Result<Vec<StoreKey>, StorageError>
         ensures { Lists (shown self.old) (shown self.new) result };
 
     /// Makes the value under `key` exactly `value`.
+    ///
+    /// # Errors
+    /// [`StorageError::Failed`] where the store fails, which its count of faults tells: the value is then as before, or the
+    /// new one, or absent. [`StorageError::OutOfMemory`], after which nothing has changed.
     fn set(&mut self, alloc: Global, key: &StoreKey, value: &[u8]) -> Result<(), StorageError>
         ensures { Puts key.now (Some value.now) (shown self.old) (shown self.new) result };
 
     /// Puts each part into the value under `key`, in order, an absent one counting as empty: the value is filled up with
     /// zero bytes to the part's end, and the part replaces the bytes at its place.
+    ///
+    /// # Errors
+    /// [`StorageError::Failed`] where the store fails, which its count of faults tells: the value is then as before, or the
+    /// new one, or absent. [`StorageError::OutOfMemory`], after which nothing has changed.
     fn set_partial_many(
         &mut self,
         alloc: Global,
@@ -114,6 +132,10 @@ pub trait Store {
             (shown self.old) (shown self.new) result };
 
     /// Leaves `key` absent, also where it was absent. Takes no memory.
+    ///
+    /// # Errors
+    /// [`StorageError::Failed`] where the store fails, which its count of faults tells: the value is then as before, or
+    /// absent.
     fn erase(&mut self, key: &StoreKey) -> Result<(), StorageError>
         ensures puts { Puts key.now None (shown self.old) (shown self.new) result }
         ensures no_memory { IsErrOf result StorageError.OutOfMemory → ⊥ };

@@ -10,7 +10,7 @@ use Rattle.zarr_cli_runs.proofs.commands.replies_of.Goals as goal
 pub returns-in-Ok-clause-ran : goal.returns-in-Ok-clause-ran
 returns-in-Ok-clause-ran g c =
     replied_by c.args.array.now (options_of c.args.options.now) (map command_of c.args.commands.now) (g.S.Store.shown c.args.store.now) (g.S.Store.shown c.run_commands.new.store)
-    c.in-Ok.replies.items c.in-Ok.ensures.runs.serves c.in-Ok.ensures.runs.keys c.in-Ok.ensures.runs.undamaged c.in-Ok.ensures.runs.refusals c.in-Ok.ensures.runs.asks
+    c.in-Ok.replies.items c.in-Ok.ensures.runs.serves c.in-Ok.ensures.runs.stored c.in-Ok.ensures.runs.keys c.in-Ok.ensures.runs.undamaged c.in-Ok.ensures.runs.refusals c.in-Ok.ensures.runs.asks
 
 pub returns-in-Err-clause-fault : goal.returns-in-Err-clause-fault
 returns-in-Err-clause-fault g c =

@@ -3,7 +3,7 @@ use Rattle.zarrs_codec_traits.specs.Views.{options_of}
 use Rattle.zarrs_codec_partial_traits.specs.Updates.{change_of}
 use Rattle.zarrs_codec_partial_traits.proofs.UpdateLaws.{updates_after, updates_not}
 use Rattle.zarrs_codec_partial.specs.Level.{bottom_level, seen_by}
-use Rattle.zarrs_codec_partial.specs.Writing.{IsBeyond}
+use Rattle.zarrs_codec_partial.specs.Writing.{IsBeyond, IsTaken}
 use Rattle.zarrs_codec_partial.proofs.level.BottomLevel.encode_fit.Goals as goal
 
 pub returns-in-Ok-clause-updates : goal.returns-in-Ok-clause-updates
@@ -16,9 +16,10 @@ returns-in-Ok-clause-updates g c =
     let asked = g.I.Indexer.as_region c.args.indexer.now in
     let places = g.I.Indexer.places c.args.indexer.now in
     let change = change_of level (g.I.Indexer.fits c.args.indexer.now level.shape) asked places (raw_of c.args.bytes.now) in
-    updates_after (options_of c.args.options.now) change _ unencoded (code.takes c.args.self.now.codec level) unencoded (code.takes c.args.self.now.codec level)
+    let encodes = IsTaken (code.beyond c.args.self.now.codec level) level in
+    updates_after (options_of c.args.options.now) change _ unencoded encodes (code.takes c.args.self.now.codec level) unencoded encodes (code.takes c.args.self.now.codec level)
     (see (handle.seen c.args.handle.now)) (see (handle.seen c.new_elements.new.handle)) (see (handle.seen c.store_elements.new.handle)) c.in-Ok.elements c.store_elements.result
-    c.in-Ok.ensures.made c.in-Ok.ensures.reads c.store_elements.ensures.stores (λ list e told. told) (λ takes. takes)
+    c.in-Ok.ensures.made c.in-Ok.ensures.reads c.store_elements.ensures.stores (λ list e told. told) (λ list is. is) (λ takes. takes)
 
 pub returns-in-Err-clause-updates : goal.returns-in-Err-clause-updates
 returns-in-Err-clause-updates g c =
@@ -29,5 +30,5 @@ returns-in-Err-clause-updates g c =
     let asked = g.I.Indexer.as_region c.args.indexer.now in
     let places = g.I.Indexer.places c.args.indexer.now in
     let change = change_of level (g.I.Indexer.fits c.args.indexer.now level.shape) asked places (raw_of c.args.bytes.now) in
-    updates_not (options_of c.args.options.now) change _ (IsBeyond (code.beyond c.args.self.now.codec level) level) (code.takes c.args.self.now.codec level)
+    updates_not (options_of c.args.options.now) change _ (IsBeyond (code.beyond c.args.self.now.codec level) level) (IsTaken (code.beyond c.args.self.now.codec level) level) (code.takes c.args.self.now.codec level)
     (see (handle.seen c.args.handle.now)) (see (handle.seen c.new_elements.new.handle)) c.in-Err.error c.in-Err.ensures.made c.in-Err.ensures.reads

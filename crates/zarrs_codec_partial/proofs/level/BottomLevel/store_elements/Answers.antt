@@ -8,8 +8,8 @@ use Rattle.zarrs_codec_traits.specs.Errors.{unserved_at}
 use Rattle.zarrs_codec_partial_traits.proofs.NamedLaws.{codec_served}
 use Rattle.zarrs_codec_partial_traits.proofs.UpdateLaws.{stores_not}
 use Rattle.zarrs_codec_partial.specs.Level.{bottom_level, bottom_fill, seen_by}
-use Rattle.zarrs_codec_partial.specs.Writing.{IsBeyond}
-use Rattle.zarrs_codec_partial.proofs.WriteLaws.{positive, stores_value, stores_none, beyond_told, short_told, encoded_served, encode_no_fault}
+use Rattle.zarrs_codec_partial.specs.Writing.{IsBeyond, IsTaken}
+use Rattle.zarrs_codec_partial.proofs.WriteLaws.{positive, stores_value, stores_none, taken_by, beyond_told, short_told, encoded_served, encode_no_fault}
 use Rattle.zarrs_codec_partial.proofs.level.BottomLevel.store_elements.Goals as goal
 
 pub returns-then-dropped-clause-stores : goal.returns-then-dropped-clause-stores
@@ -22,9 +22,11 @@ returns-then-dropped-clause-stores g c =
     let request = code.request c.args.self.now.codec level.shape level.data_type in
     let handle = g.H.BytesPartialDecoderTraits in
     let under = options_of c.args.options.now in
-    stores_none level fill unserved means_at request under (raw_of c.args.bytes) _ _ (handle.seen c.args.handle.now) (handle.seen c.erase.new.self) c.erase.result (g.met.H.BytesPartialDecoderTraits.sound c.erase.new.self)
+    let served = encoded_served unserved c.in-Ok.value (rw c.deref.ensures.value at c.in-Ok.ensures.unserved) in
+    let exact = rw c.deref.ensures.value at c.in-Ok.ensures.exact in
+    stores_none level fill unserved means_at request under (raw_of c.args.bytes) _ _ _ (handle.seen c.args.handle.now) (handle.seen c.erase.new.self) c.erase.result (g.met.H.BytesPartialDecoderTraits.sound c.erase.new.self)
     (λ list filled means. sym (ap not c.if-dropped.true) ∙ c.is_dropped-dropped.ensures (kind_of level.data_type) (count_of level.shape) list (positive c.args.self.now.shape.items) filled means)
-    c.erase.ensures.writes c.erase.ensures.unasked c.erase.ensures.cause (encoded_served unserved c.in-Ok.value (rw c.deref.ensures.value at c.in-Ok.ensures.unserved))
+    c.erase.ensures.writes c.erase.ensures.unasked c.erase.ensures.cause (λ list means. taken_by level (raw_of c.args.bytes) list (code.beyond c.args.self.now.codec level) (exact served) means) served
 
 pub returns-else-dropped-clause-stores : goal.returns-else-dropped-clause-stores
 returns-else-dropped-clause-stores g c =
@@ -36,9 +38,12 @@ returns-else-dropped-clause-stores g c =
     let request = code.request c.args.self.now.codec level.shape level.data_type in
     let handle = g.H.BytesPartialDecoderTraits in
     let under = options_of c.args.options.now in
-    stores_value level fill unserved means_at request under (raw_of c.args.bytes) _ _ c.in-Ok.value.items (handle.seen c.args.handle.now) (handle.seen c.replace.new.self) c.replace.result (g.met.H.BytesPartialDecoderTraits.sound c.replace.new.self)
+    let served = encoded_served unserved c.in-Ok.value (rw c.deref.ensures.value at c.in-Ok.ensures.unserved) in
+    let exact = rw c.deref.ensures.value at c.in-Ok.ensures.exact in
+    stores_value level fill unserved means_at request under (raw_of c.args.bytes) _ _ _ c.in-Ok.value.items (handle.seen c.args.handle.now) (handle.seen c.replace.new.self) c.replace.result (g.met.H.BytesPartialDecoderTraits.sound c.replace.new.self)
     (λ list filled means. sym (ap not c.if-dropped.false) ∙ c.is_dropped-dropped.ensures (kind_of level.data_type) (count_of level.shape) list (positive c.args.self.now.shape.items) filled means)
-    (rw c.deref.ensures.value at c.in-Ok.ensures.value) (rw c.deref-in-Ok.ensures.value at c.replace.ensures.writes) c.replace.ensures.unasked c.replace.ensures.cause (encoded_served unserved c.in-Ok.value (rw c.deref.ensures.value at c.in-Ok.ensures.unserved))
+    (rw c.deref.ensures.value at c.in-Ok.ensures.value) (rw c.deref-in-Ok.ensures.value at c.replace.ensures.writes) c.replace.ensures.unasked c.replace.ensures.cause
+    (λ list means. taken_by level (raw_of c.args.bytes) list (code.beyond c.args.self.now.codec level) (exact served) means) served
 
 pub returns-in-Err-clause-stores : goal.returns-in-Err-clause-stores
 returns-in-Err-clause-stores g c =
@@ -52,7 +57,7 @@ returns-in-Err-clause-stores g c =
     let under = options_of c.args.options.now in
     let exact = rw c.deref.ensures.value at c.in-Err.ensures.exact in
     let beyond = code.beyond c.args.self.now.codec level in
-    stores_not under (raw_of c.args.bytes) (IsBeyond beyond level) (code.takes c.args.self.now.codec level)
+    stores_not under (raw_of c.args.bytes) (IsBeyond beyond level) (IsTaken beyond level) (code.takes c.args.self.now.codec level)
     (seen_by c.args.self.now (g.C.ArrayCodecTraits.unserved c.args.self.now.codec) (code.meaning c.args.self.now.codec) (code.request c.args.self.now.codec) (handle.seen c.args.handle.now)) c.in-Err.error
     (λ list served filled means. beyond_told level (raw_of c.args.bytes) list beyond _ _ c.in-Err.error means (exact (codec_served _ served)))
     (λ served filled few takes there short. short_told level (raw_of c.args.bytes) beyond _ _ c.in-Err.error there (g.met.C.ArrayToBytesCodecTraits.taken c.args.self.now.codec level fill (raw_of c.args.bytes) (codec_served _ served) takes there short) (exact (codec_served _ served)))

@@ -10,14 +10,14 @@ returns-in-Ok-clause-cause g c =
     let part = (g.H.BytesPartialDecoderTraits.seen c.args.self.now.handle).part under in
     let tells = g.H.BytesPartialDecoderTraits.tells c.args.self.now.handle under in
     let cause = rw (c.deref.ensures.value, c.in-Ok.ensures.value) at c.partial_decode_many.ensures.cause in
-    IfErr-weaker c.partial_decode_many.result _ _ (λ e told. interval_told part c.args.self.now.byte_offset c.args.self.now.byte_length c.args.decoded_regions.now _ tells _ _ e c.in-Ok.ensures.valid refl told) cause
+    IfErr-weaker c.partial_decode_many.result _ _ (λ e told. interval_told part c.args.self.now.byte_offset c.args.self.now.byte_length tells _ _ e c.args.decoded_regions.now _ c.in-Ok.ensures.valid refl told) cause
 
 pub returns-in-Err-clause-cause : goal.returns-in-Err-clause-cause
 returns-in-Err-clause-cause g c =
     let under = options_of c.args.options.now in
     let part = (g.H.BytesPartialDecoderTraits.seen c.args.self.now.handle).part under in
     let tells = g.H.BytesPartialDecoderTraits.tells c.args.self.now.handle under in
-    interval_refused part c.args.self.now.byte_offset c.args.self.now.byte_length c.args.decoded_regions.now tells _ _ c.in-Err.error c.in-Err.ensures.refused
+    interval_refused part c.args.self.now.byte_offset c.args.self.now.byte_length tells _ _ c.in-Err.error c.args.decoded_regions.now c.in-Err.ensures.refused
 
 pub returns-in-Err-clause-same : goal.returns-in-Err-clause-same
 returns-in-Err-clause-same g c = (refl, (refl, g.met.H.BytesPartialDecoderTraits.same_self c.args.self.now.handle))

@@ -22,7 +22,7 @@ returns-in-Ok-Some-clause-cause g c =
     let meaning = g.C.BytesToBytesCodecTraits.meaning c.args.self.now.codec in
     let says = g.C.BytesToBytesCodecTraits.says c.args.self.now.codec under in
     let below = g.H.BytesPartialDecoderTraits.seen c.args.self.now.handle in
-    let tells = g.H.BytesPartialDecoderTraits.tells c.args.self.now.handle under in
+    let tells = g.H.BytesPartialDecoderTraits.tells c.args.self.now.handle under None in
     let is = c.in-Ok-Some.ensures.value ∙ ap (λ v. Some (value_bytes v)) c.in-Ok-Some.field-0-is in
     many_refused (through (meaning under) (below.held under)) c.in-Ok-Some.value.items c.args.decoded_regions.now (λ e. through_says (meaning under) says tells (below.held under) e) _ _ c.in-Err-parts_in_memory.error is (λ range. range_told (meaning under) says tells (below.held under) _ _ is range) (rw c.deref.ensures.value at c.in-Err-parts_in_memory.ensures.cause)
 
@@ -41,7 +41,7 @@ returns-clause-cause g c =
     let meaning = g.C.BytesToBytesCodecTraits.meaning c.args.self.now.codec in
     let says = g.C.BytesToBytesCodecTraits.says c.args.self.now.codec under in
     let below = g.H.BytesPartialDecoderTraits.seen c.args.self.now.handle in
-    let tells = g.H.BytesPartialDecoderTraits.tells c.args.self.now.handle under in
+    let tells = g.H.BytesPartialDecoderTraits.tells c.args.self.now.handle under None in
     many_told (through (meaning under) (below.held under)) c.args.decoded_regions.now (λ e. through_says (meaning under) says tells (below.held under) e) _ _ c.in-Err.error c.in-Err.ensures.cause
 
 pub returns-in-Ok-clause-first : goal.returns-in-Ok-clause-first

@@ -1,0 +1,95 @@
+//! A handle on a chunk, with the chain of an open array.
+
+ghost use Rattle.std.specs.Prelude.{◌≡◌, IfOk};
+ghost use Rattle.zarrs_codec_traits.specs.Views.{lengths};
+
+use crate::made::{key_of, opened, put, region};
+use std::alloc::{AllocError, Global};
+use std::num::NonZeroU64;
+use std::process::Abort;
+use zarr_array::open::OpenArray;
+use zarr_array::{ChainHandle, CodecOptions};
+use zarrs_array_subset::ArraySubset;
+use zarrs_codec_array_bytes::ArrayBytes;
+use zarrs_codec_array_bytes::array_bytes::bytes_in;
+use zarrs_codec_error::CodecError;
+use zarrs_storage::memory_store::MemoryStore;
+use zarrs_storage::store::Store;
+use zarrs_storage::store_key::StoreKey;
+
+// Two rows of three numbers of two bytes in a chunk, 7 where nothing is written. One is put on each, the greater byte
+// comes first, and a digest is last.
+const NUMBERS: &str =
+    r#"{"zarr_format":3,"node_type":"array","shape":[2,6],"data_type":"uint16","chunk_grid":{"name":"regular","configuration":{"chunk_shape":[2,3]}},"chunk_key_encoding":"default","fill_value":7,"codecs":[{"name":"zarr_basics.offset","configuration":{"offset":1}},{"name":"bytes","configuration":{"endian":"big"}},"zarr_basics.sha256"]}"#;
+
+// The lengths of a shape.
+fn numbers(alloc: Global, shape: &[NonZeroU64]) -> Result<Vec<u64>, AllocError>
+    ensures { IfOk result (λ v. v.items ≡ lengths shape.now) }
+{
+    shape.iter().map(|n| n.get()).collect(alloc)
+}
+
+// The elements of a region of a chunk, if it has the region. They are read, the chunk is erased, and they are written
+// again.
+fn put_again(
+    alloc: Global,
+    array: &OpenArray,
+    store: &mut MemoryStore,
+    key: StoreKey,
+    region: &ArraySubset,
+) -> Result<Option<ArrayBytes<'static>>, CodecError> {
+    if !array.has_chunks() {
+        return Ok(None);
+    }
+    let chain = array.chain(alloc)?;
+    let shape = numbers(alloc, chain.shape())?;
+    if !region.inbounds_shape(&shape) {
+        return Ok(None);
+    }
+    let options = CodecOptions::default();
+    let mut handle = ChainHandle::from_parts(chain, store, key);
+    let elements = handle.partial_decode(alloc, region, &options)?;
+    handle.erase()?;
+    handle.partial_encode(alloc, region, &elements, &options)?;
+    Ok(Some(elements))
+}
+
+// The rows [1, 2, 3] and [4, 5, 6], as they are stored, and those with 7 in place of the first column.
+const BEFORE: [u8; 44] = [
+    0, 2, 0, 3, 0, 4, 0, 5, 0, 6, 0, 7, 148, 178, 145, 117, 49, 245, 198, 175, 37, 174, 136, 146,
+    187, 117, 96, 160, 238, 200, 47, 59, 87, 243, 107, 18, 124, 10, 184, 85, 116, 80, 123, 45,
+];
+
+const AFTER: [u8; 44] = [
+    0, 8, 0, 3, 0, 4, 0, 8, 0, 6, 0, 7, 78, 207, 183, 53, 75, 131, 18, 225, 76, 109, 226, 233, 69,
+    97, 130, 240, 153, 185, 10, 89, 142, 194, 143, 170, 159, 120, 200, 20, 126, 192, 150, 144,
+];
+
+// Whether the last two columns of the second chunk are read and put again.
+fn is_put_again(
+    rt: &impl Abort,
+    alloc: Global,
+    array: &OpenArray,
+    store: &mut MemoryStore,
+) -> bool {
+    let columns = region(rt, alloc, &[0..2, 1..3]);
+    let key = key_of(rt, alloc, "c/0/1");
+    match put_again(alloc, array, store, key, &columns) {
+        Ok(Some(ArrayBytes::Fixed(bytes))) => {
+            bytes_in(&bytes) == [2, 0, 3, 0, 5, 0, 6, 0].as_slice()
+        }
+        _ => false,
+    }
+}
+
+#[test]
+fn a_chunk_is_read_erased_and_written(rt: HostRuntime) {
+    let alloc = rt.alloc();
+    let array = opened(&rt, alloc, NUMBERS);
+    let mut store = MemoryStore::new(alloc);
+    put(&rt, alloc, &mut store, "c/0/1", &BEFORE);
+    assert_eq!(rt; is_put_again(&rt, alloc, &array, &mut store), true);
+    let value = store.get(alloc, &key_of(&rt, alloc, "c/0/1"));
+    let value = value.ok().expect(&rt, "a value");
+    assert_eq!(rt; value.as_deref(), Some(AFTER.as_slice()));
+}

@@ -1,0 +1,4 @@
+pub mod ChunkLaws
+pub mod MirrorLaws
+pub mod SingleLaws
+pub mod TurnLaws

@@ -1,0 +1,2 @@
+pub mod SingleBytes
+pub mod Turned

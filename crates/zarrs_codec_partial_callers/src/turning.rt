@@ -1,0 +1,170 @@
+//! Elements of a list that is turned round.
+
+ghost use Rattle.std.specs.Prelude.{◌≡◌, ◌<◌, ◌^◌, true, false, reverse, IsSome, IfOk, IfErr, MatchResult, option_map};
+ghost use Rattle.zarr_model.specs.Region.{count, count_of, whole, tuples, ends_within};
+ghost use Rattle.zarr_model.specs.Element.{fill_element};
+ghost use Rattle.zarr_model.specs.ArrayBytes.{meaning};
+ghost use Rattle.zarr_model.specs.Command.{has_long_element};
+ghost use Rattle.zarrs_array_subset.specs.ArraySubset.{region as box_of};
+ghost use Rattle.zarrs_data_type_elements.specs.FillValue.{fill_bytes};
+ghost use Rattle.zarrs_data_type_names.specs.DataType.{type_of};
+ghost use Rattle.zarrs_codec_bytes.specs.Filling.{has_size};
+ghost use Rattle.zarrs_codec_error.specs.declared.error.CodecError.TheVariants as codec;
+ghost use Rattle.zarrs_codec_array_bytes.specs.Raw.{raw_of};
+ghost use Rattle.zarrs_codec_array_bytes.specs.Refusals.{validity, Answers};
+ghost use Rattle.zarrs_codec_array_bytes.specs.Selection.{linear};
+ghost use Rattle.zarrs_codec_array_bytes.specs.Steps.{kind_seen};
+ghost use Rattle.zarrs_codec_traits.specs.Errors.{FillAnswers};
+ghost use Rattle.zarrs_codec_traits.specs.Views.{lengths};
+ghost use Rattle.zarrs_codec_traits.specs.Words.{Gives, IsFit};
+ghost use Rattle.zarrs_codec_partial_callers.specs.Turned.{mirrored, turned_part};
+
+use std::alloc::{AllocError, Global};
+use std::num::NonZeroU64;
+use zarrs_array_subset::ArraySubset;
+use zarrs_codec_array_bytes::ArrayBytes;
+use zarrs_codec_array_bytes::array_bytes::extract::linear_indices;
+use zarrs_codec_array_bytes::array_bytes::gather::select;
+use zarrs_codec_array_bytes::array_bytes::step::element_size;
+use zarrs_codec_error::CodecError;
+use zarrs_codec_traits::{num_elements, shape_numbers};
+use zarrs_data_type_elements::FillValue;
+use zarrs_data_type_names::DataType;
+
+/// The box of all of a shape.
+///
+/// # Errors
+/// [`CodecError::OutOfMemory`] where memory runs out.
+pub fn whole_box(alloc: Global, shape: &[NonZeroU64]) -> Result<ArraySubset, CodecError>
+    ensures { MatchResult result (λ r. box_of r ≡ whole (lengths shape.now))
+        (λ e. e ≡ codec.OutOfMemory) }
+{
+    let numbers = shape_numbers(alloc, shape)?;
+    let all = ArraySubset::new_with_shape(alloc, numbers)?;
+    Ok(all)
+}
+
+// Each place, counted from the other end of so many.
+fn mirror(alloc: Global, places: &[u64], count: u64) -> Result<Vec<u64>, AllocError>
+    ensures { IfOk result (λ v. v.items ≡ mirrored count places.now) }
+{
+    let last = count.saturating_sub(1);
+    places
+        .iter()
+        .map(|place| last.saturating_sub(*place))
+        .collect(alloc)
+}
+
+// The places of a region's elements, counted from the end of the shape's list.
+fn mirrored_places(
+    alloc: Global,
+    region: &ArraySubset,
+    shape: &[NonZeroU64],
+) -> Result<Vec<u64>, CodecError>
+    requires count { count_of (lengths shape.now) < 2 ^ 64 }
+    requires inside { ends_within (box_of region.now) (lengths shape.now) ≡ true }
+    ensures value { IfOk result (λ v. v.items ≡ mirrored (count_of (lengths shape.now))
+        (linear (lengths shape.now) (tuples (box_of region.now)))) }
+    ensures memory { IfErr result (λ e. e ≡ codec.OutOfMemory) }
+{
+    let numbers = shape_numbers(alloc, shape)?;
+    let places = linear_indices(alloc, region, &numbers)?;
+    let mirrored = mirror(alloc, &places, num_elements(shape))?;
+    Ok(mirrored)
+}
+
+/// The elements of a region of a shape's list turned round. All elements of the list are tested first.
+///
+/// # Errors
+/// [`CodecError`] exactly where the bytes are not valid elements of the shape, or where memory runs out.
+pub fn turned_region(
+    alloc: Global,
+    bytes: &ArrayBytes<'_>,
+    region: &ArraySubset,
+    shape: &[NonZeroU64],
+    data_type: &DataType,
+) -> Result<ArrayBytes<'static>, CodecError>
+    requires fits { IsFit (lengths shape.now) (type_of data_type.now) }
+    requires inside { ends_within (box_of region.now) (lengths shape.now) ≡ true }
+    ensures exact { Answers (validity (kind_seen data_type.now) (count_of (lengths shape.now))
+        (raw_of bytes.now)) result }
+    ensures value { IfOk result
+        (λ v. Gives (meaning (kind_seen data_type.now) (count (box_of region.now)) (raw_of v))
+        (turned_part (lengths shape.now) (box_of region.now)
+        (meaning (kind_seen data_type.now) (count_of (lengths shape.now)) (raw_of bytes.now)))) }
+    ensures short { has_long_element (raw_of bytes.now) ≡ false
+        → IfOk result (λ v. has_long_element (raw_of v) ≡ false) }
+{
+    let count = num_elements(shape);
+    bytes.validate(count, data_type)?;
+    let places = mirrored_places(alloc, region, shape)?;
+    let out = select(alloc, &places, count, bytes, element_size(data_type))?;
+    Ok(out)
+}
+
+/// All elements of a shape's list, the last one first.
+///
+/// # Errors
+/// [`CodecError`] exactly where the bytes are not valid elements of the shape, or where memory runs out.
+pub fn turned(
+    alloc: Global,
+    bytes: &ArrayBytes<'_>,
+    shape: &[NonZeroU64],
+    data_type: &DataType,
+) -> Result<ArrayBytes<'static>, CodecError>
+    requires { IsFit (lengths shape.now) (type_of data_type.now) }
+    ensures exact { Answers (validity (kind_seen data_type.now) (count_of (lengths shape.now))
+        (raw_of bytes.now)) result }
+    ensures value { IfOk result (λ v.
+        Gives (meaning (kind_seen data_type.now) (count_of (lengths shape.now)) (raw_of v))
+        (option_map reverse (meaning (kind_seen data_type.now) (count_of (lengths shape.now))
+        (raw_of bytes.now)))) }
+    ensures short { has_long_element (raw_of bytes.now) ≡ false
+        → IfOk result (λ v. has_long_element (raw_of v) ≡ false) }
+{
+    match whole_box(alloc, shape) {
+        Ok(all) => turned_region(alloc, bytes, &all, shape, data_type),
+        Err(error) => Err(error),
+    }
+}
+
+// Whether a fill value has the size of the type's.
+fn expect_size(
+    alloc: Global,
+    data_type: &DataType,
+    fill_value: &FillValue,
+) -> Result<(), CodecError>
+    ensures exact { FillAnswers (has_size (kind_seen data_type.now) (fill_bytes fill_value.now))
+        result }
+    ensures sized { IfOk result
+        (λ _. has_size (kind_seen data_type.now) (fill_bytes fill_value.now) ≡ true) }
+    ensures memory { IsSome (fill_element (kind_seen data_type.now) (fill_bytes fill_value.now))
+        → IfErr result (λ e. e ≡ codec.OutOfMemory) }
+{
+    match ArrayBytes::new_fill_value(alloc, data_type, 0, fill_value) {
+        Ok(_) => Ok(()),
+        Err(error) => Err(error),
+    }
+}
+
+/// The same fill value, where it has the size of the type's.
+///
+/// # Errors
+/// `DataTypeFillValueError` exactly where the fill value has another size; or where memory runs out.
+pub fn same_fill(
+    alloc: Global,
+    data_type: &DataType,
+    fill_value: &FillValue,
+) -> Result<FillValue, CodecError>
+    ensures exact { FillAnswers (has_size (kind_seen data_type.now) (fill_bytes fill_value.now))
+        result }
+    ensures sized { IfOk result
+        (λ _. has_size (kind_seen data_type.now) (fill_bytes fill_value.now) ≡ true) }
+    ensures value { IsSome (fill_element (kind_seen data_type.now) (fill_bytes fill_value.now))
+        → MatchResult result (λ r. fill_bytes r ≡ fill_bytes fill_value.now)
+        (λ e. e ≡ codec.OutOfMemory) }
+{
+    expect_size(alloc, data_type, fill_value)?;
+    let copy = fill_value.try_clone(alloc)?;
+    Ok(copy)
+}

@@ -1,4 +1,0 @@
-pub mod ChunkLaws
-pub mod FewLaws
-pub mod MirrorLaws
-pub mod TurnLaws
