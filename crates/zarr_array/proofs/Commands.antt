@@ -2,9 +2,9 @@
 use Rattle.std.proofs.Common.{◌≡◌, Bool, true, false, [], ◌∷◌, length, Option, Some, None, refl, sym, ap, ◌∙◌}
 use Rattle.zarr_model.specs.Prelude.{Region, count, kind, ArrayBytes, meaning, bytes_refusal, has_long_element, ends_within, Options, Shown, read, write, Refusal, refusal, region_refusal, refused_if, or_then, element_too_long, answered, answered_done, LeavesKeys}
 use Rattle.zarr_model.proofs.BytesLaws.{refusal-meaning}
-use Rattle.zarr_array_parts.specs.Parts.{described}
-use Rattle.zarr_array_parts.specs.declared.parts.ArrayParts.{ArrayParts}
-use Rattle.zarr_array_parts.proofs.ServedLaws.{described_covers, described_sound, accepted}
+use Rattle.zarr_array_regions.specs.parts.Parts.{described}
+use Rattle.zarr_array_regions.specs.parts.declared.parts.ArrayParts.{ArrayParts}
+use Rattle.zarr_array_regions.proofs.parts.ServedLaws.{described_covers, described_sound, accepted}
 use Rattle.zarr_array_regions.specs.declared.error.CommandError.{CommandError}
 use Rattle.zarr_array_regions.specs.Read.{HasReadRegion}
 use Rattle.zarr_array_regions.specs.Write.{IsWritable}

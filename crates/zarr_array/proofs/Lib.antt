@@ -1,3 +1,4 @@
+pub use Rattle.zarr_array_regions.proofs.parts
 pub mod RefusalLaws
 pub mod ReadCommand
 pub mod SessionSteps

@@ -1,11 +1,11 @@
 -- A text has one document, and a session whose text is refused ends by that refusal.
 use Rattle.std.proofs.Common.{◌≡◌, Option, Some, None, sym, ap, ◌∙◌, refl}
-use Rattle.zarr_array_parts.specs.Document.{ArrayDocument}
-use Rattle.zarr_array_parts.specs.Opening.{OpenRefusal, OpenAnswer, opened, not_opened}
-use Rattle.zarr_array_parts.specs.OpenError.{open_refusal_of, IsRefusedBy}
+use Rattle.zarr_array_regions.specs.parts.Document.{ArrayDocument}
+use Rattle.zarr_array_regions.specs.parts.Opening.{OpenRefusal, OpenAnswer, opened, not_opened}
+use Rattle.zarr_array_regions.specs.parts.OpenError.{open_refusal_of, IsRefusedBy}
 use Rattle.zarr_array.specs.OpenError.{ended_for, ended_by}
 use Rattle.zarr_array.specs.Session.{IsNotOpenedBy}
-use Rattle.zarr_array_parts.specs.declared.open_error.OpenError.{OpenError}
+use Rattle.zarr_array_regions.specs.parts.declared.open_error.OpenError.{OpenError}
 
 same_opened : (a b : ArrayDocument) → opened a ≡ opened b → a ≡ b
 same_opened a b e = cc

@@ -2,9 +2,9 @@
 use Rattle.std.proofs.Common.{◌≡◌, ◌+◌, ◌<◌, ◌≤◌, true, false, [], ◌∷◌, length, slice_get, Some, None, refl, sym, ap, ◌∙◌, subst, arith, inl, inr, ⊎_elim}
 use Rattle.zarr_model.specs.Prelude.{Region, chunks_meeting, Options, Shown, read, Description, region_refusal, chunks_under, command_chunks, counted}
 use Rattle.zarr_model.proofs.StepLaws.{LeavesKeys-same, read-left}
-use Rattle.zarr_array_parts.specs.Parts.{described}
-use Rattle.zarr_array_parts.specs.declared.parts.ArrayParts.{ArrayParts}
-use Rattle.zarr_array_parts.proofs.ServedLaws.{described_covers}
+use Rattle.zarr_array_regions.specs.parts.Parts.{described}
+use Rattle.zarr_array_regions.specs.parts.declared.parts.ArrayParts.{ArrayParts}
+use Rattle.zarr_array_regions.proofs.parts.ServedLaws.{described_covers}
 use Rattle.zarr_array_regions.specs.declared.error.CommandError.{CommandError}
 use Rattle.zarr_array_regions.specs.declared.error.SessionErrorKind.{SessionErrorKind}
 use Rattle.zarr_array_regions.specs.declared.error.SessionErrorKind.TheVariants.{NotOpened, ChunkDecode, Store, OutOfMemory}

@@ -1,3 +1,5 @@
+pub use Rattle.zarr_array_regions.specs as regions
+pub use Rattle.zarr_array_regions.specs.parts
 pub mod OpenError
 pub mod OpenArray
 pub mod Command

@@ -1,11 +1,11 @@
 -- What an opened array stands for: its document, and the array that it describes.
 use Rattle.std.specs.Prelude.{◌≡◌, Result, Ok, Err}
 use Rattle.zarr_model.specs.Prelude.{Description}
-use Rattle.zarr_array_parts.specs.Document.{ArrayDocument, describe}
-use Rattle.zarr_array_parts.specs.Opening.{OpenAnswer, opened}
-use Rattle.zarr_array_parts.specs.OpenError.{open_refusal_of, IsRefusedBy}
-use Rattle.zarr_array_parts.specs.Parts as parts
-use Rattle.zarr_array_parts.specs.declared.open_error.OpenError.{OpenError}
+use Rattle.zarr_array_regions.specs.parts.Document.{ArrayDocument, describe}
+use Rattle.zarr_array_regions.specs.parts.Opening.{OpenAnswer, opened}
+use Rattle.zarr_array_regions.specs.parts.OpenError.{open_refusal_of, IsRefusedBy}
+use Rattle.zarr_array_regions.specs.parts.Parts as parts
+use Rattle.zarr_array_regions.specs.parts.declared.open_error.OpenError.{OpenError}
 use Rattle.zarr_array.specs.declared.open.OpenArray.{OpenArray}
 
 abbrev pub documented : OpenArray → ArrayDocument

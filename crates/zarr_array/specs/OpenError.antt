@@ -1,8 +1,8 @@
 -- The ends of sessions whose documents are not opened.
 use Rattle.std.specs.Prelude.{Option, Some, None}
-use Rattle.zarr_array_parts.specs.Opening.{OpenRefusal}
-use Rattle.zarr_array_parts.specs.OpenError.{open_refusal_of}
-use Rattle.zarr_array_parts.specs.declared.open_error.OpenError.{OpenError}
+use Rattle.zarr_array_regions.specs.parts.Opening.{OpenRefusal}
+use Rattle.zarr_array_regions.specs.parts.OpenError.{open_refusal_of}
+use Rattle.zarr_array_regions.specs.parts.declared.open_error.OpenError.{OpenError}
 use Rattle.zarr_array_regions.specs.declared.error.SessionErrorKind.{SessionErrorKind}
 use Rattle.zarr_array_regions.specs.declared.error.SessionErrorKind.TheVariants.{NotOpened, OutOfMemory}
 

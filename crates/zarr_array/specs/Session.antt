@@ -1,8 +1,8 @@
 -- When a session ends with an error, and what it then leaves.
 use Rattle.std.specs.Prelude.{◌≡◌, ℕ, List, Option, Some, None, IsErrAnd}
 use Rattle.zarr_model.specs.Prelude.{Options, Shown, IsHonest, Command, Description, layout, IsPlace, begun, AsksUpTo, LeavesKeys, IsUndecoded, IsStopped, IsStarved}
-use Rattle.zarr_array_parts.specs.Opening.{OpenRefusal}
-use Rattle.zarr_array_parts.specs.OpenError.{open_refusal_of}
+use Rattle.zarr_array_regions.specs.parts.Opening.{OpenRefusal}
+use Rattle.zarr_array_regions.specs.parts.OpenError.{open_refusal_of}
 use Rattle.zarr_array.specs.Ended.{Ended}
 use Rattle.zarr_array.specs.Stored.{StaysOrDecodes}
 use Rattle.zarr_array_regions.specs.declared.error.SessionErrorKind.{SessionErrorKind}

@@ -5,18 +5,18 @@
 ghost use Rattle.std.specs.Prelude.{◌≡◌, ◌<◌, ℕ, true, IfOk};
 ghost use Rattle.zarr_model.specs.Prelude.{fixed, kind_of};
 ghost use Rattle.zarrs_data_type.specs.DataType.{type_of};
-ghost use Rattle.zarr_basics.specs.Registries.{names_of};
-ghost use Rattle.zarr_array_parts.specs.Opening.{open_document};
-ghost use Rattle.zarr_array_parts.specs.Sizes.{have_chunks};
+ghost use Rattle.zarr_array_regions.specs.parts.basics.Registries.{names_of};
+ghost use Rattle.zarr_array_regions.specs.parts.Opening.{open_document};
+ghost use Rattle.zarr_array_regions.specs.parts.Sizes.{have_chunks};
 ghost use Rattle.zarr_chain.specs.Levels.{above};
-ghost use Rattle.zarr_chain_stored.specs.Fetch.{HasFill};
+ghost use Rattle.zarr_array_regions.specs.stored.Fetch.{HasFill};
 ghost use Rattle.zarr_array_regions.specs.Codecs.{IsChainOf};
 
 use std::alloc::{AllocError, Global};
-use zarr_array_parts::{ArrayParts, BasicChain, OpenError};
 use zarr_array_regions::codec_chain;
-use zarr_basics::Registries;
-use zarr_codecs_kinds::BasicArrayToBytes;
+use zarr_array_regions::parts::basics::Registries;
+use zarr_array_regions::parts::kinds::BasicArrayToBytes;
+use zarr_array_regions::parts::{ArrayParts, BasicChain, OpenError};
 use zarrs_codec_traits::ArrayToBytesCodecTraits;
 use zarrs_data_type::DataType;
 

@@ -1,9 +1,9 @@
 //! Sessions: a list of commands over a store.
 
 ghost use Rattle.std.specs.Prelude.{IfErr, ◌≡◌, map};
-ghost use Rattle.zarr_array_parts.specs.Document.{ArrayDocument, describe};
-ghost use Rattle.zarr_array_parts.specs.Opening.{OpenRefusal, opened, not_opened, open_document};
-ghost use Rattle.zarr_basics.specs.Registries.{names_of};
+ghost use Rattle.zarr_array_regions.specs.parts.Document.{ArrayDocument, describe};
+ghost use Rattle.zarr_array_regions.specs.parts.Opening.{OpenRefusal, opened, not_opened, open_document};
+ghost use Rattle.zarr_array_regions.specs.parts.basics.Registries.{names_of};
 ghost use Rattle.zarr_array.specs.OpenError.{ended_by};
 ghost use Rattle.zarr_array.specs.Command.{command_of};
 ghost use Rattle.zarrs_codec_traits.specs.Views.{options_of};
@@ -16,8 +16,8 @@ use crate::command::{Command, Reply};
 use crate::error::{SessionError, SessionErrorKind};
 use crate::open::OpenArray;
 use std::alloc::Global;
-use zarr_array_parts::OpenError;
-use zarr_basics::Registries;
+use zarr_array_regions::parts::OpenError;
+use zarr_array_regions::parts::basics::Registries;
 use zarrs_codec_options::CodecOptions;
 use zarrs_storage::store::Store;
 

@@ -8,13 +8,13 @@ use Rattle.zarrs_codec_bytes.specs.Picking.{size_in}
 use Rattle.zarrs_codec_traits.specs.Words.{IsFit}
 use Rattle.zarr_chain.specs.Levels.{above, top, Serving, AreLinked}
 use Rattle.zarr_chain.specs.Values.{byte_codecs}
-use Rattle.zarr_codecs_array_to_bytes.specs.Plain.{codec_of, unserved_by, stores_lengths, takes_by}
-use Rattle.zarr_codecs_array_to_bytes.specs.Views.{plain_of}
-use Rattle.zarr_codecs_array_to_bytes.specs.declared.codecs.BasicArrayToBytes.{BasicArrayToBytes}
-use Rattle.zarr_codecs_kinds.specs.Basic.{basic_offset}
-use Rattle.zarr_codecs_kinds.specs.declared.array_to_array.BasicArrayToArray.{BasicArrayToArray}
-use Rattle.zarr_codecs_kinds.specs.declared.bytes_to_bytes.BasicBytesToBytes.{BasicBytesToBytes}
-use Rattle.zarr_codecs_kinds.specs.declared.bytes_to_bytes.BasicBytesToBytes.TheVariants.{Sha256}
+use Rattle.zarr_basics.specs.kinds.array_to_bytes.Plain.{codec_of, unserved_by, stores_lengths, takes_by}
+use Rattle.zarr_basics.specs.kinds.array_to_bytes.Views.{plain_of}
+use Rattle.zarr_basics.specs.kinds.array_to_bytes.declared.codecs.BasicArrayToBytes.{BasicArrayToBytes}
+use Rattle.zarr_basics.specs.kinds.Basic.{basic_offset}
+use Rattle.zarr_basics.specs.kinds.declared.array_to_array.BasicArrayToArray.{BasicArrayToArray}
+use Rattle.zarr_basics.specs.kinds.declared.bytes_to_bytes.BasicBytesToBytes.{BasicBytesToBytes}
+use Rattle.zarr_basics.specs.kinds.declared.bytes_to_bytes.BasicBytesToBytes.TheVariants.{Sha256}
 use Rattle.zarr_array_parts.specs.Document.{array_codec_of, byte_codec_of}
 use Rattle.zarr_array_parts.specs.Chain.{array_form, byte_form, chain_form}
 use Rattle.zarr_chain.specs.Chain.{Listing, Opening, first_level, first_fill, chain_of, IsServed, HasCodecs}

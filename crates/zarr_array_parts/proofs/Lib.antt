@@ -1,3 +1,4 @@
+pub use Rattle.zarr_basics.proofs as basics
 pub mod OpeningLaws
 pub mod FieldLaws
 pub mod SizeLaws

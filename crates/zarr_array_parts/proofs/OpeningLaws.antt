@@ -21,8 +21,8 @@ use Rattle.zarrs_data_type.proofs.FillLaws.{fill_denotes}
 use Rattle.zarrs_metadata_parts.specs.MetadataV3.{Extension}
 use Rattle.zarrs_metadata_parts.specs.Configuration.{members_or_none}
 use Rattle.zarr_array_parts.specs.Sizes.{are_countable}
-use Rattle.zarr_codecs_kinds.specs.CodecForm.{CodecForm}
-use Rattle.zarr_codecs_kinds.specs.declared.codec_kind.CodecKind.{CodecKind}
+use Rattle.zarr_basics.specs.kinds.CodecForm.{CodecForm}
+use Rattle.zarr_basics.specs.kinds.declared.codec_kind.CodecKind.{CodecKind}
 use Rattle.zarr_array_parts.specs.Document.{ArrayDocument}
 use Rattle.zarr_array_parts.specs.Opening.{OpenRefusal, open_answer, ◌>>=◌, codec_by, codecs_by}
 use Rattle.zarr_array_parts.specs.OpenError.{open_refusal_of, IsRefusedBy}

@@ -11,12 +11,12 @@ use Rattle.zarrs_codec_error.specs.declared.error.CodecError.TheVariants as code
 use Rattle.zarrs_codec_traits.specs.Errors.{Unserved, RefusesBy, unserved_error, unsupported}
 use Rattle.zarr_codecs_numbers.specs.Numbers.{bytes_less}
 use Rattle.zarr_codecs_numbers.specs.Offset.{offset_unserved}
-use Rattle.zarr_codecs_array_to_bytes.specs.Plain.{unserved_by, plain_unserved}
-use Rattle.zarr_codecs_array_to_bytes.specs.Views.{plain_of}
-use Rattle.zarr_codecs_array_to_bytes.specs.declared.codecs.BasicArrayToBytes.{BasicArrayToBytes}
-use Rattle.zarr_codecs_kinds.specs.Basic.{basic_offset}
-use Rattle.zarr_codecs_kinds.specs.declared.array_to_array.BasicArrayToArray.{BasicArrayToArray}
-use Rattle.zarr_codecs_kinds.specs.declared.bytes_to_bytes.BasicBytesToBytes.{BasicBytesToBytes}
+use Rattle.zarr_basics.specs.kinds.array_to_bytes.Plain.{unserved_by, plain_unserved}
+use Rattle.zarr_basics.specs.kinds.array_to_bytes.Views.{plain_of}
+use Rattle.zarr_basics.specs.kinds.array_to_bytes.declared.codecs.BasicArrayToBytes.{BasicArrayToBytes}
+use Rattle.zarr_basics.specs.kinds.Basic.{basic_offset}
+use Rattle.zarr_basics.specs.kinds.declared.array_to_array.BasicArrayToArray.{BasicArrayToArray}
+use Rattle.zarr_basics.specs.kinds.declared.bytes_to_bytes.BasicBytesToBytes.{BasicBytesToBytes}
 use Rattle.zarr_chain.specs.Building.{chain_unserved, IsReason, FailsToBuild}
 use Rattle.zarr_array_parts.specs.Document.{ArrayToArray, offset, ChainForm}
 use Rattle.zarr_array_parts.specs.Chain.{array_form, chain_form}

@@ -1,3 +1,5 @@
+pub use Rattle.zarr_basics.specs as basics
+pub use Rattle.zarr_basics.specs.kinds
 pub mod Document
 pub mod Chain
 pub mod Sizes

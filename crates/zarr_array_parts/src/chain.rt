@@ -11,8 +11,8 @@ ghost use Rattle.zarr_array_parts.specs.Sizes.{have_chunks};
 use crate::limits::{chunk_shape, has_chunks};
 use crate::parts::ArrayParts;
 use std::alloc::{AllocError, Global};
+use zarr_basics::kinds::{BasicArrayToArray, BasicArrayToBytes, BasicBytesToBytes};
 use zarr_chain::CodecChain;
-use zarr_codecs_kinds::{BasicArrayToArray, BasicArrayToBytes, BasicBytesToBytes};
 use zarrs_codec_error::CodecError;
 use zarrs_codec_traits::{
     ArrayCodecTraits, ArrayToArrayCodecTraits, ArrayToBytesCodecTraits, BytesToBytesCodecTraits,

@@ -1,14 +1,14 @@
 //! The codecs of a document in the order of a chain.
 
 ghost use Rattle.std.specs.Prelude.{◌≡◌, ◌≤◌, IfOk, map, drop, length};
-ghost use Rattle.zarr_codecs_kinds.specs.CodecForm.{form_of};
+ghost use Rattle.zarr_basics.specs.kinds.CodecForm.{form_of};
 ghost use Rattle.zarr_array_parts.specs.Chain.{leading, behind, all_byte_codecs, chain_in, array_form, byte_form, chain_form};
 ghost use Rattle.zarr_array_parts.specs.Opening.{chain_order, or_refused};
 ghost use Rattle.zarr_array_parts.specs.Parts.{Opens};
 
 use crate::open_error::OpenError;
 use std::alloc::{AllocError, Global};
-use zarr_codecs_kinds::{BasicArrayToArray, BasicArrayToBytes, BasicBytesToBytes, BasicCodec};
+use zarr_basics::kinds::{BasicArrayToArray, BasicArrayToBytes, BasicBytesToBytes, BasicCodec};
 use zarrs_codec_metadata::Codec;
 
 // The codecs of a chain.

@@ -12,14 +12,14 @@ ghost use Rattle.zarrs_data_type.specs.DataType.{type_of, is_type};
 ghost use Rattle.zarrs_data_type.specs.FillMetadata.{fill_of};
 ghost use Rattle.zarr_basics_grids.specs.BasicGrid.{basic_shape, basic_form};
 ghost use Rattle.zarr_basics.specs.Keys.{keys_of};
-ghost use Rattle.zarr_codecs_kinds.specs.CodecForm.{form_of};
+ghost use Rattle.zarr_basics.specs.kinds.CodecForm.{form_of};
 ghost use Rattle.zarr_array_parts.specs.Parts.{Opens};
 ghost use Rattle.zarr_array_parts.specs.Opening.{invalid_fill, or_refused, has_required_field, expect_known_fields, data_type_by, grid_by, keys_by, codec_by, codecs_by};
 
 use crate::open_error::OpenError;
 use std::alloc::Global;
+use zarr_basics::kinds::BasicCodec;
 use zarr_basics::{BasicGrid, ChunkKeyEncoding, ChunkKeyKind, CodecKind, GridKind};
-use zarr_codecs_kinds::BasicCodec;
 use zarrs_chunk_grid_traits::GridMaker;
 use zarrs_codec_metadata::{CodecMaker, CodecMetadata};
 use zarrs_data_type::{

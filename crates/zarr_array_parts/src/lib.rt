@@ -13,3 +13,5 @@ mod served;
 pub use chain::BasicChain;
 pub use open_error::OpenError;
 pub use parts::ArrayParts;
+pub use zarr_basics as basics;
+pub use zarr_basics::kinds;

@@ -10,15 +10,15 @@ ghost use Rattle.zarrs_codec_array_bytes.specs.Steps.{kind_seen};
 ghost use Rattle.zarrs_codec_traits.specs.Views.{lengths};
 ghost use Rattle.zarr_basics_grids.specs.BasicGrid.{basic_grid};
 ghost use Rattle.zarr_basics_grids.specs.Limits.{has_large_chunk};
-ghost use Rattle.zarr_codecs_array_to_bytes.specs.Plain.{unserved_by};
-ghost use Rattle.zarr_codecs_array_to_bytes.specs.Views.{plain_of};
+ghost use Rattle.zarr_basics.specs.kinds.array_to_bytes.Plain.{unserved_by};
+ghost use Rattle.zarr_basics.specs.kinds.array_to_bytes.Views.{plain_of};
 ghost use Rattle.zarr_array_parts.specs.ChunkChain.{basic_lengths};
 ghost use Rattle.zarr_array_parts.specs.Opening.{is_large};
 ghost use Rattle.zarr_array_parts.specs.Sizes.{have_chunks, has_long_chunk};
 
 use std::num::NonZeroU64;
 use zarr_basics::BasicGrid;
-use zarr_codecs_kinds::BasicArrayToBytes;
+use zarr_basics::kinds::BasicArrayToBytes;
 use zarrs_chunk_grid_traits::ChunkGridTraits;
 use zarrs_codec_array_bytes::array_bytes::step::{Step, step_of};
 use zarrs_codec_traits::num_elements;

@@ -1,3 +1,5 @@
+pub use Rattle.zarr_array_parts.specs as parts
+pub use Rattle.zarr_chain_stored.specs as stored
 pub mod CommandError
 pub mod Codecs
 pub mod Chunk

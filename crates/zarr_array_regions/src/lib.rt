@@ -14,3 +14,5 @@ pub use error::{CommandError, SessionErrorKind};
 pub use place::chunk_key;
 pub use read::read_elements;
 pub use write::write_elements;
+pub use zarr_array_parts as parts;
+pub use zarr_chain_stored as stored;

@@ -1,3 +1,4 @@
+pub use Rattle.zarr_codecs_kinds.specs as kinds
 pub use Rattle.zarr_basics_grids.specs.RegularGrid
 pub use Rattle.zarr_basics_grids.specs.GridForms
 pub use Rattle.zarr_basics_grids.specs.GridOf

@@ -1,8 +1,8 @@
 -- What a run owes, from each of its three ends.
 use Rattle.std.proofs.Common.{◌≡◌, ℕ, ◌<◌, ◌≤◌, List, [], length, Option, Some, None, ◌⊎◌, inl, inr, ⊎_elim, refl, sym, ap, ◌∙◌, subst, arith}
 use Rattle.zarr_model.specs.Prelude.{Rose}
-use Rattle.zarr_array_parts.specs.Opening.{OpenRefusal}
-use Rattle.zarr_array_parts.specs.OpenError.{open_refusal_of}
+use Rattle.zarr_cli_runs.specs.array.parts.Opening.{OpenRefusal}
+use Rattle.zarr_cli_runs.specs.array.parts.OpenError.{open_refusal_of}
 use Rattle.zarr_cli.specs.Input.{input_limit, HasLongInput}
 use Rattle.zarr_cli_runs.specs.Ending.{Ending, IsGiven, IsGivenFront, IsOrMemory, IsWritten}
 use Rattle.zarr_cli.specs.Run.{IsRunnable, SameButChanged}

@@ -2,12 +2,12 @@
 use Rattle.std.proofs.Common.{◌≡◌, ℕ, ◌<◌, ◌≤◌, false, List, length, map, Option, Some, None, Result, Ok, Err, IfOk, IfErr, OnOk, MatchResult, ◌⊎◌, inl, inr, refl, sym, ap, ◌∙◌, subst, arith, Vec}
 use Rattle.std.specs.declared.alloc.Global.{Global}
 use Rattle.zarr_model.specs.Prelude.{Shown, Told, AreRefused, IsUntouched, all_asks, Rose}
-use Rattle.zarr_array_parts.specs.Document.{describe}
-use Rattle.zarr_array_parts.specs.Opening.{OpenRefusal, not_opened}
-use Rattle.zarr_array.specs.OpenArray.{described}
-use Rattle.zarr_array_parts.specs.OpenError.{open_refusal_of}
-use Rattle.zarr_array.specs.Command.{command_of}
-use Rattle.zarr_cli_lines.specs.Parts.{entry_view}
+use Rattle.zarr_cli_runs.specs.array.parts.Document.{describe}
+use Rattle.zarr_cli_runs.specs.array.parts.Opening.{OpenRefusal, not_opened}
+use Rattle.zarr_cli_runs.specs.array.OpenArray.{described}
+use Rattle.zarr_cli_runs.specs.array.parts.OpenError.{open_refusal_of}
+use Rattle.zarr_cli_runs.specs.array.Command.{command_of}
+use Rattle.zarr_cli_runs.specs.lines.Parts.{entry_view}
 use Rattle.zarr_cli.specs.Words.{Settings, ReadsBy, settings_of, IsReading}
 use Rattle.zarr_cli.specs.Run.{Run, HasDamage, WentThrough}
 use Rattle.zarr_cli.specs.Input.{input_limit, input_entries, with_entries, store_after_keys, HasBadLine, HasRefusedDocument, HasLongInput}

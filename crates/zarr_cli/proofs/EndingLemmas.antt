@@ -1,7 +1,7 @@
 -- The status of an ending.
 use Rattle.std.proofs.Common.{◌≡◌, ℕ, Option, Some, None, refl, sym, ap, subst}
-use Rattle.zarr_array_parts.specs.Opening.{OpenRefusal}
-use Rattle.zarr_array_parts.specs.OpenError.{open_refusal_of}
+use Rattle.zarr_cli_runs.specs.array.parts.Opening.{OpenRefusal}
+use Rattle.zarr_cli_runs.specs.array.parts.OpenError.{open_refusal_of}
 use Rattle.zarr_cli_runs.specs.Ending.{Ending}
 use Rattle.zarr_cli_runs.specs.Ending as end
 use Rattle.zarr_cli_runs.specs.Status.{ending_of, refused_by}

@@ -6,14 +6,14 @@ use Rattle.hex.specs.Hex.{encode_with, decode_pairs}
 use Rattle.zarr_model.specs.Prelude.{whole, tuple_at, linear_index, linear_indices, undamaged, blank_array, of_bytes, null, some, fixed, variable, optional, fixed_size, fill_element, int_type, uint_type, raw_type, string_type, optional_type, fixed_bytes, variable_bytes, optional_bytes, default_keys, v2_keys, chunk_key, Options, offset_codec, bytes_codec, little, big, decode_array_to_bytes, decode_bytes, decode_levels, Description, layout, write, refusal, bytes_refusal, is_too_large, has_long_step, invalid_variable_sized_array_offsets, invalid_mask, expected_optional_bytes, replies, all_asks, all_bytes, present_in}
 use Rattle.zarr_cli.specs.Words.{Settings, with_words, first_settings, settings_of}
 use Rattle.zarr_cli_runs.specs.Keys.{IsDump}
-use Rattle.zarr_array_parts.specs.Opening.{chain_order}
+use Rattle.zarr_cli_runs.specs.array.parts.Opening.{chain_order}
 use Rattle.zarr_cli_runs.specs.Ending.{bad_input, refused_document, damaged_chunk, write_fault, ending_line}
-use Rattle.zarr_cli_lines.specs.Text.{input_lines, first_entries, line_command, replies_text, good_lines}
+use Rattle.zarr_cli_runs.specs.lines.Text.{input_lines, first_entries, line_command, replies_text, good_lines}
 use Rattle.zarr_basics_grids.specs.GridForms.{boundaries}
-use Rattle.zarr_array_parts.specs.Document.{offset, transpose, checksum, describe}
+use Rattle.zarr_cli_runs.specs.array.parts.Document.{offset, transpose, checksum, describe}
 use Rattle.zarrs_metadata_parts.specs.declared.array.endianness.Endianness.TheVariants.{Little, Big}
-use Rattle.zarr_codecs_array_to_bytes.specs.Plain.{plain_bytes, plain_vlen, plain_optional}
-use Rattle.zarr_array_parts.proofs.Documents.{plain_document}
+use Rattle.zarr_cli_runs.specs.array.parts.kinds.array_to_bytes.Plain.{plain_bytes, plain_vlen, plain_optional}
+use Rattle.zarr_cli_runs.proofs.array.parts.Documents.{plain_document}
 use Rattle.zarr_cli.proofs.Worked.{reply_lines, left_in_chunks, kept_in_chunks, left_chunks, kept_chunks, its_commands, first_array, empty_store, store_of, holding}
 
 abbrev plain_options : Options

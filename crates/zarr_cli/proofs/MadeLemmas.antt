@@ -2,7 +2,7 @@
 use Rattle.std.proofs.Common.{◌≡◌, ℕ, ◌+◌, ◌<◌, List, length, Some, None, Result, Ok, Err, IfOk, IfErr, OnOk, Vec, ◌⊎◌, ⊎_elim, inl, inr, refl, sym, ap, ◌∙◌, subst, arith}
 use Rattle.std.specs.declared.alloc.Global.{Global}
 use Rattle.zarr_model.specs.Prelude.{Options, Description, Command, Shown, Told, IsHonest, IsUntouched, Rose, layout, IsDamageMet}
-use Rattle.zarr_cli_made.specs.Commands.{made_commands}
+use Rattle.zarr_cli_runs.specs.making.Commands.{made_commands}
 use Rattle.zarr_cli.specs.Input.{input_limit}
 use Rattle.zarr_cli.specs.Run.{IsRunnable}
 use Rattle.zarr_cli_runs.specs.Commands.{IsChangedKey, IsRunFault}

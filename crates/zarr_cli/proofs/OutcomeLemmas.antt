@@ -3,14 +3,14 @@ use Rattle.std.proofs.Common.{◌≡◌, ℕ, ◌+◌, ◌<◌, ◌≤◌, false
 use Rattle.std.specs.Str.{IsValidUpTo}
 use Rattle.std.proofs.lemmas.Str.{utf8_valid_len-IsUtf8, utf8_valid_len-IsValidUpTo}
 use Rattle.zarr_model.specs.Prelude.{Content, IsHonest, with_keys, Shown, layout, AreRefused, IsUntouched}
-use Rattle.zarr_array_parts.specs.Document.{ArrayDocument, describe}
-use Rattle.zarr_array_parts.specs.Opening.{OpenRefusal, opened, not_opened, open_builtin}
-use Rattle.zarr_array.specs.OpenArray.{documented, described}
-use Rattle.zarr_array_parts.specs.OpenError.{open_refusal_of}
-use Rattle.zarr_array.specs.Command.{command_of}
-use Rattle.zarr_cli_lines.specs.Text.{good_lines, line_at}
-use Rattle.zarr_cli_lines.specs.Parts.{entry_view}
-use Rattle.zarr_cli_lines.proofs.TextLaws.{good_lines_all}
+use Rattle.zarr_cli_runs.specs.array.parts.Document.{ArrayDocument, describe}
+use Rattle.zarr_cli_runs.specs.array.parts.Opening.{OpenRefusal, opened, not_opened, open_builtin}
+use Rattle.zarr_cli_runs.specs.array.OpenArray.{documented, described}
+use Rattle.zarr_cli_runs.specs.array.parts.OpenError.{open_refusal_of}
+use Rattle.zarr_cli_runs.specs.array.Command.{command_of}
+use Rattle.zarr_cli_runs.specs.lines.Text.{good_lines, line_at}
+use Rattle.zarr_cli_runs.specs.lines.Parts.{entry_view}
+use Rattle.zarr_cli_runs.proofs.lines.TextLaws.{good_lines_all}
 use Rattle.zarr_cli.specs.Words.{Settings, ReadsBy}
 use Rattle.zarr_cli.specs.Run.{Run, IsRunnable}
 use Rattle.zarr_cli.specs.Input.{input_limit, command_grammar, document_line, lines_after_document, store_after_keys, with_entries, IsBadLine}

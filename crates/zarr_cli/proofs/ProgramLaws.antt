@@ -4,9 +4,9 @@ use Rattle.std.specs.FinMap.Entries.{same_entries}
 use Rattle.std.specs.Cmp.Lexicographic.{slice_cmp, nat_list_cmp_total}
 use Rattle.std.specs.FinMap.{slice_cmp-IsAntisymmetric, nat_cmp-IsAntisymmetric}
 use Rattle.zarr_model.specs.Prelude.{Content, Command}
-use Rattle.zarr_array_parts.specs.Document.{ArrayDocument, describe}
-use Rattle.zarr_array_parts.specs.Opening.{opened, open_builtin}
-use Rattle.zarr_cli_lines.specs.Text.{commands_of}
+use Rattle.zarr_cli_runs.specs.array.parts.Document.{ArrayDocument, describe}
+use Rattle.zarr_cli_runs.specs.array.parts.Opening.{opened, open_builtin}
+use Rattle.zarr_cli_runs.specs.lines.Text.{commands_of}
 use Rattle.zarr_cli.specs.Words.{Settings, settings_of}
 use Rattle.zarr_cli.specs.Run.{Run, Prints, WentThrough}
 use Rattle.zarr_cli_runs.specs.Keys.{ListsStore}

@@ -1,10 +1,10 @@
 -- What commands leave in a store, seen from the input.
 use Rattle.std.proofs.Common.{◌≡◌, ℕ, List, length, ◌≤◌, false, map, Some, sym, ap, ◌∙◌, subst}
 use Rattle.zarr_model.specs.Prelude.{Content, IsChunkKey, Shown, layout, AreRefused}
-use Rattle.zarr_array_parts.specs.Document.{describe}
-use Rattle.zarr_array.specs.OpenArray.{documented, described}
-use Rattle.zarr_array.specs.Command.{command_of}
-use Rattle.zarr_cli_lines.specs.Parts.{entry_view}
+use Rattle.zarr_cli_runs.specs.array.parts.Document.{describe}
+use Rattle.zarr_cli_runs.specs.array.OpenArray.{documented, described}
+use Rattle.zarr_cli_runs.specs.array.Command.{command_of}
+use Rattle.zarr_cli_runs.specs.lines.Parts.{entry_view}
 use Rattle.zarr_cli.specs.Words.{Settings, ReadsBy, settings_of}
 use Rattle.zarr_cli.specs.Run.{Run, SameButChanged}
 use Rattle.zarr_cli_runs.specs.Commands.{IsChangedKey}

@@ -1,8 +1,8 @@
 -- Commands that ran, and their text.
 use Rattle.std.proofs.Common.{◌≡◌, ℕ, ◌<◌, ◌≤◌, List, ◌++◌, Some, Result, Ok, Err, IfErr, sym, ap, ◌∙◌, subst, arith}
 use Rattle.zarr_model.specs.Prelude.{Command, Description, kind, replies, all_asks, LeavesArray, IsDamageMet, Shown, Options}
-use Rattle.zarr_array.specs.Stored.{StoresForAll}
-use Rattle.zarr_array.specs.declared.command.Reply.{Reply}
+use Rattle.zarr_cli_runs.specs.array.Stored.{StoresForAll}
+use Rattle.zarr_cli_runs.specs.array.declared.command.Reply.{Reply}
 use Rattle.zarr_cli.specs.Steps.{RepliesTo, PrintsAll}
 use Rattle.zarr_cli_runs.specs.Keys.{Dumps, IsDumpFault}
 use Rattle.zarr_cli_runs.specs.Commands.{IsRunFault, RepliedBy}
@@ -10,7 +10,7 @@ use Rattle.zarr_cli.specs.Words.{Settings}
 use Rattle.zarr_cli_runs.proofs.KeyLemmas.{counted_more}
 use Rattle.zarr_cli_runs.specs.declared.status.Status.{Status}
 use Rattle.zarr_cli_runs.specs.declared.status.Status.TheVariants.{Done, BadWords, BadInput, Document, Chunk, Store, Read, Write, TooLong, OutOfMemory}
-use Rattle.zarr_cli_lines.specs.Parts.{IsTextOf}
+use Rattle.zarr_cli_runs.specs.lines.Parts.{IsTextOf}
 
 pub text_replied : (description : Description) (options : Options) (commands : List Command) (before now : Shown) (held : List Reply) (text : List ℕ) →
     RepliedBy description options commands before now held → IsTextOf (kind description) held text → RepliesTo description options commands before now text

@@ -5,16 +5,16 @@ use Rattle.std.proofs.Math.Seq.{drop-cons}
 use Rattle.std.proofs.lemmas.List.{get_or-map, length-map}
 use Rattle.zarr_model.specs.Prelude.{Kind, Command, Content, kind, with_key, with_keys, ReadsNext, PutsKey}
 use Rattle.zarr_model.proofs.FailureLaws.{same_bytes, bytes_eq-refl}
-use Rattle.zarr_array_parts.specs.Opening.{opened, open_builtin}
-use Rattle.zarr_array.specs.OpenArray.{documented, described}
-use Rattle.zarr_array.specs.Command.{command_of}
-use Rattle.zarr_array.specs.declared.open.OpenArray.{OpenArray}
+use Rattle.zarr_cli_runs.specs.array.parts.Opening.{opened, open_builtin}
+use Rattle.zarr_cli_runs.specs.array.OpenArray.{documented, described}
+use Rattle.zarr_cli_runs.specs.array.Command.{command_of}
+use Rattle.zarr_cli_runs.specs.array.declared.open.OpenArray.{OpenArray}
 use Rattle.zarr_cli.specs.declared.input.ParsedInput.{ParsedInput}
-use Rattle.zarr_cli_lines.specs.Text.{input_lines, first_entries, line_command, commands_of, good_lines}
-use Rattle.zarr_cli_lines.specs.Parts.{entry_view, IsLineFault}
-use Rattle.zarr_cli_lines.specs.declared.parse.LineError.{LineError}
-use Rattle.zarr_cli_lines.specs.declared.parse.LineError.TheVariants.{OutOfForm}
-use Rattle.zarr_cli_lines.proofs.SplitLemmas.{few_lines}
+use Rattle.zarr_cli_runs.specs.lines.Text.{input_lines, first_entries, line_command, commands_of, good_lines}
+use Rattle.zarr_cli_runs.specs.lines.Parts.{entry_view, IsLineFault}
+use Rattle.zarr_cli_runs.specs.lines.declared.parse.LineError.{LineError}
+use Rattle.zarr_cli_runs.specs.lines.declared.parse.LineError.TheVariants.{OutOfForm}
+use Rattle.zarr_cli_runs.proofs.lines.SplitLemmas.{few_lines}
 use Rattle.zarr_cli.specs.Input.{input_limit, first_line, command_grammar, IsBadLine}
 use Rattle.zarr_cli.specs.Steps.{HasTaken, SaysInput, IsKeyOf}
 

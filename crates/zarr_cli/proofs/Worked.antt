@@ -4,7 +4,7 @@ use Rattle.std.specs.Cmp.Lexicographic.{slice_cmp}
 use Rattle.std.specs.Ordering.{nat_cmp}
 use Rattle.std.specs.FinMap.{find}
 use Rattle.zarr_model.specs.Prelude.{Element, Array, elements_in, chunks, Content, with_keys, stored_array, chunk_content, Options, Command, Description, kind, layout, replies, array_after, present_in, present_after}
-use Rattle.zarr_cli_lines.specs.Text.{input_lines, first_entries, line_command, commands_of, replies_text}
+use Rattle.zarr_cli_runs.specs.lines.Text.{input_lines, first_entries, line_command, commands_of, replies_text}
 
 abbrev pub empty_store : Content
 empty_store = λ key. None

@@ -1,8 +1,8 @@
 -- What a run of the program owes.
 use Rattle.std.specs.Prelude.{◌≡◌, ℕ, ◌+◌, List, [], false, Some}
 use Rattle.zarr_model.specs.Prelude.{Rose, all_asks, counted, AreRefused, IsUntouched}
-use Rattle.zarr_array_parts.specs.Document.{describe}
-use Rattle.zarr_array_parts.specs.Opening.{OpenRefusal}
+use Rattle.zarr_cli_runs.specs.array.parts.Document.{describe}
+use Rattle.zarr_cli_runs.specs.array.parts.Opening.{OpenRefusal}
 use Rattle.zarr_cli.specs.Words.{HasBadWords}
 use Rattle.zarr_cli.specs.Input.{input_entries, with_entries, store_after_keys, HasLongInput, HasBadLine, HasRefusedDocument}
 use Rattle.zarr_cli.specs.Run.{Run, HasDamage, WentThrough, IsRunnable, SameButChanged}

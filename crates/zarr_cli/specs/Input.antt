@@ -2,9 +2,9 @@
 use Rattle.std.specs.Prelude.{◌≡◌, ℕ, ◌+◌, ◌<◌, ◌≤◌, ◌⊎◌, List, [], ◌∷◌, length, drop, IsUtf8, Contains, Option}
 use Rattle.std.specs.Str.{IsValidUpTo}
 use Rattle.zarr_model.specs.Prelude.{Content, with_keys, Shown, Command, kind}
-use Rattle.zarr_cli_lines.specs.Text.{line_command, input_lines, first_entries, good_lines, line_at}
-use Rattle.zarr_array_parts.specs.Document.{ArrayDocument, describe}
-use Rattle.zarr_array_parts.specs.Opening.{OpenRefusal, opened, not_opened, open_builtin}
+use Rattle.zarr_cli_runs.specs.lines.Text.{line_command, input_lines, first_entries, good_lines, line_at}
+use Rattle.zarr_cli_runs.specs.array.parts.Document.{ArrayDocument, describe}
+use Rattle.zarr_cli_runs.specs.array.parts.Opening.{OpenRefusal, opened, not_opened, open_builtin}
 use Rattle.zarr_cli.specs.Words.{IsReading}
 
 -- the greatest number of bytes that an input may have

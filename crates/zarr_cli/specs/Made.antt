@@ -1,7 +1,7 @@
 -- A run that is made from a number: what it prints, what it leaves, and what it owes.
 use Rattle.std.specs.Prelude.{◌≡◌, ℕ, ◌+◌, List}
 use Rattle.zarr_model.specs.Prelude.{Options, Content, IsHonest, Rose, layout, all_asks, counted, IsDamageMet}
-use Rattle.zarr_cli_made.specs.Commands.{made_commands}
+use Rattle.zarr_cli_runs.specs.making.Commands.{made_commands}
 use Rattle.zarr_cli_runs.specs.Commands.{IsChangedKey}
 use Rattle.zarr_cli_runs.specs.Ending.{Ending, IsOrMemory, IsGiven, IsGivenFront, IsWritten, IsBeforeStore}
 use Rattle.zarr_cli_runs.specs.Ending as end

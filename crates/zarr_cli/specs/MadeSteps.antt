@@ -1,7 +1,7 @@
 -- What each step of a run that is made from a number promises to the next one.
 use Rattle.std.specs.Prelude.{◌≡◌, ℕ, List, [], Some, Result, IfErr, OnOk, MatchResult, Vec}
 use Rattle.zarr_model.specs.Prelude.{Options, IsHonest, Shown, Told, layout, Rose}
-use Rattle.zarr_cli_made.specs.Commands.{made_commands}
+use Rattle.zarr_cli_runs.specs.making.Commands.{made_commands}
 use Rattle.zarr_cli.specs.Run.{IsRunnable, SameButChanged}
 use Rattle.zarr_cli_runs.specs.Commands.{IsChangedKey, IsRunFault}
 use Rattle.zarr_cli_runs.specs.Made.{made_array, SumsAll}

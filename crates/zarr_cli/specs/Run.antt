@@ -1,10 +1,10 @@
 -- A run: what its words and its input say, what it prints, and what it leaves in the store.
 use Rattle.std.specs.Prelude.{◌≡◌, ℕ, ◌+◌, ◌≤◌, Bool, List, ◌++◌, length, IsUtf8, Some}
 use Rattle.zarr_model.specs.Prelude.{Element, Array, Content, Means, IsHonest, Command, Description, layout, replies, LeavesArray, MeetsNoDamage, IsDamageMet}
-use Rattle.zarr_cli_lines.specs.Text.{commands_of, replies_text}
-use Rattle.zarr_array_parts.specs.Document.{ArrayDocument, describe}
-use Rattle.zarr_array_parts.specs.Opening.{opened, open_builtin}
-use Rattle.zarr_array.specs.Stored.{StoresForAll}
+use Rattle.zarr_cli_runs.specs.lines.Text.{commands_of, replies_text}
+use Rattle.zarr_cli_runs.specs.array.parts.Document.{ArrayDocument, describe}
+use Rattle.zarr_cli_runs.specs.array.parts.Opening.{opened, open_builtin}
+use Rattle.zarr_cli_runs.specs.array.Stored.{StoresForAll}
 use Rattle.zarr_cli.specs.Words.{Settings, ReadsBy}
 use Rattle.zarr_cli.specs.Input.{input_limit, document_line, lines_after_document, command_grammar, store_after_keys, IsLineKey}
 use Rattle.zarr_cli_runs.specs.Keys.{IsDump}

@@ -1,14 +1,14 @@
 -- What each step of the program promises to the next one.
 use Rattle.std.specs.Prelude.{◌≡◌, ℕ, ◌+◌, ◌<◌, false, List, ◌++◌, length, map, IsUtf8, Contains, Option, Some, None}
 use Rattle.zarr_model.specs.Prelude.{Element, Array, Options, Means, Shown, Told, Command, Description, layout, replies, LeavesArray, AreRefused, IsUntouched, all_asks, counted, Rose, MeetsNoDamage}
-use Rattle.zarr_array_parts.specs.Document.{describe}
-use Rattle.zarr_array_parts.specs.Opening.{OpenRefusal, opened, open_builtin}
-use Rattle.zarr_array.specs.OpenArray.{documented}
-use Rattle.zarr_array.specs.Stored.{StoresForAll}
-use Rattle.zarr_array_parts.specs.OpenError.{open_refusal_of}
-use Rattle.zarr_array.specs.Command.{command_of}
-use Rattle.zarr_cli_lines.specs.Text.{commands_of, replies_text}
-use Rattle.zarr_cli_lines.specs.Parts.{entry_view}
+use Rattle.zarr_cli_runs.specs.array.parts.Document.{describe}
+use Rattle.zarr_cli_runs.specs.array.parts.Opening.{OpenRefusal, opened, open_builtin}
+use Rattle.zarr_cli_runs.specs.array.OpenArray.{documented}
+use Rattle.zarr_cli_runs.specs.array.Stored.{StoresForAll}
+use Rattle.zarr_cli_runs.specs.array.parts.OpenError.{open_refusal_of}
+use Rattle.zarr_cli_runs.specs.array.Command.{command_of}
+use Rattle.zarr_cli_runs.specs.lines.Text.{commands_of, replies_text}
+use Rattle.zarr_cli_runs.specs.lines.Parts.{entry_view}
 use Rattle.zarr_cli.specs.Words.{Settings, HasBadWords}
 use Rattle.zarr_cli.specs.Input.{input_limit, document_line, lines_after_document, command_grammar, input_entries, with_entries, store_after_keys, IsBadLine, HasLongInput, HasBadLine, HasRefusedDocument}
 use Rattle.zarr_cli.specs.Run.{Run, Prints, HasDamage}

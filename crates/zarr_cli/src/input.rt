@@ -1,18 +1,16 @@
 //! What an input says.
 
 ghost use Rattle.std.specs.Prelude.{◌≡◌, ◌==◌, ◌+◌, ◌≤◌, length, count_by, IfOk, IfErr};
-ghost use Rattle.zarr_array_parts.specs.Opening.{open_builtin};
+ghost use Rattle.zarr_cli_runs.specs.array.parts.Opening.{open_builtin};
 ghost use Rattle.zarr_cli.specs.Input.{input_limit};
 ghost use Rattle.zarr_cli.specs.Steps.{SaysInput, IsInputFault};
 ghost use Rattle.zarr_cli_runs.specs.Opening.{OpensLine};
 
 use std::alloc::Global;
-use zarr_array::OpenArray;
-use zarr_array::command::Command;
-use zarr_cli_lines::entry::Entry;
-use zarr_cli_lines::lines::Lines;
-use zarr_cli_lines::parse::{LineError, ParsedLines, parse_lines};
 use zarr_cli_runs::Status;
+use zarr_cli_runs::array::OpenArray;
+use zarr_cli_runs::array::command::Command;
+use zarr_cli_runs::lines::{Entry, LineError, Lines, ParsedLines, parse_lines};
 use zarr_cli_runs::opening::open_line;
 
 /// An input in form: the array of its first line, its key lines and its commands.

@@ -3,10 +3,10 @@
 ghost use Rattle.std.specs.Prelude.{◌≡◌, ◌≤◌, false, map, List, ℕ, IfOk, IfErr, OnOk};
 ghost use Rattle.zarr_model.specs.Prelude.{Rose, HasCause, IsHonest, with_keys, layout, AreRefused, IsUntouched};
 ghost use Rattle.zarrs_storage.specs.Store.{IsFault as IsStoreFault, IsPlain};
-ghost use Rattle.zarr_array.specs.OpenArray.{described};
-ghost use Rattle.zarr_array.specs.Command.{command_of};
+ghost use Rattle.zarr_cli_runs.specs.array.OpenArray.{described};
+ghost use Rattle.zarr_cli_runs.specs.array.Command.{command_of};
 ghost use Rattle.zarrs_codec_traits.specs.Views.{options_of};
-ghost use Rattle.zarr_cli_lines.specs.Parts.{entry_view};
+ghost use Rattle.zarr_cli_runs.specs.lines.Parts.{entry_view};
 ghost use Rattle.zarr_cli.specs.Input.{with_entries};
 ghost use Rattle.zarr_cli_runs.specs.Commands.{IsChangedKey, IsRunFault};
 ghost use Rattle.zarr_cli.specs.Status.{settings_view};
@@ -15,13 +15,13 @@ ghost use Rattle.zarr_cli.specs.Steps.{RepliesTo, PrintsAll, IsKeyOf, IsUnasked}
 use crate::input::ParsedInput;
 use crate::words::Settings;
 use std::alloc::Global;
-use zarr_array::CodecOptions;
-use zarr_array::command::Command;
-use zarr_array::open::OpenArray;
-use zarr_cli_lines::entry::Entry;
 use zarr_cli_runs::Status;
+use zarr_cli_runs::array::CodecOptions;
+use zarr_cli_runs::array::command::Command;
+use zarr_cli_runs::array::open::OpenArray;
 use zarr_cli_runs::commands::{replies_of, text_of_replies};
 use zarr_cli_runs::keys::push_dump;
+use zarr_cli_runs::lines::Entry;
 use zarrs_storage::store::{StorageError, Store};
 
 // Sets the key lines, the first one first.

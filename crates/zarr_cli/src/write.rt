@@ -6,8 +6,8 @@ ghost use Rattle.zarr_cli_runs.specs.Ending.{IsGiven, IsGivenFront, IsGivenLine,
 ghost use Rattle.zarr_cli_runs.specs.Status.{ending_of};
 
 use std::alloc::{AllocError, Global};
-use zarr_array::OpenError;
 use zarr_cli_runs::Status;
+use zarr_cli_runs::array::OpenError;
 use zarrs_storage::sink::Sink;
 
 /// Writes a text piece by piece. False says that the sink failed.

@@ -1,3 +1,4 @@
+pub use Rattle.zarr_array.proofs as array
 pub mod TextLaws
 pub mod SplitLemmas
 pub mod LineLemmas

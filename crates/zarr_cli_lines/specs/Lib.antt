@@ -1,2 +1,3 @@
+pub use Rattle.zarr_array.specs as array
 pub mod Text
 pub mod Parts

@@ -7,9 +7,9 @@ use Rattle.zarr_model.specs.Prelude.{Element, fixed, ArrayBytes, fixed_bytes, va
 use Rattle.zarr_model.specs.Command as Model
 use Rattle.zarrs_codec_bytes.proofs.FixedLaws.{meaning_long}
 use Rattle.zarrs_codec_array_bytes.specs.Raw.{raw_of}
-use Rattle.zarr_array.specs.Command.{answer_of}
-use Rattle.zarr_array.specs.declared.command.Reply.{Reply}
-use Rattle.zarr_array.specs.declared.command.Reply.TheVariants.{Elements, Done, Refused}
+use Rattle.zarr_cli_lines.specs.array.Command.{answer_of}
+use Rattle.zarr_cli_lines.specs.array.declared.command.Reply.{Reply}
+use Rattle.zarr_cli_lines.specs.array.declared.command.Reply.TheVariants.{Elements, Done, Refused}
 use Rattle.zarr_cli_elements.specs.Place.{fixed_part}
 use Rattle.zarr_cli_lines.specs.Text.{replies_text}
 use Rattle.zarr_cli_lines.specs.Parts.{IsTextOf}

@@ -3,8 +3,8 @@ use Rattle.std.specs.Prelude.{List, ℕ, [], ◌∷◌, ◌++◌, codes, Some}
 use Rattle.zarr_model.specs.Prelude.{default_keys, uint_type}
 use Rattle.zarrs_metadata_parts.specs.declared.array.endianness.Endianness.TheVariants.{Big}
 use Rattle.zarr_basics_grids.specs.GridForms.{regular}
-use Rattle.zarr_codecs_array_to_bytes.specs.Plain.{plain_bytes}
-use Rattle.zarr_array_parts.specs.Document.{ArrayDocument, checksum, document_with}
+use Rattle.zarr_cli_lines.specs.array.parts.kinds.array_to_bytes.Plain.{plain_bytes}
+use Rattle.zarr_cli_lines.specs.array.parts.Document.{ArrayDocument, checksum, document_with}
 
 -- its text
 abbrev pub document_text : List ℕ

@@ -2,8 +2,8 @@
 use Rattle.std.specs.Prelude.{ℕ, ◌/◌, List, length}
 use Rattle.std.specs.List.{sum_by}
 use Rattle.zarrs_codec_array_bytes.specs.Raw.{raw_of}
-use Rattle.zarr_array.specs.declared.command.Reply.{Reply}
-use Rattle.zarr_array.specs.declared.command.Reply.TheVariants.{Elements, Done, Refused}
+use Rattle.zarr_cli_lines.specs.array.declared.command.Reply.{Reply}
+use Rattle.zarr_cli_lines.specs.array.declared.command.Reply.TheVariants.{Elements, Done, Refused}
 use Rattle.zarr_cli_elements.specs.Place.{fixed_part}
 use Rattle.zarr_cli_made.specs.Summary.{summary_lines}
 

@@ -2,7 +2,7 @@
 
 ghost use Rattle.std.specs.Prelude.{◌≡◌, ◌^◌, ◌<◌, ◌≤◌, map, IfOk, OnOk, ◌∷◌, []};
 ghost use Rattle.zarrs_array_subset.specs.ArraySubset.{region};
-ghost use Rattle.zarr_array.specs.Command.{command_of};
+ghost use Rattle.zarr_cli_lines.specs.array.Command.{command_of};
 ghost use Rattle.zarr_cli_lines.specs.Parts.{span_of_range};
 ghost use Rattle.zarr_model.specs.Command as Model;
 ghost use Rattle.zarr_model.specs.ArrayBytes.{fixed_bytes};
@@ -13,7 +13,7 @@ use crate::elements::{Area, made_elements};
 use crate::generator::Generator;
 use std::alloc::{AllocError, Global};
 use std::ops::Range;
-use zarr_array::command::Command;
+use zarr_cli_lines::array::command::Command;
 use zarrs_array_subset::ArraySubset;
 use zarrs_codec_array_bytes::ArrayBytes;
 

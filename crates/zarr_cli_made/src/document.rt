@@ -1,7 +1,7 @@
 //! The document of the array that the commands are for.
 
 ghost use Rattle.std.specs.Prelude.{◌≡◌};
-ghost use Rattle.zarr_array_parts.specs.Opening.{open_builtin, opened};
+ghost use Rattle.zarr_cli_lines.specs.array.parts.Opening.{open_builtin, opened};
 ghost use Rattle.zarr_cli_made.specs.Document.{document_text, made_document};
 
 /// The document: numbers of 16 bits, 256 rows and columns in chunks of 48 rows and 40 columns, fill value 7, the high

@@ -12,3 +12,5 @@ pub use commands::made_commands;
 pub use document::made_document;
 pub use generator::Generator;
 pub use summary::push_summary;
+pub use zarr_cli_lines as lines;
+pub use zarr_cli_lines::array;

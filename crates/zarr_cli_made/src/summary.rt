@@ -5,7 +5,7 @@ ghost use Rattle.std.specs.List.{AllZip};
 ghost use Rattle.zarr_model.specs.Command.{Matches};
 ghost use Rattle.zarr_model.specs.Element.{fixed};
 ghost use Rattle.zarr_model.specs.Command as Model;
-ghost use Rattle.zarr_array.specs.Command.{answer_of};
+ghost use Rattle.zarr_cli_lines.specs.array.Command.{answer_of};
 ghost use Rattle.zarr_cli_made.specs.Summary.{number_line, digest_line, summary_lines, summary_text};
 ghost use Rattle.zarr_cli_lines.specs.Parts.{IsTextOf};
 ghost use Rattle.zarr_cli_made.specs.Tally.{summary_held};
@@ -14,7 +14,7 @@ use crate::commands::COMMANDS;
 use crate::tally::{Tally, tally_of};
 use sha2::{Digest, Sha256};
 use std::alloc::{AllocError, Global};
-use zarr_array::command::Reply;
+use zarr_cli_lines::array::command::Reply;
 
 // Appends the line of a name and a number.
 fn push_number(

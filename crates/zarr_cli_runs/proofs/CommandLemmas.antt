@@ -3,16 +3,16 @@ use Rattle.std.proofs.Common.{◌≡◌, ℕ, List, map, Option, Some, None, IsS
 use Rattle.std.specs.List.{AllZip}
 use Rattle.zarr_model.specs.Prelude.{Element, Array, Content, IsHonest, WhollyMeans, Command, Description, kind, layout, replies, Matches, all_asks, counted, LeavesKeys, ServesArray, RefusesRight, MeetsNoDamage, Shown, Options}
 use Rattle.zarr_model.proofs.FailureLaws.{undecoded-met}
-use Rattle.zarr_array.specs.OpenArray.{described}
-use Rattle.zarr_array.specs.Command.{answer_of}
-use Rattle.zarr_array.specs.Session.{HasSessionCause}
-use Rattle.zarr_array.specs.Stored.{StoresForAll}
-use Rattle.zarr_array.specs.declared.open.OpenArray.{OpenArray}
-use Rattle.zarr_array.specs.declared.command.Reply.{Reply}
-use Rattle.zarr_array_regions.specs.declared.error.SessionErrorKind.{SessionErrorKind}
-use Rattle.zarr_array_regions.specs.declared.error.SessionErrorKind.TheVariants.{NotOpened, ChunkDecode}
+use Rattle.zarr_cli_made.specs.array.OpenArray.{described}
+use Rattle.zarr_cli_made.specs.array.Command.{answer_of}
+use Rattle.zarr_cli_made.specs.array.Session.{HasSessionCause}
+use Rattle.zarr_cli_made.specs.array.Stored.{StoresForAll}
+use Rattle.zarr_cli_made.specs.array.declared.open.OpenArray.{OpenArray}
+use Rattle.zarr_cli_made.specs.array.declared.command.Reply.{Reply}
+use Rattle.zarr_cli_made.specs.array.regions.declared.error.SessionErrorKind.{SessionErrorKind}
+use Rattle.zarr_cli_made.specs.array.regions.declared.error.SessionErrorKind.TheVariants.{NotOpened, ChunkDecode}
 use Rattle.zarr_cli_runs.specs.Commands.{IsRunFault, session_status, RepliedBy}
-use Rattle.zarr_array_regions.specs.declared.error.SessionErrorKind.TheVariants as Kind
+use Rattle.zarr_cli_made.specs.array.regions.declared.error.SessionErrorKind.TheVariants as Kind
 
 wholly_honest : (description : Description) (options : Options) (store : Content) (array : Array Element) → WhollyMeans (layout description options) store array → IsHonest (layout description options) store
 wholly_honest description options store array meant chunk is_chunk = subst IsSome (sym (meant.each_chunk chunk is_chunk)) refl

@@ -5,9 +5,9 @@ use Rattle.std.proofs.lemmas.List.{length-map}
 use Rattle.std.proofs.lemmas.List.Sums.{sum_by-cons}
 use Rattle.zarr_model.specs.Prelude.{Command, Description, refusal, refusal_in, RefusesRight, Content}
 use Rattle.zarrs_storage.specs.Store.{ListsKeys}
-use Rattle.zarr_array.specs.Command.{answer_of}
-use Rattle.zarr_array.specs.declared.command.Reply.{Reply}
-use Rattle.zarr_array.specs.declared.command.Reply.TheVariants.{Elements, Done, Refused}
+use Rattle.zarr_cli_made.specs.array.Command.{answer_of}
+use Rattle.zarr_cli_made.specs.array.declared.command.Reply.{Reply}
+use Rattle.zarr_cli_made.specs.array.declared.command.Reply.TheVariants.{Elements, Done, Refused}
 use Rattle.zarr_cli_made.specs.Tally.{ok_held, done_held, refused_held, elements_held, summary_held}
 use Rattle.zarr_cli_made.specs.Summary.{summary_lines}
 use Rattle.zarr_cli_runs.specs.Made.{refusal_count, refused_among, Counts}

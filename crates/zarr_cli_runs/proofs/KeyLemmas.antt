@@ -10,7 +10,7 @@ use Rattle.zarrs_storage.specs.declared.store.StorageError.{StorageError}
 use Rattle.zarrs_storage.specs.declared.store.StorageError.TheVariants.{Failed}
 use Rattle.zarrs_storage.specs.declared.store.StorageError.TheVariants as Storage
 use Rattle.zarrs_storage.proofs.ListLemmas.{AreEntriesOf, is_sorted-entries, find-listed}
-use Rattle.zarr_cli_lines.specs.Text.{entries_text}
+use Rattle.zarr_cli_made.specs.lines.Text.{entries_text}
 use Rattle.zarr_cli_runs.specs.Keys.{ListsStore, Dumps, IsDumpFault, entries_at, storage_status}
 use Rattle.zarr_cli_runs.specs.declared.status.Status.{Status}
 use Rattle.zarr_cli_runs.specs.declared.status.Status.TheVariants.{Done, BadWords, BadInput, Document, Chunk, Store, Read, Write, TooLong, OutOfMemory}

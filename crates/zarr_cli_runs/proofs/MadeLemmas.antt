@@ -4,14 +4,14 @@ use Rattle.std.proofs.Math.Path.{fun_ext}
 use Rattle.std.specs.List.{AllZip}
 use Rattle.zarr_model.specs.Prelude.{fixed, Options, Matches, Description, Command, Shown, kind, all_asks, counted, LeavesArray}
 use Rattle.zarrs_storage.specs.Store.{ListsKeys, SameContent}
-use Rattle.zarr_array_parts.specs.Document.{ArrayDocument, describe}
-use Rattle.zarr_array_parts.specs.Opening.{OpenRefusal, OpenAnswer, opened}
-use Rattle.zarr_array_parts.specs.OpenError.{open_refusal_of}
-use Rattle.zarr_array.specs.OpenArray.{documented, described}
-use Rattle.zarr_array.specs.Command.{answer_of}
-use Rattle.zarr_array.specs.Stored.{StoresForAll}
-use Rattle.zarr_array.specs.declared.open.OpenArray.{OpenArray}
-use Rattle.zarr_array.specs.declared.command.Reply.{Reply}
+use Rattle.zarr_cli_made.specs.array.parts.Document.{ArrayDocument, describe}
+use Rattle.zarr_cli_made.specs.array.parts.Opening.{OpenRefusal, OpenAnswer, opened}
+use Rattle.zarr_cli_made.specs.array.parts.OpenError.{open_refusal_of}
+use Rattle.zarr_cli_made.specs.array.OpenArray.{documented, described}
+use Rattle.zarr_cli_made.specs.array.Command.{answer_of}
+use Rattle.zarr_cli_made.specs.array.Stored.{StoresForAll}
+use Rattle.zarr_cli_made.specs.array.declared.open.OpenArray.{OpenArray}
+use Rattle.zarr_cli_made.specs.array.declared.command.Reply.{Reply}
 use Rattle.zarr_cli_made.specs.Document.{made_document}
 use Rattle.zarr_cli_made.specs.Summary.{summary_text}
 use Rattle.zarr_cli_runs.specs.Opening.{IsRefusal, OpensLine}

@@ -5,10 +5,10 @@ use Rattle.std.proofs.lemmas.List.{map-append}
 use Rattle.std.specs.List.{AllZip}
 use Rattle.zarr_model.specs.Prelude.{Kind, Matches, Answer}
 use Rattle.zarr_model.specs.Command as Model
-use Rattle.zarr_array.specs.Command.{answer_of}
-use Rattle.zarr_array.specs.declared.command.Reply.{Reply}
-use Rattle.zarr_cli_lines.specs.Text.{line_of, reply_text, replies_text}
-use Rattle.zarr_cli_lines.specs.Parts.{IsTextOf, AppendsReply}
+use Rattle.zarr_cli_made.specs.array.Command.{answer_of}
+use Rattle.zarr_cli_made.specs.array.declared.command.Reply.{Reply}
+use Rattle.zarr_cli_made.specs.lines.Text.{line_of, reply_text, replies_text}
+use Rattle.zarr_cli_made.specs.lines.Parts.{IsTextOf, AppendsReply}
 
 -- no replies have no text
 pub no_text : (kind : Kind) (held : List Reply) (text : List ℕ) → text ≡ [] → IsTextOf kind (take 0 held) text

@@ -3,14 +3,14 @@
 use Rattle.std.specs.Prelude.{◌≡◌, ℕ, List, map, Some, true}
 use Rattle.std.specs.List.{AllZip, list_any}
 use Rattle.zarr_model.specs.Prelude.{Element, Array, Options, Means, Shown, Command, Description, kind, layout, replies, Matches, LeavesArray, MeetsNoDamage, RefusesRight, all_asks, counted, Rose, IsDamageMet, IsChunk, changes_chunk}
-use Rattle.zarr_array.specs.Command.{answer_of}
-use Rattle.zarr_array.specs.Stored.{StoresForAll}
-use Rattle.zarr_array.specs.declared.command.Reply.{Reply}
+use Rattle.zarr_cli_made.specs.array.Command.{answer_of}
+use Rattle.zarr_cli_made.specs.array.Stored.{StoresForAll}
+use Rattle.zarr_cli_made.specs.array.declared.command.Reply.{Reply}
 use Rattle.zarr_cli_runs.specs.declared.status.Status.{Status}
 use Rattle.zarr_cli_runs.specs.declared.status.Status.TheVariants.{OutOfMemory, Document, Chunk, Store}
-use Rattle.zarr_array_regions.specs.declared.error.SessionErrorKind.{SessionErrorKind}
-use Rattle.zarr_array_regions.specs.declared.error.SessionErrorKind.TheVariants.{NotOpened, ChunkDecode}
-use Rattle.zarr_array_regions.specs.declared.error.SessionErrorKind.TheVariants as Kind
+use Rattle.zarr_cli_made.specs.array.regions.declared.error.SessionErrorKind.{SessionErrorKind}
+use Rattle.zarr_cli_made.specs.array.regions.declared.error.SessionErrorKind.TheVariants.{NotOpened, ChunkDecode}
+use Rattle.zarr_cli_made.specs.array.regions.declared.error.SessionErrorKind.TheVariants as Kind
 
 -- a key is that of a chunk that an accepted command writes or erases
 abbrev pub IsChangedKey : Description → List Command → List ℕ → Type 0

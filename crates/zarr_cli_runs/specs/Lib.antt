@@ -1,3 +1,6 @@
+pub use Rattle.zarr_cli_made.specs as making
+pub use Rattle.zarr_cli_made.specs.array
+pub use Rattle.zarr_cli_made.specs.lines
 pub mod Ending
 pub mod Status
 pub mod Opening

@@ -3,8 +3,8 @@ use Rattle.std.specs.Prelude.{◌≡◌, ℕ, ◌+◌, List, length, Option, Som
 use Rattle.std.specs.List.{sum_by}
 use Rattle.zarr_model.specs.Prelude.{Element, Array, Options, Content, Means, Command, Refusal, Description, refusal, layout, replies, all_asks, counted, LeavesArray, MeetsNoDamage, Shown}
 use Rattle.zarrs_storage.specs.Store.{ListsKeys}
-use Rattle.zarr_array_parts.specs.Document.{describe}
-use Rattle.zarr_array.specs.Stored.{StoresForAll}
+use Rattle.zarr_cli_made.specs.array.parts.Document.{describe}
+use Rattle.zarr_cli_made.specs.array.Stored.{StoresForAll}
 use Rattle.zarr_cli_made.specs.Document.{made_document}
 use Rattle.zarr_cli_made.specs.Summary.{summary_lines, summary_text}
 

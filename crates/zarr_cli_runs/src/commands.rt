@@ -2,20 +2,20 @@
 
 ghost use Rattle.std.specs.Prelude.{◌≡◌, ◌<◌, ◌≤◌, map, List, ℕ, IfOk, IfErr};
 ghost use Rattle.zarr_model.specs.Prelude.{fixed, Rose, IsHonest, layout, AreRefused, IsUntouched};
-ghost use Rattle.zarr_array.specs.OpenArray.{described};
-ghost use Rattle.zarr_array.specs.Command.{command_of};
+ghost use Rattle.zarr_cli_made.specs.array.OpenArray.{described};
+ghost use Rattle.zarr_cli_made.specs.array.Command.{command_of};
 ghost use Rattle.zarrs_codec_traits.specs.Views.{options_of};
 ghost use Rattle.zarrs_codec_array_bytes.specs.Steps.{kind_seen};
-ghost use Rattle.zarr_cli_lines.specs.Parts.{IsTextOf};
+ghost use Rattle.zarr_cli_made.specs.lines.Parts.{IsTextOf};
 ghost use Rattle.zarr_cli_runs.specs.Commands.{IsChangedKey, RepliedBy, IsRunFault, session_status};
 
 use crate::status::Status;
 use std::alloc::{AllocError, Global};
-use zarr_array::CodecOptions;
-use zarr_array::command::{Command, Reply};
-use zarr_array::error::SessionErrorKind;
-use zarr_array::open::OpenArray;
-use zarr_cli_lines::reply_text::push_reply;
+use zarr_cli_made::array::CodecOptions;
+use zarr_cli_made::array::command::{Command, Reply};
+use zarr_cli_made::array::error::SessionErrorKind;
+use zarr_cli_made::array::open::OpenArray;
+use zarr_cli_made::lines::reply_text::push_reply;
 use zarrs_data_type_names::DataType;
 use zarrs_storage::store::Store;
 

@@ -3,12 +3,12 @@
 ghost use Rattle.std.specs.Prelude.{◌≡◌, ◌++◌, ◌≤◌, ℕ, List, [], true, false, IsSome, IfOk, IfErr, OnOk, Contains, length, unwrap_or};
 ghost use Rattle.zarr_model.specs.Prelude.{counted, IsUntouched};
 ghost use Rattle.zarrs_storage.specs.Store.{ListsKeys};
-ghost use Rattle.zarr_cli_lines.specs.Text.{entry_text, entries_text, line_of};
+ghost use Rattle.zarr_cli_made.specs.lines.Text.{entry_text, entries_text, line_of};
 ghost use Rattle.zarr_cli_runs.specs.Keys.{Dumps, IsDumpFault, entries_at, storage_status};
 
 use crate::status::Status;
 use std::alloc::Global;
-use zarr_cli_lines::entry::push_entry;
+use zarr_cli_made::lines::entry::push_entry;
 use zarrs_storage::store::{StorageError, Store};
 use zarrs_storage::store_key::StoreKey;
 

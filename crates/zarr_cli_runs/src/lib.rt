@@ -9,3 +9,5 @@ pub mod opening;
 pub mod status;
 
 pub use status::Status;
+pub use zarr_cli_made as making;
+pub use zarr_cli_made::{array, lines};

@@ -1,11 +1,11 @@
 //! A first line opened as an array.
 
-ghost use Rattle.zarr_array_parts.specs.Opening.{open_builtin};
+ghost use Rattle.zarr_cli_made.specs.array.parts.Opening.{open_builtin};
 ghost use Rattle.zarr_cli_runs.specs.Opening.{OpensLine};
 
 use crate::status::Status;
 use std::alloc::Global;
-use zarr_array::{OpenArray, OpenError, builtin_registries};
+use zarr_cli_made::array::{OpenArray, OpenError, builtin_registries};
 
 /// The array of a first line, by the built-in names.
 ///

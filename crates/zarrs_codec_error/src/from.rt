@@ -13,8 +13,9 @@ use crate::array_bytes_error::{
 use crate::error::CodecError;
 use std::alloc::{AllocError, AllocFailed};
 use zarrs_array_subset::{ArraySubsetError, IncompatibleDimensionalityError, IndexerError};
-use zarrs_data_type::DataTypeFillValueError;
-use zarrs_data_type_elements::{BytesCodecEndiannessMissingError, DataTypeCodecError};
+use zarrs_data_type::{
+    BytesCodecEndiannessMissingError, DataTypeCodecError, DataTypeFillValueError,
+};
 use zarrs_storage::{ByteRangeFault, InvalidByteRangeError, StorageError};
 
 impl From<AllocError> for CodecError {

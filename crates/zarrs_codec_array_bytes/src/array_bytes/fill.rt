@@ -20,8 +20,7 @@ use std::alloc::Global;
 use std::borrow::CowSlice;
 use zarrs_codec_bytes::fill::filled;
 use zarrs_codec_bytes::values::{are_values, repeated_values};
-use zarrs_codec_error::CodecError;
-use zarrs_data_type::DataTypeFillValueError;
+use zarrs_codec_error::{CodecError, DataTypeFillValueError};
 use zarrs_data_type_elements::{FillValue, ends_in_zero, repeats};
 use zarrs_data_type_names::DataType;
 

@@ -1,5 +1,5 @@
 use Rattle.std.proofs.Common.{map, subst}
-use Rattle.zarr_array_parts.specs.Document.{describe}
+use Rattle.zarr_array_regions.specs.parts.Document.{describe}
 use Rattle.zarr_array.specs.Command.{command_of}
 use Rattle.zarr_array.specs.OpenArray.{documented}
 use Rattle.zarrs_codec_traits.specs.Views.{options_of}

@@ -1,7 +1,7 @@
 use Rattle.std.proofs.Common.{map, arith}
 use Rattle.std.proofs.lemmas.List.{map-append}
 use Rattle.zarrs_plugin.specs.Registry.{registry_of}
-use Rattle.zarr_codecs_kinds.specs.CodecForm.{form_of}
+use Rattle.zarr_basics.specs.kinds.CodecForm.{form_of}
 use Rattle.zarr_array_parts.specs.OpenError.{open_refusal_of}
 use Rattle.zarr_array_parts.proofs.OpeningLaws.{codecs_push, codecs_fail}
 use Rattle.zarr_array_parts.proofs.extensions.codecs_by.Goals as goal

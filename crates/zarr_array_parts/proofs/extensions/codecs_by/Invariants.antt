@@ -1,7 +1,7 @@
 use Rattle.std.proofs.Common.{◌≡◌, map, take, Ok}
 use Rattle.zarrs_plugin.specs.Registry.{registry_of}
 use Rattle.zarrs_metadata_parts.specs.MetadataV3.{extensions_seen}
-use Rattle.zarr_codecs_kinds.specs.CodecForm.{form_of}
+use Rattle.zarr_basics.specs.kinds.CodecForm.{form_of}
 use Rattle.zarr_array_parts.specs.Opening.{codecs_by}
 use Rattle.zarr_array_parts.proofs.extensions.codecs_by.Given as goal
 

@@ -1,5 +1,5 @@
 use Rattle.zarrs_data_type_names.specs.DataType.{type_of}
-use Rattle.zarr_codecs_kinds.specs.Basic.{basic_offset}
+use Rattle.zarr_basics.specs.kinds.Basic.{basic_offset}
 use Rattle.zarr_array_parts.proofs.ServingLaws.{below_made}
 use Rattle.zarr_array_parts.proofs.served.type_below.Goals as goal
 

@@ -1,9 +1,9 @@
 use Rattle.std.proofs.Common.{ap, arith}
 use Rattle.zarr_model.specs.Element.{kind_of}
 use Rattle.zarrs_data_type_names.specs.DataType.{type_of}
-use Rattle.zarr_cli_lines.specs.Text.{line_command}
+use Rattle.zarr_cli_runs.specs.lines.Text.{line_command}
 use Rattle.zarr_cli.proofs.StepLemmas.{bad_line, line_fits, form_fault}
-use Rattle.zarr_cli_lines.specs.Parts.{lines_left}
+use Rattle.zarr_cli_runs.specs.lines.Parts.{lines_left}
 use Rattle.zarr_cli.proofs.input.parse_text.Goals as goal
 
 pub overflow_add-result : goal.overflow_add-result

@@ -1,9 +1,9 @@
 use Rattle.std.proofs.Common.{map, ap, ◌∙◌, subst, IfErr}
 use Rattle.zarr_model.specs.Prelude.{with_keys}
-use Rattle.zarr_array.specs.OpenArray.{described}
-use Rattle.zarr_array.specs.Command.{command_of}
+use Rattle.zarr_cli_runs.specs.array.OpenArray.{described}
+use Rattle.zarr_cli_runs.specs.array.Command.{command_of}
 use Rattle.zarrs_codec_traits.specs.Views.{options_of}
-use Rattle.zarr_cli_lines.specs.Parts.{entry_view}
+use Rattle.zarr_cli_runs.specs.lines.Parts.{entry_view}
 use Rattle.zarr_cli.specs.Input.{with_entries}
 use Rattle.zarr_cli_runs.specs.Commands.{IsRunFault}
 use Rattle.zarr_cli.proofs.RunLemmas.{earlier_fault}

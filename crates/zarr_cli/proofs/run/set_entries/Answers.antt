@@ -1,6 +1,6 @@
 use Rattle.std.proofs.Common.{map, sym, ◌∙◌, subst, le_trans, Some}
 use Rattle.zarr_model.specs.Prelude.{with_keys, PutsKey}
-use Rattle.zarr_cli_lines.specs.Parts.{entry_view}
+use Rattle.zarr_cli_runs.specs.lines.Parts.{entry_view}
 use Rattle.zarr_cli.proofs.StepLemmas.{put_is, set_step, listed_key}
 use Rattle.zarr_cli.proofs.run.set_entries.Goals as goal
 

@@ -1,6 +1,6 @@
 use Rattle.std.proofs.Common.{◌≡◌, ◌≤◌, ℕ, List, map, drop}
 use Rattle.zarr_model.specs.Prelude.{with_keys}
-use Rattle.zarr_cli_lines.specs.Parts.{entry_view}
+use Rattle.zarr_cli_runs.specs.lines.Parts.{entry_view}
 use Rattle.zarr_cli.specs.Steps.{IsKeyOf}
 use Rattle.zarr_cli.proofs.run.set_entries.Given as goal
 

@@ -1,9 +1,9 @@
 use Rattle.std.proofs.Common.{map, ap, ◌∙◌, subst, sym}
 use Rattle.zarr_model.specs.Element.{kind_of}
-use Rattle.zarr_array.specs.OpenArray.{described}
-use Rattle.zarr_array.specs.Command.{command_of}
+use Rattle.zarr_cli_runs.specs.array.OpenArray.{described}
+use Rattle.zarr_cli_runs.specs.array.Command.{command_of}
 use Rattle.zarrs_codec_traits.specs.Views.{options_of}
-use Rattle.zarr_cli_lines.specs.Parts.{IsTextOf}
+use Rattle.zarr_cli_runs.specs.lines.Parts.{IsTextOf}
 use Rattle.zarr_cli.proofs.RunLemmas.{text_replied}
 use Rattle.zarr_cli.proofs.run.text_of_commands.Goals as goal
 

@@ -1,5 +1,5 @@
 use Rattle.std.proofs.Common.{arith}
-use Rattle.zarr_array.specs.Command.{command_of}
+use Rattle.zarr_cli_lines.specs.array.Command.{command_of}
 use Rattle.zarr_cli_made.specs.Commands.{commands_from}
 use Rattle.zarr_cli_made.proofs.CommandLemmas.{one_more_made}
 use Rattle.zarr_cli_made.proofs.commands.make_all.Goals as goal

@@ -1,6 +1,6 @@
 use Rattle.std.proofs.Common.{map, sym, subst}
-use Rattle.zarr_array.specs.OpenArray.{described}
-use Rattle.zarr_array.specs.Command.{command_of}
+use Rattle.zarr_cli_made.specs.array.OpenArray.{described}
+use Rattle.zarr_cli_made.specs.array.Command.{command_of}
 use Rattle.zarrs_codec_traits.specs.Views.{options_of}
 use Rattle.zarr_cli_runs.specs.Commands.{IsRunFault}
 use Rattle.zarr_cli_runs.proofs.ChangeLaws.{same_unless_changed}

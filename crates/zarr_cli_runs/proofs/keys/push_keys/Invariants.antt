@@ -1,6 +1,6 @@
 use Rattle.std.proofs.Common.{◌≡◌, ◌≤◌, ◌++◌, drop}
 use Rattle.zarr_model.specs.Prelude.{counted}
-use Rattle.zarr_cli_lines.specs.Text.{entries_text}
+use Rattle.zarr_cli_made.specs.lines.Text.{entries_text}
 use Rattle.zarr_cli_runs.specs.Keys.{entries_at}
 use Rattle.zarr_cli_runs.proofs.keys.push_keys.Given as goal
 

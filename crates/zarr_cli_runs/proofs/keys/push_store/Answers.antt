@@ -1,7 +1,7 @@
 use Rattle.std.proofs.Common.{subst, length, ◌≡◌, ◌++◌, OnOk}
 use Rattle.std.proofs.Math.Path.{fun_ext}
 use Rattle.zarr_model.specs.Prelude.{counted}
-use Rattle.zarr_cli_lines.specs.Text.{entries_text}
+use Rattle.zarr_cli_made.specs.lines.Text.{entries_text}
 use Rattle.zarr_cli_runs.specs.Keys.{entries_at}
 use Rattle.zarr_cli_runs.proofs.KeyLemmas.{store_dumped}
 use Rattle.zarr_cli_runs.proofs.keys.push_store.Goals as goal

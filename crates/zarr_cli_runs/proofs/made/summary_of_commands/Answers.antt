@@ -2,8 +2,8 @@ use Rattle.std.proofs.Common.{◌≡◌, ℕ, List, map, ap, ◌∙◌, subst}
 use Rattle.std.specs.List.{AllZip}
 use Rattle.zarr_model.specs.Prelude.{fixed, Matches, kind_of}
 use Rattle.zarr_model.specs.Command as Model
-use Rattle.zarr_array.specs.OpenArray.{described}
-use Rattle.zarr_array.specs.Command.{command_of, answer_of}
+use Rattle.zarr_cli_made.specs.array.OpenArray.{described}
+use Rattle.zarr_cli_made.specs.array.Command.{command_of, answer_of}
 use Rattle.zarrs_codec_traits.specs.Views.{options_of}
 use Rattle.zarr_cli_made.specs.Summary.{summary_text}
 use Rattle.zarr_cli_made.specs.Tally.{summary_held}
