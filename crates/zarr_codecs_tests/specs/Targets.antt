@@ -10,6 +10,7 @@ pub record KeepsOthers (old new : ArrayBytesFixedDisjointView) : Type 0 where
   pub part : new.part ≡ old.part
   pub same_reference : new.bytes.ghost_name ≡ old.bytes.ghost_name
   pub others : (k : ℕ) (d : Element) → k < count (whole (sizes (region old.part.array)))
-      → contains (region old.part.subset) (tuple_at (whole (sizes (region old.part.array))) k) ≡ false
+      → contains (region old.part.subset) (tuple_at (whole (sizes (region old.part.array))) k)
+      ≡ false
       → get_or (fixed_elements old.part.size new.bytes.now) k d
       ≡ get_or (fixed_elements old.part.size old.bytes.now) k d

@@ -106,9 +106,11 @@ single_asks level region value ranges served inside some invalid =
     go (Some xs) is =
         let kind = served_kind level.data_type served in
         let long : length value ≡ count_of level.shape * 1 = fixed_long 1 _ value xs
-        (subst (λ (k : Kind). meaning k (count_of level.shape) (fixed_bytes value) ≡ Some xs) kind is) in
+        (subst (λ (k : Kind). meaning k (count_of level.shape) (fixed_bytes value) ≡ Some xs)
+        kind is) in
         let same : ranges_in level.shape region ≡ ranges = cc in
         let many : length value ≡ count_of level.shape = omega (arith, long) in
         absurd (invalid (subst (λ (r : List ByteRange). first_invalid (length value) r ≡ None) same
         (subst (λ (n : ℕ). first_invalid n (ranges_in level.shape region) ≡ None) (sym many)
-        (all_valid (count_of level.shape) _ (indices_below level.shape (tuples region) (box_inside region level.shape inside))))))
+        (all_valid (count_of level.shape) _
+        (indices_below level.shape (tuples region) (box_inside region level.shape inside))))))

@@ -84,7 +84,8 @@ pub trait ArrayPartialEncoderTraits: ArrayPartialDecoderTraits {
             (I.fits indexer.now (Self.seen self.old).level.shape)
             (I.as_region indexer.now) (I.places indexer.now) (raw_of bytes.now))
             (Self.tells self.old (options_of options.now) None) (unencoded self.old)
-            (encodes self.old) (encodes_short self.old) (Self.seen self.old) (Self.seen self.new) result }
+            (encodes self.old) (encodes_short self.old)
+            (Self.seen self.old) (Self.seen self.new) result }
         ensures named { given_answer (kind_of (Self.seen self.old).level.data_type)
             (I.fits indexer.now (Self.seen self.old).level.shape) (length (I.places indexer.now))
             (raw_of bytes.now) ≡ fine → RefusesFor (Self.seen self.old).unserved result }
