@@ -1,4 +1,4 @@
-pub use Rattle.zarr_array_regions.proofs.parts
+pub use Rattle.zarr_array_regions.proofs.of_parts
 pub mod RefusalLaws
 pub mod ReadCommand
 pub mod SessionSteps

@@ -1,4 +1,4 @@
-pub use Rattle.zarr_basics.proofs as basics
+pub use Rattle.zarr_basics.proofs as of_basics
 pub mod OpeningLaws
 pub mod FieldLaws
 pub mod SizeLaws

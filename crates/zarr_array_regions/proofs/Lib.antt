@@ -1,4 +1,4 @@
-pub use Rattle.zarr_array_parts.proofs as parts
+pub use Rattle.zarr_array_parts.proofs as of_parts
 pub mod PlaceLaws
 pub mod MetLaws
 pub mod ChunkLaws

@@ -1,4 +1,4 @@
-pub use Rattle.zarr_array.proofs as array
+pub use Rattle.zarr_array.proofs as of_array
 pub mod TextLaws
 pub mod SplitLemmas
 pub mod LineLemmas

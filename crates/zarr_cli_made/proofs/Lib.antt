@@ -1,5 +1,5 @@
-pub use Rattle.zarr_cli_lines.proofs as lines
-pub use Rattle.zarr_cli_lines.proofs.array
+pub use Rattle.zarr_cli_lines.proofs as of_lines
+pub use Rattle.zarr_cli_lines.proofs.of_array
 pub mod Examples
 pub mod DocumentLaws
 pub mod RowLemmas

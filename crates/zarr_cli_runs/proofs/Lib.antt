@@ -1,5 +1,5 @@
-pub use Rattle.zarr_cli_made.proofs.array
-pub use Rattle.zarr_cli_made.proofs.lines
+pub use Rattle.zarr_cli_made.proofs.of_array
+pub use Rattle.zarr_cli_made.proofs.of_lines
 pub mod ChangeLaws
 pub mod CommandLemmas
 pub mod KeyLemmas
