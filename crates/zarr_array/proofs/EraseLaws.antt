@@ -134,7 +134,8 @@ module _ (description : Description) (covers : CoversShape description.shape des
     place = (erase chunk, refl, omega arith);
     asks = (erase chunk, refl, inl (omega (arith, asked, fits)));
     keys = erase-keys old.content new.content puts;
-    stored = λ honest. erase-stays old.content new.content puts;
+    stored = erase-stays old.content new.content puts;
+    damage = λ other is_other damaged none. (erase-keys old.content new.content puts).same_chunks other is_other none;
     cause = (rose, refl, λ honest. left);
   }
     where

@@ -22,7 +22,8 @@ read-fails array options region old new error accepted fails = record {
   place = (read region, refl, few);
   asks = (read region, refl, ⊎_elim (λ (done : new.asks ≡ counted old.asks error.chunks_done). inl (omega (arith, done))) (λ (next : (error.chunks_done < length (chunks_meeting (described array).grid region)) × (new.asks ≡ counted old.asks (error.chunks_done + 1))). inr (subst (λ l. error.chunks_done < length l) (sym listed) next.0, omega (arith, next.1))) fails.failed.asks);
   keys = LeavesKeys-same (described array) options (read region ∷ []) old.content new.content fails.same;
-  stored = λ honest chunk is_chunk. inl (fails.same ((described array).key chunk));
+  stored = λ chunk is_chunk. inl (fails.same ((described array).key chunk));
+  damage = λ chunk is_chunk damaged none. fails.same ((described array).key chunk);
   cause = by_kind error.kind fails.failed.cause;
 }
   where

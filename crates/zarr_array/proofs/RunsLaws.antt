@@ -11,7 +11,8 @@ use Rattle.zarr_model.proofs.StepLaws.{KeepsDamage-none, KeepsDamage-append, pla
 use Rattle.zarr_model.proofs.DamageLaws.{MeetsNoDamage-none, MeetsNoDamage-append}
 use Rattle.zarr_array.specs.Session.{HasSessionCause, FailsAt}
 use Rattle.zarr_array.proofs.HasRun.{HasRun}
-use Rattle.zarr_array.proofs.StoredLaws.{stores-none, stores-append, stays-append, stays-changed}
+use Rattle.zarr_array.proofs.StoredLaws.{stores-none, stores-append, stays-append, stays-changed, stands-append}
+use Rattle.zarr_array.specs.Stored.{DamageStands}
 use Rattle.zarr_array_regions.specs.declared.error.SessionErrorKind.{SessionErrorKind}
 use Rattle.zarr_array_regions.specs.declared.error.SessionErrorKind.TheVariants.{NotOpened, ChunkDecode, Store, OutOfMemory}
 use Rattle.zarr_array.proofs.SessionSteps.{only_memory, refused_at}
@@ -67,7 +68,8 @@ none_begun array options commands store = record {
     place = tt;
     asks = refl;
     keys = record { same_chunks = λ chunk is_chunk e. refl; other_keys = λ key apart. refl };
-    stored = λ honest chunk is_chunk. inl refl;
+    stored = λ chunk is_chunk. inl refl;
+    damage = λ chunk is_chunk damaged none. refl;
     cause = λ key. refl;
   };
 }
@@ -180,9 +182,11 @@ module _ (array : Description) (options : Options) (covers : CoversShape array.s
       place = place-lifts array options commands i command here k single.failed.place;
       asks = asks-lift array options commands i command here before.asks mid.asks now.asks k so_far.asks single.failed.asks;
       keys = left;
-      stored = λ honest. stays-append array before.content mid.content now.content
+      stored = stays-append array before.content mid.content now.content
           (stays-changed array options (take i commands) before.content mid.content so_far.keys so_far.stored)
-          (single.failed.stored (still_honest (take i commands) before.content mid.content answers honest (so_far.serves honest)));
+          single.failed.stored;
+      damage = subst (λ front. DamageStands array options front before.content now.content) (sym (ap (λ n. take n commands) one ∙ take_one commands i command here))
+          (stands-append array options (take i commands) (command ∷ []) before.content mid.content now.content so_far.damage.stands single.failed.damage);
       cause = by_kind kind single.failed.cause;
     };
   }

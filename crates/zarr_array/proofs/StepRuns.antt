@@ -98,7 +98,8 @@ command-starved description covers options command store fits = record {
   place = (command, refl, omega arith);
   asks = (command, refl, inl (none (asks_store command)));
   keys = LeavesKeys-same description options (command ∷ []) store.content store.content (λ key. refl);
-  stored = λ honest chunk is_chunk. inl refl;
+  stored = λ chunk is_chunk. inl refl;
+  damage = λ chunk is_chunk damaged none. refl;
   cause = λ honest array meant. (command, refl, cut_short-start description covers options command false array store.content meant);
 }
   where

@@ -6,7 +6,8 @@ use Rattle.std.proofs.lemmas.List.Folds.{list_any-append}
 use Rattle.std.proofs.lemmas.Option.{same_Some}
 use Rattle.zarr_model.specs.Prelude.{Element, Array, IsChunk, elements_in, Options, Content, Layout, WhollyMeans, box_content, chunk_content, Command, Description, layout, array_after, changes_chunk, ChunkHas, LeavesKeys}
 use Rattle.zarr_model.proofs.RunLaws.{array_after-append}
-use Rattle.zarr_array.specs.Stored.{DecodesForAll, IsChanged, StoresForAll, StaysOrDecodes}
+use Rattle.zarr_model.proofs.StepLaws.{both_none}
+use Rattle.zarr_array.specs.Stored.{DecodesForAll, IsChanged, StoresForAll, StaysOrDecodes, DamageStands}
 
 -- a chunk whose key holds the same has the same content
 same_content : {E : Type 0} (place : Layout E) (old new : Content) (chunk : List ℕ) → new (place.key chunk) ≡ old (place.key chunk) →
@@ -78,3 +79,11 @@ stays-changed array options commands old new keys stores chunk is_chunk = ⊎_el
     (λ (changed : list_any (changes_chunk array chunk) commands ≡ true). inr (stores.decodes chunk (record { is_chunk = is_chunk; changed = changed })))
     (λ (apart : list_any (changes_chunk array chunk) commands ≡ false). inl (keys.same_chunks chunk is_chunk apart))
     (cases_Bool (list_any (changes_chunk array chunk) commands))
+
+-- a value that does not decode stands after commands, and after more of them
+pub stands-append : (array : Description) (options : Options) (commands more : List Command) (old mid new : Content) →
+    DamageStands array options commands old mid → DamageStands array options more mid new → DamageStands array options (commands ++ more) old new
+stands-append array options commands more old mid new first second chunk is_chunk damaged none =
+    let parts = both_none array commands more chunk none in
+    let before : mid (array.key chunk) ≡ old (array.key chunk) = first chunk is_chunk damaged parts.0 in
+    second chunk is_chunk (same_content (layout array options) old mid chunk before ∙ damaged) parts.1 ∙ before

@@ -12,7 +12,7 @@ use Rattle.zarr_array_regions.specs.Write.{HoldsChunk, StopsChunk}
 use Rattle.zarr_array_regions.specs.PartWay.{ChangedSome, StopsBefore, FailsPartWay}
 use Rattle.zarr_array.proofs.HasRun.{HasRun}
 use Rattle.zarr_array.proofs.StoredLaws.{stays-append}
-use Rattle.zarr_array.specs.Stored.{DecodesForAll, IsChanged, StoresForAll, StaysOrDecodes}
+use Rattle.zarr_array.specs.Stored.{DecodesForAll, IsChanged, StoresForAll, StaysOrDecodes, DamageStands}
 use Rattle.zarr_array.specs.Session.{HasSessionCause, FailsAt}
 use Rattle.zarr_array_regions.proofs.PartWayLaws.{content-same, changed-kept, changed-outside, met-chunks, met-once}
 
@@ -295,41 +295,61 @@ module _ (description : Description) (covers : CoversShape description.shape des
         held chunk is_chunk apart = changed-kept description options sound (write_change description region value) (chunks_meeting description.grid region) (met-chunks description.grid region)
             k old fails.mid chunk fails.changed is_chunk apart
 
-    -- and so does the next one, over an honest store
-    next_stays : IsHonest (layout description options) old.content → (kind : SessionErrorKind) →
-        StopsBefore description options (write_change description region value) (chunks_meeting description.grid region) k fails.mid new kind → StaysOrDecodes description fails.mid.content new.content
-    next_stays honest kind (inl (memory, same)) chunk is_chunk = inl (same (description.key chunk))
-    next_stays honest (NotOpened error) (inr (next, here, never)) chunk is_chunk = absurd never
-    next_stays honest (ChunkDecode key error) (inr (next, here, (its_key, damaged, same))) chunk is_chunk = inl (same (description.key chunk))
-    next_stays honest OutOfMemory (inr (next, here, same)) chunk is_chunk = inl (same (description.key chunk))
-    next_stays honest Store (inr (next, here, (rose, stops))) chunk is_chunk = ⊎_elim
-        (λ (equal : bytes_eq chunk next ≡ true). subst (λ c. (new.content (description.key c) ≡ fails.mid.content (description.key c)) ⊎ DecodesForAll description new.content c)
-        (sym (same_bytes chunk next equal)) at_next)
-        (λ (differs : bytes_eq chunk next ≡ false). inl (stops.others (description.key chunk) (λ same.
-        true≢false (sym (bytes_eq-refl chunk) ∙ (ap (bytes_eq chunk) (sound.keys_apart chunk next is_chunk is_next same) ∙ differs)))))
+    -- a chunk is the next one, or has another key
+    or_next : (chunk : List ℕ) → IsChunk description.grid chunk → (next : List ℕ) → slice_get (chunks_meeting description.grid region) k ≡ Some next → (P : Type 0) →
+        (chunk ≡ next → P) → (¬ (description.key chunk ≡ description.key next) → P) → P
+    or_next chunk is_chunk next here P one apart = ⊎_elim
+        (λ (equal : bytes_eq chunk next ≡ true). one (same_bytes chunk next equal))
+        (λ (differs : bytes_eq chunk next ≡ false). apart (λ same.
+        true≢false (sym (bytes_eq-refl chunk) ∙ (ap (bytes_eq chunk) (sound.keys_apart chunk next is_chunk (met-chunks description.grid region k next here) same) ∙ differs))))
         (cases_Bool (bytes_eq chunk next))
-      where
-        is_next : IsChunk description.grid next
-        is_next = met-chunks description.grid region k next here
 
-        meant : Array Element
-        meant = stored_array (layout description options) old.content
+    -- and so does the next one
+    next_stays : (kind : SessionErrorKind) → StopsBefore description options (write_change description region value) (chunks_meeting description.grid region) k fails.mid new kind →
+        StaysOrDecodes description fails.mid.content new.content
+    next_stays kind (inl (memory, same)) chunk is_chunk = inl (same (description.key chunk))
+    next_stays (NotOpened error) (inr (next, here, never)) chunk is_chunk = absurd never
+    next_stays (ChunkDecode key error) (inr (next, here, (its_key, damaged, same))) chunk is_chunk = inl (same (description.key chunk))
+    next_stays OutOfMemory (inr (next, here, same)) chunk is_chunk = inl (same (description.key chunk))
+    next_stays Store (inr (next, here, (rose, stops))) chunk is_chunk = or_next chunk is_chunk next here
+        ((new.content (description.key chunk) ≡ fails.mid.content (description.key chunk)) ⊎ DecodesForAll description new.content chunk)
+        (λ equal. subst (λ c. (new.content (description.key c) ≡ fails.mid.content (description.key c)) ⊎ DecodesForAll description new.content c) (sym equal) (⊎_elim
+        (λ (kept : new.content (description.key next) ≡ fails.mid.content (description.key next)). inl kept)
+        (λ (mended : IsSome (chunk_content (layout description options) fails.mid.content next) × DecodesForAll description new.content next). inr mended.1)
+        stops.stays))
+        (λ apart. inl (stops.others (description.key chunk) apart))
 
-        had : ChunkHas (layout description options) fails.mid.content meant next
-        had = content-same (layout description options) old.content fails.mid.content next (next_kept next here)
-            ∙ (stored_array-meant (layout description options) covers sound old.content honest).each_chunk next is_next
+    write-stays : StaysOrDecodes description old.content new.content
+    write-stays = stays-append description old.content fails.mid.content new.content first_stay (next_stays kind fails.stops)
 
-        at_next : (new.content (description.key next) ≡ fails.mid.content (description.key next)) ⊎ DecodesForAll description new.content next
-        at_next = ⊎_elim
-            (λ (kept : new.content (description.key next) ≡ fails.mid.content (description.key next)). inl kept)
-            (λ (rest : HoldsChunk description options (write_change description region value meant) next new.content ⊎ (new.content (description.key next) ≡ None)). inr (⊎_elim
-            (λ (holds : HoldsChunk description options (write_change description region value meant) next new.content) under. subst IsSome (sym (holds.has under)) refl)
-            (λ (gone : new.content (description.key next) ≡ None) under. subst IsSome (sym (ap (box_content (layout description under) (description.grid.chunk_box next)) gone)) refl)
-            rest))
-            (stops.here meant refl had)
+    -- a value that does not decode is none of the first k
+    damaged_then : (chunk : List ℕ) → IsChunk description.grid chunk → chunk_content (layout description options) old.content chunk ≡ None →
+        fails.mid.content (description.key chunk) ≡ old.content (description.key chunk)
+    damaged_then chunk is_chunk damaged = changed-kept description options sound (write_change description region value) (chunks_meeting description.grid region) (met-chunks description.grid region)
+        k old fails.mid chunk fails.changed is_chunk (λ place below e. true≢false (sym (subst IsSome damaged (fails.changed.decoded place chunk below e))))
 
-    write-stays : IsHonest (layout description options) old.content → StaysOrDecodes description old.content new.content
-    write-stays honest = stays-append description old.content fails.mid.content new.content first_stay (next_stays honest kind fails.stops)
+    -- and the next one does not change it
+    damaged_next : (kind : SessionErrorKind) → StopsBefore description options (write_change description region value) (chunks_meeting description.grid region) k fails.mid new kind →
+        (chunk : List ℕ) → IsChunk description.grid chunk → chunk_content (layout description options) fails.mid.content chunk ≡ None →
+        new.content (description.key chunk) ≡ fails.mid.content (description.key chunk)
+    damaged_next kind (inl (memory, same)) chunk is_chunk damaged = same (description.key chunk)
+    damaged_next (NotOpened error) (inr (next, here, never)) chunk is_chunk damaged = absurd never
+    damaged_next (ChunkDecode key error) (inr (next, here, (its_key, none, same))) chunk is_chunk damaged = same (description.key chunk)
+    damaged_next OutOfMemory (inr (next, here, same)) chunk is_chunk damaged = same (description.key chunk)
+    damaged_next Store (inr (next, here, (rose, stops))) chunk is_chunk damaged = or_next chunk is_chunk next here
+        (new.content (description.key chunk) ≡ fails.mid.content (description.key chunk))
+        (λ equal. ⊎_elim
+        (λ (kept : new.content (description.key next) ≡ fails.mid.content (description.key next)).
+        subst (λ c. new.content (description.key c) ≡ fails.mid.content (description.key c)) (sym equal) kept)
+        (λ (mended : IsSome (chunk_content (layout description options) fails.mid.content next) × DecodesForAll description new.content next).
+        absurd (true≢false (sym (subst IsSome damaged (subst (λ c. IsSome (chunk_content (layout description options) fails.mid.content c)) (sym equal) mended.0)))))
+        stops.stays)
+        (λ apart. stops.others (description.key chunk) apart)
+
+    write-stands : DamageStands description options (write region value ∷ []) old.content new.content
+    write-stands chunk is_chunk damaged none =
+        let first = damaged_then chunk is_chunk damaged in
+        damaged_next kind fails.stops chunk is_chunk (content-same (layout description options) old.content fails.mid.content chunk first ∙ damaged) ∙ first
 
     pub write-fails : FailsAt description options (write region value ∷ []) old new (Some (0, k)) kind
     write-fails = record {
@@ -345,5 +365,6 @@ module _ (description : Description) (covers : CoversShape description.shape des
       );
       keys = write-fails-keys;
       stored = write-stays;
+      damage = write-stands;
       cause = write-cause kind fails.stops;
     }

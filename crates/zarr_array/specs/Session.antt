@@ -1,10 +1,10 @@
 -- When a session ends with an error, and what it then leaves.
 use Rattle.std.specs.Prelude.{◌≡◌, ℕ, List, Option, Some, None, IsErrAnd}
-use Rattle.zarr_model.specs.Prelude.{Options, Shown, IsHonest, Command, Description, layout, IsPlace, begun, AsksUpTo, LeavesKeys, IsUndecoded, IsStopped, IsStarved}
+use Rattle.zarr_model.specs.Prelude.{Options, Shown, Command, Description, IsPlace, begun, AsksUpTo, LeavesKeys, IsUndecoded, IsStopped, IsStarved}
 use Rattle.zarr_array_regions.specs.parts.Opening.{OpenRefusal}
 use Rattle.zarr_array_regions.specs.parts.OpenError.{open_refusal_of}
 use Rattle.zarr_array.specs.Ended.{Ended}
-use Rattle.zarr_array.specs.Stored.{StaysOrDecodes}
+use Rattle.zarr_array.specs.Stored.{StaysOrDecodes, DamageStands}
 use Rattle.zarr_array_regions.specs.declared.error.SessionErrorKind.{SessionErrorKind}
 use Rattle.zarr_array_regions.specs.declared.error.SessionErrorKind.TheVariants.{NotOpened, ChunkDecode, Store, OutOfMemory}
 
@@ -27,9 +27,10 @@ pub record FailsAt (description : Description) (options : Options) (commands : L
   pub asks : AsksUpTo description commands before.asks now.asks at
   -- only commands that had begun change keys
   pub keys : LeavesKeys description options (begun commands at) before.content now.content
-  -- what an honest store holds after it is what it held, or decodes under all options
-  pub stored : IsHonest (layout description options) before.content →
-      StaysOrDecodes description before.content now.content
+  -- each chunk holds after it what it held, or decodes under all options
+  pub stored : StaysOrDecodes description before.content now.content
+  -- and a value that does not decode stands until its chunk is erased
+  pub damage : DamageStands description options (begun commands at) before.content now.content
   -- and the error has its cause
   pub cause : HasSessionCause description options commands before now at kind
 

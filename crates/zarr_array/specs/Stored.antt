@@ -1,7 +1,7 @@
 -- What commands store decodes under all options.
-use Rattle.std.specs.Prelude.{◌≡◌, ◌⊎◌, ℕ, true, List, IsSome}
+use Rattle.std.specs.Prelude.{◌≡◌, ◌⊎◌, ℕ, true, false, List, None, IsSome}
 use Rattle.std.specs.List.{list_any}
-use Rattle.zarr_model.specs.Prelude.{Element, Array, IsChunk, Options, Content, WhollyMeans, chunk_content, ChunkHas, Command, Description, layout, array_after, changes_chunk}
+use Rattle.zarr_model.specs.Prelude.{Element, Array, IsChunk, Options, Content, WhollyMeans, chunk_content, ChunkHas, Command, Description, layout, array_after, changes_chunk, erases_chunk}
 
 -- a chunk's key is absent, or has a value that decodes under all options
 abbrev pub DecodesForAll : Description → Content → List ℕ → Type 0
@@ -26,3 +26,10 @@ pub record StoresForAll (array : Description) (options : Options) (commands : Li
 abbrev pub StaysOrDecodes : Description → Content → Content → Type 0
 StaysOrDecodes array old new = (chunk : List ℕ) → IsChunk array.grid chunk →
     (new (array.key chunk) ≡ old (array.key chunk)) ⊎ DecodesForAll array new chunk
+
+-- a value that does not decode stands, unless an accepted command erases its chunk
+abbrev pub DamageStands : Description → Options → List Command → Content → Content → Type 0
+DamageStands array options commands old new = (chunk : List ℕ) → IsChunk array.grid chunk →
+    chunk_content (layout array options) old chunk ≡ None →
+    list_any (erases_chunk array chunk) commands ≡ false →
+    new (array.key chunk) ≡ old (array.key chunk)

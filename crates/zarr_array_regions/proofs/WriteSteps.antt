@@ -41,7 +41,7 @@ module _ (array : ArrayParts) (options : Options) (region : Region) (chunk : Lis
           FailsToChange (described array) options change chunk before now kind
       by_kind (NotOpened error) none = none
       by_kind (ChunkDecode key error) (its_key, damaged) = (sym its_key, damaged, fails.same)
-      by_kind Store rose = (rose, record { here = λ plain filler has. inl (fails.same ((described array).key chunk)); others = λ other apart. fails.same other })
+      by_kind Store rose = (rose, record { here = λ plain filler has. inl (fails.same ((described array).key chunk)); stays = inl (fails.same ((described array).key chunk)); others = λ other apart. fails.same other })
       by_kind OutOfMemory none = fails.same
 
   module _ (key : List ℕ) (value list : ArrayBytes) (before mid now : Shown) (its_key : key ≡ (described array).key chunk) (held : HasElements array options chunk before value) (asked : HasAsked before mid)

@@ -36,6 +36,10 @@ pub record StopsChunk (description : Description) (options : Options) (change : 
       (new (description.key chunk) ≡ old (description.key chunk))
       ⊎ (HoldsChunk description options (change array) chunk new
       ⊎ (new (description.key chunk) ≡ None))
+  -- its key is old, or the chunk decoded, and decodes now under all options
+  pub stays : (new (description.key chunk) ≡ old (description.key chunk))
+      ⊎ (IsSome (chunk_content (layout description options) old chunk)
+      × ((under : Options) → IsSome (chunk_content (layout description under) new chunk)))
   pub others : (key : List ℕ) → ¬ (key ≡ description.key chunk) → new key ≡ old key
 
 -- Why a chunk was not changed: its value does not decode, the store failed, or memory ran out. The
