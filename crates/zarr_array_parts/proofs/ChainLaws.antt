@@ -8,9 +8,9 @@ use Rattle.zarrs_codec_bytes.specs.Picking.{size_in}
 use Rattle.zarrs_codec_traits.specs.Words.{IsFit}
 use Rattle.zarr_chain.specs.Levels.{above, top, Serving, AreLinked}
 use Rattle.zarr_chain.specs.Values.{byte_codecs}
-use Rattle.zarr_basics.specs.kinds.array_to_bytes.Plain.{codec_of, unserved_by, stores_lengths, takes_by}
-use Rattle.zarr_basics.specs.kinds.array_to_bytes.Views.{plain_of}
-use Rattle.zarr_basics.specs.kinds.array_to_bytes.declared.codecs.BasicArrayToBytes.{BasicArrayToBytes}
+use Rattle.zarr_codecs_array_to_bytes.specs.Plain.{codec_of, unserved_by, stores_lengths, takes_by}
+use Rattle.zarr_codecs_array_to_bytes.specs.Views.{plain_of}
+use Rattle.zarr_codecs_array_to_bytes.specs.declared.codecs.BasicArrayToBytes.{BasicArrayToBytes}
 use Rattle.zarr_basics.specs.kinds.Basic.{basic_offset}
 use Rattle.zarr_basics.specs.kinds.declared.array_to_array.BasicArrayToArray.{BasicArrayToArray}
 use Rattle.zarr_basics.specs.kinds.declared.bytes_to_bytes.BasicBytesToBytes.{BasicBytesToBytes}

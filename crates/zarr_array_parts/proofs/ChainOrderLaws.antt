@@ -6,7 +6,7 @@ use Rattle.zarrs_codec_metadata.specs.declared.codec.Codec.{Codec}
 use Rattle.zarrs_codec_metadata.specs.declared.codec.Codec.TheVariants as code
 use Rattle.zarr_basics.specs.kinds.CodecForm.{CodecForm, sha256, form_of}
 use Rattle.zarr_basics.specs.kinds.declared.array_to_array.BasicArrayToArray.{BasicArrayToArray}
-use Rattle.zarr_basics.specs.kinds.array_to_bytes.declared.codecs.BasicArrayToBytes.{BasicArrayToBytes}
+use Rattle.zarr_codecs_array_to_bytes.specs.declared.codecs.BasicArrayToBytes.{BasicArrayToBytes}
 use Rattle.zarr_basics.specs.kinds.declared.bytes_to_bytes.BasicBytesToBytes.{BasicBytesToBytes}
 use Rattle.zarr_basics.specs.kinds.declared.bytes_to_bytes.BasicBytesToBytes.TheVariants.{Sha256}
 use Rattle.zarr_array_parts.specs.Document.{BytesToBytes}

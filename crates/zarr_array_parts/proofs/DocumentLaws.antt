@@ -5,7 +5,7 @@ use Rattle.std.proofs.lemmas.Bool.{and_parts, leb-true}
 use Rattle.zarr_model.specs.Prelude.{Options, KeepsCount, IsChunk, IsSound, layout}
 use Rattle.zarr_model.proofs.ChainLaws.{decode_chain-counted, array_to_bytes-counted, offset-keeps_count, transpose-keeps_count}
 use Rattle.zarr_basics.specs.Keys.{IsCountable}
-use Rattle.zarr_basics.specs.kinds.array_to_bytes.Plain.{codec_of}
+use Rattle.zarr_codecs_array_to_bytes.specs.Plain.{codec_of}
 use Rattle.zarr_array_parts.specs.Sizes.{are_countable}
 use Rattle.zarr_array_parts.specs.Document.{ArrayDocument, ArrayToArray, offset, transpose, array_codec_of, describe}
 

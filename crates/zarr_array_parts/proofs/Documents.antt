@@ -19,8 +19,8 @@ use Rattle.zarr_basics.specs.kinds.codecs.BytesCodec.{given_order}
 use Rattle.zarr_basics.specs.kinds.offset.Offset.{offset_in}
 use Rattle.zarrs_metadata_parts.specs.declared.array.endianness.Endianness.{Endianness}
 use Rattle.zarrs_metadata_parts.specs.declared.array.endianness.Endianness.TheVariants.{Little, Big}
-use Rattle.zarr_basics.specs.kinds.array_to_bytes.Plain.{Plain, plain_bytes, plain_vlen, plain_optional}
-use Rattle.zarr_basics.specs.kinds.array_to_bytes.Inner.{inner_in}
+use Rattle.zarr_codecs_array_to_bytes.specs.Plain.{Plain, plain_bytes, plain_vlen, plain_optional}
+use Rattle.zarr_codecs_array_to_bytes.specs.Inner.{inner_in}
 use Rattle.zarr_array_parts.specs.Document.{ArrayDocument, ArrayToArray, offset, BytesToBytes, checksum, ChainForm, document_with}
 use Rattle.zarr_array_parts.specs.Opening.{opened, not_opened, invalid_json, float_number, invalid_metadata, unsupported_version, unsupported_field, plugin_unsupported, plugin_create, invalid_fill, chain_order, unsupported_data_type, endianness_missing, chunk_too_large, document_of, open_builtin}
 

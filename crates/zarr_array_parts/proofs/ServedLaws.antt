@@ -9,8 +9,8 @@ use Rattle.zarr_basics_grids.specs.BasicGrid.{basic_covers}
 use Rattle.zarr_basics_grids.specs.Limits.{has_large_chunk}
 use Rattle.zarr_basics_grids.proofs.LimitLaws.{small_chunk}
 use Rattle.zarr_basics.proofs.KeysApart.{keys_differ}
-use Rattle.zarr_basics.specs.kinds.array_to_bytes.Plain.{stores_lengths}
-use Rattle.zarr_basics.specs.kinds.array_to_bytes.Views.{plain_of}
+use Rattle.zarr_codecs_array_to_bytes.specs.Plain.{stores_lengths}
+use Rattle.zarr_codecs_array_to_bytes.specs.Views.{plain_of}
 use Rattle.zarr_array_parts.specs.Parts.{documented, described}
 use Rattle.zarr_array_parts.specs.Sizes.{has_long_chunk}
 use Rattle.zarr_array_parts.specs.declared.parts.ArrayParts.{ArrayParts}

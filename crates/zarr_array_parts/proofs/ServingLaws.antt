@@ -11,9 +11,9 @@ use Rattle.zarrs_codec_error.specs.declared.error.CodecError.TheVariants as code
 use Rattle.zarrs_codec_traits.specs.Errors.{Unserved, RefusesBy, unserved_error, unsupported}
 use Rattle.zarr_codecs_numbers.specs.Numbers.{bytes_less}
 use Rattle.zarr_codecs_numbers.specs.Offset.{offset_unserved}
-use Rattle.zarr_basics.specs.kinds.array_to_bytes.Plain.{unserved_by, plain_unserved}
-use Rattle.zarr_basics.specs.kinds.array_to_bytes.Views.{plain_of}
-use Rattle.zarr_basics.specs.kinds.array_to_bytes.declared.codecs.BasicArrayToBytes.{BasicArrayToBytes}
+use Rattle.zarr_codecs_array_to_bytes.specs.Plain.{unserved_by, plain_unserved}
+use Rattle.zarr_codecs_array_to_bytes.specs.Views.{plain_of}
+use Rattle.zarr_codecs_array_to_bytes.specs.declared.codecs.BasicArrayToBytes.{BasicArrayToBytes}
 use Rattle.zarr_basics.specs.kinds.Basic.{basic_offset}
 use Rattle.zarr_basics.specs.kinds.declared.array_to_array.BasicArrayToArray.{BasicArrayToArray}
 use Rattle.zarr_basics.specs.kinds.declared.bytes_to_bytes.BasicBytesToBytes.{BasicBytesToBytes}

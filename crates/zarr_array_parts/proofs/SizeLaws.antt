@@ -8,7 +8,7 @@ use Rattle.zarrs_data_type_names.specs.DataType.{is_type, inner_of}
 use Rattle.zarrs_codec_bytes.specs.Filling.{inner_fill, innermost_fill, filled_with}
 use Rattle.zarrs_codec_bytes.proofs.FilledLaws.{filled_short}
 use Rattle.zarr_basics.specs.kinds.codecs.BytesCodec.{component_unserved}
-use Rattle.zarr_basics.specs.kinds.array_to_bytes.Plain.{Plain, plain_bytes, plain_vlen, plain_optional, unserved_by, takes_by, stores_lengths}
+use Rattle.zarr_codecs_array_to_bytes.specs.Plain.{Plain, plain_bytes, plain_vlen, plain_optional, unserved_by, takes_by, stores_lengths}
 use Rattle.zarr_basics.specs.kinds.vlen.Vlen.{type_unserved}
 
 -- only elements of no fixed size have their lengths stored

@@ -4,8 +4,8 @@ use Rattle.zarr_basics.specs.kinds.CodecForm.{CodecForm}
 use Rattle.zarr_basics.specs.kinds.CodecForm as code
 use Rattle.zarr_basics.specs.kinds.Basic.{basic_offset}
 use Rattle.zarr_basics.specs.kinds.declared.array_to_array.BasicArrayToArray.{BasicArrayToArray}
-use Rattle.zarr_basics.specs.kinds.array_to_bytes.Views.{plain_of}
-use Rattle.zarr_basics.specs.kinds.array_to_bytes.declared.codecs.BasicArrayToBytes.{BasicArrayToBytes}
+use Rattle.zarr_codecs_array_to_bytes.specs.Views.{plain_of}
+use Rattle.zarr_codecs_array_to_bytes.specs.declared.codecs.BasicArrayToBytes.{BasicArrayToBytes}
 use Rattle.zarr_basics.specs.kinds.declared.bytes_to_bytes.BasicBytesToBytes.{BasicBytesToBytes}
 use Rattle.zarr_basics.specs.kinds.declared.bytes_to_bytes.BasicBytesToBytes.TheVariants.{Sha256}
 use Rattle.zarr_array_parts.specs.Document.{ArrayToArray, offset, BytesToBytes, checksum, ChainForm}

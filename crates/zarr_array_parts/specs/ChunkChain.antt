@@ -6,8 +6,8 @@ use Rattle.zarr_basics_grids.specs.RegularGrid.{nonzeros}
 use Rattle.zarr_basics_grids.specs.declared.basic_grid.BasicGrid.{BasicGrid}
 use Rattle.zarr_basics_grids.specs.declared.basic_grid.BasicGrid.TheVariants.{Regular}
 use Rattle.zarr_basics.specs.kinds.declared.array_to_array.BasicArrayToArray.{BasicArrayToArray}
-use Rattle.zarr_basics.specs.kinds.array_to_bytes.Views.{plain_of}
-use Rattle.zarr_basics.specs.kinds.array_to_bytes.declared.codecs.BasicArrayToBytes.{BasicArrayToBytes}
+use Rattle.zarr_codecs_array_to_bytes.specs.Views.{plain_of}
+use Rattle.zarr_codecs_array_to_bytes.specs.declared.codecs.BasicArrayToBytes.{BasicArrayToBytes}
 use Rattle.zarr_basics.specs.kinds.declared.bytes_to_bytes.BasicBytesToBytes.{BasicBytesToBytes}
 use Rattle.zarr_array_parts.specs.Document.{ArrayDocument}
 use Rattle.zarr_array_parts.specs.Chain.{array_form, byte_form}

@@ -2,7 +2,7 @@
 -- that it describes.
 use Rattle.std.specs.Prelude.{ℕ, ℤ, List, map, Option, unwrap_or}
 use Rattle.zarr_model.specs.Prelude.{Element, null, DataType, kind_of, fill_element, KeyEncoding, chunk_key, Options, ArrayCodec, decode_array_to_bytes, offset_codec, transpose_codec, checksum_codec, Description}
-use Rattle.zarr_basics.specs.kinds.array_to_bytes.Plain.{Plain, codec_of}
+use Rattle.zarr_codecs_array_to_bytes.specs.Plain.{Plain, codec_of}
 use Rattle.zarr_basics_grids.specs.GridForms.{ChunkGrid, grid_of}
 
 -- the array-to-array codecs by name: an offset, or an order of dimensions

@@ -23,7 +23,7 @@ use Rattle.zarr_basics.specs.declared.registries.ChunkKeyKind.{ChunkKeyKind}
 use Rattle.zarrs_codec_bytes.specs.Filling.{innermost_fill}
 use Rattle.zarrs_codec_traits.specs.Errors.{Unserved}
 use Rattle.zarrs_codec_traits.specs.Errors as reason
-use Rattle.zarr_basics.specs.kinds.array_to_bytes.Plain.{Plain, unserved_by, stores_lengths}
+use Rattle.zarr_codecs_array_to_bytes.specs.Plain.{Plain, unserved_by, stores_lengths}
 use Rattle.zarr_basics.specs.kinds.CodecForm.{CodecForm, codec_named}
 use Rattle.zarr_basics.specs.kinds.declared.codec_kind.CodecKind.{CodecKind}
 use Rattle.zarr_array_parts.specs.Document.{ArrayDocument, ArrayToArray, offset, transpose, ChainForm, document_with}

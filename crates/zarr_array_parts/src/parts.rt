@@ -11,7 +11,7 @@ ghost use Rattle.zarrs_data_type.specs.DataType.{type_of, is_type};
 ghost use Rattle.zarr_basics_grids.specs.BasicGrid.{basic_shape, basic_grid, basic_form};
 ghost use Rattle.zarr_basics.specs.Keys.{keys_of};
 ghost use Rattle.zarr_basics.specs.Registries.{names_of};
-ghost use Rattle.zarr_basics.specs.kinds.array_to_bytes.Views.{plain_of};
+ghost use Rattle.zarr_codecs_array_to_bytes.specs.Views.{plain_of};
 ghost use Rattle.zarr_array_parts.specs.Chain.{chain_form};
 ghost use Rattle.zarr_array_parts.specs.Sizes.{are_countable};
 ghost use Rattle.zarr_array_parts.specs.Opening.{is_large, is_served, served_document, document_of, document_read, open_document};

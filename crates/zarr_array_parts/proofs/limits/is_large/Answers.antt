@@ -4,7 +4,7 @@ use Rattle.zarrs_data_type.specs.DataType.{type_of}
 use Rattle.zarrs_codec_array_bytes.specs.Steps.{kind_seen}
 use Rattle.zarr_basics_grids.specs.BasicGrid.{basic_grid}
 use Rattle.zarr_basics_grids.specs.Limits.{has_large_chunk}
-use Rattle.zarr_basics.specs.kinds.array_to_bytes.Views.{plain_of}
+use Rattle.zarr_codecs_array_to_bytes.specs.Views.{plain_of}
 use Rattle.zarr_array_parts.proofs.SizeLaws.{stored_unsized}
 use Rattle.zarr_array_parts.proofs.limits.is_large.Goals as goal
 

@@ -2,8 +2,8 @@ use Rattle.std.proofs.Common.{ap, ◌∙◌}
 use Rattle.zarr_model.specs.Prelude.{Level}
 use Rattle.zarrs_codec_traits.specs.Views.{lengths, level_of}
 use Rattle.zarrs_data_type_elements.specs.FillValue.{fill_bytes}
-use Rattle.zarr_basics.specs.kinds.array_to_bytes.Plain.{plain_unserved}
-use Rattle.zarr_basics.specs.kinds.array_to_bytes.Views.{plain_of}
+use Rattle.zarr_codecs_array_to_bytes.specs.Plain.{plain_unserved}
+use Rattle.zarr_codecs_array_to_bytes.specs.Views.{plain_of}
 use Rattle.zarr_codecs_numbers.specs.Offset.{offset_unserved}
 use Rattle.zarr_array_parts.proofs.ChainLaws.{chunk_sizes, shape_fits, chain_means, decodes_chunks, fills_chunks, takes_chunks, array_means, bytes_mean, byte_means, has_forms}
 use Rattle.zarr_array_parts.proofs.ServingLaws.{not_built}
