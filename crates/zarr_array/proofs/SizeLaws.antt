@@ -2,7 +2,7 @@
 use Rattle.std.proofs.Common.{◌≡◌, ℕ, ◌<◌, sym, ap, ◌∙◌}
 use Rattle.zarr_model.specs.Prelude.{DataType, fixed, kind_of}
 use Rattle.zarrs_data_type.specs.DataType.{type_of}
-use Rattle.zarr_array_regions.specs.parts.kinds.array_to_bytes.Views.{plain_of}
+use Rattle.zarr_codecs_array_to_bytes.specs.Views.{plain_of}
 use Rattle.zarr_array_regions.specs.parts.Chain.{chain_form}
 use Rattle.zarr_array_regions.specs.parts.Parts.{documented}
 use Rattle.zarr_array_regions.specs.parts.declared.parts.ArrayParts.{ArrayParts}

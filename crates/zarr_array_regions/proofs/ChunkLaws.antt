@@ -14,8 +14,8 @@ use Rattle.zarr_chain.specs.Values as values
 use Rattle.zarr_chain_stored.specs.Fetch as stored
 use Rattle.zarr_chain_stored.specs.Put as put
 use Rattle.zarr_array_parts.specs.kinds.codecs.Sha256.{says_digest, sha256_says}
-use Rattle.zarr_array_parts.specs.kinds.array_to_bytes.Plain.{Plain, plain_bytes, plain_vlen, plain_optional, held_type, says_by, says_optional}
-use Rattle.zarr_array_parts.specs.kinds.array_to_bytes.Views.{plain_of}
+use Rattle.zarr_codecs_array_to_bytes.specs.Plain.{Plain, plain_bytes, plain_vlen, plain_optional, held_type, says_by, says_optional}
+use Rattle.zarr_codecs_array_to_bytes.specs.Views.{plain_of}
 use Rattle.zarr_array_parts.specs.kinds.declared.bytes_to_bytes.BasicBytesToBytes.{BasicBytesToBytes}
 use Rattle.zarr_array_regions.specs.Codecs.{Codecs, array_meaning, list_meaning, list_says, bytes_meaning, bytes_says, ServesChunks}
 use Rattle.zarr_array_regions.specs.Chunk.{storage_kind, is_dropped, decode_at, PutsElements, MayPutElements, chunk_kind, FailsToFetch}

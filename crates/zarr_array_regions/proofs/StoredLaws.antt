@@ -153,11 +153,14 @@ module _ (description : Description) (options : Options) (region : Region) (chun
           puts.here;
       stays = ⊎_elim
           (λ (kept : now.content key ≡ mid.content key). inl (ap now.content (sym its_key) ∙ (kept ∙ (same key ∙ ap before.content its_key))))
-          (λ (other : IsPut (decode_at description chunk) drops list (now.content key) ⊎ (now.content key ≡ None)). inr (subst IsSome (sym fetched) refl, ⊎_elim
-          (λ (put : IsPut (decode_at description chunk) drops list (now.content key)) under. subst IsSome (sym (content_is now.content under put)) refl)
-          (λ (gone : now.content key ≡ None) under.
-          subst IsSome (sym (ap (box_content (layout description under) box) (ap now.content (sym its_key) ∙ gone))) refl)
-          other))
+          (λ (other : IsPut (decode_at description chunk) drops list (now.content key) ⊎ (now.content key ≡ None)). inr (
+            subst IsSome (sym fetched) refl,
+            ⊎_elim
+                (λ (put : IsPut (decode_at description chunk) drops list (now.content key)) under. subst IsSome (sym (content_is now.content under put)) refl)
+                (λ (gone : now.content key ≡ None) under.
+                subst IsSome (sym (ap (box_content (layout description under) box) (ap now.content (sym its_key) ∙ gone))) refl)
+                other,
+          ))
           puts.here;
       others = λ other apart. puts.others other (λ e. apart (e ∙ its_key)) ∙ same other;
     },

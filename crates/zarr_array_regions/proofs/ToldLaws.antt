@@ -13,7 +13,7 @@ use Rattle.zarr_chain.specs.Values.{byte_codecs, said_at}
 use Rattle.zarr_chain.specs.Values as values
 use Rattle.zarr_chain_stored.specs.Fetch as stored
 use Rattle.zarr_array_parts.specs.kinds.declared.array_to_array.BasicArrayToArray.{BasicArrayToArray}
-use Rattle.zarr_array_parts.specs.kinds.array_to_bytes.Plain.{Plain}
+use Rattle.zarr_codecs_array_to_bytes.specs.Plain.{Plain}
 use Rattle.zarr_array_parts.specs.kinds.declared.bytes_to_bytes.BasicBytesToBytes.{BasicBytesToBytes}
 use Rattle.zarr_array_parts.specs.kinds.declared.bytes_to_bytes.BasicBytesToBytes.TheVariants.{Sha256}
 use Rattle.zarr_array_parts.specs.Chain.{array_form, byte_form}

@@ -9,9 +9,9 @@ use Rattle.zarr_array_parts.specs.ChunkChain.{DecodesChunks, FillsChunks, HasFor
 use Rattle.zarr_array_parts.specs.Document.{ArrayDocument, describe}
 use Rattle.zarr_array_parts.specs.kinds.codecs.Sha256.{sha256_says}
 use Rattle.zarr_codecs_numbers.specs.Offset.{offset_unserved}
-use Rattle.zarr_array_parts.specs.kinds.array_to_bytes.Plain.{codec_of, plain_unserved, says_by, takes_by}
-use Rattle.zarr_array_parts.specs.kinds.array_to_bytes.Views.{plain_of}
-use Rattle.zarr_array_parts.specs.kinds.array_to_bytes.declared.codecs.BasicArrayToBytes.{BasicArrayToBytes}
+use Rattle.zarr_codecs_array_to_bytes.specs.Plain.{codec_of, plain_unserved, says_by, takes_by}
+use Rattle.zarr_codecs_array_to_bytes.specs.Views.{plain_of}
+use Rattle.zarr_codecs_array_to_bytes.specs.declared.codecs.BasicArrayToBytes.{BasicArrayToBytes}
 use Rattle.zarr_array_parts.specs.kinds.Basic.{basic_offset}
 use Rattle.zarr_array_parts.specs.kinds.declared.array_to_array.BasicArrayToArray.{BasicArrayToArray}
 use Rattle.zarr_array_parts.specs.kinds.declared.bytes_to_bytes.BasicBytesToBytes.{BasicBytesToBytes}
