@@ -4,7 +4,7 @@ use Rattle.zarr_model.specs.Prelude.{Region, count, kind, ArrayBytes, meaning, b
 use Rattle.zarr_model.proofs.BytesLaws.{refusal-meaning}
 use Rattle.zarr_array_regions.specs.parts.Parts.{described}
 use Rattle.zarr_array_regions.specs.parts.declared.parts.ArrayParts.{ArrayParts}
-use Rattle.zarr_array_regions.proofs.of_parts.ServedLaws.{described_covers, described_sound, accepted}
+use Rattle.zarr_array_regions.proofs.ServedLaws.{described_covers, described_sound, accepted}
 use Rattle.zarr_array_regions.specs.declared.error.CommandError.{CommandError}
 use Rattle.zarr_array_regions.specs.Read.{HasReadRegion}
 use Rattle.zarr_array_regions.specs.Write.{IsWritable}

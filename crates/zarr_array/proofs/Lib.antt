@@ -1,4 +1,6 @@
-pub use Rattle.zarr_array_regions.proofs.of_parts
+pub use Rattle.zarr_array_regions.proofs.DocumentLaws
+pub use Rattle.zarr_array_regions.proofs.Documents
+pub use Rattle.zarr_array_regions.proofs.KeysApart
 pub mod RefusalLaws
 pub mod ReadCommand
 pub mod SessionSteps

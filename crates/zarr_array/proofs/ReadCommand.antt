@@ -4,7 +4,7 @@ use Rattle.zarr_model.specs.Prelude.{Region, chunks_meeting, Options, Shown, rea
 use Rattle.zarr_model.proofs.StepLaws.{LeavesKeys-same, read-left}
 use Rattle.zarr_array_regions.specs.parts.Parts.{described}
 use Rattle.zarr_array_regions.specs.parts.declared.parts.ArrayParts.{ArrayParts}
-use Rattle.zarr_array_regions.proofs.of_parts.ServedLaws.{described_covers}
+use Rattle.zarr_array_regions.proofs.ServedLaws.{described_covers}
 use Rattle.zarr_array_regions.specs.declared.error.CommandError.{CommandError}
 use Rattle.zarr_array_regions.specs.declared.error.SessionErrorKind.{SessionErrorKind}
 use Rattle.zarr_array_regions.specs.declared.error.SessionErrorKind.TheVariants.{NotOpened, ChunkDecode, Store, OutOfMemory}

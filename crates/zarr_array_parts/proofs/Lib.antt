@@ -1,4 +1,4 @@
-pub use Rattle.zarr_basics.proofs as of_basics
+pub use Rattle.zarr_basics.proofs.KeysApart
 pub mod OpeningLaws
 pub mod FieldLaws
 pub mod SizeLaws

@@ -1,4 +1,9 @@
-pub use Rattle.zarr_array_parts.proofs as of_parts
+pub use Rattle.zarr_array_parts.proofs.DocumentLaws
+pub use Rattle.zarr_array_parts.proofs.Documents
+pub use Rattle.zarr_array_parts.proofs.KeysApart
+pub use Rattle.zarr_array_parts.proofs.ServedLaws
+pub use Rattle.zarr_array_parts.proofs.ServingLaws
+pub use Rattle.zarr_array_parts.proofs.SizeLaws
 pub mod PlaceLaws
 pub mod MetLaws
 pub mod ChunkLaws

@@ -13,7 +13,7 @@ use Rattle.zarr_basics_grids.specs.GridForms.{boundaries}
 use Rattle.zarr_cli_runs.specs.array.parts.Document.{offset, transpose, checksum, describe}
 use Rattle.zarrs_metadata_parts.specs.declared.array.endianness.Endianness.TheVariants.{Little, Big}
 use Rattle.zarr_cli_runs.specs.array.parts.kinds.array_to_bytes.Plain.{plain_bytes, plain_vlen, plain_optional}
-use Rattle.zarr_cli_runs.proofs.of_array.of_parts.Documents.{plain_document}
+use Rattle.zarr_cli_runs.proofs.Documents.{plain_document}
 use Rattle.zarr_cli.proofs.Worked.{reply_lines, left_in_chunks, kept_in_chunks, left_chunks, kept_chunks, its_commands, first_array, empty_store, store_of, holding}
 
 abbrev plain_options : Options

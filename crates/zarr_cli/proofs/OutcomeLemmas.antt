@@ -10,7 +10,7 @@ use Rattle.zarr_cli_runs.specs.array.parts.OpenError.{open_refusal_of}
 use Rattle.zarr_cli_runs.specs.array.Command.{command_of}
 use Rattle.zarr_cli_runs.specs.lines.Text.{good_lines, line_at}
 use Rattle.zarr_cli_runs.specs.lines.Parts.{entry_view}
-use Rattle.zarr_cli_runs.proofs.of_lines.TextLaws.{good_lines_all}
+use Rattle.zarr_cli_runs.proofs.TextLaws.{good_lines_all}
 use Rattle.zarr_cli.specs.Words.{Settings, ReadsBy}
 use Rattle.zarr_cli.specs.Run.{Run, IsRunnable}
 use Rattle.zarr_cli.specs.Input.{input_limit, command_grammar, document_line, lines_after_document, store_after_keys, with_entries, IsBadLine}

@@ -10,7 +10,7 @@ use Rattle.std.proofs.lemmas.Str.{utf8_valid_len-IsValidUpTo, is_utf8-from_IsUtf
 use Rattle.hex.specs.Hex.{encode_with, decode_pairs}
 use Rattle.zarr_model.specs.Prelude.{of_bytes, fixed_bytes, regular_grid, Options, Content, with_key, WhollyMeans, stored_array, Command, elements, read, write, erase, Description, layout, LeavesArray, command_chunks, asks_store, counted, Rose, Shown, Given, IsPlace, AsksUpTo, IsUndecoded, IsStopped, erases_chunk, IsDamageMet}
 use Rattle.zarr_cli_runs.specs.array.parts.Document.{ArrayDocument, describe}
-use Rattle.zarr_cli_runs.proofs.of_array.StoredLaws.{stores-none}
+use Rattle.zarr_cli_runs.proofs.StoredLaws.{stores-none}
 use Rattle.zarr_cli_runs.specs.array.parts.Opening.{opened, open_builtin}
 use Rattle.zarr_cli.specs.Input.{input_limit, document_line, lines_after_document, store_after_keys, command_grammar, IsBadLine}
 use Rattle.zarr_cli_runs.specs.Keys.{ListsStore, IsDump, IsDumpAsks}
@@ -20,14 +20,14 @@ use Rattle.zarr_cli_runs.specs.Ending.{bad_words, ending_line, IsGivenFront, IsG
 use Rattle.zarr_cli_runs.specs.lines.Text.{line_at, good_lines, replies_text, entries_text}
 use Rattle.zarrs_metadata_parts.specs.declared.array.chunk_key_separator.ChunkKeySeparator.TheVariants.{Slash}
 use Rattle.zarr_cli_runs.specs.array.parts.basics.declared.chunk_key_encoding.ChunkKeyEncoding.TheVariants.{Default}
-use Rattle.zarr_cli_runs.proofs.of_array.of_parts.of_basics.KeysApart.{keys_differ}
+use Rattle.zarr_cli_runs.proofs.KeysApart.{keys_differ}
 use Rattle.zarr_cli_runs.specs.array.parts.Sizes.{are_countable}
-use Rattle.zarr_cli_runs.proofs.of_array.of_parts.DocumentLaws.{countable_is, describe-sound}
+use Rattle.zarr_cli_runs.proofs.DescribedLaws.{countable_is, describe-sound}
 use Rattle.zarr_model.proofs.StoreLaws.{stored_array-meant, Means-from_whole}
 use Rattle.zarr_model.proofs.GridLaws.{IsChunkShape, regular_grid-covers}
 use Rattle.zarr_cli.proofs.ProgramLaws.{went_through, one_listing}
 use Rattle.zarr_cli.proofs.Worked.{holding}
-use Rattle.zarr_cli_runs.proofs.of_array.of_parts.Documents.{document_text, plain_document, square_opens, line_opens}
+use Rattle.zarr_cli_runs.proofs.Documents.{document_text, plain_document, square_opens, line_opens}
 
 abbrev nothing : Content
 nothing = λ key. None

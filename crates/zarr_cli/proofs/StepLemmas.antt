@@ -14,7 +14,7 @@ use Rattle.zarr_cli_runs.specs.lines.Text.{input_lines, first_entries, line_comm
 use Rattle.zarr_cli_runs.specs.lines.Parts.{entry_view, IsLineFault}
 use Rattle.zarr_cli_runs.specs.lines.declared.parse.LineError.{LineError}
 use Rattle.zarr_cli_runs.specs.lines.declared.parse.LineError.TheVariants.{OutOfForm}
-use Rattle.zarr_cli_runs.proofs.of_lines.SplitLemmas.{few_lines}
+use Rattle.zarr_cli_runs.proofs.SplitLemmas.{few_lines}
 use Rattle.zarr_cli.specs.Input.{input_limit, first_line, command_grammar, IsBadLine}
 use Rattle.zarr_cli.specs.Steps.{HasTaken, SaysInput, IsKeyOf}
 

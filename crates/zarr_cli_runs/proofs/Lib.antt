@@ -1,5 +1,9 @@
-pub use Rattle.zarr_cli_made.proofs.of_array
-pub use Rattle.zarr_cli_made.proofs.of_lines
+pub use Rattle.zarr_cli_made.proofs.DescribedLaws
+pub use Rattle.zarr_cli_made.proofs.Documents
+pub use Rattle.zarr_cli_made.proofs.KeysApart
+pub use Rattle.zarr_cli_made.proofs.SplitLemmas
+pub use Rattle.zarr_cli_made.proofs.StoredLaws
+pub use Rattle.zarr_cli_made.proofs.TextLaws
 pub mod ChangeLaws
 pub mod CommandLemmas
 pub mod KeyLemmas

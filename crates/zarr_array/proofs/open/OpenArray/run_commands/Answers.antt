@@ -4,7 +4,7 @@ use Rattle.zarr_array.specs.Command.{command_of, answer_of}
 use Rattle.zarrs_codec_traits.specs.Views.{options_of}
 use Rattle.zarr_array.specs.OpenArray.{described}
 use Rattle.zarr_array.specs.Runs.{Runs}
-use Rattle.zarr_array_regions.proofs.of_parts.ServedLaws.{described_covers, described_sound}
+use Rattle.zarr_array_regions.proofs.ServedLaws.{described_covers, described_sound}
 use Rattle.zarr_array.proofs.RunsLaws.{command_here, one_more_ran, stops_at, take_next, take_whole}
 use Rattle.zarr_array.proofs.open.OpenArray.run_commands.Goals as goal
 

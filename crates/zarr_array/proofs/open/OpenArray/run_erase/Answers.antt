@@ -3,7 +3,7 @@ use Rattle.std.proofs.lemmas.Result.{err_from_is_err_and}
 use Rattle.zarr_model.specs.Prelude.{erase, PutsKey, MayPutKey}
 use Rattle.zarr_array.specs.OpenArray.{described}
 use Rattle.zarrs_codec_traits.specs.Views.{options_of}
-use Rattle.zarr_array_regions.proofs.of_parts.ServedLaws.{described_covers, described_sound}
+use Rattle.zarr_array_regions.proofs.ServedLaws.{described_covers, described_sound}
 use Rattle.zarr_array.proofs.RunsLaws.{ran_gives, failed_gives}
 use Rattle.zarr_array.proofs.EraseLaws.{erase-ran, erase-fails, erase-starved, erase-keys}
 use Rattle.zarr_array.proofs.open.OpenArray.run_erase.Goals as goal

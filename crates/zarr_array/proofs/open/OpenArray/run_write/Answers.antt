@@ -5,7 +5,7 @@ use Rattle.zarrs_array_subset.specs.ArraySubset.{region}
 use Rattle.zarrs_codec_array_bytes.specs.Raw.{raw_of}
 use Rattle.zarr_array.specs.OpenArray.{described}
 use Rattle.zarrs_codec_traits.specs.Views.{options_of}
-use Rattle.zarr_array_regions.proofs.of_parts.ServedLaws.{described_covers, described_sound}
+use Rattle.zarr_array_regions.proofs.ServedLaws.{described_covers, described_sound}
 use Rattle.zarr_array.proofs.RunsLaws.{ran_gives, failed_gives}
 use Rattle.zarr_array.proofs.Commands.{inside, writable, bytes-written, bytes-fail, bytes-fail-keys}
 use Rattle.zarr_array.proofs.open.OpenArray.run_write.Goals as goal
