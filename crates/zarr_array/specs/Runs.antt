@@ -15,7 +15,8 @@ pub record Runs (array : Description) (options : Options) (commands : List Comma
       ServesArray array options commands before.content now.content answers)
   pub complete : IsHonest (layout array options) before.content → ¬ Rose before.faults now.faults →
       IfErr ended (λ error. error.kind ≡ OutOfMemory)
-  -- over any store: the refusals, the reading calls, and that each chunk met decodes
+  -- where they ran, over any store: the refusals, the reading calls, and that each chunk met
+  -- decodes; where all are refused, nothing is touched however they end
   pub refusals : IfOk ended (λ answers. RefusesRight array commands answers)
   pub refused : AreRefused array commands → IsUntouched before now
   pub asks : OnOk ended (now.asks ≡ counted before.asks (all_asks array commands))

@@ -29,7 +29,8 @@ pub record FailsAt (description : Description) (options : Options) (commands : L
   pub keys : LeavesKeys description options (begun commands at) before.content now.content
   -- each chunk holds after it what it held, or decodes under all options
   pub stored : StaysOrDecodes description before.content now.content
-  -- and a value that does not decode stands until its chunk is erased
+  -- and a value that does not decode stands, unless an accepted command that had begun erases
+  -- its chunk
   pub damage : DamageStands description options (begun commands at) before.content now.content
   -- and the error has its cause
   pub cause : HasSessionCause description options commands before now at kind

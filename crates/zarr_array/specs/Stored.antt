@@ -1,4 +1,4 @@
--- What commands store decodes under all options.
+-- What commands leave: what decodes under all options, and what stands.
 use Rattle.std.specs.Prelude.{◌≡◌, ◌⊎◌, ℕ, true, false, List, None, IsSome}
 use Rattle.std.specs.List.{list_any}
 use Rattle.zarr_model.specs.Prelude.{Element, Array, IsChunk, Options, Content, WhollyMeans, chunk_content, ChunkHas, Command, Description, layout, array_after, changes_chunk, erases_chunk}

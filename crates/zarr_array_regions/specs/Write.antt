@@ -42,7 +42,7 @@ pub record StopsChunk (description : Description) (options : Options) (change : 
       × ((under : Options) → IsSome (chunk_content (layout description under) new chunk)))
   pub others : (key : List ℕ) → ¬ (key ≡ description.key chunk) → new key ≡ old key
 
--- Why a chunk was not changed: its value does not decode, the store failed, or memory ran out. The
+-- Why changing a chunk failed: its value does not decode, the store failed, or memory ran out. The
 -- store is changed by its own failure alone.
 abbrev pub FailsToChange : Description → Options → (Array Element → Array Element) → List ℕ →
     Shown → Shown →
@@ -77,7 +77,7 @@ pub record HasWrittenChunk (array : ArrayParts) (options : Options)
   pub asks : now.asks ≡ counted before.asks 1
   pub later : before.faults ≤ now.faults
 
--- a chunk was not changed: the error has its cause and tells why
+-- changing a chunk failed: the error has its cause and tells why
 pub record NotWrittenChunk (array : ArrayParts) (options : Options)
     (change : Array Element → Array Element) (chunk : List ℕ) (before now : Shown)
     (kind : SessionErrorKind) : Type 0 where
