@@ -14,12 +14,9 @@ pub use error::{SessionError, SessionErrorKind};
 pub use open::OpenArray;
 pub use refusal::Refusal;
 pub use session::run_session;
-pub use zarr_array_regions as regions;
-pub use zarr_array_regions::parts;
-pub use zarr_array_regions::parts::basics::{
-    ChunkKeyKind, CodecKind, DataTypeKind, GridKind, Registries, builtin_registries,
+pub use zarr_array_regions::{
+    BasicChain, ChainHandle, ChunkKeyKind, CodecKind, DataTypeKind, GridKind, OpenError,
+    Registries, builtin_registries,
 };
-pub use zarr_array_regions::parts::{BasicChain, OpenError};
-pub use zarr_array_regions::stored::ChainHandle;
 pub use zarrs_codec_options::CodecOptions;
 pub use zarrs_plugin::NamePattern;

@@ -13,10 +13,8 @@ ghost use Rattle.zarr_array_regions.specs.stored.Fetch.{HasFill};
 ghost use Rattle.zarr_array_regions.specs.Codecs.{IsChainOf};
 
 use std::alloc::{AllocError, Global};
-use zarr_array_regions::codec_chain;
-use zarr_array_regions::parts::basics::Registries;
-use zarr_array_regions::parts::kinds::BasicArrayToBytes;
-use zarr_array_regions::parts::{ArrayParts, BasicChain, OpenError};
+use zarr_array_regions::{ArrayParts, BasicChain, OpenError, Registries, codec_chain};
+use zarr_codecs_array_to_bytes::BasicArrayToBytes;
 use zarrs_codec_traits::ArrayToBytesCodecTraits;
 use zarrs_data_type::DataType;
 

@@ -9,7 +9,7 @@ ghost use Rattle.zarrs_codec_array_bytes.specs.Refusals.{told_by, sized_answer};
 ghost use Rattle.zarr_array.specs.Command.{refusal_of};
 
 use crate::open::OpenArray;
-use zarr_array_regions::parts::kinds::vlen::vlen_fits;
+use zarr_array_regions::vlen_fits;
 use zarrs_array_subset::ArraySubset;
 use zarrs_chunk_grid_traits::ChunkGridTraits;
 use zarrs_codec_array_bytes::ArrayBytes;

@@ -16,8 +16,7 @@ use crate::command::{Command, Reply};
 use crate::error::{SessionError, SessionErrorKind};
 use crate::open::OpenArray;
 use std::alloc::Global;
-use zarr_array_regions::parts::OpenError;
-use zarr_array_regions::parts::basics::Registries;
+use zarr_array_regions::{OpenError, Registries};
 use zarrs_codec_options::CodecOptions;
 use zarrs_storage::store::Store;
 

@@ -11,7 +11,7 @@ ghost use Rattle.zarr_array_parts.specs.Sizes.{have_chunks};
 use crate::limits::{chunk_shape, has_chunks};
 use crate::parts::ArrayParts;
 use std::alloc::{AllocError, Global};
-use zarr_basics::kinds::{BasicArrayToArray, BasicArrayToBytes, BasicBytesToBytes};
+use zarr_basics::{BasicArrayToArray, BasicArrayToBytes, BasicBytesToBytes};
 use zarr_chain::CodecChain;
 use zarrs_codec_error::CodecError;
 use zarrs_codec_traits::{

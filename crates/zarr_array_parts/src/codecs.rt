@@ -8,7 +8,7 @@ ghost use Rattle.zarr_array_parts.specs.Parts.{Opens};
 
 use crate::open_error::OpenError;
 use std::alloc::{AllocError, Global};
-use zarr_basics::kinds::{BasicArrayToArray, BasicArrayToBytes, BasicBytesToBytes, BasicCodec};
+use zarr_basics::{BasicArrayToArray, BasicArrayToBytes, BasicBytesToBytes, BasicCodec};
 use zarrs_codec_metadata::Codec;
 
 // The codecs of a chain.

@@ -18,8 +18,7 @@ ghost use Rattle.zarr_array_parts.specs.Opening.{invalid_fill, or_refused, has_r
 
 use crate::open_error::OpenError;
 use std::alloc::Global;
-use zarr_basics::kinds::BasicCodec;
-use zarr_basics::{BasicGrid, ChunkKeyEncoding, ChunkKeyKind, CodecKind, GridKind};
+use zarr_basics::{BasicCodec, BasicGrid, ChunkKeyEncoding, ChunkKeyKind, CodecKind, GridKind};
 use zarrs_chunk_grid_traits::GridMaker;
 use zarrs_codec_metadata::{CodecMaker, CodecMetadata};
 use zarrs_data_type::{

@@ -13,5 +13,6 @@ mod served;
 pub use chain::BasicChain;
 pub use open_error::OpenError;
 pub use parts::ArrayParts;
-pub use zarr_basics as basics;
-pub use zarr_basics::kinds;
+pub use zarr_basics::{
+    ChunkKeyKind, CodecKind, DataTypeKind, GridKind, Registries, builtin_registries, vlen_fits,
+};

@@ -17,8 +17,7 @@ ghost use Rattle.zarr_array_parts.specs.Opening.{is_large};
 ghost use Rattle.zarr_array_parts.specs.Sizes.{have_chunks, has_long_chunk};
 
 use std::num::NonZeroU64;
-use zarr_basics::BasicGrid;
-use zarr_basics::kinds::BasicArrayToBytes;
+use zarr_basics::{BasicArrayToBytes, BasicGrid};
 use zarrs_chunk_grid_traits::ChunkGridTraits;
 use zarrs_codec_array_bytes::array_bytes::step::{Step, step_of};
 use zarrs_codec_traits::num_elements;

@@ -25,8 +25,10 @@ use crate::limits::is_large;
 use crate::open_error::OpenError;
 use crate::served::expect_chain;
 use std::alloc::Global;
-use zarr_basics::kinds::{BasicArrayToArray, BasicArrayToBytes, BasicBytesToBytes};
-use zarr_basics::{BasicGrid, ChunkKeyEncoding, Registries};
+use zarr_basics::{
+    BasicArrayToArray, BasicArrayToBytes, BasicBytesToBytes, BasicGrid, ChunkKeyEncoding,
+    Registries,
+};
 use zarrs_chunk_grid_traits::ChunkGridTraits;
 use zarrs_data_type::{DataType, FillValue};
 use zarrs_metadata::ArrayMetadataV3;

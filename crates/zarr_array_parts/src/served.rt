@@ -10,7 +10,7 @@ ghost use Rattle.zarr_array_parts.specs.Parts.{Opens};
 use crate::codecs::ChainCodecs;
 use crate::open_error::OpenError;
 use std::alloc::Global;
-use zarr_basics::kinds::{BasicArrayToArray, BasicArrayToBytes};
+use zarr_basics::{BasicArrayToArray, BasicArrayToBytes};
 use zarrs_codec_array_bytes::array_bytes::step::element_size;
 use zarrs_codec_traits::{ArrayCodecTraits, ArrayToArrayCodecTraits};
 use zarrs_data_type::DataType;

@@ -8,8 +8,8 @@ ghost use Rattle.zarr_chain_stored.specs.Fetch.{HasFill};
 ghost use Rattle.zarr_array_regions.specs.Codecs.{IsChainOf};
 
 use std::alloc::{AllocError, Global};
-use zarr_array_parts::kinds::BasicArrayToBytes;
 use zarr_array_parts::{ArrayParts, BasicChain};
+use zarr_codecs_array_to_bytes::BasicArrayToBytes;
 use zarrs_codec_traits::ArrayToBytesCodecTraits;
 
 /// The chain of the codecs of an array with their levels, which is one for all chunks. The array has a chunk.

@@ -14,5 +14,8 @@ pub use error::{CommandError, SessionErrorKind};
 pub use place::chunk_key;
 pub use read::read_elements;
 pub use write::write_elements;
-pub use zarr_array_parts as parts;
-pub use zarr_chain_stored as stored;
+pub use zarr_array_parts::{
+    ArrayParts, BasicChain, ChunkKeyKind, CodecKind, DataTypeKind, GridKind, OpenError, Registries,
+    builtin_registries, vlen_fits,
+};
+pub use zarr_chain_stored::ChainHandle;

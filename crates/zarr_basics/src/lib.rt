@@ -15,7 +15,6 @@ pub use chunk_key_encoding::ChunkKeyEncoding;
 pub use laws::keys_differ;
 pub use registries::{ChunkKeyKind, Registries, builtin_registries};
 pub use zarr_basics_grids::{BasicGrid, GridKind, RegularGrid};
-pub use zarr_codecs_kinds as kinds;
 pub use zarr_codecs_kinds::{
     BasicArrayToArray, BasicArrayToBytes, BasicBytesToBytes, BasicCodec, BytesCodec, CodecKind,
     OffsetCodec, OptionalCodec, Sha256Codec, VlenCodec, vlen_fits,

@@ -7,11 +7,10 @@ ghost use Rattle.zarr_cli.specs.Steps.{SaysInput, IsInputFault};
 ghost use Rattle.zarr_cli_runs.specs.Opening.{OpensLine};
 
 use std::alloc::Global;
-use zarr_cli_runs::Status;
-use zarr_cli_runs::array::OpenArray;
-use zarr_cli_runs::array::command::Command;
-use zarr_cli_runs::lines::{Entry, LineError, Lines, ParsedLines, parse_lines};
 use zarr_cli_runs::opening::open_line;
+use zarr_cli_runs::{
+    Command, Entry, LineError, Lines, OpenArray, ParsedLines, Status, parse_lines,
+};
 
 /// An input in form: the array of its first line, its key lines and its commands.
 #[derive(Drop)]

@@ -15,13 +15,9 @@ ghost use Rattle.zarr_cli.specs.Steps.{RepliesTo, PrintsAll, IsKeyOf, IsUnasked}
 use crate::input::ParsedInput;
 use crate::words::Settings;
 use std::alloc::Global;
-use zarr_cli_runs::Status;
-use zarr_cli_runs::array::CodecOptions;
-use zarr_cli_runs::array::command::Command;
-use zarr_cli_runs::array::open::OpenArray;
 use zarr_cli_runs::commands::{replies_of, text_of_replies};
 use zarr_cli_runs::keys::push_dump;
-use zarr_cli_runs::lines::Entry;
+use zarr_cli_runs::{CodecOptions, Command, Entry, OpenArray, Status};
 use zarrs_storage::store::{StorageError, Store};
 
 // Sets the key lines, the first one first.

@@ -4,7 +4,7 @@ ghost use Rattle.std.specs.Prelude.{◌≡◌, true, false, List, ℕ, ◌∷◌
 ghost use Rattle.zarr_cli.specs.Words.{is_known, with_word, with_words, settings_of};
 ghost use Rattle.zarr_cli.specs.Status.{words_of, settings_view};
 
-use zarr_cli_runs::array::CodecOptions;
+use zarr_cli_runs::CodecOptions;
 use zarrs_data_type_names::parse_number;
 
 /// What the words set.

@@ -6,8 +6,7 @@ ghost use Rattle.zarr_cli_runs.specs.Ending.{IsGiven, IsGivenFront, IsGivenLine,
 ghost use Rattle.zarr_cli_runs.specs.Status.{ending_of};
 
 use std::alloc::{AllocError, Global};
-use zarr_cli_runs::Status;
-use zarr_cli_runs::array::OpenError;
+use zarr_cli_runs::{OpenError, Status};
 use zarrs_storage::sink::Sink;
 
 /// Writes a text piece by piece. False says that the sink failed.

@@ -13,4 +13,6 @@ pub use entry::{Entry, parse_key_line, push_entry};
 pub use lines::Lines;
 pub use parse::{LineError, ParsedLines, parse_command_line, parse_lines};
 pub use reply_text::push_reply;
-pub use zarr_array as array;
+pub use zarr_array::{
+    CodecOptions, Command, OpenArray, OpenError, Reply, SessionErrorKind, builtin_registries,
+};

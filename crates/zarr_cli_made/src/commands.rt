@@ -13,7 +13,7 @@ use crate::elements::{Area, made_elements};
 use crate::generator::Generator;
 use std::alloc::{AllocError, Global};
 use std::ops::Range;
-use zarr_cli_lines::array::command::Command;
+use zarr_cli_lines::Command;
 use zarrs_array_subset::ArraySubset;
 use zarrs_codec_array_bytes::ArrayBytes;
 

@@ -12,5 +12,7 @@ pub use commands::made_commands;
 pub use document::made_document;
 pub use generator::Generator;
 pub use summary::push_summary;
-pub use zarr_cli_lines as lines;
-pub use zarr_cli_lines::array;
+pub use zarr_cli_lines::{
+    CodecOptions, Command, Entry, LineError, Lines, OpenArray, OpenError, ParsedLines, Reply,
+    SessionErrorKind, builtin_registries, parse_lines, push_entry, push_reply,
+};

@@ -14,7 +14,7 @@ use crate::commands::COMMANDS;
 use crate::tally::{Tally, tally_of};
 use sha2::{Digest, Sha256};
 use std::alloc::{AllocError, Global};
-use zarr_cli_lines::array::command::Reply;
+use zarr_cli_lines::Reply;
 
 // Appends the line of a name and a number.
 fn push_number(

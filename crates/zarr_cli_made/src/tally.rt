@@ -7,7 +7,7 @@ ghost use Rattle.zarr_cli_elements.specs.Place.{fixed_part};
 ghost use Rattle.zarr_cli_made.specs.Tally.{ok_held, done_held, refused_held, elements_held};
 
 use std::alloc::AllocError;
-use zarr_cli_lines::array::command::Reply;
+use zarr_cli_lines::Reply;
 use zarrs_codec_array_bytes::ArrayBytes;
 use zarrs_codec_array_bytes::array_bytes::bytes_in;
 

@@ -11,11 +11,7 @@ ghost use Rattle.zarr_cli_runs.specs.Commands.{IsChangedKey, RepliedBy, IsRunFau
 
 use crate::status::Status;
 use std::alloc::{AllocError, Global};
-use zarr_cli_made::array::CodecOptions;
-use zarr_cli_made::array::command::{Command, Reply};
-use zarr_cli_made::array::error::SessionErrorKind;
-use zarr_cli_made::array::open::OpenArray;
-use zarr_cli_made::lines::reply_text::push_reply;
+use zarr_cli_made::{CodecOptions, Command, OpenArray, Reply, SessionErrorKind, push_reply};
 use zarrs_data_type_names::DataType;
 use zarrs_storage::store::Store;
 

@@ -8,7 +8,7 @@ ghost use Rattle.zarr_cli_runs.specs.Keys.{Dumps, IsDumpFault, entries_at, stora
 
 use crate::status::Status;
 use std::alloc::Global;
-use zarr_cli_made::lines::entry::push_entry;
+use zarr_cli_made::push_entry;
 use zarrs_storage::store::{StorageError, Store};
 use zarrs_storage::store_key::StoreKey;
 

@@ -9,5 +9,6 @@ pub mod opening;
 pub mod status;
 
 pub use status::Status;
-pub use zarr_cli_made as making;
-pub use zarr_cli_made::{array, lines};
+pub use zarr_cli_made::{
+    CodecOptions, Command, Entry, LineError, Lines, OpenArray, OpenError, ParsedLines, parse_lines,
+};

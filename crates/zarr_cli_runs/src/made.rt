@@ -19,10 +19,9 @@ use crate::keys::count_keys;
 use crate::opening::open_line;
 use crate::status::Status;
 use std::alloc::{AllocError, Global};
-use zarr_cli_made::array::CodecOptions;
-use zarr_cli_made::array::command::{Command, Reply};
-use zarr_cli_made::array::open::OpenArray;
-use zarr_cli_made::{made_commands, made_document, push_summary};
+use zarr_cli_made::{
+    CodecOptions, Command, OpenArray, Reply, made_commands, made_document, push_summary,
+};
 use zarrs_data_type_names::DataType;
 use zarrs_storage::store::Store;
 

@@ -5,7 +5,7 @@ ghost use Rattle.zarr_cli_runs.specs.Opening.{OpensLine};
 
 use crate::status::Status;
 use std::alloc::Global;
-use zarr_cli_made::array::{OpenArray, OpenError, builtin_registries};
+use zarr_cli_made::{OpenArray, OpenError, builtin_registries};
 
 /// The array of a first line, by the built-in names.
 ///

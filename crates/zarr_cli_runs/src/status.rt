@@ -5,7 +5,7 @@ ghost use Rattle.zarr_cli_runs.specs.Ending.{ending_code};
 ghost use Rattle.zarr_cli_runs.specs.Status.{ending_of};
 
 use std::alloc::AllocError;
-use zarr_cli_made::array::OpenError;
+use zarr_cli_made::OpenError;
 use zarrs_storage::store_key::StoreKey;
 
 /// How the program ends.
