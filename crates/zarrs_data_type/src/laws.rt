@@ -9,6 +9,9 @@ ghost use Rattle.zarrs_data_type_names.specs.DataType.{type_of};
 ghost use Rattle.zarrs_data_type.specs.FillMetadata.{fill_of, fill_metadata_of};
 ghost use Rattle.zarrs_data_type_names.specs.declared.data_type.DataType.{DataType};
 
+pub use zarrs_data_type_elements::laws::{order_decodes, order_undone, rounding_settles};
+pub use zarrs_data_type_names::laws::{named_types, same_types};
+
 /// A fill value that a document gives denotes an element of the data type.
 pub fn fill_denotes()
     ensures { (t : Model.DataType) (d : Data) (bytes : List ℕ) → fill_of t d ≡ Some bytes →

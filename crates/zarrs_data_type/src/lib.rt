@@ -21,7 +21,8 @@ pub use zarrs_data_type_elements::{
     FixedScaleOffsetDataTypeTraits, FixedScaleOffsetElementType, FixedScaleOffsetFloatType,
     FixedScaleOffsetSupport, PackBitsDataTypeTraits, PackBitsSupport, PcodecDataTypeTraits,
     PcodecElementType, PcodecSupport, ZfpDataTypeTraits, ZfpEncoding, ZfpNativeType, ZfpSupport,
-    reverse_components, round_bytes_int8, round_bytes_int16, round_bytes_int32, round_bytes_int64,
+    ends_in_zero, repeats, reverse_components, round_bytes_int8, round_bytes_int16,
+    round_bytes_int32, round_bytes_int64,
 };
 pub use zarrs_data_type_names::{
     DataType, DataTypeKind, DataTypeMetadata, OptionalRef, optional_members, parse_number,

@@ -13,7 +13,7 @@ ghost use Rattle.zarrs_data_type.specs.FillMetadata.{fill_of, Fills};
 ghost use Rattle.zarrs_data_type.specs.Optional.{inner_type, optional_seen};
 
 use crate::data_type_traits::{DataTypeTraits, are_equal, type_size};
-use crate::fill_metadata::{FillMetadataFault, optional_fill};
+use crate::fill_metadata::{FillMetadataFault, fill_from_metadata, optional_fill};
 use crate::metadata_of_fill::{FillFault, optional_metadata};
 use std::alloc::{AllocError, Global};
 use zarrs_data_type_elements::FillValue;
@@ -108,19 +108,19 @@ impl OptionalDataType {
         Ok(Configuration::new(optional_members(alloc, &self.inner, version)?))
     }
 
-    /// The fill value that metadata gives: null, or a list of exactly one fill value of the type inside.
+    /// The fill value of the type inside that metadata gives. That of the optional type is `fill_value`.
     ///
     /// # Errors
-    /// [`FillMetadataFault::Metadata`] exactly where the metadata is no fill value of the type.
+    /// [`FillMetadataFault::Metadata`] exactly where the metadata is no fill value of the type inside.
     pub fn fill_value_from_metadata(
         &self,
         alloc: Global,
         fill_value: &FillValueMetadata,
         _version: ZarrVersion,
     ) -> Result<FillValue, FillMetadataFault>
-        ensures { Fills result (fill_of (optional_seen self.now) (fill_view fill_value.now)) }
+        ensures { Fills result (fill_of (inner_type self.now) (fill_view fill_value.now)) }
     {
-        optional_fill(alloc, &self.inner, fill_value)
+        fill_from_metadata(alloc, &self.inner, fill_value)
     }
 
     /// A copy.

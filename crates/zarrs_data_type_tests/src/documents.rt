@@ -75,8 +75,19 @@ fn are_optional_fills(
     let optional = OptionalDataType::new(inner.try_clone(alloc).expect(rt, "memory"));
     let copy = optional.try_clone(alloc).expect(rt, "memory");
     are_fills(rt, alloc, &copy, metadata, want);
-    let made = copy.fill_value_from_metadata(alloc, metadata, ZarrVersion::V3);
-    is_fill(rt, alloc, &copy, made, want);
+}
+
+// The fill value of a type by the optional type of it.
+fn is_inner_fill(
+    rt: &impl Abort,
+    alloc: Global,
+    data_type: &DataType,
+    metadata: &FillValueMetadataV3,
+    want: &str,
+) {
+    let optional = OptionalDataType::new(data_type.try_clone(alloc).expect(rt, "memory"));
+    let made = optional.fill_value_from_metadata(alloc, metadata, ZarrVersion::V3);
+    is_fill(rt, alloc, data_type, made, want);
 }
 
 fn is_row(rt: &impl Abort, alloc: Global, row: &str) {
@@ -85,6 +96,7 @@ fn is_row(rt: &impl Abort, alloc: Global, row: &str) {
     let data_type = type_of(rt, alloc, document).expect(rt, row);
     let metadata = FillValueMetadataV3::try_from_text(alloc, fill).expect(rt, row);
     are_fills(rt, alloc, &data_type, &metadata, want);
+    is_inner_fill(rt, alloc, &data_type, &metadata, want);
     if let Some(inner) = data_type.optional_inner() {
         are_optional_fills(rt, alloc, inner, &metadata, want);
     }
