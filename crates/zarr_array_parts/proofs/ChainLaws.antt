@@ -20,13 +20,14 @@ use Rattle.zarr_array_parts.specs.Chain.{array_form, byte_form, chain_form}
 use Rattle.zarr_chain.specs.Chain.{Listing, Opening, first_level, first_fill, chain_of, IsServed, HasCodecs}
 use Rattle.zarr_chain.specs.declared.level.CodecLevel.{CodecLevel}
 use Rattle.zarr_chain.specs.declared.chain.CodecChain.{CodecChain}
-use Rattle.zarr_array_parts.specs.ChunkChain.{basic_lengths, chunk_level, DecodesChunks, FillsChunks, HasForms}
+use Rattle.zarr_array_parts.specs.ChunkChain.{chunk_level, DecodesChunks, FillsChunks, HasForms}
 use Rattle.zarr_array_parts.specs.Sizes.{have_chunks}
 use Rattle.zarr_array_parts.specs.Parts.{documented, described}
 use Rattle.zarr_array_parts.specs.declared.parts.ArrayParts.{ArrayParts}
 use Rattle.zarr_array_parts.proofs.SizeLaws.{unstored_sized, taken, short_fill}
 use Rattle.zarr_array_parts.proofs.ChunkLaws.{first_chunk, is_first_chunk}
-use Rattle.zarr_array_parts.proofs.LimitLaws.{basic_sizes}
+use Rattle.zarr_basics_grids.specs.BasicGrid.{basic_lengths}
+use Rattle.zarr_basics_grids.proofs.BasicLaws.{basic_sizes}
 use Rattle.zarr_array_parts.proofs.ServingLaws.{is_served-serves}
 use Rattle.zarr_array_parts.proofs.ServedLaws.{chunk_counts, chunk_short}
 

@@ -2,13 +2,11 @@
 use Rattle.std.proofs.Common.{◌≡◌, ℕ, ◌+◌, ◌^◌, ◌<◌, ◌≤◌, nat_le, ◌||◌, Bool, true, false, List, length, None, refl, sym, ap, ◌∙◌, arith}
 use Rattle.std.proofs.lemmas.Bool.{true≢false, le-leb}
 use Rattle.zarr_model.specs.Prelude.{count_of, sizes, Grid, IsChunk, is_too_large}
-use Rattle.zarr_basics_grids.specs.BasicGrid.{basic_grid}
+use Rattle.zarr_basics_grids.specs.BasicGrid.{basic_grid, basic_lengths}
 use Rattle.zarr_basics_grids.specs.Limits.{has_large_chunk}
 use Rattle.zarr_basics_grids.specs.declared.basic_grid.BasicGrid.{BasicGrid}
-use Rattle.zarr_basics_grids.specs.declared.basic_grid.BasicGrid.TheVariants.{Regular}
+use Rattle.zarr_basics_grids.proofs.BasicLaws.{basic_sizes}
 use Rattle.zarr_basics_grids.proofs.LimitLaws as limits
-use Rattle.zarr_basics_grids.proofs.RegularFacts.{sizes_are}
-use Rattle.zarr_array_parts.specs.ChunkChain.{basic_lengths}
 use Rattle.zarr_array_parts.specs.Sizes.{have_chunks, is_long_chunk, has_long_chunk}
 use Rattle.zarr_array_parts.proofs.ChunkLaws.{some_chunk, first_chunk, is_first_chunk}
 
@@ -24,10 +22,6 @@ not_above limit n h = below_or_above
 
 few_of : (n : ℕ) → is_too_large None n ≡ false → n < 2 ^ 64
 few_of n h = let few = not_above (2 ^ 64) (n + 1) h in omega (arith, few)
-
--- all chunks of a grid have its chunk shape
-pub basic_sizes : (grid : BasicGrid) (chunk : List ℕ) → IsChunk (basic_grid grid) chunk → sizes ((basic_grid grid).chunk_box chunk) ≡ basic_lengths grid
-basic_sizes (Regular grid) chunk is_chunk = sizes_are grid.array_shape.items grid.chunk_shape.items chunk grid.rank is_chunk
 
 -- where there is no chunk, none is long
 pub none_long : (grid : BasicGrid) (filler : List ℕ) → have_chunks (basic_grid grid).grid_shape ≡ false → has_long_chunk (basic_grid grid) filler ≡ false

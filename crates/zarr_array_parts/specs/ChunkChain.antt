@@ -2,9 +2,6 @@
 use Rattle.std.specs.Prelude.{◌≡◌, ℕ, false, List, map, Some}
 use Rattle.zarr_model.specs.Prelude.{sizes, count, Level, ArrayCodec, Options, IsChunk, Description, kind, fill_element, has_long_element, layout}
 use Rattle.zarrs_codec_bytes.specs.Filling.{filled_with}
-use Rattle.zarr_basics_grids.specs.RegularGrid.{nonzeros}
-use Rattle.zarr_basics_grids.specs.declared.basic_grid.BasicGrid.{BasicGrid}
-use Rattle.zarr_basics_grids.specs.declared.basic_grid.BasicGrid.TheVariants.{Regular}
 use Rattle.zarr_basics.specs.kinds.declared.array_to_array.BasicArrayToArray.{BasicArrayToArray}
 use Rattle.zarr_codecs_array_to_bytes.specs.Views.{plain_of}
 use Rattle.zarr_codecs_array_to_bytes.specs.declared.codecs.BasicArrayToBytes.{BasicArrayToBytes}
@@ -13,10 +10,6 @@ use Rattle.zarr_array_parts.specs.Document.{ArrayDocument}
 use Rattle.zarr_array_parts.specs.Chain.{array_form, byte_form}
 use Rattle.zarr_chain.specs.Chain.{Listing, Opening, first_level, first_fill, decoded}
 use Rattle.zarr_chain.specs.declared.chain.CodecChain.{CodecChain}
-
--- the lengths of the chunks of a grid, which all have the same
-abbrev pub basic_lengths : BasicGrid → List ℕ
-basic_lengths (Regular grid) = nonzeros grid.chunk_shape.items
 
 -- the level of a chunk
 abbrev pub chunk_level : Description → List ℕ → Level

@@ -8,7 +8,7 @@ ghost use Rattle.zarr_array_parts.specs.ChunkChain.{HasForms, DecodesChunks, Fil
 ghost use Rattle.zarr_array_parts.specs.Parts.{documented, described};
 ghost use Rattle.zarr_array_parts.specs.Sizes.{have_chunks};
 
-use crate::limits::{chunk_shape, has_chunks};
+use crate::limits::has_chunks;
 use crate::parts::ArrayParts;
 use std::alloc::{AllocError, Global};
 use zarr_basics::{BasicArrayToArray, BasicArrayToBytes, BasicBytesToBytes};
@@ -75,7 +75,7 @@ impl ArrayParts {
             array_codecs,
             to_bytes,
             byte_codecs,
-            chunk_shape(&self.grid),
+            self.grid.chunk_lengths(),
             &self.data_type,
             &self.fill,
         );

@@ -7,16 +7,13 @@ ghost use Rattle.zarrs_data_type_elements.specs.Pieces.{ends_in_zero};
 ghost use Rattle.zarrs_data_type.specs.DataType.{type_of};
 ghost use Rattle.zarrs_codec_bytes.specs.Filling.{innermost_fill};
 ghost use Rattle.zarrs_codec_array_bytes.specs.Steps.{kind_seen};
-ghost use Rattle.zarrs_codec_traits.specs.Views.{lengths};
 ghost use Rattle.zarr_basics_grids.specs.BasicGrid.{basic_grid};
 ghost use Rattle.zarr_basics_grids.specs.Limits.{has_large_chunk};
 ghost use Rattle.zarr_codecs_array_to_bytes.specs.Plain.{unserved_by};
 ghost use Rattle.zarr_codecs_array_to_bytes.specs.Views.{plain_of};
-ghost use Rattle.zarr_array_parts.specs.ChunkChain.{basic_lengths};
 ghost use Rattle.zarr_array_parts.specs.Opening.{is_large};
 ghost use Rattle.zarr_array_parts.specs.Sizes.{have_chunks, has_long_chunk};
 
-use std::num::NonZeroU64;
 use zarr_basics::{BasicArrayToBytes, BasicGrid};
 use zarrs_chunk_grid_traits::ChunkGridTraits;
 use zarrs_codec_array_bytes::array_bytes::step::{Step, step_of};
@@ -26,15 +23,6 @@ use zarrs_data_type_elements::ends_in_zero;
 
 // What stands in 4 bytes is less.
 const LONG: u64 = 1 << 32;
-
-/// The shape of the chunks of a grid, which all have one.
-pub(crate) fn chunk_shape(grid: &BasicGrid) -> &[NonZeroU64]
-    ensures { lengths result.now ≡ basic_lengths grid.now }
-{
-    match grid {
-        BasicGrid::Regular(grid) => &grid.chunk_shape,
-    }
-}
 
 /// Whether a grid has a chunk.
 pub(crate) fn has_chunks(grid: &BasicGrid) -> bool
@@ -74,7 +62,7 @@ fn has_long_chunk(grid: &BasicGrid, fill: &[u8]) -> bool
     if !has_chunks(grid) {
         return false;
     }
-    LONG <= num_elements(chunk_shape(grid)) || LONG <= fill.len() as u64
+    LONG <= num_elements(grid.chunk_lengths()) || LONG <= fill.len() as u64
 }
 
 /// Whether some chunk can't be held or addressed, or its lengths can't be stored where they have to be.

@@ -4,3 +4,4 @@ pub mod RegularFacts
 pub mod LimitLaws
 pub mod MakingLaws
 pub mod ConfigurationLaws
+pub mod BasicLaws

@@ -18,6 +18,10 @@ basic_form (Regular grid) = form_of_regular grid
 abbrev pub basic_grid : BasicGrid → Grid
 basic_grid grid = grid_of (basic_shape grid) (basic_form grid)
 
+-- the lengths of its chunks, which all have the same
+abbrev pub basic_lengths : BasicGrid → List ℕ
+basic_lengths (Regular grid) = nonzeros grid.chunk_shape.items
+
 -- the members of its configuration
 abbrev pub basic_members : BasicGrid → Members
 basic_members (Regular grid) = chunk_shape_members (nonzeros grid.chunk_shape.items)

@@ -1,9 +1,10 @@
 //! The chunk grids of this library as one type.
 
-ghost use Rattle.std.specs.Prelude.{◌≡◌, ℕ, Option};
+ghost use Rattle.std.specs.Prelude.{◌≡◌, ℕ, List, Option};
 
 use crate::regular_grid::RegularGrid;
 use std::alloc::{AllocError, Global};
+use std::num::NonZeroU64;
 use zarrs_array_subset::{ArrayIndices, ArraySubset, ChunkShape};
 use zarrs_chunk_grid_traits::{ChunkGridError, ChunkGridTraits};
 use zarrs_metadata_parts::{Configuration, MetadataV3};
@@ -17,8 +18,22 @@ pub enum BasicGrid {
 }
 
 impl BasicGrid {
-    ghost use Rattle.zarr_basics_grids.specs.BasicGrid.{basic_grid};
+    ghost use Rattle.zarr_model.specs.Prelude.{sizes, IsChunk};
+    ghost use Rattle.zarr_basics_grids.specs.BasicGrid.{basic_grid, basic_lengths};
     ghost use Rattle.zarr_basics_grids.specs.Limits.{has_large_chunk};
+    ghost use Rattle.zarr_basics_grids.specs.RegularGrid.{nonzeros};
+
+    /// The length of each dimension of a chunk, which is the same for all chunks.
+    #[tactic(auto, using(crate::proofs::BasicLaws::basic_sizes))]
+    pub fn chunk_lengths(&self) -> &[NonZeroU64]
+        ensures lengths { nonzeros result.now ≡ basic_lengths self.now }
+        ensures chunks { (chunk : List ℕ) → IsChunk (basic_grid self.now) chunk
+            → sizes ((basic_grid self.now).chunk_box chunk) ≡ nonzeros result.now }
+    {
+        match self {
+            BasicGrid::Regular(grid) => &grid.chunk_shape,
+        }
+    }
 
     /// Whether some chunk is too large for elements of a size: its box ends past `u64`, or the number of its elements
     /// plus one, or their number times the size, passes `usize`.

@@ -1,12 +1,16 @@
-//! A caller of every chunk grid, from the trait's members alone.
+//! Callers of every chunk grid, from the trait's members alone, and of the grids of documents.
 
-ghost use Rattle.std.specs.Prelude.{IfOk, IfSome, IsTrue};
+ghost use Rattle.std.specs.Prelude.{◌≡◌, false, Some, IfOk, IfSome, IsTrue};
+ghost use Rattle.zarr_basics_grids.specs.BasicGrid.{basic_grid};
+ghost use Rattle.zarr_basics_grids.specs.Limits.{has_large_chunk};
 ghost use Rattle.zarrs_chunk_grid.specs.ArraySubset.{region};
 ghost use Rattle.zarrs_chunk_grid.specs.ChunkGrid.{AllFit};
 ghost use Rattle.zarrs_chunk_grid.specs.Region.{contains};
 
 use std::alloc::Global;
-use zarrs_chunk_grid::{ArraySubset, ChunkGridError, ChunkGridTraits};
+use zarr_basics::{BasicGrid, GridKind};
+use zarrs_chunk_grid::{ArraySubset, ChunkGridError, ChunkGridTraits, GridMaker};
+use zarrs_metadata_parts::MetadataV3;
 
 /// The box of the chunk that has the element at these indices.
 pub fn box_of_element<G: ChunkGridTraits>(
@@ -25,4 +29,15 @@ pub fn box_of_element<G: ChunkGridTraits>(
         Ok(None) => Ok(None),
         Err(error) => Err(error),
     }
+}
+
+/// The grid that metadata denotes over an array's shape, if none of its chunks is too large for elements of 8 bytes.
+pub fn small_grid(alloc: Global, metadata: &MetadataV3, shape: &[u64]) -> Option<BasicGrid>
+    ensures { IfSome result (λ g. has_large_chunk (basic_grid g) (Some 8) ≡ false) }
+{
+    let grid = GridKind::Regular.make(alloc, metadata, shape).ok()?;
+    if grid.has_large_chunk(Some(8)) {
+        return None;
+    }
+    Some(grid)
 }

@@ -12,26 +12,26 @@ use Rattle.zarr_array_parts.proofs.parts.ArrayParts.chain.Goals as goal
 pub build-built-requires-clause-fits : goal.build-built-requires-clause-fits
 build-built-requires-clause-fits c =
     let array = c.args.self.now in
-    shape_fits array (lengths c.chunk_shape.result.now) c.requires.some (chunk_sizes array (lengths c.chunk_shape.result.now) c.chunk_shape.ensures)
+    shape_fits array (lengths c.chunk_lengths.result.now) c.requires.some (chunk_sizes array (lengths c.chunk_lengths.result.now) c.chunk_lengths.ensures.lengths)
 
 pub no_memory-requires : goal.no_memory-requires
 no_memory-requires c =
     let array = c.args.self.now in
     not_built array.array_codecs.items c.in_ok-array_codecs.array_codecs.items array.to_bytes c.in_ok-to_bytes.to_bytes array.byte_codecs.items
-    (level_of c.chunk_shape.result.now array.data_type array.fill) (fill_bytes array.fill) c.in-Err.error
+    (level_of c.chunk_lengths.result.now array.data_type array.fill) (fill_bytes array.fill) c.in-Err.error
     array.served (c.in_ok-array_codecs.ensures ∙ c.deref.ensures.value) c.in_ok-to_bytes.ensures c.in-Err.ensures.exact
 
 pub returns-in-Ok-clause-takes : goal.returns-in-Ok-clause-takes
 returns-in-Ok-clause-takes c =
     let array = c.args.self.now in
-    takes_chunks (λ codec dims type fill. offset_unserved type) (λ codec dims type fill. plain_unserved (plain_of codec) type) array (lengths c.chunk_shape.result.now) c.in-Ok.chain c.requires.some
-    (chunk_sizes array (lengths c.chunk_shape.result.now) c.chunk_shape.ensures) c.in-Ok.ensures.served (ap (λ (l : Level). l.shape) c.in-Ok.ensures.first)
+    takes_chunks (λ codec dims type fill. offset_unserved type) (λ codec dims type fill. plain_unserved (plain_of codec) type) array (lengths c.chunk_lengths.result.now) c.in-Ok.chain c.requires.some
+    (chunk_sizes array (lengths c.chunk_lengths.result.now) c.chunk_lengths.ensures.lengths) c.in-Ok.ensures.served (ap (λ (l : Level). l.shape) c.in-Ok.ensures.first)
     (ap plain_of c.in-Ok.ensures.held.bottom ∙ c.in_ok-to_bytes.ensures)
 
 pub returns-in-Ok-clause-chunks : goal.returns-in-Ok-clause-chunks
 returns-in-Ok-clause-chunks c =
     let array = c.args.self.now in
-    decodes_chunks array_means bytes_mean byte_means array (lengths c.chunk_shape.result.now) c.in-Ok.chain (chunk_sizes array (lengths c.chunk_shape.result.now) c.chunk_shape.ensures)
+    decodes_chunks array_means bytes_mean byte_means array (lengths c.chunk_lengths.result.now) c.in-Ok.chain (chunk_sizes array (lengths c.chunk_lengths.result.now) c.chunk_lengths.ensures.lengths)
     c.in-Ok.ensures.first
     (λ options. c.in-Ok.ensures.codecs options ∙ chain_means array c.in_ok-array_codecs.array_codecs.items c.in_ok-to_bytes.to_bytes c.in_ok-byte_codecs.byte_codecs.items
     (c.in_ok-array_codecs.ensures ∙ c.deref.ensures.value) c.in_ok-to_bytes.ensures (c.in_ok-byte_codecs.ensures ∙ c.deref-2.ensures.value) options)
