@@ -13,7 +13,7 @@ use zarrs_storage::{ByteRange, extract_byte_ranges};
 /// The bytes of each range of a value in memory.
 ///
 /// # Errors
-/// [`CodecError::InvalidByteRangeError`] with the first range that is not valid, or [`CodecError::OutOfMemory`].
+/// [`CodecError::InvalidByteRangeError`] exactly where a range is not valid, or [`CodecError::OutOfMemory`].
 #[tactic(auto, using(crate::proofs::PartLaws::slices_given, crate::proofs::PartLaws::fault_told))]
 pub fn parts_in_memory(
     alloc: Global,

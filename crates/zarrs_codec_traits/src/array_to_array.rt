@@ -45,13 +45,16 @@ pub trait ArrayToArrayCodecTraits: ArrayCodecTraits + Sized {
     ghost shape_above: { Self → List ℕ → Option (List ℕ) };
 
     /// The codec with options of its own, by default the same. It serves and decodes as before, with the same
-    /// level, fill value and regions below and the same shape above.
+    /// level, fill value and regions below and the same shape above, and is written as before.
     fn with_codec_specific_options(self, _options: &CodecSpecificOptions) -> Self
         ensures meaning { meaning result ≡ meaning self }
         ensures fill { fill_below result ≡ fill_below self }
         ensures region { region_below result ≡ region_below self }
         ensures shape { shape_above result ≡ shape_above self }
         ensures unserved { Self.unserved result ≡ Self.unserved self }
+        ensures written { Self.written result ≡ Self.written self }
+        ensures decodes_parts { Self.decodes_parts result ≡ Self.decodes_parts self }
+        ensures encodes_parts { Self.encodes_parts result ≡ Self.encodes_parts self }
     {
         self
     }

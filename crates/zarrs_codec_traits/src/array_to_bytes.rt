@@ -65,7 +65,7 @@ pub trait ArrayToBytesCodecTraits: ArrayCodecTraits + Sized {
     ghost compacts: { Self → Bool };
 
     /// The codec with options of its own, by default the same. It serves, refuses and decodes as before, asks for the
-    /// same ranges, and tells the same number of bytes.
+    /// same ranges, tells the same number of bytes, and is written as before.
     fn with_codec_specific_options(self, _options: &CodecSpecificOptions) -> Self
         ensures meaning { meaning result ≡ meaning self }
         ensures says { (under : Options) (level : Level) (value : List ℕ) (e : CodecError)
@@ -76,6 +76,9 @@ pub trait ArrayToBytesCodecTraits: ArrayCodecTraits + Sized {
         ensures representation { representation result ≡ representation self }
         ensures compacts { compacts result ≡ compacts self }
         ensures unserved { Self.unserved result ≡ Self.unserved self }
+        ensures written { Self.written result ≡ Self.written self }
+        ensures decodes_parts { Self.decodes_parts result ≡ Self.decodes_parts self }
+        ensures encodes_parts { Self.encodes_parts result ≡ Self.encodes_parts self }
     {
         self
     }

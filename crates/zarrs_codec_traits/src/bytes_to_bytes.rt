@@ -29,11 +29,16 @@ pub trait BytesToBytesCodecTraits: CodecTraits + Sized {
 
     ghost concurrency: { Self → BytesRepresentation → RecommendedConcurrency };
 
-    /// The codec with options of its own, by default the same. It decodes as before.
+    /// The codec with options of its own, by default the same. It decodes as before, tells the same number of bytes, and
+    /// is written as before.
     fn with_codec_specific_options(self, _options: &CodecSpecificOptions) -> Self
         ensures meaning { meaning result ≡ meaning self }
         ensures says { (under : Options) (value : List ℕ) (e : CodecError)
             → says result under value e → says self under value e }
+        ensures representation { representation result ≡ representation self }
+        ensures written { Self.written result ≡ Self.written self }
+        ensures decodes_parts { Self.decodes_parts result ≡ Self.decodes_parts self }
+        ensures encodes_parts { Self.encodes_parts result ≡ Self.encodes_parts self }
     {
         self
     }
