@@ -2,6 +2,6 @@ pub mod ShareLaws
 pub mod JoinLaws
 pub mod MeansLaws
 pub mod PutLaws
-pub mod FixedLemmas
+pub mod PlacedLaws
 pub mod GatherLemmas
 pub mod HeldLaws

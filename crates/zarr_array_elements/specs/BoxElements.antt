@@ -1,13 +1,13 @@
 -- What a box of elements holds.
 use Rattle.std.specs.Prelude.{List}
 use Rattle.zarr_model.specs.Region.{Region, count}
-use Rattle.zarr_model.specs.Element.{Element, Kind, fixed}
+use Rattle.zarr_model.specs.Element.{Element, Kind}
 use Rattle.zarrs_array_subset.specs.ArraySubset.{region}
-use Rattle.zarrs_codec_bytes.specs.Elements.{fixed_elements}
 use Rattle.zarrs_codec_bytes.specs.Picking.{replaced}
 use Rattle.zarrs_codec_array_bytes.specs.Raw.{raw_of}
 use Rattle.zarrs_codec_array_bytes.specs.Steps.{kind_seen}
-use Rattle.zarr_array_elements.specs.Elements.{blanks}
+use Rattle.zarr_array_elements.specs.Elements.{list_in, blanks}
+use Rattle.zarr_array_elements.specs.Placed.{placed_bytes}
 use Rattle.zarr_array_elements.specs.Given.{given_indices, given_list}
 use Rattle.zarr_array_elements.specs.declared.fixed.FixedBox.{FixedBox}
 use Rattle.zarr_array_elements.specs.declared.listed.ListedBox.{ListedBox}
@@ -15,9 +15,16 @@ use Rattle.zarr_array_elements.specs.declared.box_elements.Held.{Held}
 use Rattle.zarr_array_elements.specs.declared.box_elements.Held.TheVariants as held
 use Rattle.zarr_array_elements.specs.declared.box_elements.BoxElements.{BoxElements}
 
--- elements of one size
+-- the kind, the box and the list of elements of one size
+abbrev pub fixed_kind : FixedBox → Kind
+fixed_kind elements = kind_seen elements.data_type.now
+
+abbrev pub fixed_box : FixedBox → Region
+fixed_box elements = region elements.subset.now
+
 abbrev pub fixed_list : FixedBox → List Element
-fixed_list elements = fixed_elements elements.size elements.bytes.items
+fixed_list elements =
+    list_in (fixed_kind elements) (fixed_box elements) (placed_bytes elements.elements)
 
 -- the kind, the box and the list of elements of any kind
 abbrev pub listed_kind : ListedBox → Kind
@@ -33,11 +40,11 @@ listed_list elements =
 
 -- the same of either
 abbrev pub held_kind : Held → Kind
-held_kind (held.Fixed elements) = fixed elements.size
+held_kind (held.Fixed elements) = fixed_kind elements
 held_kind (held.Listed elements) = listed_kind elements
 
 abbrev pub held_box : Held → Region
-held_box (held.Fixed elements) = region elements.subset.now
+held_box (held.Fixed elements) = fixed_box elements
 held_box (held.Listed elements) = listed_box elements
 
 abbrev pub held_list : Held → List Element

@@ -3,4 +3,5 @@ pub mod Shared
 pub mod Joined
 pub mod Grown
 pub mod Given
+pub mod Placed
 pub mod BoxElements

@@ -12,11 +12,12 @@ ghost use Rattle.zarrs_codec_array_bytes.specs.Raw.{raw_of};
 ghost use Rattle.zarrs_codec_array_bytes.specs.Steps.{kind_seen, bytes_seen};
 ghost use Rattle.zarr_array_elements.specs.Elements.{list_in};
 
-use crate::fixed::{FixedBox, plain_size};
+use crate::fixed::FixedBox;
 use crate::listed::ListedBox;
 use std::alloc::{AllocError, Global};
 use zarrs_array_subset::ArraySubset;
 use zarrs_codec_array_bytes::ArrayBytes;
+use zarrs_codec_array_bytes::array_bytes::step::element_size;
 use zarrs_data_type_elements::FillValue;
 use zarrs_data_type_names::DataType;
 
@@ -56,20 +57,16 @@ impl<'a> BoxElements<'a> {
             → fill_element (kind_seen data_type.now) (fill_bytes fill_value.now) ≡ Some x
             → IfOk result (λ v. list_held v ≡ replicate (count (region subset.now)) x) }
     {
-        match plain_size(data_type) {
-            Some(size) => {
-                let elements = FixedBox::filled(alloc, size, fill_value, subset)?;
-                Ok(BoxElements {
-                    held: Held::Fixed(elements),
-                })
-            }
-            None => {
-                let elements = ListedBox::filled(alloc, data_type, fill_value, subset)?;
-                Ok(BoxElements {
-                    held: Held::Listed(elements),
-                })
-            }
+        if element_size(data_type) == 0 {
+            let elements = ListedBox::filled(alloc, data_type, fill_value, subset)?;
+            return Ok(BoxElements {
+                held: Held::Listed(elements),
+            });
         }
+        let elements = FixedBox::filled(alloc, data_type, fill_value, subset)?;
+        Ok(BoxElements {
+            held: Held::Fixed(elements),
+        })
     }
 
     /// Takes the elements that bytes over another box share with this one. After an error the elements are whatever
@@ -113,7 +110,7 @@ impl<'a> BoxElements<'a> {
             (raw_of v) ≡ Some (list_held self.entry)) }
     {
         match self.held {
-            Held::Fixed(elements) => Ok(elements.into_bytes()),
+            Held::Fixed(elements) => elements.into_bytes(alloc),
             Held::Listed(elements) => elements.into_bytes(alloc),
         }
     }

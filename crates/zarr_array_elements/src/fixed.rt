@@ -1,199 +1,120 @@
 //! Elements of one size over a box.
 
-ghost use Rattle.std.specs.Prelude.{◌≡◌, ◌*◌, ◌<◌, ◌^◌, Some, IsSome, length, replicate, IfOk, IfSome};
+ghost use Rattle.std.specs.Prelude.{◌≡◌, ◌+◌, ◌*◌, ◌<◌, ◌^◌, false, Some, IsSome, length, replicate, IfOk};
 ghost use Rattle.zarr_model.specs.Region.{count};
-ghost use Rattle.zarr_model.specs.Element.{Element, fixed, fill_element};
+ghost use Rattle.zarr_model.specs.Element.{Element, fill_element};
 ghost use Rattle.zarr_model.specs.ArrayBytes.{meaning};
+ghost use Rattle.zarr_model.specs.Command.{has_long_element};
 ghost use Rattle.zarrs_array_subset.specs.ArraySubset.{region};
 ghost use Rattle.zarrs_data_type_elements.specs.FillValue.{fill_bytes};
-ghost use Rattle.zarrs_codec_bytes.specs.Elements.{fixed_elements};
 ghost use Rattle.zarrs_codec_bytes.specs.Overlap.{Copied};
 ghost use Rattle.zarrs_codec_array_bytes.specs.Raw.{raw_of};
-ghost use Rattle.zarrs_codec_array_bytes.specs.Steps.{kind_seen};
+ghost use Rattle.zarrs_codec_array_bytes.specs.Steps.{kind_seen, bytes_seen};
 ghost use Rattle.zarr_array_elements.specs.Elements.{list_in, PutsOverlap};
+ghost use Rattle.zarr_array_elements.specs.Placed.{placed_bytes};
 
+use crate::placed::{Placed, filled_places, into_array_bytes, placed_from, put_elements};
 use std::alloc::{AllocError, Global};
-use std::borrow::CowSlice;
 use zarrs_array_subset::ArraySubset;
 use zarrs_codec_array_bytes::ArrayBytes;
-use zarrs_codec_array_bytes::array_bytes::bytes_in;
-use zarrs_codec_array_bytes::array_bytes::step::{Step, step_of};
-use zarrs_codec_bytes::fill::filled;
-use zarrs_codec_bytes::overlap::copy_elements;
 use zarrs_data_type_elements::FillValue;
 use zarrs_data_type_names::DataType;
-
-/// The size of a data type's elements in bytes, if they are bytes of one size that is not 0.
-pub(crate) fn plain_size(data_type: &DataType) -> Option<usize>
-    ensures some { IfSome result (λ size. 0 < size) }
-    ensures kind { IfSome result (λ size. kind_seen data_type.now ≡ fixed size) }
-{
-    match step_of(data_type) {
-        Step::Fixed(size) => {
-            if size == 0 {
-                return None;
-            }
-            Some(size)
-        }
-        Step::Variable => None,
-        Step::Optional(_) => None,
-    }
-}
-
-// The bytes of elements of one size.
-fn plain_bytes<'b>(bytes: &'b ArrayBytes<'_>, size: usize, subset: &ArraySubset) -> &'b [u8]
-    requires some { 0 < size }
-    requires means { IsSome
-        (meaning (fixed size) (count (region subset.now)) (raw_of bytes.now)) }
-    ensures long { length result.now ≡ count (region subset.now) * size }
-    ensures list { list_in (fixed size) (region subset.now) (raw_of bytes.now)
-        ≡ fixed_elements size result.now }
-{
-    match bytes {
-        ArrayBytes::Fixed(value) => bytes_in(value),
-        ArrayBytes::Variable(_) => unreachable!(),
-        ArrayBytes::Optional(_) => unreachable!(),
-    }
-}
-
-// The same, owned.
-fn into_plain(
-    alloc: Global,
-    bytes: ArrayBytes<'static>,
-    size: usize,
-    subset: &ArraySubset,
-) -> Result<Vec<u8>, AllocError>
-    requires some { 0 < size }
-    requires means { IsSome (meaning (fixed size) (count (region subset.now)) (raw_of bytes)) }
-    ensures long { IfOk result (λ v. length v.items ≡ count (region subset.now) * size) }
-    ensures list { IfOk result (λ v.
-        list_in (fixed size) (region subset.now) (raw_of bytes.entry)
-        ≡ fixed_elements size v.items) }
-{
-    match bytes {
-        ArrayBytes::Fixed(value) => {
-            let value = value.into_owned(alloc)?;
-            Ok(value)
-        }
-        ArrayBytes::Variable(_) => unreachable!(),
-        ArrayBytes::Optional(_) => unreachable!(),
-    }
-}
-
-// Copies the elements that two boxes share.
-fn copy_into(
-    target: &mut Vec<u8>,
-    target_subset: &ArraySubset,
-    source: &[u8],
-    source_subset: &ArraySubset,
-    size: usize,
-)
-    requires some { 0 < size }
-    requires rank { length (region target_subset.now) ≡ length (region source_subset.now) }
-    requires target_long { length target.old.items ≡ count (region target_subset.now) * size }
-    requires source_long { length source.now ≡ count (region source_subset.now) * size }
-    ensures as_long { length target.new.items ≡ length target.old.items }
-    ensures copied { Copied (region target_subset.now) (region source_subset.now)
-        (fixed_elements size source.now) (fixed_elements size target.old.items)
-        (fixed_elements size target.new.items) }
-{
-    copy_elements(
-        target.as_mut_slice(),
-        target_subset,
-        source,
-        source_subset,
-        size,
-    );
-}
 
 /// A chunk of elements of one size, with those that a box shares with it replaced.
 pub(crate) fn put_fixed(
     alloc: Global,
-    size: usize,
+    data_type: &DataType,
     chunk: ArrayBytes<'static>,
     chunk_subset: &ArraySubset,
     bytes: &ArrayBytes<'_>,
     subset: &ArraySubset,
 ) -> Result<ArrayBytes<'static>, AllocError>
-    requires some { 0 < size }
+    requires some { 0 < bytes_seen data_type.now }
     requires rank { length (region chunk_subset.now) ≡ length (region subset.now) }
-    requires chunk_means { IsSome
-        (meaning (fixed size) (count (region chunk_subset.now)) (raw_of chunk)) }
-    requires means { IsSome
-        (meaning (fixed size) (count (region subset.now)) (raw_of bytes.now)) }
-    ensures { IfOk result (λ v. PutsOverlap (fixed size) (region chunk_subset.now)
-        (region subset.now) (raw_of bytes.now) (raw_of chunk.entry) (raw_of v)) }
+    requires chunk_means { IsSome (meaning (kind_seen data_type.now)
+        (count (region chunk_subset.now)) (raw_of chunk)) }
+    requires means { IsSome (meaning (kind_seen data_type.now)
+        (count (region subset.now)) (raw_of bytes.now)) }
+    ensures puts { IfOk result (λ v. PutsOverlap (kind_seen data_type.now)
+        (region chunk_subset.now) (region subset.now) (raw_of bytes.now) (raw_of chunk.entry)
+        (raw_of v)) }
+    ensures short { IfOk result (λ v. has_long_element (raw_of v) ≡ false) }
 {
-    let source = plain_bytes(bytes, size, subset);
-    let mut value = into_plain(alloc, chunk, size, chunk_subset)?;
-    copy_into(&mut value, chunk_subset, source, subset, size);
-    Ok(ArrayBytes::Fixed(CowSlice::Owned(value)))
+    let mut elements = placed_from(alloc, chunk)?;
+    put_elements(&mut elements, data_type, chunk_subset, bytes, subset);
+    into_array_bytes(elements, alloc)
 }
 
-/// Elements of one size over a box, in row-major order.
+/// Elements of one size, optional or not, over a box.
 #[derive(Drop)]
 pub(crate) struct FixedBox<'a> {
+    pub(crate) data_type: &'a DataType,
     pub(crate) subset: &'a ArraySubset,
-    pub(crate) size: usize,
-    pub(crate) bytes: Vec<u8>,
-    ghost some: { 0 < size },
-    ghost long: { length bytes.items ≡ count (region subset.now) * size },
+    pub(crate) elements: Placed,
+    ghost some: { 0 < bytes_seen data_type.now },
+    ghost means: { IsSome (meaning (kind_seen data_type.now) (count (region subset.now))
+        (placed_bytes elements)) },
 }
 
 impl<'a> FixedBox<'a> {
-    ghost use Rattle.zarr_array_elements.specs.BoxElements.{fixed_list};
+    ghost use Rattle.zarr_array_elements.specs.BoxElements.{fixed_kind, fixed_box, fixed_list};
 
-    /// A box whose elements are all the fill value.
+    /// A box whose elements are all the fill value. The memory of all its elements is taken here.
     pub(crate) fn filled(
         alloc: Global,
-        size: usize,
+        data_type: &'a DataType,
         fill_value: &FillValue,
         subset: &'a ArraySubset,
     ) -> Result<FixedBox<'a>, AllocError>
-        requires some { 0 < size }
-        requires denotes { IsSome (fill_element (fixed size) (fill_bytes fill_value.now)) }
-        requires count { count (region subset.now) < 2 ^ 64 }
-        requires bytes { count (region subset.now) * size < 2 ^ 64 }
-        ensures size { IfOk result (λ v. v.size ≡ size) }
-        ensures subset { IfOk result (λ v. region v.subset.now ≡ region subset.now) }
+        requires some { 0 < bytes_seen data_type.now }
+        requires denotes { IsSome (fill_element (kind_seen data_type.now)
+            (fill_bytes fill_value.now)) }
+        requires count { count (region subset.now) + 1 < 2 ^ 64 }
+        requires bytes { count (region subset.now) * bytes_seen data_type.now < 2 ^ 64 }
+        ensures kind { IfOk result (λ v. fixed_kind v ≡ kind_seen data_type.now) }
+        ensures subset { IfOk result (λ v. fixed_box v ≡ region subset.now) }
         ensures elements { (x : Element)
-            → fill_element (fixed size) (fill_bytes fill_value.now) ≡ Some x
+            → fill_element (kind_seen data_type.now) (fill_bytes fill_value.now) ≡ Some x
             → IfOk result (λ v. fixed_list v ≡ replicate (count (region subset.now)) x) }
     {
-        let count = subset.num_elements() as usize;
-        let bytes = filled(alloc, fill_value.as_ne_bytes(), count)?;
+        let elements = filled_places(alloc, data_type, subset.num_elements(), fill_value)?;
         Ok(FixedBox {
+            data_type,
             subset,
-            size,
-            bytes,
+            elements,
         })
     }
 
     /// Takes the elements that bytes over another box share with this one.
     pub(crate) fn put(&mut self, bytes: &ArrayBytes<'_>, subset: &ArraySubset)
-        requires rank { length (region self.old.subset.now) ≡ length (region subset.now) }
+        requires rank { length (fixed_box self.old) ≡ length (region subset.now) }
         requires means { IsSome
-            (meaning (fixed self.old.size) (count (region subset.now)) (raw_of bytes.now)) }
-        ensures size { self.new.size ≡ self.old.size }
-        ensures subset { self.new.subset ≡ self.old.subset }
-        ensures copied { Copied (region self.old.subset.now) (region subset.now)
-            (list_in (fixed self.old.size) (region subset.now) (raw_of bytes.now))
+            (meaning (fixed_kind self.old) (count (region subset.now)) (raw_of bytes.now)) }
+        ensures kind { fixed_kind self.new ≡ fixed_kind self.old }
+        ensures subset { fixed_box self.new ≡ fixed_box self.old }
+        ensures copied { Copied (fixed_box self.old) (region subset.now)
+            (list_in (fixed_kind self.old) (region subset.now) (raw_of bytes.now))
             (fixed_list self.old) (fixed_list self.new) }
     {
-        let source = plain_bytes(bytes, self.size, subset);
-        copy_into(&mut self.bytes, self.subset, source, subset, self.size);
+        put_elements(
+            &mut self.elements,
+            self.data_type,
+            self.subset,
+            bytes,
+            subset,
+        );
     }
 
-    /// The elements as array bytes.
-    pub(crate) fn into_bytes(self) -> ArrayBytes<'static>
-        ensures { meaning (fixed self.entry.size) (count (region self.entry.subset.now))
-            (raw_of result) ≡ Some (fixed_list self.entry) }
+    /// The elements as array bytes, in the same memory.
+    pub(crate) fn into_bytes(self, alloc: Global) -> Result<ArrayBytes<'static>, AllocError>
+        ensures { IfOk result (λ v. meaning (fixed_kind self.entry)
+            (count (fixed_box self.entry)) (raw_of v) ≡ Some (fixed_list self.entry)) }
     {
         let FixedBox {
+            data_type: _,
             subset: _,
-            size: _,
-            bytes,
+            elements,
         } = self;
-        ArrayBytes::Fixed(CowSlice::Owned(bytes))
+        into_array_bytes(elements, alloc)
     }
 }

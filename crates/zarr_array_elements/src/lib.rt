@@ -8,6 +8,7 @@ mod given;
 mod grown;
 mod listed;
 mod overlap;
+mod placed;
 mod shared;
 
 pub use box_elements::BoxElements;

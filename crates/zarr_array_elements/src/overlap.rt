@@ -11,11 +11,12 @@ ghost use Rattle.zarrs_codec_array_bytes.specs.Raw.{raw_of};
 ghost use Rattle.zarrs_codec_array_bytes.specs.Steps.{kind_seen, bytes_seen, size_seen};
 ghost use Rattle.zarr_array_elements.specs.Elements.{list_in, PutsOverlap};
 
-use crate::fixed::{plain_size, put_fixed};
+use crate::fixed::put_fixed;
 use crate::shared::{part_in, piece_in, shared_part};
 use std::alloc::{AllocError, Global};
 use zarrs_array_subset::ArraySubset;
 use zarrs_codec_array_bytes::ArrayBytes;
+use zarrs_codec_array_bytes::array_bytes::step::element_size;
 use zarrs_codec_array_bytes_update::update_array_bytes;
 use zarrs_data_type_names::DataType;
 use zarrs_metadata_parts::DataTypeSize;
@@ -98,8 +99,8 @@ pub fn put_overlap(
         → has_long_element (raw_of chunk.entry) ≡ false
         → IfOk result (λ v. has_long_element (raw_of v) ≡ false) }
 {
-    match plain_size(data_type) {
-        Some(size) => put_fixed(alloc, size, chunk, chunk_subset, bytes, subset),
-        None => put_listed(alloc, data_type, &chunk, chunk_subset, bytes, subset),
+    if element_size(data_type) == 0 {
+        return put_listed(alloc, data_type, &chunk, chunk_subset, bytes, subset);
     }
+    put_fixed(alloc, data_type, chunk, chunk_subset, bytes, subset)
 }

@@ -1,10 +1,19 @@
-use Rattle.std.proofs.Common.{◌∙◌}
+use Rattle.std.proofs.Common.{is_some, ap, ◌∙◌}
+use Rattle.std.proofs.lemmas.Result.{IfOk-weaker}
+use Rattle.zarr_model.specs.Region.{count}
+use Rattle.zarr_model.specs.Command.{has_long_element}
 use Rattle.zarrs_array_subset.specs.ArraySubset.{region}
 use Rattle.zarrs_codec_array_bytes.specs.Raw.{raw_of}
-use Rattle.zarr_array_elements.proofs.FixedLemmas.{puts_fixed}
+use Rattle.zarrs_codec_array_bytes.specs.Steps.{kind_seen}
+use Rattle.zarr_array_elements.specs.Placed.{placed_bytes}
+use Rattle.zarr_array_elements.proofs.PlacedLaws.{fixed_means, fixed_short}
 use Rattle.zarr_array_elements.proofs.fixed.put_fixed.Goals as goal
 
-pub returns : goal.returns
-returns c =
-    puts_fixed c.args.size (region c.args.chunk_subset.now) (region c.args.subset.now) (raw_of c.args.bytes.now) (raw_of c.args.chunk) c.plain_bytes-source.result.now c.in_ok-value.value.items c.copy_into.new.target.items
-    c.requires.some c.plain_bytes-source.ensures.list c.in_ok-value.ensures.list (c.copy_into.ensures.as_long ∙ c.in_ok-value.ensures.long) c.copy_into.ensures.copied
+pub placed_from-requires : goal.placed_from-requires
+placed_from-requires c = fixed_means (kind_seen c.args.data_type.now) (count (region c.args.chunk_subset.now)) (raw_of c.args.chunk) c.requires.some c.requires.chunk_means
+
+pub returns-clause-short : goal.returns-clause-short
+returns-clause-short c =
+    IfOk-weaker c.into_array_bytes.result _ _ (λ v e. ap has_long_element e ∙ fixed_short (placed_bytes c.put_elements.new.into)
+    (fixed_means (kind_seen c.args.data_type.now) (count (region c.args.chunk_subset.now)) (placed_bytes c.put_elements.new.into) c.requires.some (ap is_some c.put_elements.ensures.held)))
+    c.into_array_bytes.ensures
