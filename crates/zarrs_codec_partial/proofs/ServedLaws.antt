@@ -1,9 +1,9 @@
 -- What is said of a level that a codec does not serve.
-use Rattle.std.proofs.Common.{◌≡◌, ◌⊎◌, ◌∙◌, ap, Bool, true, Option, Some, None, option_map, Result, Ok, Err, inl, inr, ⊎_elim}
+use Rattle.std.proofs.Common.{◌≡◌, ◌⊎◌, ◌∙◌, ap, Bool, true, Option, Some, None, option_map, Ok, Err, inr, ⊎_elim}
 use Rattle.zarrs_codec_error.specs.declared.error.CodecError.{CodecError}
 use Rattle.zarrs_codec_error.specs.declared.error.CodecError.TheVariants as codec
 use Rattle.zarrs_codec_array_bytes.specs.Refusals.{Told, fine, told_by, first_answer}
-use Rattle.zarrs_codec_traits.specs.Errors.{Unserved, unserved_error, IsNoFault, RefusesBy, Serves}
+use Rattle.zarrs_codec_traits.specs.Errors.{Unserved, IsNoFault, RefusesBy, Serves}
 use Rattle.zarrs_codec_traits.proofs.FaultLaws.{served_no_fault}
 use Rattle.zarrs_codec_partial_traits.specs.Lists.{Refused, by_codec, RefusesFor}
 use Rattle.zarrs_codec_partial_traits.proofs.NamedLaws.{refused_memory}

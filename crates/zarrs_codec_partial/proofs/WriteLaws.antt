@@ -131,15 +131,6 @@ pub encoded_served : {T : Type 0} (why : Option Unserved) (v : T) → RefusesBy 
 encoded_served None v refuses = refl
 encoded_served (Some why) v refuses = absurd refuses
 
--- a list that is kept where the fill value denotes an element is kept where it denotes none
-pub kept_any : (under : Options) (element : Option Element) (xs : List Element) → (IsSome element → true ≡ is_kept under element xs) → true ≡ is_kept under element xs
-kept_any under None xs kept = go under.store_empty_chunks
-  where
-    go : (s : Bool) → true ≡ (s || not false)
-    go true = refl
-    go false = refl
-kept_any under (Some x) xs kept = kept refl
-
 any : Options
 any = record { store_empty_chunks = true; validate_checksums = true }
 
@@ -208,42 +199,41 @@ module _ (level : Level) (fill : List ℕ) (unserved : Option Unserved) (meaning
 
   -- the value was replaced by one that decodes to these elements
   pub stores_value : {T : Type 0} (under : Options) (raw : ArrayBytes) (unencoded : List Element → CodecError → Type 0) (takes : List Element → Type 0) (Short : Type 0) (value : List ℕ) (old new : Seen) (result : Result T CodecError) → IsSound new
-      → ((list : List Element) → IsSome (fill_element (kind_of level.data_type) fill) → list_at level raw ≡ Some list → true ≡ is_kept under (fill_element (kind_of level.data_type) fill) list)
+      → ((list : List Element) → list_at level raw ≡ Some list → true ≡ is_kept under (fill_element (kind_of level.data_type) fill) list)
       → (unserved ≡ None → (under : Options) → meaning under value ≡ list_at level raw) → Writes (Some value) old new result → Unasked old new → IfErr result (IsHandleError old.shown.faults new.shown.faults)
       → ((list : List Element) → list_at level raw ≡ Some list → takes list) → unserved ≡ None → Stores under raw unencoded takes Short (see old) (see new) result
   stores_value under raw unencoded takes Short value old new result sound kept decodes writes unasked cause encoded is = record {
-    puts = λ list served filled means. subst (λ (b : Bool). PutsList b list (see old) (see new) result) (kept list filled means) (puts_value value list old new result sound (λ under. decodes is under ∙ means) writes);
+    puts = λ list served means. subst (λ (b : Bool). PutsList b list (see old) (see new) result) (kept list means) (puts_value value list old new result sound (λ under. decodes is under ∙ means) writes);
     left = λ list served means.
-        let all = kept_any under (fill_element (kind_of level.data_type) fill) list (λ filled. kept list filled means) in
-        subst (λ (b : Bool). OnErr result (IsLeft (λ other. b) (Some list) (see old) (see new))) all (puts_value value list old new result sound (λ under. decodes is under ∙ means) writes).failed;
+        subst (λ (b : Bool). OnErr result (IsLeft (λ other. b) (Some list) (see old) (see new))) (kept list means) (puts_value value list old new result sound (λ under. decodes is under ∙ means) writes).failed;
     unserved = λ some. absurd (none_some (option_map by_codec unserved) (ap (option_map by_codec) is) some);
     unchanged = written_unchanged (Some value) old new result writes;
     rest = written_rest (Some value) old new result writes;
     unasked = record { asks = unasked.asks; taken = unasked.taken };
-    cause = λ list served filled means. handle_told _ _ (unencoded list) result cause;
+    cause = λ list served means. handle_told _ _ (unencoded list) result cause;
     taken = λ list served means. was_ok result (encoded list means);
-    encoded = λ served filled few short_takes there short. cause;
+    encoded = λ served few short_takes there short. cause;
     fault = handle_faults _ _ result cause;
   }
 
   -- it was erased
   pub stores_none : {T : Type 0} (under : Options) (raw : ArrayBytes) (unencoded : List Element → CodecError → Type 0) (takes : List Element → Type 0) (Short : Type 0) (old new : Seen) (result : Result T CodecError) → IsSound new
-      → ((list : List Element) → IsSome (fill_element (kind_of level.data_type) fill) → list_at level raw ≡ Some list → false ≡ is_kept under (fill_element (kind_of level.data_type) fill) list)
+      → ((list : List Element) → list_at level raw ≡ Some list → false ≡ is_kept under (fill_element (kind_of level.data_type) fill) list)
       → Writes None old new result → Unasked old new → IfErr result (IsFault old.shown.faults new.shown.faults) → ((list : List Element) → list_at level raw ≡ Some list → takes list) → unserved ≡ None
       → Stores under raw unencoded takes Short (see old) (see new) result
   stores_none under raw unencoded takes Short old new result sound dropped writes unasked cause encoded is = record {
-    puts = λ list served filled means.
+    puts = λ list served means.
         let long = length-meaning (kind_of level.data_type) (count_of level.shape) raw list means in
-        let not_kept = dropped list filled means in
+        let not_kept = dropped list means in
         subst (λ (b : Bool). PutsList b list (see old) (see new) result) not_kept (puts_absent list old new result sound (dropped_list level fill under list long not_kept) writes);
     left = λ list served means. on_err_weaker result (λ case. ⊎_elim (λ (same : SameList (see old) (see new)). inl same) (λ (gone : IsAbsent (see new)). inr (inl gone)) case) (erases old new result sound writes).failed;
     unserved = λ some. absurd (none_some (option_map by_codec unserved) (ap (option_map by_codec) is) some);
     unchanged = written_unchanged None old new result writes;
     rest = written_rest None old new result writes;
     unasked = record { asks = unasked.asks; taken = unasked.taken };
-    cause = λ list served filled means. fault_told _ _ (unencoded list) result cause;
+    cause = λ list served means. fault_told _ _ (unencoded list) result cause;
     taken = λ list served means. was_ok result (encoded list means);
-    encoded = λ served filled few short_takes there short. fault_only _ _ result cause;
+    encoded = λ served few short_takes there short. fault_only _ _ result cause;
     fault = own_faults _ _ result cause;
   }
 
@@ -356,6 +346,10 @@ updated_fails list level old P (Err e) there told memory = go (list_at level old
 pub err_memory : {T : Type 0} (r : Result T CodecError) (told : CodecError → Type 0) → IfErr r told → ((e : CodecError) → told e → e ≡ codec.OutOfMemory) → IfErr r (λ e. e ≡ codec.OutOfMemory)
 err_memory (Ok v) told is to = tt
 err_memory (Err e) told is to = to e is
+
+pub told_first : {T : Type 0} (A B : CodecError → Type 0) (r : Result T CodecError) → IfErr r A → IfErr r (λ e. A e ⊎ B e)
+told_first A B (Ok v) told = tt
+told_first A B (Err e) told = inl told
 
 pub answers_err : {T : Type 0} (wanted : Told) (r : Result T CodecError) → Answers wanted r → IfErr r (λ e. (e ≡ codec.OutOfMemory) ⊎ (told_by e ≡ wanted))
 answers_err wanted (Ok v) is = tt

@@ -32,6 +32,14 @@ fn denotes(data_type: &DataType, fill: &[u8]) -> bool
     }
 }
 
+/// Whether a fill value denotes an element of a data type.
+pub fn is_denoted(data_type: &DataType, fill_value: &FillValue) -> bool
+    ensures { result
+        ≡ is_some (fill_element (kind_seen data_type.now) (fill_bytes fill_value.now)) }
+{
+    denotes(data_type, fill_value.as_ne_bytes())
+}
+
 /// Tests that a fill value denotes an element of a data type. One of an optional type may have the size of its type and
 /// denote none, as it has no last byte.
 ///
@@ -45,7 +53,7 @@ pub fn expect_denoted(data_type: &DataType, fill_value: &FillValue) -> Result<()
         (fill_element (kind_seen data_type.now) (fill_bytes fill_value.now) ≡ None) }
     ensures told { IfErr result (λ e. told_by e ≡ other_fill) }
 {
-    if denotes(data_type, fill_value.as_ne_bytes()) {
+    if is_denoted(data_type, fill_value) {
         return Ok(());
     }
     Err(CodecError::DataTypeFillValueError(DataTypeFillValueError))

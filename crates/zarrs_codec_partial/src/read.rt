@@ -89,7 +89,7 @@ impl<C: ArrayToBytesCodecTraits> BottomLevel<C> {
     }
 
     // The fill value for each element.
-    fn fill_whole(&self, alloc: Global) -> Result<ArrayBytes<'static>, CodecError>
+    pub(crate) fn fill_whole(&self, alloc: Global) -> Result<ArrayBytes<'static>, CodecError>
         requires fits { IsFit (bottom_level self.now).shape (bottom_level self.now).data_type }
         ensures gives { GivesAll (bottom_level self.now) (bottom_fill self.now)
             (fills (bottom_level self.now) (bottom_fill self.now)) result }

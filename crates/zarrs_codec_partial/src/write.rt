@@ -1,7 +1,7 @@
 //! Elements put into what a handle of bytes holds, by a codec with its level.
 
-ghost use Rattle.std.specs.Prelude.{◌≡◌, ℕ, ◌<◌, true, false, not, List, length, Some, None, IsSome, IfOk, IfErr, option_map};
-ghost use Rattle.zarr_model.specs.Element.{Element, Kind, kind_of, fill_element};
+ghost use Rattle.std.specs.Prelude.{◌≡◌, ◌⊎◌, ℕ, ◌<◌, true, false, not, List, length, Some, None, IsSome, IfOk, IfErr, OnOk, option_map};
+ghost use Rattle.zarr_model.specs.Element.{Element, kind_of, fill_element};
 ghost use Rattle.zarr_model.specs.ArrayBytes.{meaning};
 ghost use Rattle.zarrs_codec_array_bytes.specs.Raw.{raw_of};
 ghost use Rattle.zarrs_codec_array_bytes.specs.Refusals.{fine, validity, Answers, IfUnfit};
@@ -11,16 +11,17 @@ ghost use Rattle.zarrs_codec_array_bytes.specs.Steps.{size_seen};
 ghost use Rattle.zarrs_codec_traits.specs.Errors.{unserved_at, RefusesAs};
 ghost use Rattle.zarrs_codec_traits.specs.Views.{lengths, options_of};
 ghost use Rattle.zarrs_codec_traits.specs.Words.{list_at, IsFit};
+ghost use Rattle.zarrs_codec_held.specs.Reads.{Reads};
 ghost use Rattle.zarrs_codec_partial_traits.specs.Boxes.{is_all};
-ghost use Rattle.zarrs_codec_partial_traits.specs.Lists.{by_codec, AreFew, RefusesFor};
-ghost use Rattle.zarrs_codec_partial_traits.specs.ListWrites.{given_answer, is_kept, IsUntouched};
+ghost use Rattle.zarrs_codec_partial_traits.specs.Lists.{by_codec, fills, AreFew, RefusesFor, IsListError, TellsFault};
+ghost use Rattle.zarrs_codec_partial_traits.specs.ListWrites.{given_answer, is_kept, IsUntouched, IsUnfilled};
 ghost use Rattle.zarrs_codec_partial_traits.specs.Updates.{change_of, ReadsListIf, GivesMade, Stores, Updates};
-ghost use Rattle.zarrs_codec_partial.specs.Boxes.{Denotes};
-ghost use Rattle.zarrs_codec_partial.specs.Level.{list_says};
+ghost use Rattle.zarrs_codec_partial.specs.Boxes.{GivesAll};
+ghost use Rattle.zarrs_codec_partial.specs.Level.{list_of, held_in, list_says};
 ghost use Rattle.zarrs_codec_partial.specs.Writing.{IsBeyond, IsTaken};
 
 use crate::boxes::covers;
-use crate::fill::expect_denoted;
+use crate::fill::{expect_denoted, is_denoted};
 use crate::level::BottomLevel;
 use crate::read::fitting_numbers;
 use std::alloc::Global;
@@ -75,15 +76,24 @@ pub fn expect_given<I: Indexer>(
     }
 }
 
-/// Whether elements are not stored: they are the fill value's, and such values are not.
-pub fn is_dropped(bytes: &ArrayBytes<'_>, fill_value: &FillValue, options: &CodecOptions) -> bool
-    ensures { (kind : Kind) (number : ℕ) (list : List Element) → 0 < number
-        → IsSome (fill_element kind (fill_bytes fill_value.now))
+/// Whether elements are not stored: they are the fill value's, and such values are not. Where the fill value denotes no
+/// element all are stored.
+pub fn is_dropped(
+    bytes: &ArrayBytes<'_>,
+    data_type: &DataType,
+    fill_value: &FillValue,
+    options: &CodecOptions,
+) -> bool
+    ensures { let kind = kind_of (type_of data_type.now) in
+        (number : ℕ) (list : List Element) → 0 < number
         → meaning kind number (raw_of bytes.now) ≡ Some list
         → not result ≡ is_kept (options_of options.now)
         (fill_element kind (fill_bytes fill_value.now)) list }
 {
-    !options.store_empty_chunks() && bytes.is_fill_value(fill_value)
+    if options.store_empty_chunks() || !is_denoted(data_type, fill_value) {
+        return false;
+    }
+    bytes.is_fill_value(fill_value)
 }
 
 impl<C: ArrayToBytesCodecTraits> BottomLevel<C> {
@@ -111,8 +121,59 @@ impl<C: ArrayToBytesCodecTraits> BottomLevel<C> {
         expect_given(alloc, indexer, bytes, &self.shape, &self.data_type)
     }
 
-    // The old elements with those that are given put in. Of an absent value there are old ones only where the fill value
-    // denotes an element, so this is tested.
+    // The old elements. Of an absent value there are some only where the fill value denotes an element, so this is tested
+    // then, and of a value that is there it is not.
+    fn old_elements<H: BytesPartialDecoderTraits>(
+        &self,
+        alloc: Global,
+        handle: &mut H,
+        options: &CodecOptions,
+    ) -> Result<ArrayBytes<'static>, CodecError>
+        requires fits { IsFit (bottom_level self.now).shape (bottom_level self.now).data_type }
+        ensures gives { let level = bottom_level self.now in let fill = bottom_fill self.now in
+            let under = options_of options.now in
+            unserved_at (C.unserved self.now.codec) level fill ≡ None → GivesAll level fill
+            (list_of (C.meaning self.now.codec under level) (fills level fill)
+            (held_in (H.seen handle.old) under)) result }
+        ensures listed { let level = bottom_level self.now in let fill = bottom_fill self.now in
+            let under = options_of options.now in
+            unserved_at (C.unserved self.now.codec) level fill ≡ None → OnOk result
+            (IsSome (list_of (C.meaning self.now.codec under level) (fills level fill)
+            (held_in (H.seen handle.old) under))) }
+        ensures failed { let level = bottom_level self.now in let fill = bottom_fill self.now in
+            let under = options_of options.now in let see = seen_by self.now
+            (C.unserved self.now.codec) (C.meaning self.now.codec) (C.request self.now.codec) in
+            unserved_at (C.unserved self.now.codec) level fill ≡ None → IfErr result (λ e.
+            IsListError (H.seen handle.old).there
+            (list_of (C.meaning self.now.codec under level) (fills level fill)
+            (held_in (H.seen handle.old) under))
+            (list_says level fill (C.says self.now.codec under level) (H.tells handle.old under)
+            (H.seen handle.old) under None)
+            (H.seen handle.old).shown.faults (H.seen handle.new).shown.faults e
+            ⊎ IsUnfilled (see (H.seen handle.old)) e) }
+        ensures reads { Reads None (H.seen handle.old) (H.seen handle.new) result }
+        ensures fault { IfErr result
+            (TellsFault (H.seen handle.old).shown.faults (H.seen handle.new).shown.faults) }
+        ensures same { H.same handle.old handle.new }
+    {
+        match handle.decode(alloc, options) {
+            Ok(Some(value)) => self.codec.decode(
+                alloc,
+                value,
+                &self.shape,
+                &self.data_type,
+                &self.fill_value,
+                options,
+            ),
+            Ok(None) => match expect_denoted(&self.data_type, &self.fill_value) {
+                Ok(()) => self.fill_whole(alloc),
+                Err(error) => Err(error),
+            },
+            Err(error) => Err(error),
+        }
+    }
+
+    // The old elements with those that are given put in.
     fn updated_elements<H: BytesPartialDecoderTraits, I: Indexer>(
         &self,
         alloc: Global,
@@ -140,14 +201,11 @@ impl<C: ArrayToBytesCodecTraits> BottomLevel<C> {
             ReadsListIf true None (see (H.seen handle.old)) (see (H.seen handle.new)) result }
         ensures same { H.same handle.old handle.new }
     {
-        match expect_denoted(&self.data_type, &self.fill_value) {
-            Ok(()) => match self.decode_whole(alloc, handle, options) {
-                Ok(whole) => {
-                    let size = size_of(&self.data_type);
-                    update_array_bytes(alloc, &whole, numbers, indexer, bytes, size)
-                }
-                Err(error) => Err(error),
-            },
+        match self.old_elements(alloc, handle, options) {
+            Ok(whole) => {
+                let size = size_of(&self.data_type);
+                update_array_bytes(alloc, &whole, numbers, indexer, bytes, size)
+            }
             Err(error) => Err(error),
         }
     }
@@ -210,7 +268,7 @@ impl<C: ArrayToBytesCodecTraits> BottomLevel<C> {
             (see (H.seen handle.old)) (see (H.seen handle.new)) result }
         ensures same { H.same handle.old handle.new }
     {
-        let dropped = is_dropped(&bytes, &self.fill_value, options);
+        let dropped = is_dropped(&bytes, &self.data_type, &self.fill_value, options);
         match self.codec.encode(
             alloc,
             bytes,
@@ -272,8 +330,8 @@ impl<C: ArrayToBytesCodecTraits> BottomLevel<C> {
     /// # Errors
     /// [`CodecError`] exactly where the bytes are not valid elements, so many as the indexer has, else exactly where the
     /// indexer does not fit the shape, else where the codec does not serve its level, all before anything is read; else
-    /// where what is below fails, where the old value does not decode, where the new elements are not encoded, or where
-    /// memory runs out.
+    /// where what is below fails, where the old value does not decode, where it is absent, some elements are given and the
+    /// fill value denotes none, where the new elements are not encoded, or where memory runs out.
     pub fn encode_elements<H: BytesPartialEncoderTraits, I: Indexer>(
         &self,
         alloc: Global,

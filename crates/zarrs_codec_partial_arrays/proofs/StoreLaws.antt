@@ -13,14 +13,14 @@ use Rattle.zarrs_codec_array_bytes.specs.Raw.{raw_of}
 use Rattle.zarrs_codec_traits.specs.Errors.{Unserved}
 use Rattle.zarrs_codec_traits.specs.Words.{list_at}
 use Rattle.zarrs_codec_held.specs.Reads.{IsHandleError}
-use Rattle.zarrs_codec_partial_traits.specs.Lists.{Refused, ListSeen, HasFill, TellsFault, fills, is_short}
+use Rattle.zarrs_codec_partial_traits.specs.Lists.{Refused, ListSeen, TellsFault, fills, is_short}
 use Rattle.zarrs_codec_partial_traits.specs.ListWrites.{is_kept, is_stored, HoldsList, HoldsStored, IsAbsent, SameList, IsRefused, ErasesList, PutsList, StaysList, KeepsRest, UnaskedList, Rewrites}
 use Rattle.zarrs_codec_partial_traits.specs.Updates.{ReadsListIf, Stores, Updates}
 use Rattle.zarrs_codec_partial_traits.proofs.UpdateLaws.{unless}
 use Rattle.zarrs_codec_partial.specs.Kinds.{kind_code}
 use Rattle.zarrs_codec_partial.proofs.WriteLaws.{dropped_list, filled_list}
 use Rattle.zarrs_codec_partial_arrays.specs.Above.{IsBelow, IsFilled, HandsOn, raised, first_unserved, IsUnencodedBelow, IsEncodedBelow}
-use Rattle.zarrs_codec_partial_arrays.proofs.AboveLaws.{same_kind, below_fill, below_served, unserved_below, below_short, own_short, raised_keeps}
+use Rattle.zarrs_codec_partial_arrays.proofs.AboveLaws.{same_kind, below_served, unserved_below, below_short, own_short, raised_keeps}
 
 -- what the codec's laws say of the fill
 pub filled_by : (codec : ArrayCodec) (fill_below : DataType → List ℕ → List ℕ) (level : Level) (fill : List ℕ) → fill_element (kind_of level.data_type) fill ≡ Some level.fill
@@ -214,12 +214,12 @@ encoded_back decode takes other back list is = record { below = is.below; decode
 
 -- a change below that all elements are given to
 pub record PutsAll {T : Type 0} (under : Options) (unencoded : List Element → CodecError → Type 0) (takes : List Element → Type 0) (Short : Type 0) (bytes : ArrayBytes) (given : Option (List Element)) (old new : ListSeen) (result : Result T CodecError) : Type 0 where
-  pub puts : (ys : List Element) → old.unserved ≡ None → HasFill old → given ≡ Some ys → PutsList (is_stored under old ys) ys old new result
+  pub puts : (ys : List Element) → old.unserved ≡ None → given ≡ Some ys → PutsList (is_stored under old ys) ys old new result
   pub unserved : IsSome old.unserved → IsRefused old new result
   pub rewrites : Rewrites false old new result
-  pub cause : (ys : List Element) → old.unserved ≡ None → HasFill old → given ≡ Some ys → IfErr result (λ e. IsHandleError old.shown.faults new.shown.faults e ⊎ unencoded ys e)
+  pub cause : (ys : List Element) → old.unserved ≡ None → given ≡ Some ys → IfErr result (λ e. IsHandleError old.shown.faults new.shown.faults e ⊎ unencoded ys e)
   pub taken : (ys : List Element) → old.unserved ≡ None → given ≡ Some ys → OnOk result (takes ys)
-  pub encoded : (ys : List Element) → old.unserved ≡ None → HasFill old → old.short ≡ true → Short → has_long_element bytes ≡ false → given ≡ Some ys → IfErr result (IsHandleError old.shown.faults new.shown.faults)
+  pub encoded : (ys : List Element) → old.unserved ≡ None → old.short ≡ true → Short → has_long_element bytes ≡ false → given ≡ Some ys → IfErr result (IsHandleError old.shown.faults new.shown.faults)
   pub fault : IfErr result (TellsFault old.shown.faults new.shown.faults)
 
 module _ {T : Type 0} (under : Options) (tells : CodecError → Type 0) (unencoded : List Element → CodecError → Type 0) (takes : List Element → Type 0) (Short : Type 0) (indices : List ℕ) (number : ℕ) (bytes : ArrayBytes) (old new : ListSeen) (result : Result T CodecError) where
@@ -234,12 +234,12 @@ module _ {T : Type 0} (under : Options) (tells : CodecError → Type 0) (unencod
   pub puts_all : (all fits : Bool) → all ≡ true → fits ≡ true → Updates under (record { all = all; fits = fits; indices = indices; number = number; bytes = bytes }) tells unencoded takes Short old new result
       → PutsAll under unencoded takes Short bytes (meaning (kind_of old.level.data_type) number bytes) old new result
   puts_all true true is fit updates = record {
-    puts = λ ys served filled means. updates.puts ys served filled means;
+    puts = λ ys served means. updates.puts ys served means;
     unserved = updates.unserved;
     rewrites = updates.rewrites;
-    cause = λ ys served filled means. told_all ys result (updates.cause ys served filled refl means);
+    cause = λ ys served means. told_all ys result (updates.cause ys served refl means);
     taken = λ ys served means. updates.taken ys served means;
-    encoded = λ ys served filled few short_takes short means. told_short result (updates.encoded ys served filled few short_takes short refl means);
+    encoded = λ ys served few short_takes short means. told_short result (updates.encoded ys served few short_takes short refl means);
     fault = updates.fault;
   }
   puts_all true false is fit updates = cc
@@ -250,16 +250,14 @@ module _ (codec : ArrayCodec) (fill_below : DataType → List ℕ → List ℕ) 
   abbrev shown : ListSeen → ListSeen
   shown below = raised level fill unserved codec region_below below
 
-  pub stores_above : {T : Type 0} (under : Options) (bytes encoded : ArrayBytes) (number : ℕ) (unencoded : List Element → CodecError → Type 0) (takes : List Element → Type 0) (Short : Type 0) (old new : ListSeen) (result : Result T CodecError) (x : Element)
-      → fill_element (kind_of (codec.level_below level).data_type) (fill_below level.data_type fill) ≡ Some x
+  pub stores_above : {T : Type 0} (under : Options) (bytes encoded : ArrayBytes) (number : ℕ) (unencoded : List Element → CodecError → Type 0) (takes : List Element → Type 0) (Short : Type 0) (old new : ListSeen) (result : Result T CodecError)
       → unserved ≡ None → IsSome (fill_element (kind_of level.data_type) fill) → IsBelow codec fill_below level fill old → HandsOn codec level fill (fill_below level.data_type fill) under bytes encoded
       → meaning (kind_of old.level.data_type) number encoded ≡ list_at (codec.level_below level) encoded
       → PutsAll under unencoded takes Short encoded (meaning (kind_of old.level.data_type) number encoded) old new result
       → Stores under bytes (IsUnencodedBelow (codec.decode_list level) unencoded) (IsEncodedBelow (codec.decode_list level) takes) Short (shown old) (shown new) result
-  stores_above under bytes encoded number unencoded takes Short old new result x denotes own filled is hands same puts =
+  stores_above under bytes encoded number unencoded takes Short old new result own filled is hands same puts =
       let decode = codec.decode_list level in
       let given = meaning (kind_of old.level.data_type) number encoded in
-      let filled_below = below_fill codec fill_below level fill old x is denotes in
       let unasked = unasked_of codec fill_below level fill unserved region_below old new result puts.rewrites in
       let decodes = (λ (list : List Element) (means : list_at level bytes ≡ Some list).
       ap (λ (o : Option (List Element)). option_and_then decode o) same ∙ hands.decodes list filled means) in
@@ -267,9 +265,9 @@ module _ (codec : ArrayCodec) (fill_below : DataType → List ℕ → List ℕ) 
       let g = given_of decode given list (decodes list means) in
       let stored = stored_same old under g.0 is ∙ hands.kept list g.0 filled means (sym same ∙ g.1.0) in
       subst (λ (b : Bool). PutsList b list (shown old) (shown new) result) stored
-      (puts_above codec fill_below level fill unserved region_below (is_stored under old g.0) g.0 list old new result g.1.1 (puts.puts g.0 (below_served _ _ _ served) filled_below g.1.0))) in
+      (puts_above codec fill_below level fill unserved region_below (is_stored under old g.0) g.0 list old new result g.1.1 (puts.puts g.0 (below_served _ _ _ served) g.1.0))) in
       record {
-        puts = λ list served some means. put list served means;
+        puts = λ list served means. put list served means;
         left = λ list served means. (put list served means).failed;
         unserved = λ some.
             let refused = puts.unserved (unserved_below unserved old.unserved (fill_element (kind_of level.data_type) fill) own filled some) in
@@ -277,15 +275,15 @@ module _ (codec : ArrayCodec) (fill_below : DataType → List ℕ → List ℕ) 
         unchanged = unless result (stays_above codec fill_below level fill unserved region_below old new) puts.rewrites.unchanged;
         rest = rest_above codec fill_below level fill unserved region_below old new puts.rewrites.rest;
         unasked = record { asks = unasked.asks; taken = unasked.taken };
-        cause = λ list served some means.
+        cause = λ list served means.
             let g = given_of decode given list (decodes list means) in
-            told_above _ _ decode unencoded g.0 list result g.1.1 (puts.cause g.0 (below_served _ _ _ served) filled_below g.1.0);
+            told_above _ _ decode unencoded g.0 list result g.1.1 (puts.cause g.0 (below_served _ _ _ served) g.1.0);
         taken = λ list served means.
             let g = given_of decode given list (decodes list means) in
             taken_above decode takes g.0 list result g.1.1 (puts.taken g.0 (below_served _ _ _ served) g.1.0);
-        encoded = λ served some few short_takes there short. some_given (list_at level bytes) there
+        encoded = λ served few short_takes there short. some_given (list_at level bytes) there
             (λ list means. let g = given_of decode given list (decodes list means) in
-            puts.encoded g.0 (below_served _ _ _ served) filled_below (below_short _ _ few) short_takes (hands.short filled (own_short _ _ few) short) g.1.0);
+            puts.encoded g.0 (below_served _ _ _ served) (below_short _ _ few) short_takes (hands.short filled (own_short _ _ few) short) g.1.0);
         fault = puts.fault;
       }
     where

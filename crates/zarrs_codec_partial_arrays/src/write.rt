@@ -218,7 +218,7 @@ impl<C: ArrayToArrayCodecTraits> ArrayLevel<C> {
         if let Err(error) = expect_denoted(&self.data_type, &self.fill_value) {
             return Err(error);
         }
-        if is_dropped(&bytes, &self.fill_value, options) {
+        if is_dropped(&bytes, &self.data_type, &self.fill_value, options) {
             return self.filled_below(alloc, all);
         }
         self.codec.encode(

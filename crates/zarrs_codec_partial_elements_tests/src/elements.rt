@@ -20,6 +20,7 @@ use zarrs_array_subset::{ArraySubset, ChunkShape};
 use zarrs_codec_array_bytes::ArrayBytes;
 use zarrs_codec_error::CodecError;
 use zarrs_codec_options::CodecOptions;
+use zarrs_codec_partial::ArrayToBytesCodecPartialDefault;
 use zarrs_codec_partial_bytes::{MemoryHandle, StoragePartialEncoder};
 use zarrs_codec_partial_callers::ReversedElementsCodec;
 use zarrs_codec_partial_callers::chunks::{Chunk, chunk_of};
@@ -52,6 +53,13 @@ const TURNED_ROWS: &str = "0 4 | [4, 3, 2, 1]
 0 4 4 3 2 1 | there
 0 1 9 | there
 0 4 | [9, 3, 2, 1]";
+
+// The same of a chunk whose fill value denotes no element.
+const UNFILLED_ROWS: &str = "1 2 9 | the fill value denotes no element of the data type
+0 4 5 6 7 8 | there
+1 2 9 | there
+0 4 | [5, 9, 7, 8]
+0 4 1 2 1 2 | there";
 
 // A row's first part, and what is behind its bar.
 fn cut(row: &str) -> (&str, &str) {
@@ -180,6 +188,20 @@ fn four_bytes<H: BytesPartialEncoderTraits + Drop, A: ArrayToArrayCodecTraits + 
     }
 }
 
+// A chunk of four bytes whose fill value has two, so that it denotes no element.
+fn unfilled(
+    rt: &impl Abort,
+    alloc: Global,
+    handle: MemoryHandle,
+) -> ArrayToBytesCodecPartialDefault<MemoryHandle, BytesCodec>
+    ensures { kind_of (type_of result.level.data_type) ≡ fixed 1 }
+{
+    let shape = four(rt, alloc);
+    let fill = FillValue::new(Vec::from_slice(alloc, &[1, 2]).expect(rt, "memory"));
+    let bytes = BytesCodec::new(None);
+    ArrayToBytesCodecPartialDefault::new(handle, shape, DataType::UInt8, fill, bytes)
+}
+
 // The value that a chunk in memory is left with.
 fn is_left(rt: &impl Abort, handle: &MemoryHandle, want: &[u8]) {
     match handle.value() {
@@ -206,6 +228,13 @@ fn a_chunk_is_stored_the_last_element_first(rt: HostRuntime) {
     let mut chunk = four_bytes(&rt, rt.alloc(), handle, ReversedElementsCodec);
     are_rows(&rt, rt.alloc(), &mut chunk, TURNED_ROWS);
     is_left(&rt, &chunk.into_handle().into_handle(), &[1, 2, 3, 9]);
+}
+
+#[test]
+fn a_fill_value_is_asked_for_of_an_absent_value(rt: HostRuntime) {
+    let mut chunk = unfilled(&rt, rt.alloc(), MemoryHandle::new(None));
+    are_rows(&rt, rt.alloc(), &mut chunk, UNFILLED_ROWS);
+    is_left(&rt, &chunk.into_handle(), &[1, 2, 1, 2]);
 }
 
 fn key(rt: &impl Abort, alloc: Global) -> StoreKey {

@@ -4,4 +4,6 @@
 #[cfg(test)]
 mod bytes;
 #[cfg(test)]
+mod checksums;
+#[cfg(test)]
 mod stores;

@@ -15,8 +15,8 @@ use Rattle.zarrs_codec_traits.specs.Errors.{IsNoFault}
 use Rattle.zarrs_codec_held.specs.Reads.{IsFault, IsHandleError}
 use Rattle.zarrs_codec_held.specs.Writes.{is_fault, Unless, UnlessFault, CountsIf, MayCountIf}
 use Rattle.zarrs_codec_held.proofs.EditLaws.{fault_later}
-use Rattle.zarrs_codec_partial_traits.specs.Lists.{Refused, ListSeen, HasFill, HasShortFill, KeepsList, ReadsList}
-use Rattle.zarrs_codec_partial_traits.specs.ListWrites.{is_kept, is_stored, HoldsStored, IsAbsent, SameList, IsLeft, IsRefused, PutsList, StaysList, KeepsRest, UnaskedList, MayPutList, Rewrites, IsUnencoded, IsEncoded}
+use Rattle.zarrs_codec_partial_traits.specs.Lists.{Refused, ListSeen, HasShortFill, KeepsList, ReadsList, IsListError}
+use Rattle.zarrs_codec_partial_traits.specs.ListWrites.{is_kept, is_stored, HoldsStored, IsAbsent, SameList, IsLeft, IsRefused, PutsList, StaysList, KeepsRest, UnaskedList, MayPutList, Rewrites, IsUnencoded, IsEncoded, IsUnfilled, IsUnreadList}
 use Rattle.zarrs_codec_partial_traits.proofs.FaultLaws.{no_fault, faults_after}
 use Rattle.zarrs_codec_partial_traits.specs.Updates.{Change, given_by, made_by, ReadsListIf, GivesMade, Stores, Updates}
 
@@ -145,9 +145,6 @@ module _ (first old new : ListSeen) (keeps : KeepsList first old) where
   same_fill : fill_element (kind_of old.level.data_type) old.fill ≡ fill_element (kind_of first.level.data_type) first.fill
   same_fill = ap₂ (λ (level : Level) (fill : List ℕ). fill_element (kind_of level.data_type) fill) keeps.level keeps.fill
 
-  pub filled_after : HasFill first → HasFill old
-  filled_after filled = subst (λ (o : Option Element). IsSome o) (sym same_fill) filled
-
   pub stored_after : (under : Options) (list : List Element) → is_stored under old list ≡ is_stored under first list
   stored_after under list = ap (λ (o : Option Element). is_kept under o list) same_fill
 
@@ -197,6 +194,15 @@ reads_none reads asked seen result not_read =
 pub unread_if : {T E : Type 0} (reads : Bool) (asked : Option Region) (seen : ListSeen) (e : E) → ReadsListIf {T = T} reads asked seen seen (Err e)
 unread_if reads asked seen e = record { keeps = keeps_self seen; asks = tt; asks_err = may_same reads _ _; taken = tt; taken_err = may_same reads _ _ }
 
+-- why there is no old list
+pub unread_list : (old : ListSeen) (list : Option (List Element)) (tells : CodecError → Type 0) (before now : ℕ) (e : CodecError) → IsListError old.there list tells before now e → IsHandleError before now e ⊎ IsUnreadList false old list tells e
+unread_list old list tells before now e told =
+    ⊎_elim (λ (h : IsHandleError before now e). inl h) (λ (t : ((list ≡ None) ⊎ (old.there ≡ false)) × tells e). let u : IsUnreadList false old list tells e = inl t in inr u) told
+
+pub unread_or : (old : ListSeen) (list : Option (List Element)) (tells : CodecError → Type 0) (before now : ℕ) (e : CodecError) → IsListError old.there list tells before now e ⊎ IsUnfilled old e → IsHandleError before now e ⊎ IsUnreadList false old list tells e
+unread_or old list tells before now e told =
+    ⊎_elim (λ (l : IsListError old.there list tells before now e). unread_list old list tells before now e l) (λ (none : IsUnfilled old e). let u : IsUnreadList false old list tells e = inr none in inr u) told
+
 -- why elements are not stored
 stored_told : {T : Type 0} (given wanted : Option (List Element)) (U : CodecError → Type 0) (B : List Element → CodecError → Type 0) (first mid new : ℕ) (r : Result T CodecError) → Gives given wanted → first ≤ mid
     → ((xs : List Element) → given ≡ Some xs → IfErr r (λ e. IsHandleError mid new e ⊎ B xs e)) → IfErr r (λ e. IsHandleError first new e ⊎ (U e ⊎ IsUnencoded wanted B e))
@@ -234,11 +240,11 @@ handle_told before now P (Err e) told = inl told
 
 -- elements were not stored
 pub stores_not : {T : Type 0} (under : Options) (bytes : ArrayBytes) (unencoded : List Element → CodecError → Type 0) (takes : List Element → Type 0) (Short : Type 0) (seen : ListSeen) (e : CodecError)
-    → ((list : List Element) → seen.unserved ≡ None → HasFill seen → list_at seen.level bytes ≡ Some list → IsHandleError seen.shown.faults seen.shown.faults e ⊎ unencoded list e)
-    → (seen.unserved ≡ None → HasFill seen → HasShortFill seen → Short → IsSome (list_at seen.level bytes) → has_long_element bytes ≡ false → IsHandleError seen.shown.faults seen.shown.faults e)
+    → ((list : List Element) → seen.unserved ≡ None → list_at seen.level bytes ≡ Some list → IsHandleError seen.shown.faults seen.shown.faults e ⊎ unencoded list e)
+    → (seen.unserved ≡ None → HasShortFill seen → Short → IsSome (list_at seen.level bytes) → has_long_element bytes ≡ false → IsHandleError seen.shown.faults seen.shown.faults e)
     → IsNoFault e → Stores {T = T} under bytes unencoded takes Short seen seen (Err e)
 stores_not {T} under bytes unencoded takes Short seen e cause encoded own = record {
-  puts = λ list served filled means. let p : PutsList {T = T} (is_stored under seen list) list seen seen (Err e) = record { ok = tt; failed = inl (keeps_same seen seen (keeps_self seen)) } in p;
+  puts = λ list served means. let p : PutsList {T = T} (is_stored under seen list) list seen seen (Err e) = record { ok = tt; failed = inl (keeps_same seen seen (keeps_self seen)) } in p;
   left = λ list served means. inl (keeps_same seen seen (keeps_self seen));
   unserved = λ some. let r : IsRefused {T = T} seen seen (Err e) = record { err = tt; stays = keeps_stays seen seen (keeps_self seen) } in r;
   unchanged = unless_of {T = T} (Err e) (keeps_stays seen seen (keeps_self seen));
@@ -260,18 +266,18 @@ module _ (under : Options) (change : Change) (tells : CodecError → Type 0) (un
       let raw = raw_of elements in
       let means = (λ (xs : List Element) (is : list_at first.level raw ≡ Some xs). ap (λ (level : Level). list_at level raw) keeps.level ∙ is) in
       record {
-        puts = λ given served filled is. may_put first mid new keeps (is_stored under first) (made_by change given (first.list under)) (list_at first.level raw) result (made.gives given served is)
-            (λ xs here. subst (λ (b : Bool). PutsList b xs mid new result) (stored_after first mid new keeps under xs) (stores.puts xs (keeps.unserved ∙ served) (filled_after first mid new keeps filled) (means xs here)));
+        puts = λ given served is. may_put first mid new keeps (is_stored under first) (made_by change given (first.list under)) (list_at first.level raw) result (made.gives given served is)
+            (λ xs here. subst (λ (b : Bool). PutsList b xs mid new result) (stored_after first mid new keeps under xs) (stores.puts xs (keeps.unserved ∙ served) (means xs here)));
         left = λ given is. left_by given is first.unserved refl;
         unserved = unserved_by;
         rewrites = rewrites_after first mid new keeps (not change.all) elements result reads stores.unchanged stores.rest stores.unasked;
-        cause = λ given served filled fits is. stored_told (list_at first.level raw) (made_by change given (first.list under)) _ unencoded _ _ _ result (made.gives given served is) keeps.later
-            (λ xs here. told_before _ _ (unencoded_then xs) (unencoded xs) result (back xs) (stores.cause xs (keeps.unserved ∙ served) (filled_after first mid new keeps filled) (means xs here)));
+        cause = λ given served fits is. stored_told (list_at first.level raw) (made_by change given (first.list under)) _ unencoded _ _ _ result (made.gives given served is) keeps.later
+            (λ xs here. told_before _ _ (unencoded_then xs) (unencoded xs) result (back xs) (stores.cause xs (keeps.unserved ∙ served) (means xs here)));
         taken = λ given served is. taken_by takes_then takes (list_at first.level raw) (made_by change given (first.list under)) result (made.gives given served is) encodes
             (λ xs here. stores.taken xs (keeps.unserved ∙ served) (means xs here));
-        encoded = λ given served filled few short_takes short fits is.
+        encoded = λ given served few short_takes short fits is.
             let gives = made.gives given served is in
-            stored_short _ _ _ _ result keeps.later (stores.encoded (keeps.unserved ∙ served) (filled_after first mid new keeps filled) (keeps.short ∙ few) (to short_takes) (subst (λ (level : Level). IsSome (list_at level raw)) (sym keeps.level) gives.there)
+            stored_short _ _ _ _ result keeps.later (stores.encoded (keeps.unserved ∙ served) (keeps.short ∙ few) (to short_takes) (subst (λ (level : Level). IsSome (list_at level raw)) (sym keeps.level) gives.there)
             (made.short served few short));
         fault = faults_after first.shown.faults mid.shown.faults new.shown.faults result keeps.later stores.fault;
       }
@@ -291,26 +297,26 @@ module _ (under : Options) (change : Change) (tells : CodecError → Type 0) (un
   -- they were not made
   pub updates_not : {T : Type 0} (first mid : ListSeen) (e : CodecError) → GivesMade under change tells first mid (Err e) → ReadsListIf {T = code.ArrayBytes} (not change.all) None first mid (Err e) → Updates {T = T} under change tells unencoded takes Short first mid (Err e)
   updates_not {T} first mid e made reads = record {
-    puts = λ given served filled is. may_not T (is_stored under first) (made_by change given (first.list under)) first mid e reads.keeps;
+    puts = λ given served is. may_not T (is_stored under first) (made_by change given (first.list under)) first mid e reads.keeps;
     left = λ given is. left_same (is_stored under first) (made_by change given (first.list under)) first mid (keeps_same first mid reads.keeps);
     unserved = λ some. let r : IsRefused {T = T} first mid (Err e) = record { err = tt; stays = keeps_stays first mid reads.keeps } in r;
     rewrites = rewrites_not (not change.all) first mid e reads;
-    cause = λ given served filled fits is. ⊎_elim (λ h. inl h) (λ u. inr (inl u)) (made.failed given served filled is);
+    cause = λ given served fits is. ⊎_elim (λ h. inl h) (λ u. inr (inl u)) (made.failed given served is);
     taken = λ given served is. tt;
-    encoded = λ given served filled few short_takes short fits is. made.failed given served filled is;
+    encoded = λ given served few short_takes short fits is. made.failed given served is;
     fault = made.fault;
   }
 
   -- nothing was done, for want of memory where the elements and their indexer are in order
-  pub updates_early : {T : Type 0} (seen : ListSeen) (e : CodecError) → ((given : List Element) → seen.unserved ≡ None → HasFill seen → change.fits ≡ true → given_by seen.level change ≡ Some given → e ≡ codec.OutOfMemory)
+  pub updates_early : {T : Type 0} (seen : ListSeen) (e : CodecError) → ((given : List Element) → seen.unserved ≡ None → change.fits ≡ true → given_by seen.level change ≡ Some given → e ≡ codec.OutOfMemory)
       → IsNoFault e → Updates {T = T} under change tells unencoded takes Short seen seen (Err e)
   updates_early {T} seen e memory own = record {
-    puts = λ given served filled is. may_not T (is_stored under seen) (made_by change given (seen.list under)) seen seen e (keeps_self seen);
+    puts = λ given served is. may_not T (is_stored under seen) (made_by change given (seen.list under)) seen seen e (keeps_self seen);
     left = λ given is. left_same (is_stored under seen) (made_by change given (seen.list under)) seen seen (keeps_same seen seen (keeps_self seen));
     unserved = λ some. let r : IsRefused {T = T} seen seen (Err e) = record { err = tt; stays = keeps_stays seen seen (keeps_self seen) } in r;
     rewrites = rewrites_not {U = code.ArrayBytes} (not change.all) seen seen e (unread_if (not change.all) None seen e);
-    cause = λ given served filled fits is. inl (inl (memory given served filled fits is));
+    cause = λ given served fits is. inl (inl (memory given served fits is));
     taken = λ given served is. tt;
-    encoded = λ given served filled few short_takes short fits is. inl (inl (memory given served filled fits is));
+    encoded = λ given served few short_takes short fits is. inl (inl (memory given served fits is));
     fault = no_fault _ _ e own;
   }

@@ -6,7 +6,7 @@ use Rattle.zarr_model.specs.Element.{Element, Kind, same_element, fill_element, 
 use Rattle.zarr_model.specs.ArrayBytes.{ArrayBytes}
 use Rattle.zarr_model.specs.Codec.{Options}
 use Rattle.zarrs_codec_bytes.specs.Picking.{replaced}
-use Rattle.zarrs_codec_array_bytes.specs.Refusals.{Told, fine, validity, then_answer, first_answer}
+use Rattle.zarrs_codec_array_bytes.specs.Refusals.{Told, fine, told_by, other_fill, validity, then_answer, first_answer}
 use Rattle.zarrs_codec_error.specs.declared.error.CodecError.{CodecError}
 use Rattle.zarrs_codec_held.specs.Writes.{UnlessFault, CountsIf, MayCountIf}
 use Rattle.zarrs_codec_partial_traits.specs.Lists.{ListSeen, IsUnread}
@@ -141,7 +141,15 @@ abbrev pub IsEncoded : Option (List Element) → (List Element → Type 0) → T
 IsEncoded None takes = ⊥
 IsEncoded (Some list) takes = takes list
 
-abbrev pub IsUnreadList : Bool → Bool → Option (List Element) → (CodecError → Type 0) → CodecError
-    → Type 0
-IsUnreadList true there list tells e = ⊥
-IsUnreadList false there list tells e = ((list ≡ None) ⊎ (there ≡ false)) × tells e
+-- the value is absent, the fill value denotes no element to take in its place, and the error says so
+pub record IsUnfilled (old : ListSeen) (e : CodecError) : Type 0 where
+  pub absent : old.there ≡ false
+  pub undenoted : fill_element (kind_of old.level.data_type) old.fill ≡ None
+  pub told : told_by e ≡ other_fill
+
+-- why there is no old list: where all elements are given none is asked for
+abbrev pub IsUnreadList : Bool → ListSeen → Option (List Element) → (CodecError → Type 0)
+    → CodecError → Type 0
+IsUnreadList true old list tells e = ⊥
+IsUnreadList false old list tells e =
+    (((list ≡ None) ⊎ (old.there ≡ false)) × tells e) ⊎ IsUnfilled old e

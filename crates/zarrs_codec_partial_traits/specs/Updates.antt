@@ -13,7 +13,7 @@ use Rattle.zarrs_codec_traits.specs.Words.{list_at, Gives}
 use Rattle.zarrs_codec_held.specs.Reads.{IsHandleError}
 use Rattle.zarrs_codec_held.specs.Writes.{UnlessFault, CountsIf, MayCountIf}
 use Rattle.zarrs_codec_partial_traits.specs.Boxes.{is_all}
-use Rattle.zarrs_codec_partial_traits.specs.Lists.{ListSeen, HasFill, HasShortFill, KeepsList, TellsFault}
+use Rattle.zarrs_codec_partial_traits.specs.Lists.{ListSeen, HasShortFill, KeepsList, TellsFault}
 use Rattle.zarrs_codec_partial_traits.specs.ListWrites.{updated, is_stored, IsLeft, IsRefused, PutsList, StaysList, KeepsRest, UnaskedList, MayPutList, Rewrites, IsUnencoded, IsEncoded, IsUnreadList}
 
 -- elements that are put in: whether these are all, and whether their indexer fits; their linear
@@ -57,10 +57,10 @@ pub record GivesMade (under : Options) (change : Change) (tells : CodecError →
   pub gives : (given : List Element) → old.unserved ≡ None
       → given_by old.level change ≡ Some given → IfOk result
       (λ v. Gives (list_at old.level (raw_of v)) (made_by change given (old.list under)))
-  pub failed : (given : List Element) → old.unserved ≡ None → HasFill old
+  pub failed : (given : List Element) → old.unserved ≡ None
       → given_by old.level change ≡ Some given → IfErr result
       (λ e. IsHandleError old.shown.faults new.shown.faults e
-      ⊎ IsUnreadList change.all old.there (old.list under) tells e)
+      ⊎ IsUnreadList change.all old (old.list under) tells e)
   pub short : old.unserved ≡ None → HasShortFill old → has_long_element change.bytes ≡ false
       → IfOk result (λ v. has_long_element (raw_of v) ≡ false)
   pub fault : IfErr result (TellsFault old.shown.faults new.shown.faults)
@@ -69,8 +69,8 @@ pub record GivesMade (under : Options) (change : Change) (tells : CodecError →
 pub record Stores {T : Type 0} (under : Options) (bytes : ArrayBytes)
     (unencoded : List Element → CodecError → Type 0) (takes : List Element → Type 0)
     (Short : Type 0) (old new : ListSeen) (result : Result T CodecError) : Type 0 where
-  pub puts : (list : List Element) → old.unserved ≡ None → HasFill old
-      → list_at old.level bytes ≡ Some list
+  -- a list is stored also where the fill value denotes no element: none is then of the fill
+  pub puts : (list : List Element) → old.unserved ≡ None → list_at old.level bytes ≡ Some list
       → PutsList (is_stored under old list) list old new result
   -- after a failure what is held is the old list, or this one where it is stored, or nothing
   pub left : (list : List Element) → old.unserved ≡ None → list_at old.level bytes ≡ Some list
@@ -79,13 +79,13 @@ pub record Stores {T : Type 0} (under : Options) (bytes : ArrayBytes)
   pub unchanged : UnlessFault result (StaysList old new)
   pub rest : KeepsRest old new
   pub unasked : UnaskedList old new
-  pub cause : (list : List Element) → old.unserved ≡ None → HasFill old
+  pub cause : (list : List Element) → old.unserved ≡ None
       → list_at old.level bytes ≡ Some list → IfErr result
       (λ e. IsHandleError old.shown.faults new.shown.faults e ⊎ unencoded list e)
   -- a list is encoded first, also where it is not stored
   pub taken : (list : List Element) → old.unserved ≡ None
       → list_at old.level bytes ≡ Some list → OnOk result (takes list)
-  pub encoded : old.unserved ≡ None → HasFill old → HasShortFill old → Short
+  pub encoded : old.unserved ≡ None → HasShortFill old → Short
       → IsSome (list_at old.level bytes) → has_long_element bytes ≡ false
       → IfErr result (IsHandleError old.shown.faults new.shown.faults)
   pub fault : IfErr result (TellsFault old.shown.faults new.shown.faults)
@@ -94,7 +94,8 @@ pub record Stores {T : Type 0} (under : Options) (bytes : ArrayBytes)
 pub record Updates {T : Type 0} (under : Options) (change : Change) (tells : CodecError → Type 0)
     (unencoded : List Element → CodecError → Type 0) (takes : List Element → Type 0)
     (Short : Type 0) (old new : ListSeen) (result : Result T CodecError) : Type 0 where
-  pub puts : (given : List Element) → old.unserved ≡ None → HasFill old
+  -- a list is stored also where the fill value denotes no element: none is then of the fill
+  pub puts : (given : List Element) → old.unserved ≡ None
       → given_by old.level change ≡ Some given → MayPutList (is_stored under old)
       (made_by change given (old.list under)) old new result
   -- after a failure what is held is the old list, or this one where it is stored, or nothing
@@ -103,18 +104,18 @@ pub record Updates {T : Type 0} (under : Options) (change : Change) (tells : Cod
   -- where nothing is served nothing is changed
   pub unserved : IsSome old.unserved → IsRefused old new result
   pub rewrites : Rewrites (not change.all) old new result
-  pub cause : (given : List Element) → old.unserved ≡ None → HasFill old → change.fits ≡ true
+  pub cause : (given : List Element) → old.unserved ≡ None → change.fits ≡ true
       → given_by old.level change ≡ Some given → IfErr result
       (λ e. IsHandleError old.shown.faults new.shown.faults e
-      ⊎ (IsUnreadList change.all old.there (old.list under) tells e
+      ⊎ (IsUnreadList change.all old (old.list under) tells e
       ⊎ IsUnencoded (made_by change given (old.list under)) unencoded e))
   -- the new list is encoded, also where it is not stored
   pub taken : (given : List Element) → old.unserved ≡ None
       → given_by old.level change ≡ Some given
       → OnOk result (IsEncoded (made_by change given (old.list under)) takes)
-  pub encoded : (given : List Element) → old.unserved ≡ None → HasFill old → HasShortFill old
-      → Short → has_long_element change.bytes ≡ false → change.fits ≡ true
+  pub encoded : (given : List Element) → old.unserved ≡ None → HasShortFill old → Short
+      → has_long_element change.bytes ≡ false → change.fits ≡ true
       → given_by old.level change ≡ Some given → IfErr result
       (λ e. IsHandleError old.shown.faults new.shown.faults e
-      ⊎ IsUnreadList change.all old.there (old.list under) tells e)
+      ⊎ IsUnreadList change.all old (old.list under) tells e)
   pub fault : IfErr result (TellsFault old.shown.faults new.shown.faults)

@@ -16,5 +16,5 @@ returns-clause-updates g c =
     let places = g.I.Indexer.places c.args.indexer.now in
     let change = change_of level (g.I.Indexer.fits c.args.indexer.now level.shape) asked places (raw_of c.args.bytes.now) in
     updates_early (options_of c.args.options.now) change _ _ _ _ (see (g.H.BytesPartialDecoderTraits.seen c.args.handle.now)) c.in-Err.error
-    (λ given served filled fits means. given_memory (kind_of level.data_type) _ (length places) (raw_of c.args.bytes.now) given c.in-Err.error fits means c.in-Err.ensures.answer)
+    (λ given served fits means. given_memory (kind_of level.data_type) _ (length places) (raw_of c.args.bytes.now) given c.in-Err.error fits means c.in-Err.ensures.answer)
     (given_no_fault (kind_of level.data_type) _ (length places) (raw_of c.args.bytes.now) c.in-Err.error c.in-Err.ensures.answer)

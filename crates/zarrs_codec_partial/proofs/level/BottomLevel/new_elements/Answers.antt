@@ -20,7 +20,7 @@ returns-in-Ok-clause-made g c =
     let long = all_places level.shape asked places (sym covers) (λ box is. (g.met.I.Indexer.boxed c.args.indexer.now box is).0) in
     record {
       gives = λ given served means. all_gives level change.all places change.indices given ((see (g.H.BytesPartialDecoderTraits.seen c.args.handle.now)).list under) (raw_of c.args.bytes.now) (raw_of c.in-Ok.copy) covers long c.in-Ok.ensures.value means;
-      failed = λ given served filled means. tt;
+      failed = λ given served means. tt;
       short = λ served few short. ap has_long_element c.in-Ok.ensures.value ∙ short;
       fault = tt;
     }

@@ -1,6 +1,5 @@
 use Rattle.std.proofs.Common.{◌∙◌, not, sym, ap}
 use Rattle.zarr_model.specs.Region.{count_of}
-use Rattle.zarr_model.specs.Element.{kind_of}
 use Rattle.zarr_model.specs.Codec.{Options}
 use Rattle.zarrs_codec_array_bytes.specs.Raw.{raw_of}
 use Rattle.zarrs_codec_traits.specs.Views.{options_of}
@@ -25,7 +24,7 @@ returns-then-dropped-clause-stores g c =
     let served = encoded_served unserved c.in-Ok.value (rw c.deref.ensures.value at c.in-Ok.ensures.unserved) in
     let exact = rw c.deref.ensures.value at c.in-Ok.ensures.exact in
     stores_none level fill unserved means_at request under (raw_of c.args.bytes) _ _ _ (handle.seen c.args.handle.now) (handle.seen c.erase.new.self) c.erase.result (g.met.H.BytesPartialDecoderTraits.sound c.erase.new.self)
-    (λ list filled means. sym (ap not c.if-dropped.true) ∙ c.is_dropped-dropped.ensures (kind_of level.data_type) (count_of level.shape) list (positive c.args.self.now.shape.items) filled means)
+    (λ list means. sym (ap not c.if-dropped.true) ∙ c.is_dropped-dropped.ensures (count_of level.shape) list (positive c.args.self.now.shape.items) means)
     c.erase.ensures.writes c.erase.ensures.unasked c.erase.ensures.cause (λ list means. taken_by level (raw_of c.args.bytes) list (code.beyond c.args.self.now.codec level) (exact served) means) served
 
 pub returns-else-dropped-clause-stores : goal.returns-else-dropped-clause-stores
@@ -41,7 +40,7 @@ returns-else-dropped-clause-stores g c =
     let served = encoded_served unserved c.in-Ok.value (rw c.deref.ensures.value at c.in-Ok.ensures.unserved) in
     let exact = rw c.deref.ensures.value at c.in-Ok.ensures.exact in
     stores_value level fill unserved means_at request under (raw_of c.args.bytes) _ _ _ c.in-Ok.value.items (handle.seen c.args.handle.now) (handle.seen c.replace.new.self) c.replace.result (g.met.H.BytesPartialDecoderTraits.sound c.replace.new.self)
-    (λ list filled means. sym (ap not c.if-dropped.false) ∙ c.is_dropped-dropped.ensures (kind_of level.data_type) (count_of level.shape) list (positive c.args.self.now.shape.items) filled means)
+    (λ list means. sym (ap not c.if-dropped.false) ∙ c.is_dropped-dropped.ensures (count_of level.shape) list (positive c.args.self.now.shape.items) means)
     (rw c.deref.ensures.value at c.in-Ok.ensures.value) (rw c.deref-in-Ok.ensures.value at c.replace.ensures.writes) c.replace.ensures.unasked c.replace.ensures.cause
     (λ list means. taken_by level (raw_of c.args.bytes) list (code.beyond c.args.self.now.codec level) (exact served) means) served
 
@@ -59,6 +58,6 @@ returns-in-Err-clause-stores g c =
     let beyond = code.beyond c.args.self.now.codec level in
     stores_not under (raw_of c.args.bytes) (IsBeyond beyond level) (IsTaken beyond level) (code.takes c.args.self.now.codec level)
     (seen_by c.args.self.now (g.C.ArrayCodecTraits.unserved c.args.self.now.codec) (code.meaning c.args.self.now.codec) (code.request c.args.self.now.codec) (handle.seen c.args.handle.now)) c.in-Err.error
-    (λ list served filled means. beyond_told level (raw_of c.args.bytes) list beyond _ _ c.in-Err.error means (exact (codec_served _ served)))
-    (λ served filled few takes there short. short_told level (raw_of c.args.bytes) beyond _ _ c.in-Err.error there (g.met.C.ArrayToBytesCodecTraits.taken c.args.self.now.codec level fill (raw_of c.args.bytes) (codec_served _ served) takes there short) (exact (codec_served _ served)))
+    (λ list served means. beyond_told level (raw_of c.args.bytes) list beyond _ _ c.in-Err.error means (exact (codec_served _ served)))
+    (λ served few takes there short. short_told level (raw_of c.args.bytes) beyond _ _ c.in-Err.error there (g.met.C.ArrayToBytesCodecTraits.taken c.args.self.now.codec level fill (raw_of c.args.bytes) (codec_served _ served) takes there short) (exact (codec_served _ served)))
     (encode_no_fault _ level (raw_of c.args.bytes) (beyond (raw_of c.args.bytes)) unserved c.in-Err.error (g.met.C.ArrayToBytesCodecTraits.refuses_form c.args.self.now.codec level (raw_of c.args.bytes)) (rw c.deref.ensures.value at c.in-Err.ensures.unserved) exact)

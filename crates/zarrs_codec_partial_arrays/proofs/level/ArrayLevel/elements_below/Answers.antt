@@ -24,7 +24,7 @@ returns-then-is_dropped-clause-hands g c =
     let facts = (λ (some : IsSome (fill_element (kind_of level.data_type) fill)). let own = denoted_fill (fill_element (kind_of level.data_type) fill) some in
     filled_by meaning (code.fill_below codec) level fill own (laws.denotes codec level fill c.requires.served own) (laws.fills codec level fill c.requires.served own (element_bytes (kind_of level.data_type) fill level.fill c.fill_is_bytes.ensures own))) in
     hands_filled meaning (code.fill_below codec) level fill under (raw_of c.args.bytes) c.filled_below.result facts
-    (λ list filled means. sym (ap not c.if-is_dropped.true) ∙ c.is_dropped.ensures (kind_of level.data_type) (count_of level.shape) list (positive c.args.self.now.shape.items) filled means)
+    (λ list filled means. sym (ap not c.if-is_dropped.true) ∙ c.is_dropped.ensures (count_of level.shape) list (positive c.args.self.now.shape.items) means)
     c.filled_below.ensures.value c.filled_below.ensures.short
 
 pub returns-clause-hands : goal.returns-clause-hands
@@ -39,7 +39,7 @@ returns-clause-hands g c =
     let facts = (λ (some : IsSome (fill_element (kind_of level.data_type) fill)). let own = denoted_fill (fill_element (kind_of level.data_type) fill) some in
     filled_by meaning (code.fill_below codec) level fill own (laws.denotes codec level fill c.requires.served own) (laws.fills codec level fill c.requires.served own (element_bytes (kind_of level.data_type) fill level.fill c.fill_is_bytes.ensures own))) in
     hands_given meaning (code.fill_below codec) level fill under (raw_of c.args.bytes) c.encode.result facts
-    (λ list filled means. sym (ap not c.if-is_dropped.false) ∙ c.is_dropped.ensures (kind_of level.data_type) (count_of level.shape) list (positive c.args.self.now.shape.items) filled means)
+    (λ list filled means. sym (ap not c.if-is_dropped.false) ∙ c.is_dropped.ensures (count_of level.shape) list (positive c.args.self.now.shape.items) means)
     ((rw c.deref.ensures.value at c.encode.ensures.value) c.requires.served) c.encode.ensures.short
 
 pub returns-clause-failed : goal.returns-clause-failed

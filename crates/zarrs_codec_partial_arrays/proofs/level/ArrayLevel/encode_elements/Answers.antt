@@ -7,7 +7,7 @@ use Rattle.zarrs_codec_partial_arrays.specs.Above.{array_level, array_fill, rais
 use Rattle.zarrs_codec_partial_traits.specs.Updates.{change_of}
 use Rattle.zarrs_codec_partial_traits.proofs.UpdateLaws.{updates_early, keeps_self, keeps_rest}
 use Rattle.zarrs_codec_partial.proofs.WriteLaws.{given_memory, given_no_fault}
-use Rattle.zarrs_codec_partial_arrays.proofs.AboveLaws.{own_served}
+use Rattle.zarrs_codec_partial_arrays.proofs.AboveLaws.{own_served, fill_served}
 use Rattle.zarrs_codec_partial.proofs.ServedLaws.{answer_named}
 use Rattle.zarrs_codec_partial_arrays.proofs.ServedLaws.{named_above, given_valid}
 use Rattle.zarrs_codec_partial_arrays.proofs.level.ArrayLevel.encode_elements.Goals as goal
@@ -29,7 +29,8 @@ returns-in-Ok-clause-updates g c =
     let asked = g.I.Indexer.as_region c.args.indexer.now in
     let places = g.I.Indexer.places c.args.indexer.now in
     let change = change_of level (g.I.Indexer.fits c.args.indexer.now level.shape) asked places (raw_of c.args.bytes.now) in
-    updates_early under change _ _ _ _ (see old) c.in-Err-expect_served.error (λ given served filled fits means. c.in-Err-expect_served.ensures.memory (own_served _ _ _ served) filled) c.in-Err-expect_served.ensures.no_fault
+    let element = fill_element (kind_of level.data_type) fill in
+    updates_early under change _ _ _ _ (see old) c.in-Err-expect_served.error (λ given served fits means. c.in-Err-expect_served.ensures.memory (own_served unserved old.unserved element served) (fill_served unserved old.unserved element served)) c.in-Err-expect_served.ensures.no_fault
 
 pub returns-in-Ok-clause-rest : goal.returns-in-Ok-clause-rest
 returns-in-Ok-clause-rest g c =
@@ -63,7 +64,7 @@ returns-clause-updates g c =
     let asked = g.I.Indexer.as_region c.args.indexer.now in
     let places = g.I.Indexer.places c.args.indexer.now in
     let change = change_of level (g.I.Indexer.fits c.args.indexer.now level.shape) asked places (raw_of c.args.bytes.now) in
-    updates_early under change _ _ _ _ (see old) c.in-Err.error (λ given served filled fits means. given_memory (kind_of level.data_type) _ (length places) (raw_of c.args.bytes.now) given c.in-Err.error fits means (rw c.deref.ensures.value at c.in-Err.ensures.answer))
+    updates_early under change _ _ _ _ (see old) c.in-Err.error (λ given served fits means. given_memory (kind_of level.data_type) _ (length places) (raw_of c.args.bytes.now) given c.in-Err.error fits means (rw c.deref.ensures.value at c.in-Err.ensures.answer))
     (given_no_fault (kind_of level.data_type) _ (length places) (raw_of c.args.bytes.now) c.in-Err.error (rw c.deref.ensures.value at c.in-Err.ensures.answer))
 
 pub returns-clause-rest : goal.returns-clause-rest

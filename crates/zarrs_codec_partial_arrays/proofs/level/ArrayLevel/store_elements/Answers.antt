@@ -10,8 +10,7 @@ use Rattle.zarrs_codec_traits.proofs.FaultLaws.{memory_no_fault}
 use Rattle.zarrs_codec_array_bytes.specs.Selection.{linear}
 use Rattle.zarrs_codec_partial_traits.proofs.BoxLaws.{whole_inside}
 use Rattle.zarrs_codec_partial_traits.proofs.UpdateLaws.{stores_not}
-use Rattle.zarrs_codec_partial.proofs.AbsentLaws.{denoted_fill}
-use Rattle.zarrs_codec_partial_arrays.proofs.AboveLaws.{all_few, all_same, all_below}
+use Rattle.zarrs_codec_partial_arrays.proofs.AboveLaws.{all_few, all_same, all_below, fill_served}
 use Rattle.zarrs_codec_partial_arrays.proofs.StoreLaws.{stores_above, puts_all}
 use Rattle.zarrs_codec_partial_traits.proofs.NamedLaws.{refused_memory}
 use Rattle.zarrs_codec_partial_arrays.proofs.ServedLaws.{hands_valid, given_fine}
@@ -52,8 +51,8 @@ returns-in-Ok-elements_below-clause-stores g c =
     let inside = subst (λ (s : List ℕ). ends_within box s ≡ true) (sym c.requires.below.shape) (subst (λ (b : Region). ends_within b below.shape ≡ true) (sym c.in-Ok.ensures) (whole_inside below.shape)) in
     let puts = puts_all under _ (encoder.unencoded c.args.handle.now) (encoder.encodes c.args.handle.now) (encoder.encodes_short c.args.handle.now) (linear old.level.shape (tuples box)) (length (tuples box)) encoded old new c.partial_encode.result _ _
     (all_below meaning (code.fill_below codec) level fill old c.requires.below box c.in-Ok.ensures) inside c.partial_encode.ensures.updates in
-    stores_above meaning (code.fill_below codec) level fill unserved (code.region_below codec) under (raw_of c.args.bytes) encoded (length (tuples box)) _ _ _ old new c.partial_encode.result below.fill
-    (laws.denotes codec level fill c.requires.served (denoted_fill (fill_element (kind_of level.data_type) fill) c.in-Ok-elements_below.ensures.denotes)) c.requires.served c.in-Ok-elements_below.ensures.denotes c.requires.below c.in-Ok-elements_below.ensures.hands
+    stores_above meaning (code.fill_below codec) level fill unserved (code.region_below codec) under (raw_of c.args.bytes) encoded (length (tuples box)) _ _ _ old new c.partial_encode.result
+    c.requires.served c.in-Ok-elements_below.ensures.denotes c.requires.below c.in-Ok-elements_below.ensures.hands
     (all_same meaning (code.fill_below codec) level fill old c.requires.below box encoded c.in-Ok.ensures) puts
 
 pub returns-in-Ok-elements_below-clause-rest : goal.returns-in-Ok-elements_below-clause-rest
@@ -74,8 +73,9 @@ returns-in-Ok-clause-stores g c =
     let old = handle.seen c.args.handle.now in
     let see = raised_by c.args.self.now (g.C.ArrayCodecTraits.unserved codec) meaning (code.region_below codec) in
     let failed = c.in-Err-elements_below.ensures.failed in
+    let filled = fill_served unserved old.unserved (fill_element (kind_of level.data_type) fill) in
     stores_not under (raw_of c.args.bytes) _ _ _ (see old) c.in-Err-elements_below.error
-    (λ list served filled means. inl (inl (failed filled (ap is_some means)))) (λ served filled few takes there short. inl (failed filled there)) c.in-Err-elements_below.ensures.no_fault
+    (λ list served means. inl (inl (failed (filled served) (ap is_some means)))) (λ served few takes there short. inl (failed (filled served) there)) c.in-Err-elements_below.ensures.no_fault
 
 pub returns-clause-stores : goal.returns-clause-stores
 returns-clause-stores g c =
@@ -91,7 +91,7 @@ returns-clause-stores g c =
     let handle = g.H.ArrayPartialDecoderTraits in
     let old = handle.seen c.args.handle.now in
     let see = raised_by c.args.self.now (g.C.ArrayCodecTraits.unserved codec) meaning (code.region_below codec) in
-    stores_not under (raw_of c.args.bytes) _ _ _ (see old) c.in-Err.error (λ list served filled means. inl (inl c.in-Err.ensures)) (λ served filled few takes there short. inl c.in-Err.ensures) (memory_no_fault c.in-Err.error c.in-Err.ensures)
+    stores_not under (raw_of c.args.bytes) _ _ _ (see old) c.in-Err.error (λ list served means. inl (inl c.in-Err.ensures)) (λ served few takes there short. inl c.in-Err.ensures) (memory_no_fault c.in-Err.error c.in-Err.ensures)
 
 pub returns-in-Ok-elements_below-clause-named : goal.returns-in-Ok-elements_below-clause-named
 returns-in-Ok-elements_below-clause-named g c = λ filled there.
