@@ -11,6 +11,7 @@ mod bytes_to_bytes;
 mod codec_traits;
 mod decoding;
 mod put;
+mod references;
 mod shape;
 
 pub use array_to_array::ArrayToArrayCodecTraits;

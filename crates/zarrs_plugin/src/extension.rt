@@ -16,6 +16,14 @@ pub trait ExtensionName {
         ensures { IfOk result (λ name. option_map string_bytes name ≡ name_in self.now version) };
 }
 
+impl<E: ExtensionName> ExtensionName for &E {
+    ghost name_in = { λ s. E.name_in s.now };
+
+    fn name(&self, alloc: Global, version: ZarrVersion) -> Result<Option<String>, AllocError> {
+        (**self).name(alloc, version)
+    }
+}
+
 /// An extension that goes by several names.
 pub trait ExtensionAliases {
     // Whether a name is one of them in that version's metadata.
