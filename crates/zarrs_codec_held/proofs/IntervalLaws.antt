@@ -1,15 +1,16 @@
 -- Intervals of what a handle holds.
-use Rattle.std.proofs.Common.{◌≡◌, ◌⊎◌, ℕ, ◌+◌, ◌-◌, ◌^◌, ◌<◌, ◌≤◌, Bool, true, false, nat_le, is_some, if◌then◌else◌, List, [], ◌∷◌, take, drop, map, Option, Some, None, IsSome, Result, Ok, Err, refl, sym, ap, ◌∙◌, subst, arith, inl, inr, ⊎_elim}
+use Rattle.std.proofs.Common.{◌≡◌, ◌⊎◌, ℕ, ◌+◌, ◌-◌, ◌^◌, ◌<◌, ◌≤◌, Bool, true, false, nat_le, is_some, if◌then◌else◌, List, [], ◌∷◌, take, drop, map, Option, Some, None, IsSome, Result, Ok, Err, refl, sym, ap, ap₂, ◌∙◌, subst, arith, inl, inr, ⊎_elim}
 use Rattle.std.proofs.lemmas.Bool.{leb-true, le-leb}
 use Rattle.zarrs_storage.specs.declared.byte_range.ByteRange.{ByteRange}
 use Rattle.zarrs_storage.specs.declared.byte_range.ByteRange.TheVariants.{FromStart, Suffix}
+use Rattle.zarrs_storage.specs.declared.byte_range.InvalidByteRangeError.{InvalidByteRangeError}
 use Rattle.zarrs_storage.specs.ByteRange.{is_valid, start_in, end_in, first_invalid}
 use Rattle.zarr_model.specs.Shown.{Shown}
 use Rattle.zarrs_codec_held.specs.Held.{Held, HasPart, value_part, Seen, IsSound}
 use Rattle.zarrs_codec_error.specs.declared.error.CodecError.{CodecError}
 use Rattle.zarrs_codec_error.specs.declared.error.CodecError.TheVariants as codec
-use Rattle.zarrs_codec_held.specs.Reads.{Keeps, Reads, GivesParts, AreParts, AreAbsent, RefusesSome, IsRangeError, IsHandleError, IsReadError, IsPartError, RefusesFirst}
-use Rattle.zarrs_codec_held.specs.Interval.{shifted, all_of, asked_of, interval_part, interval, interval_early, range_or, interval_tells}
+use Rattle.zarrs_codec_held.specs.Reads.{Keeps, Reads, GivesParts, AreParts, AreAbsent, RefusesSome, IsRangeErrorOf, IsHandleError, IsReadError, IsPartError, RefusesFirst}
+use Rattle.zarrs_codec_held.specs.Interval.{shifted, all_of, asked_of, interval_part, interval, error_or, interval_early, range_or, interval_tells}
 
 -- where a valid range lies
 record Lies (range : ByteRange) (size : ℕ) : Type 0 where
@@ -131,6 +132,15 @@ module _ (part : ByteRange → Held) (offset len : ℕ) where
       go true is rest some = inr (rest some)
       go false is rest some = inl (ap (λ (b : Bool). if b then part (shifted offset len range) else None) is)
 
+-- an error of ranges tells that one is not valid, and names that
+told_some : (ranges : List ByteRange) (len : ℕ) (e : CodecError) → IsRangeErrorOf ranges len e → IsSome (first_invalid len ranges)
+told_some ranges len (codec.InvalidByteRangeError error) told = subst (λ (o : Option ByteRange). IsSome o) (sym told.0) refl
+told_some ranges len e told = absurd told
+
+told_error : (range : ByteRange) (ranges : List ByteRange) (len : ℕ) (e : CodecError) → first_invalid len ranges ≡ Some range → IsRangeErrorOf ranges len e → e ≡ codec.InvalidByteRangeError (record { range = range; size = len })
+told_error range ranges len (codec.InvalidByteRangeError error) is told = let same : error.range ≡ range = cc in ap₂ (λ (r : ByteRange) (n : ℕ). codec.InvalidByteRangeError (record { range = r; size = n })) same told.1
+told_error range ranges len e is told = absurd told
+
 -- the answers of an interval, by those of the handle
 pub interval_given : (there : Bool) (part : ByteRange → Held) (offset len : ℕ) (ranges asked : List ByteRange) (parts : Option (List (List ℕ))) → first_invalid len ranges ≡ None → asked ≡ map (shifted offset len) ranges
     → GivesParts there part asked parts → GivesParts there (interval_part part offset len) ranges parts
@@ -146,16 +156,19 @@ module _ (part : ByteRange → Held) (offset len : ℕ) (tells : Option (List By
       go (inl handle) = inl handle
       go (inr refuses) = inr (
         refused_by part offset len ranges valid refuses.0,
-        subst (λ (o : Option ByteRange). range_or o (tells (Some (map (shifted offset len) ranges))) e) (sym valid) refuses.1,
+        subst (λ (o : Option ByteRange). range_or o (IsRangeErrorOf ranges len) (tells (Some (map (shifted offset len) ranges))) e) (sym valid) refuses.1,
       )
 
-  pub interval_refused : (ranges : List ByteRange) → (e ≡ codec.OutOfMemory) ⊎ (IsSome (first_invalid len ranges) × IsRangeError e)
+  pub interval_refused : (ranges : List ByteRange) → (e ≡ codec.OutOfMemory) ⊎ IsRangeErrorOf ranges len e
       → IsPartError (interval_part part offset len) ranges (interval_tells offset len tells (Some ranges)) before now e
   interval_refused ranges (inl memory) = inl (inl memory)
-  interval_refused ranges (inr refuses) = inr (invalid_by part offset len ranges refuses.0, go (first_invalid len ranges) refuses.0)
+  interval_refused ranges (inr told) = inr (invalid_by part offset len ranges some, go (first_invalid len ranges) some)
     where
-      go : (o : Option ByteRange) → IsSome o → range_or o (tells (Some (map (shifted offset len) ranges))) e
-      go (Some range) some = refuses.1
+      some : IsSome (first_invalid len ranges)
+      some = told_some ranges len e told
+
+      go : (o : Option ByteRange) → IsSome o → range_or o (IsRangeErrorOf ranges len) (tells (Some (map (shifted offset len) ranges))) e
+      go (Some range) some = told
       go None some = cc
 
 -- what the handle tells after a call it told before
@@ -164,7 +177,7 @@ pub told_below : (offset len : ℕ) (old new : Option (List ByteRange) → Codec
 told_below offset len old new None e back told = back _ told
 told_below offset len old new (Some ranges) e back told = go (first_invalid len ranges) told
   where
-    go : (o : Option ByteRange) → range_or o (new (Some (map (shifted offset len) ranges))) e → range_or o (old (Some (map (shifted offset len) ranges))) e
+    go : (o : Option ByteRange) → range_or o (IsRangeErrorOf ranges len) (new (Some (map (shifted offset len) ranges))) e → range_or o (IsRangeErrorOf ranges len) (old (Some (map (shifted offset len) ranges))) e
     go (Some range) told = told
     go None told = back _ told
 
@@ -187,21 +200,29 @@ pub unread : {T E : Type 0} (asked : Option (List ByteRange)) (seen : Seen) (e :
 unread asked seen e = record { keeps = keeps_same seen; asks = tt; asks_err = inl refl; taken = tt; taken_err = inl refl }
 
 -- refusals before anything is read
-pub first_ok : (T U : Type 0) (early : Bool) (old new : Shown) (v : T) (result : Result U CodecError) → RefusesFirst {T = T} early old new (Ok v) → RefusesFirst {T = U} early old new result
-first_ok T U false old new v result first = tt
-first_ok T U true old new v result first = absurd first.0
+pub first_ok : (T U : Type 0) (early : Option InvalidByteRangeError) (old new : Shown) (v : T) (result : Result U CodecError) → RefusesFirst {T = T} early old new (Ok v) → RefusesFirst {T = U} early old new result
+first_ok T U None old new v result first = tt
+first_ok T U (Some error) old new v result first = absurd first.0
 
-pub first_err : (T U : Type 0) (early : Bool) (old new : Shown) (e : CodecError) → RefusesFirst {T = T} early old new (Err e) → RefusesFirst {T = U} early old new (Err e)
-first_err T U false old new e first = tt
-first_err T U true old new e first = first
+pub first_err : (T U : Type 0) (early : Option InvalidByteRangeError) (old new : Shown) (e : CodecError) → RefusesFirst {T = T} early old new (Err e) → RefusesFirst {T = U} early old new (Err e)
+first_err T U None old new e first = tt
+first_err T U (Some error) old new e first = first
 
-pub first_refused : (T : Type 0) (early : Bool) (len : ℕ) (ranges : List ByteRange) (shown : Shown) (e : CodecError) → (e ≡ codec.OutOfMemory) ⊎ (IsSome (first_invalid len ranges) × IsRangeError e) → RefusesFirst {T = T} early shown shown (Err e)
-first_refused T false len ranges shown e told = tt
-first_refused T true len ranges shown e told =
-    (⊎_elim (λ (m : e ≡ codec.OutOfMemory). inl m) (λ (r : IsSome (first_invalid len ranges) × IsRangeError e). inr r.1) told, (refl, (refl, refl)))
+first_memory : (T : Type 0) (early : Option InvalidByteRangeError) (shown : Shown) (e : CodecError) → e ≡ codec.OutOfMemory → RefusesFirst {T = T} early shown shown (Err e)
+first_memory T None shown e memory = tt
+first_memory T (Some error) shown e memory = (inl memory, (refl, (refl, refl)))
 
-pub first_passed : {T : Type 0} (offset len : ℕ) (below : Option (List ByteRange) → Bool) (ranges asked : List ByteRange) (old new : Shown) (result : Result T CodecError) → first_invalid len ranges ≡ None → asked ≡ map (shifted offset len) ranges
+pub first_refused : (T : Type 0) (offset len : ℕ) (below : Option (List ByteRange) → Option InvalidByteRangeError) (ranges : List ByteRange) (shown : Shown) (e : CodecError) → (e ≡ codec.OutOfMemory) ⊎ IsRangeErrorOf ranges len e
+    → RefusesFirst {T = T} (interval_early offset len below (Some ranges)) shown shown (Err e)
+first_refused T offset len below ranges shown e (inl memory) = first_memory T _ shown e memory
+first_refused T offset len below ranges shown e (inr told) = go (first_invalid len ranges) refl
+  where
+    go : (o : Option ByteRange) → first_invalid len ranges ≡ o → RefusesFirst {T = T} (error_or o len (below (Some (map (shifted offset len) ranges)))) shown shown (Err e)
+    go (Some range) is = (inr (told_error range ranges len e is told), (refl, (refl, refl)))
+    go None is = let some : IsSome (first_invalid len ranges) = told_some ranges len e told in cc
+
+pub first_passed : {T : Type 0} (offset len : ℕ) (below : Option (List ByteRange) → Option InvalidByteRangeError) (ranges asked : List ByteRange) (old new : Shown) (result : Result T CodecError) → first_invalid len ranges ≡ None → asked ≡ map (shifted offset len) ranges
     → RefusesFirst (below (Some asked)) old new result → RefusesFirst (interval_early offset len below (Some ranges)) old new result
 first_passed offset len below ranges asked old new result valid same first =
-    subst (λ (b : Bool). RefusesFirst b old new result)
-    (ap (λ (a : List ByteRange). below (Some a)) same ∙ sym (ap (λ (o : Option ByteRange). if is_some o then true else below (Some (map (shifted offset len) ranges))) valid)) first
+    subst (λ (b : Option InvalidByteRangeError). RefusesFirst b old new result)
+    (ap (λ (a : List ByteRange). below (Some a)) same ∙ sym (ap (λ (o : Option ByteRange). error_or o len (below (Some (map (shifted offset len) ranges)))) valid)) first

@@ -12,7 +12,7 @@ use Rattle.zarrs_codec_error.specs.declared.error.CodecError.{CodecError}
 use Rattle.zarrs_codec_error.specs.declared.error.CodecError.TheVariants as codec
 use Rattle.zarrs_codec_error.specs.CodecError.{codec_of_range}
 use Rattle.zarrs_codec_held.specs.Held.{Held, HasPart, value_part, Seen, IsSound, in_memory}
-use Rattle.zarrs_codec_held.specs.Reads.{AreParts, AreAbsent, RefusesSome, IsRangeError}
+use Rattle.zarrs_codec_held.specs.Reads.{AreParts, AreAbsent, RefusesSome, IsRangeErrorOf}
 
 -- the bytes of a slice of a slice
 slice_long : (value : List ℕ) (offset len : ℕ) → offset + len ≤ length value → length (take (offset + len - offset) (drop offset value)) ≡ len
@@ -104,8 +104,8 @@ first_refused value (first ∷ ranges) range e = go (is_valid first (length valu
 
 -- the error of a range
 pub fault_told : (value : List ℕ) (ranges : List ByteRange) (fault : ByteRangeFault) (e : CodecError) → IsFirstInvalid (first_invalid (length value) ranges) (length value) fault → e ≡ codec_of_range fault
-    → (e ≡ codec.OutOfMemory) ⊎ (RefusesSome (value_part (Some value)) ranges × IsRangeError e)
-fault_told value ranges (range.Invalid error) e first is = inr (first_refused value ranges error.range first.0, subst IsRangeError (sym is) tt)
+    → (e ≡ codec.OutOfMemory) ⊎ (RefusesSome (value_part (Some value)) ranges × IsRangeErrorOf ranges (length value) e)
+fault_told value ranges (range.Invalid error) e first is = inr (first_refused value ranges error.range first.0, subst (IsRangeErrorOf ranges (length value)) (sym is) first)
 fault_told value ranges range.OutOfMemory e first is = inl is
 
 pub none_absent : (ranges : List ByteRange) → AreAbsent (value_part None) ranges

@@ -1,5 +1,5 @@
 -- Handles on what a bytes-to-bytes codec makes of a value.
-use Rattle.std.proofs.Common.{◌≡◌, ◌⊎◌, ℕ, Bool, true, false, is_some, List, [], ◌∷◌, Option, Some, None, IsSome, option_map, Result, Ok, Err, OnOk, OnErr, refl, sym, ap, ◌∙◌, subst, arith, inl, inr, ⊎_elim}
+use Rattle.std.proofs.Common.{◌≡◌, ◌⊎◌, ℕ, Bool, true, false, is_some, List, [], ◌∷◌, length, Option, Some, None, IsSome, option_map, Result, Ok, Err, OnOk, OnErr, refl, sym, ap, ◌∙◌, subst, arith, inl, inr, ⊎_elim}
 use Rattle.std.proofs.lemmas.Result.{on_ok_weaker, on_err_weaker}
 use Rattle.zarr_model.specs.Codec.{Options}
 use Rattle.zarrs_storage.specs.declared.byte_range.ByteRange.{ByteRange}
@@ -7,7 +7,7 @@ use Rattle.zarrs_storage.specs.declared.byte_range.ByteRange.TheVariants.{FromSt
 use Rattle.zarrs_codec_error.specs.declared.error.CodecError.{CodecError}
 use Rattle.zarrs_codec_error.specs.declared.error.CodecError.TheVariants as codec
 use Rattle.zarrs_codec_held.specs.Held.{Held, HasPart, value_part, part_of, Seen, IsSound}
-use Rattle.zarrs_codec_held.specs.Reads.{Keeps, Reads, GivesParts, AreParts, AreAbsent, RefusesSome, IsRangeError, IsHandleError, IsReadError, IsPartError}
+use Rattle.zarrs_codec_held.specs.Reads.{Keeps, Reads, GivesParts, AreParts, AreAbsent, RefusesSome, IsRangeErrorOf, IsHandleError, IsReadError, IsPartError}
 use Rattle.zarrs_codec_held.specs.Writes.{Holds, Stays, Stands, is_fault, Unless, UnlessFault, Writes, ToldAfter}
 use Rattle.zarrs_codec_held.specs.Through.{through, says_of, through_says, decoded}
 use Rattle.zarrs_codec_held.proofs.PartLaws.{within_value, value_there, none_absent}
@@ -67,52 +67,64 @@ pub reads_failed : {T U E F : Type 0} (asked : Option (List ByteRange)) (old new
 reads_failed asked old new e f reads = record { keeps = reads.keeps; asks = tt; asks_err = reads.asks_err; taken = tt; taken_err = reads.taken_err }
 
 -- which errors tell that a value does not decode, after a read
-pub through_told : (decode : List ℕ → Option (List ℕ)) (says : List ℕ → CodecError → Type 0) (old new : CodecError → Type 0) (held now : Held) (e : CodecError) → now ≡ held → (new e → old e) → through_says decode says new now e → through_says decode says old held e
-through_told decode says old new held now e same back told = go held (subst (λ (h : Held). through_says decode says new h e) same told)
+pub through_told : (decode : List ℕ → Option (List ℕ)) (says : List ℕ → CodecError → Type 0) (old new : CodecError → Type 0) (held now : Held) (asked : Option (List ByteRange)) (e : CodecError) → now ≡ held → (new e → old e) → through_says decode says new now asked e → through_says decode says old held asked e
+through_told decode says old new held now asked e same back told = go held (subst (λ (h : Held). through_says decode says new h asked e) same told)
   where
-    go : (h : Held) → through_says decode says new h e → through_says decode says old h e
+    go : (h : Held) → through_says decode says new h asked e → through_says decode says old h asked e
     go None told = back told
     go (Some None) told = told
     go (Some (Some value)) told = told
 
 -- why a read fails
 pub read_told : (decode : List ℕ → Option (List ℕ)) (says : List ℕ → CodecError → Type 0) (tells : CodecError → Type 0) (held : Held) (before now : ℕ) (e : CodecError) → IsReadError held tells before now e
-    → IsReadError (through decode held) (through_says decode says tells held) before now e
+    → IsReadError (through decode held) (through_says decode says tells held None) before now e
 read_told decode says tells held before now e told =
     ⊎_elim (λ (h : IsHandleError before now e). inl h)
-    (λ (none : (held ≡ None) × tells e). inr (ap (through decode) none.0, subst (λ (h : Held). through_says decode says tells h e) (sym none.0) none.1)) told
+    (λ (none : (held ≡ None) × tells e). inr (ap (through decode) none.0, subst (λ (h : Held). through_says decode says tells h None e) (sym none.0) none.1)) told
 
 pub decode_told : (decode : List ℕ → Option (List ℕ)) (says : List ℕ → CodecError → Type 0) (tells : CodecError → Type 0) (held : Held) (value : List ℕ) (before now : ℕ) (e : CodecError) → held ≡ Some (Some value)
-    → (e ≡ codec.OutOfMemory) ⊎ ((decode value ≡ None) × says value e) → IsReadError (through decode held) (through_says decode says tells held) before now e
+    → (e ≡ codec.OutOfMemory) ⊎ ((decode value ≡ None) × says value e) → IsReadError (through decode held) (through_says decode says tells held None) before now e
 decode_told decode says tells held value before now e is told =
     ⊎_elim (λ (m : e ≡ codec.OutOfMemory). inl (inl m))
-    (λ (none : (decode value ≡ None) × says value e). inr (ap (through decode) is ∙ ap (option_map Some) none.0, subst (λ (h : Held). through_says decode says tells h e) (sym is) (subst (λ (d : Option (List ℕ)). says_of d (says value) e) (sym none.0) none.1))) told
+    (λ (none : (decode value ≡ None) × says value e). inr (ap (through decode) is ∙ ap (option_map Some) none.0, subst (λ (h : Held). through_says decode says tells h None e) (sym is) (subst (λ (d : Option (List ℕ)). says_of d (says value) None e) (sym none.0) none.1))) told
 
--- of a value that decodes, the error of a range
-pub range_told : (decode : List ℕ → Option (List ℕ)) (says : List ℕ → CodecError → Type 0) (tells : CodecError → Type 0) (held : Held) (value : List ℕ) (e : CodecError) → through decode held ≡ Some (Some value) → IsRangeError e → through_says decode says tells held e
-range_told decode says tells None value e is range = cc
-range_told decode says tells (Some None) value e is range = cc
-range_told decode says tells (Some (Some v)) value e is range = go (decode v) is
+-- of a value that decodes, the error of a range of what it decodes to
+pub range_told : (decode : List ℕ → Option (List ℕ)) (says : List ℕ → CodecError → Type 0) (tells : CodecError → Type 0) (held : Held) (value : List ℕ) (ranges : List ByteRange) (e : CodecError) → through decode held ≡ Some (Some value) → IsRangeErrorOf ranges (length value) e
+    → through_says decode says tells held (Some ranges) e
+range_told decode says tells None value ranges e is range = cc
+range_told decode says tells (Some None) value ranges e is range = cc
+range_told decode says tells (Some (Some v)) value ranges e is range = go (decode v) is
   where
-    go : (d : Option (List ℕ)) → option_map Some d ≡ Some (Some value) → says_of d (says v) e
+    go : (d : Option (List ℕ)) → option_map Some d ≡ Some (Some value) → says_of d (says v) (Some ranges) e
     go None is = cc
-    go (Some w) is = range
+    go (Some w) is = let same : value ≡ w = cc in subst (λ (b : List ℕ). IsRangeErrorOf ranges (length b) e) same range
+
+-- what tells why the whole value is refused tells why ranges are
+pub whole_told : (decode : List ℕ → Option (List ℕ)) (says : List ℕ → CodecError → Type 0) (tells : CodecError → Type 0) (held : Held) (asked : Option (List ByteRange)) (e : CodecError) → through_says decode says tells held None e
+    → through_says decode says tells held asked e
+whole_told decode says tells None asked e told = told
+whole_told decode says tells (Some None) asked e told = told
+whole_told decode says tells (Some (Some value)) asked e told = go (decode value) told
+  where
+    go : (d : Option (List ℕ)) → says_of d (says value) None e → says_of d (says value) asked e
+    go None told = told
+    go (Some bytes) told = absurd told
 
 -- why ranges of what was decoded fail
-pub many_told : (held : Held) (ranges : List ByteRange) (tells : CodecError → Type 0) (before now : ℕ) (e : CodecError) → IsReadError held tells before now e → IsPartError (part_of held) ranges tells before now e
-many_told held ranges tells before now e told =
+pub many_told : (held : Held) (ranges : List ByteRange) (whole tells : CodecError → Type 0) (before now : ℕ) (e : CodecError) → (whole e → tells e) → IsReadError held whole before now e → IsPartError (part_of held) ranges tells before now e
+many_told held ranges whole tells before now e more told =
     ⊎_elim (λ (h : IsHandleError before now e). inl h)
-    (λ (none : (held ≡ None) × tells e). inr (refuses ranges none.0, none.1)) told
+    (λ (none : (held ≡ None) × whole e). inr (refuses ranges none.0, more none.1)) told
   where
     refuses : (ranges : List ByteRange) → held ≡ None → RefusesSome (part_of held) ranges
     refuses [] none = λ range. ap (λ (h : Held). part_of h range) none
     refuses (range ∷ ranges) none = inl (ap (λ (h : Held). part_of h range) none)
 
-pub many_refused : (held : Held) (value : List ℕ) (ranges : List ByteRange) (tells : CodecError → Type 0) (before now : ℕ) (e : CodecError) → held ≡ Some (Some value) → (IsRangeError e → tells e)
-    → (e ≡ codec.OutOfMemory) ⊎ (RefusesSome (value_part (Some value)) ranges × IsRangeError e) → IsPartError (part_of held) ranges tells before now e
+pub many_refused : (held : Held) (value : List ℕ) (ranges : List ByteRange) (tells : CodecError → Type 0) (before now : ℕ) (e : CodecError) → held ≡ Some (Some value) → (IsRangeErrorOf ranges (length value) e → tells e)
+    → (e ≡ codec.OutOfMemory) ⊎ (RefusesSome (value_part (Some value)) ranges × IsRangeErrorOf ranges (length value) e) → IsPartError (part_of held) ranges tells before now e
 many_refused held value ranges tells before now e is range told =
     ⊎_elim (λ (m : e ≡ codec.OutOfMemory). inl (inl m))
-    (λ (r : RefusesSome (value_part (Some value)) ranges × IsRangeError e). inr (subst (λ (h : Held). RefusesSome (part_of h) ranges) (sym is) r.0, range r.1)) told
+    (λ (r : RefusesSome (value_part (Some value)) ranges × IsRangeErrorOf ranges (length value) e). inr (subst (λ (h : Held). RefusesSome (part_of h) ranges) (sym is) r.0, range r.1)) told
 
 pub many_given : (held : Held) (value : List ℕ) (ranges : List ByteRange) (parts : List (List ℕ)) (there : Bool) → held ≡ Some (Some value) → true ≡ there → AreParts (value_part (Some value)) ranges parts
     → GivesParts there (part_of held) ranges (Some parts)
@@ -163,59 +175,58 @@ writes_not {T} value seen e is = subst (λ (x : CodecError). Writes {T = T} valu
     (record { ok = tt; failed = inl (record { there = refl; held = λ under. refl }); unchanged = record { there = refl; held = λ under. refl; content = λ key. refl }; others = λ other other_key. refl; key = refl; place = refl; cost = refl; later = omega arith })
 
 -- which errors tell of a refusal after a change
-pub told_weaker : (held : Held) (P Q : CodecError → Type 0) (e : CodecError) → (P e → Q e) → ToldAfter held P e → ToldAfter held Q e
-told_weaker None P Q e back told = back told
-told_weaker (Some value) P Q e back told = told
+module _ (decode : List ℕ → Option (List ℕ)) (says : List ℕ → CodecError → Type 0) (asked : Option (List ByteRange)) (e : CodecError) where
+  abbrev Says : (CodecError → Type 0) → Held → CodecError → Type 0
+  Says tells held e = through_says decode says tells held asked e
 
-module _ (decode : List ℕ → Option (List ℕ)) (says : List ℕ → CodecError → Type 0) (e : CodecError) where
-  said_still : (value : List ℕ) (d : Option (List ℕ)) → says_of d (says value) e → ToldAfter (option_map Some d) (λ e. says_of d (says value) e) e
+  said_still : (value : List ℕ) (d : Option (List ℕ)) → says_of d (says value) asked e → ToldAfter (option_map Some d) asked (λ e. says_of d (says value) asked e) e
   said_still value None told = told
   said_still value (Some bytes) told = told
 
   -- of what is held as before
-  same_told : (old_tells new_tells : CodecError → Type 0) (held : Held) → (new_tells e → ToldAfter held old_tells e) → through_says decode says new_tells held e
-      → ToldAfter (through decode held) (through_says decode says old_tells held) e
+  same_told : (old_tells new_tells : CodecError → Type 0) (held : Held) → (new_tells e → ToldAfter held None old_tells e) → Says new_tells held e
+      → ToldAfter (through decode held) asked (Says old_tells held) e
   same_told old_tells new_tells None back told = back told
   same_told old_tells new_tells (Some None) back told = absurd told
   same_told old_tells new_tells (Some (Some value)) back told = said_still value (decode value) told
 
   -- of what decodes
-  decoded_told : (before tells : CodecError → Type 0) (held : Held) → IsSome (through decode held) → through_says decode says tells held e → ToldAfter (through decode held) before e
+  decoded_told : (before tells : CodecError → Type 0) (held : Held) → IsSome (through decode held) → Says tells held e → ToldAfter (through decode held) asked before e
   decoded_told before tells None some told = cc
   decoded_told before tells (Some None) some told = absurd told
   decoded_told before tells (Some (Some value)) some told = go (decode value) some told
     where
-      go : (d : Option (List ℕ)) → IsSome (option_map Some d) → says_of d (says value) e → ToldAfter (option_map Some d) before e
+      go : (d : Option (List ℕ)) → IsSome (option_map Some d) → says_of d (says value) asked e → ToldAfter (option_map Some d) asked before e
       go None some told = cc
       go (Some bytes) some told = told
 
   -- where nothing is changed, and where the value below is made another one
-  pub told_still : (tells : CodecError → Type 0) (held : Held) → through_says decode says tells held e → ToldAfter (through decode held) (through_says decode says tells held) e
+  pub told_still : (tells : CodecError → Type 0) (held : Held) → through_says decode says tells held asked e → ToldAfter (through decode held) asked (λ e. through_says decode says tells held asked e) e
   told_still tells None told = told
   told_still tells (Some None) told = absurd told
   told_still tells (Some (Some value)) told = said_still value (decode value) told
 
   module _ {T : Type 0} (old_tells new_tells : CodecError → Type 0) (under : Options) (old new : Seen) (result : Result T CodecError) where
-    told_written : (value : Option (List ℕ)) → IsSome (through decode (Some value)) → Writes value old new result → (new_tells e → ToldAfter (new.held under) old_tells e)
-        → through_says decode says new_tells (new.held under) e → ToldAfter (through decode (new.held under)) (through_says decode says old_tells (old.held under)) e
+    told_written : (value : Option (List ℕ)) → IsSome (through decode (Some value)) → Writes value old new result → (new_tells e → ToldAfter (new.held under) None old_tells e)
+        → Says new_tells (new.held under) e → ToldAfter (through decode (new.held under)) asked (Says old_tells (old.held under)) e
     told_written value some writes back told = go result writes.ok writes.failed
       where
-        holds : (other : Option (List ℕ)) → IsSome (through decode (Some other)) → Holds other new → ToldAfter (through decode (new.held under)) (through_says decode says old_tells (old.held under)) e
-        holds other there is = decoded_told (through_says decode says old_tells (old.held under)) new_tells (new.held under) (subst (λ (h : Held). IsSome (through decode h)) (sym (is under)) there) told
+        holds : (other : Option (List ℕ)) → IsSome (through decode (Some other)) → Holds other new → ToldAfter (through decode (new.held under)) asked (Says old_tells (old.held under)) e
+        holds other there is = decoded_told (Says old_tells (old.held under)) new_tells (new.held under) (subst (λ (h : Held). IsSome (through decode h)) (sym (is under)) there) told
 
-        stands : Stands old new → ToldAfter (through decode (new.held under)) (through_says decode says old_tells (old.held under)) e
-        stands same = subst (λ (h : Held). ToldAfter (through decode (new.held under)) (through_says decode says old_tells h) e) (same.held under) (same_told old_tells new_tells (new.held under) back told)
+        stands : Stands old new → ToldAfter (through decode (new.held under)) asked (Says old_tells (old.held under)) e
+        stands same = subst (λ (h : Held). ToldAfter (through decode (new.held under)) asked (Says old_tells h) e) (same.held under) (same_told old_tells new_tells (new.held under) back told)
 
-        go : (r : Result T CodecError) → OnOk r (Holds value new) → OnErr r (Stands old new ⊎ (Holds value new ⊎ Holds None new)) → ToldAfter (through decode (new.held under)) (through_says decode says old_tells (old.held under)) e
+        go : (r : Result T CodecError) → OnOk r (Holds value new) → OnErr r (Stands old new ⊎ (Holds value new ⊎ Holds None new)) → ToldAfter (through decode (new.held under)) asked (Says old_tells (old.held under)) e
         go (Ok v) ok failed = holds value some ok
         go (Err error) ok (inl same) = stands same
         go (Err error) ok (inr (inl is)) = holds value some is
         go (Err error) ok (inr (inr none)) = holds None refl none
 
-    pub told_erased : Writes None old new result → (new_tells e → ToldAfter (new.held under) old_tells e)
-        → through_says decode says new_tells (new.held under) e → ToldAfter (through decode (new.held under)) (through_says decode says old_tells (old.held under)) e
+    pub told_erased : Writes None old new result → (new_tells e → ToldAfter (new.held under) None old_tells e)
+        → through_says decode says new_tells (new.held under) asked e → ToldAfter (through decode (new.held under)) asked (λ e. through_says decode says old_tells (old.held under) asked e) e
     told_erased writes back told = told_written None refl writes back told
 
-    pub told_replaced : (encoded bytes : List ℕ) → decode encoded ≡ Some bytes → Writes (Some encoded) old new result → (new_tells e → ToldAfter (new.held under) old_tells e)
-        → through_says decode says new_tells (new.held under) e → ToldAfter (through decode (new.held under)) (through_says decode says old_tells (old.held under)) e
+    pub told_replaced : (encoded bytes : List ℕ) → decode encoded ≡ Some bytes → Writes (Some encoded) old new result → (new_tells e → ToldAfter (new.held under) None old_tells e)
+        → through_says decode says new_tells (new.held under) asked e → ToldAfter (through decode (new.held under)) asked (λ e. through_says decode says old_tells (old.held under) asked e) e
     told_replaced encoded bytes decodes writes back told = told_written (Some encoded) (subst (λ (o : Option (List ℕ)). IsSome (option_map Some o)) (sym decodes) refl) writes back told

@@ -1,11 +1,12 @@
 -- An interval of the value that a handle holds.
-use Rattle.std.specs.Prelude.{ℕ, ◌+◌, ◌-◌, Bool, true, is_some, if◌then◌else◌, List, [], ◌∷◌, map, Option, Some, None}
+use Rattle.std.specs.Prelude.{ℕ, ◌+◌, ◌-◌, if◌then◌else◌, List, [], ◌∷◌, map, Option, Some, None}
 use Rattle.zarrs_storage.specs.declared.byte_range.ByteRange.{ByteRange}
 use Rattle.zarrs_storage.specs.declared.byte_range.ByteRange.TheVariants.{FromStart}
+use Rattle.zarrs_storage.specs.declared.byte_range.InvalidByteRangeError.{InvalidByteRangeError}
 use Rattle.zarrs_storage.specs.ByteRange.{is_valid, start_in, end_in, first_invalid}
 use Rattle.zarrs_codec_error.specs.declared.error.CodecError.{CodecError}
 use Rattle.zarrs_codec_held.specs.Held.{Held, Seen}
-use Rattle.zarrs_codec_held.specs.Reads.{IsRangeError}
+use Rattle.zarrs_codec_held.specs.Reads.{IsRangeErrorOf}
 
 -- where a range of so many bytes from an offset on lies in the value
 abbrev pub shifted : ℕ → ℕ → ByteRange → ByteRange
@@ -33,23 +34,28 @@ interval offset len below = record below {
   taking = λ asked. below.taking (Some (asked_of offset len asked));
 }
 
--- whether it refuses a range before anything is read, by whether the handle does: one that is not
--- valid for its length, or one that the handle refuses so
-abbrev pub interval_early : ℕ → ℕ → (Option (List ByteRange) → Bool) → Option (List ByteRange)
-    → Bool
+-- the error of a range that it refuses before anything is read: of the first that is not valid for
+-- its length, or else that of the handle
+abbrev pub error_or : Option ByteRange → ℕ → Option InvalidByteRangeError
+    → Option InvalidByteRangeError
+error_or (Some range) len below = Some (record { range = range; size = len })
+error_or None len below = below
+
+abbrev pub interval_early : ℕ → ℕ → (Option (List ByteRange) → Option InvalidByteRangeError)
+    → Option (List ByteRange) → Option InvalidByteRangeError
 interval_early offset len below None = below (Some (all_of offset len ∷ []))
 interval_early offset len below (Some ranges) =
-    if is_some (first_invalid len ranges) then true
-    else below (Some (map (shifted offset len) ranges))
+    error_or (first_invalid len ranges) len (below (Some (map (shifted offset len) ranges)))
 
 -- which errors tell why it refuses what is asked for: where a range is not valid for its length
--- that of a range, and else those of the handle for where this lies in the value
-abbrev pub range_or : Option ByteRange → (CodecError → Type 0) → CodecError → Type 0
-range_or (Some range) tells e = IsRangeError e
-range_or None tells e = tells e
+-- that of the first such one, and else those of the handle for where this lies in the value
+abbrev pub range_or : Option ByteRange → (CodecError → Type 0) → (CodecError → Type 0)
+    → CodecError → Type 0
+range_or (Some range) own below e = own e
+range_or None own below e = below e
 
 abbrev pub interval_tells : ℕ → ℕ → (Option (List ByteRange) → CodecError → Type 0)
     → Option (List ByteRange) → CodecError → Type 0
 interval_tells offset len below None e = below (Some (all_of offset len ∷ [])) e
-interval_tells offset len below (Some ranges) e =
-    range_or (first_invalid len ranges) (below (Some (map (shifted offset len) ranges))) e
+interval_tells offset len below (Some ranges) e = range_or (first_invalid len ranges)
+    (IsRangeErrorOf ranges len) (below (Some (map (shifted offset len) ranges))) e

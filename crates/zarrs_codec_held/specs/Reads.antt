@@ -1,9 +1,11 @@
 -- What reading calls of a handle of bytes answer.
-use Rattle.std.specs.Prelude.{◌≡◌, ◌≤◌, ◌⊎◌, ℕ, Bool, true, false, List, [], ◌∷◌, Option, Some, None, Result, Ok, Err, OnOk, OnErr}
+use Rattle.std.specs.Prelude.{◌≡◌, ◌≤◌, ◌⊎◌, ℕ, Bool, true, false, List, [], ◌∷◌, length, Option, Some, None, Result, Ok, Err, OnOk, OnErr}
 use Rattle.zarr_model.specs.Codec.{Options}
 use Rattle.zarr_model.specs.Prelude.{Rose, counted}
 use Rattle.zarr_model.specs.Shown.{Shown}
 use Rattle.zarrs_storage.specs.declared.byte_range.ByteRange.{ByteRange}
+use Rattle.zarrs_storage.specs.declared.byte_range.InvalidByteRangeError.{InvalidByteRangeError}
+use Rattle.zarrs_storage.specs.ByteRange.{first_invalid, TellsRange}
 use Rattle.zarrs_storage.specs.declared.store.StorageError.TheVariants as storage
 use Rattle.zarrs_codec_error.specs.declared.error.CodecError.{CodecError}
 use Rattle.zarrs_codec_error.specs.declared.error.CodecError.TheVariants as codec
@@ -64,10 +66,17 @@ abbrev pub RefusesSome : (ByteRange → Held) → List ByteRange → Type 0
 RefusesSome part [] = (range : ByteRange) → part range ≡ None
 RefusesSome part (range ∷ ranges) = (part range ≡ None) ⊎ RefusesSome part ranges
 
--- an error of a range
-abbrev pub IsRangeError : CodecError → Type 0
-IsRangeError (codec.InvalidByteRangeError error) = Unit {0}
-IsRangeError e = ⊥
+-- an error of the first of these ranges that is not valid for so many bytes
+abbrev pub IsRangeErrorOf : List ByteRange → ℕ → CodecError → Type 0
+IsRangeErrorOf ranges size (codec.InvalidByteRangeError error) =
+    TellsRange (first_invalid size ranges) size error
+IsRangeErrorOf ranges size e = ⊥
+
+-- the same of a value; there is none where it is absent, or where all of it is asked for
+abbrev pub TellsRangeOf : Option (List ByteRange) → Option (List ℕ) → CodecError → Type 0
+TellsRangeOf None value e = ⊥
+TellsRangeOf (Some ranges) None e = ⊥
+TellsRangeOf (Some ranges) (Some value) e = IsRangeErrorOf ranges (length value) e
 
 -- what is below failed; or memory ran out
 abbrev pub IsFault : ℕ → ℕ → CodecError → Type 0
@@ -87,12 +96,15 @@ abbrev pub IsPartError : (ByteRange → Held) → List ByteRange → (CodecError
 IsPartError part ranges tells before now e =
     IsHandleError before now e ⊎ (RefusesSome part ranges × tells e)
 
--- a range is refused before anything is read: as such, or for want of memory
-abbrev pub IsRangeRefusal : {T : Type 0} → Result T CodecError → Type 0
-IsRangeRefusal (Ok v) = ⊥
-IsRangeRefusal (Err e) = (e ≡ codec.OutOfMemory) ⊎ IsRangeError e
+-- a range is refused by this error of it, or for want of memory
+abbrev pub IsRangeRefusal : {T : Type 0} → InvalidByteRangeError → Result T CodecError → Type 0
+IsRangeRefusal error (Ok v) = ⊥
+IsRangeRefusal error (Err e) =
+    (e ≡ codec.OutOfMemory) ⊎ (e ≡ codec.InvalidByteRangeError error)
 
-abbrev pub RefusesFirst : {T : Type 0} → Bool → Shown → Shown → Result T CodecError → Type 0
-RefusesFirst false old new result = Unit {0}
-RefusesFirst true old new result = IsRangeRefusal result
+-- where there is such an error, before anything is read
+abbrev pub RefusesFirst : {T : Type 0} → Option InvalidByteRangeError → Shown → Shown
+    → Result T CodecError → Type 0
+RefusesFirst None old new result = Unit {0}
+RefusesFirst (Some error) old new result = IsRangeRefusal error result
     × ((new.asks ≡ old.asks) × ((new.taken ≡ old.taken) × (new.faults ≡ old.faults)))

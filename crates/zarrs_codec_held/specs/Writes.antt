@@ -2,11 +2,12 @@
 use Rattle.std.specs.Prelude.{◌≡◌, ◌≤◌, ◌⊎◌, ℕ, Bool, true, false, List, Option, Some, None, IsSome, Result, Ok, Err, OnOk, OnErr}
 use Rattle.zarr_model.specs.Codec.{Options}
 use Rattle.zarr_model.specs.Prelude.{counted}
+use Rattle.zarrs_storage.specs.declared.byte_range.ByteRange.{ByteRange}
 use Rattle.zarrs_storage.specs.Parts.{held_bytes}
 use Rattle.zarrs_codec_error.specs.declared.error.CodecError.{CodecError}
 use Rattle.zarrs_codec_error.specs.declared.error.CodecError.TheVariants as codec
 use Rattle.zarrs_codec_held.specs.Held.{Held, Seen}
-use Rattle.zarrs_codec_held.specs.Reads.{MayCount, IsRangeError}
+use Rattle.zarrs_codec_held.specs.Reads.{MayCount, TellsRangeOf}
 
 -- a handle holds this value, or is absent, under all options
 abbrev pub Holds : Option (List ℕ) → Seen → Type 0
@@ -53,11 +54,12 @@ pub record Writes {T : Type 0} (value : Option (List ℕ)) (old new : Seen)
   pub cost : new.cost ≡ old.cost
   pub later : old.shown.faults ≤ new.shown.faults
 
--- which errors tell of a refusal afterwards: of a value that is read whole that of a range, and
--- else those that told of it before
-abbrev pub ToldAfter : Held → (CodecError → Type 0) → CodecError → Type 0
-ToldAfter None before e = before e
-ToldAfter (Some value) before e = IsRangeError e
+-- which errors tell afterwards why what is asked for is refused: of a value that is read whole that
+-- of a range of it, and else those that told of it before
+abbrev pub ToldAfter : Held → Option (List ByteRange) → (CodecError → Type 0) → CodecError
+    → Type 0
+ToldAfter None asked before e = before e
+ToldAfter (Some value) asked before e = TellsRangeOf asked value e
 
 -- nothing was read
 pub record Unasked (old new : Seen) : Type 0 where

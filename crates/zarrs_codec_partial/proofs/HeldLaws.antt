@@ -21,7 +21,7 @@ use Rattle.zarrs_codec_error.specs.declared.error.CodecError.TheVariants as code
 use Rattle.zarrs_codec_array_bytes.specs.declared.array_bytes.ArrayBytes as code
 use Rattle.zarrs_codec_array_bytes.specs.Raw.{raw_of}
 use Rattle.zarrs_codec_array_bytes.specs.Refusals.{Told, fine, told_by, other_fill, then_answer, wrong_length, Answers, fill_answer, extract_answer}
-use Rattle.zarrs_codec_traits.specs.Errors.{Unserved, RefusesBy, IsDecodeError}
+use Rattle.zarrs_codec_traits.specs.Errors.{Unserved, IsDecodeError, RefusesAs}
 use Rattle.zarrs_codec_traits.specs.Parts as parts
 use Rattle.zarrs_codec_traits.specs.Parts.{length_answer, lengths_answer, request_answer}
 use Rattle.zarrs_codec_traits.specs.Words.{list_at, at_box, select, Gives}
@@ -30,17 +30,12 @@ use Rattle.zarrs_codec_held.specs.Reads.{Keeps, Looks, Reads, GivesParts, ArePar
 use Rattle.zarrs_codec_held.proofs.PartLaws.{as_many}
 use Rattle.zarrs_codec_partial_traits.specs.Boxes.{smaller_box, is_smaller}
 use Rattle.zarrs_codec_partial_traits.specs.Lists.{fills, IsListError, KeepsList, LooksAt, ReadsList}
-use Rattle.zarrs_codec_partial.specs.Level.{list_of, found, held_in, IsRefused, AreGiven, IsOtherFill, own_says, list_says, ranges_for, listed}
-use Rattle.zarrs_codec_partial.specs.Boxes.{IsShort, GivesAll, GivesBox, GivesPlaces}
+use Rattle.zarrs_codec_partial.specs.Level.{list_of, found, held_in, IsRefused, IsOtherFill, undecoded, parts_say, ranges_say, own_says, list_says, ranges_for, listed}
+use Rattle.zarrs_codec_partial.specs.Boxes.{Denotes, IsShort, every, boxed, placed, GivesElements}
 use Rattle.zarrs_codec_partial.proofs.SelectLaws.{select-replicate, boxed-picked}
 use Rattle.zarrs_codec_partial.proofs.ExtractLaws.{says_some, extract_told}
 
--- an answer where a codec serves what it takes
-pub asked_ok : {T : Type 0} (unserved : Option Unserved) (P : T → Type 0) (Q : CodecError → Type 0) (r : Result T CodecError) → RefusesBy unserved r → (unserved ≡ None → MatchResult r P Q) → IfOk r P
-asked_ok None P Q (Ok v) refuses given = given refl
-asked_ok (Some why) P Q (Ok v) refuses given = absurd refuses
-asked_ok unserved P Q (Err e) refuses given = tt
-
+-- one half of an answer
 ok_of : {T : Type 0} (P : T → Type 0) (Q : CodecError → Type 0) (r : Result T CodecError) → MatchResult r P Q → IfOk r P
 ok_of P Q (Ok v) holds = holds
 ok_of P Q (Err e) holds = tt
@@ -49,11 +44,11 @@ weaker : {T : Type 0} (P Q : T → Type 0) (r : Result T CodecError) → ((v : T
 weaker P Q (Ok v) f p = f v p
 weaker P Q (Err e) f p = tt
 
-weaker_err : {T : Type 0} (P Q : CodecError → Type 0) (r : Result T CodecError) → ((e : CodecError) → P e → Q e) → IfErr r P → IfErr r Q
+pub weaker_err : {T : Type 0} (P Q : CodecError → Type 0) (r : Result T CodecError) → ((e : CodecError) → P e → Q e) → IfErr r P → IfErr r Q
 weaker_err P Q (Ok v) f p = tt
 weaker_err P Q (Err e) f p = f e p
 
-err_of : {T : Type 0} (P : T → Type 0) (Q : CodecError → Type 0) (r : Result T CodecError) → MatchResult r P Q → IfErr r Q
+pub err_of : {T : Type 0} (P : T → Type 0) (Q : CodecError → Type 0) (r : Result T CodecError) → MatchResult r P Q → IfErr r Q
 err_of P Q (Ok v) holds = tt
 err_of P Q (Err e) holds = holds
 
@@ -61,10 +56,6 @@ err_of P Q (Err e) holds = holds
 filled_by : (element : Option Element) (n : ℕ) (xs : List Element) → option_map (replicate n) element ≡ Some xs → (x : Element) × ((element ≡ Some x) × (replicate n x ≡ xs))
 filled_by None n xs e = cc
 filled_by (Some x) n xs e = let same : replicate n x ≡ xs = cc in (x, (refl, same))
-
-denoted : (element : Option Element) → IsSome element → (x : Element) × (element ≡ Some x)
-denoted None some = cc
-denoted (Some x) some = (x, refl)
 
 some_of : {A : Type 0} (o : Option A) (x : A) → o ≡ Some x → IsSome o
 some_of o x e = subst (λ o. IsSome o) (sym e) refl
@@ -84,7 +75,7 @@ made_valid level fill (Err e) answers is = tt
 pub fill_all : (level : Level) (fill : List ℕ) (r : Result code.ArrayBytes CodecError)
     → Answers (fill_answer (has_size (kind_of level.data_type) fill)) r → IfOk r (λ v. raw_of v ≡ filled_with (kind_of level.data_type) (count_of level.shape) fill)
     → ((x : Element) → fill_element (kind_of level.data_type) fill ≡ Some x → IfOk r (λ v. list_at level (raw_of v) ≡ Some (replicate (count_of level.shape) x)))
-    → (IsShort level fill → IfOk r (λ v. has_long_element (raw_of v) ≡ false)) → GivesAll level fill (fills level fill) r
+    → (IsShort level fill → IfOk r (λ v. has_long_element (raw_of v) ≡ false)) → GivesElements (every level) level fill (fills level fill) r
 fill_all level fill r answers made filled short = record {
   value = λ xs e. let by = filled_by _ _ xs e in weaker _ _ r (λ v is. is ∙ ap Some by.1.1) (filled by.0 by.1.0);
   valid = made_valid level fill r answers made;
@@ -101,18 +92,19 @@ fill_told level fill (Err e) answers = go (has_size (kind_of level.data_type) fi
     go false is told = ⊎_elim (λ (m : e ≡ codec.OutOfMemory). inl m) (λ (t : told_by e ≡ other_fill). inr (is, t)) told
 
 pub fill_part : (level : Level) (fill : List ℕ) (box : Region) (r : Result code.ArrayBytes CodecError) → ends_within box level.shape ≡ true
+    → Answers (fill_answer (has_size (kind_of level.data_type) fill)) r → IfOk r (λ v. raw_of v ≡ filled_with (kind_of level.data_type) (count box) fill)
     → ((x : Element) → fill_element (kind_of level.data_type) fill ≡ Some x → IfOk r (λ v. meaning (kind_of level.data_type) (count box) (raw_of v) ≡ Some (replicate (count box) x)))
-    → (IsShort level fill → IfOk r (λ v. has_long_element (raw_of v) ≡ false)) → GivesBox level fill box (fills level fill) r
-fill_part level fill box r inside filled short = record {
+    → (IsShort level fill → IfOk r (λ v. has_long_element (raw_of v) ≡ false)) → GivesElements (boxed box level) level fill (fills level fill) r
+fill_part level fill box r inside answers made filled short = record {
   value = λ xs e. let by = filled_by _ _ xs e in
       weaker _ _ r (λ v is. is ∙ ap Some (sym (select-replicate level.shape box by.0 inside) ∙ ap (select level.shape box) by.1.1)) (filled by.0 by.1.0);
-  valid = λ some. let by = denoted _ some in weaker _ _ r (λ v is. some_of _ _ is) (filled by.0 by.1);
+  valid = made_valid (at_box box level) fill r answers made;
   short = short;
 }
 
 module _ (level : Level) (fill : List ℕ) (decode : List ℕ → Option (List Element)) (absent : Option (List Element)) (held : Held) where
   pub all_of_value : (value : List ℕ) (Q : CodecError → Type 0) (r : Result code.ArrayBytes CodecError) → held ≡ Some (Some value) → MatchResult r (λ v. Gives (list_at level (raw_of v)) (decode value)) Q
-      → IfOk r (λ v. has_long_element (raw_of v) ≡ false) → GivesAll level fill (list_of decode absent held) r
+      → IfOk r (λ v. has_long_element (raw_of v) ≡ false) → GivesElements (every level) level fill (list_of decode absent held) r
   all_of_value value Q r is gives short =
       let ok = ok_of _ Q r gives in
       record {
@@ -121,26 +113,20 @@ module _ (level : Level) (fill : List ℕ) (decode : List ℕ → Option (List E
         short = λ few. short;
       }
 
-  pub all_of_none : (r : Result code.ArrayBytes CodecError) → held ≡ Some None → GivesAll level fill absent r → GivesAll level fill (list_of decode absent held) r
-  all_of_none r is gives = subst (λ (l : Option (List Element)). GivesAll level fill l r) (sym (ap (list_of decode absent) is)) gives
-
-  pub box_of_none : (box : Region) (r : Result code.ArrayBytes CodecError) → held ≡ Some None → GivesBox level fill box absent r → GivesBox level fill box (list_of decode absent held) r
-  box_of_none box r is gives = subst (λ (l : Option (List Element)). GivesBox level fill box l r) (sym (ap (list_of decode absent) is)) gives
-
   pub box_of_value : (box : Region) (value : List ℕ) (r : Result code.ArrayBytes CodecError) → held ≡ Some (Some value)
       → ((xs : List Element) → decode value ≡ Some xs → MatchResult r (λ v. list_at (at_box box level) (raw_of v) ≡ Some (select level.shape box xs)) (λ e. e ≡ codec.OutOfMemory))
-      → IfOk r (λ v. IsSome (list_at (at_box box level) (raw_of v))) → IfOk r (λ v. has_long_element (raw_of v) ≡ false) → GivesBox level fill box (list_of decode absent held) r
+      → IfOk r (λ v. IsSome (list_at (at_box box level) (raw_of v))) → IfOk r (λ v. has_long_element (raw_of v) ≡ false) → GivesElements (boxed box level) level fill (list_of decode absent held) r
   box_of_value box value r is gives valid short = record {
     value = λ xs e. ok_of _ _ r (gives xs (sym (ap (list_of decode absent) is) ∙ e));
-    valid = λ some. valid;
+    valid = valid;
     short = λ few. short;
   }
 
   pub box_of_broken : (box : Region) (r : Result code.ArrayBytes CodecError) → held ≡ None
-      → IfOk r (λ v. IsSome (list_at (at_box box level) (raw_of v))) → IfOk r (λ v. has_long_element (raw_of v) ≡ false) → GivesBox level fill box (list_of decode absent held) r
+      → IfOk r (λ v. IsSome (list_at (at_box box level) (raw_of v))) → IfOk r (λ v. has_long_element (raw_of v) ≡ false) → GivesElements (boxed box level) level fill (list_of decode absent held) r
   box_of_broken box r is valid short = record {
     value = λ xs e. absurd (none (sym (ap (list_of decode absent) is) ∙ e));
-    valid = λ some. valid;
+    valid = valid;
     short = λ few. short;
   }
     where
@@ -149,10 +135,10 @@ module _ (level : Level) (fill : List ℕ) (decode : List ℕ → Option (List E
 
 module _ (level : Level) (fill : List ℕ) (decode : List ℕ → Option (List Element)) (says : List ℕ → CodecError → Type 0) (tells : Option (List ByteRange) → CodecError → Type 0) (below : Seen) (under : Options) (asked : Option (List ByteRange)) (before now : ℕ) where
   abbrev Fails : CodecError → Type 0
-  Fails e = IsListError below.there (list_of decode (fills level fill) (held_in below under)) (list_says level fill says tells below under asked) before now e
+  Fails e = IsListError below.there (list_of decode (fills level fill) (held_in below under)) (list_says level fill decode says tells below under asked) before now e
 
   abbrev Own : Held → CodecError → Type 0
-  Own h e = own_says level fill says (AreGiven below.there (below.part under) asked) h e
+  Own h e = own_says level fill says (ranges_say level fill (undecoded decode says) below.there (below.part under) asked) h e
 
   none_found : below.held under ≡ None → (list_of decode (fills level fill) (held_in below under) ≡ None) ⊎ (below.there ≡ false)
   none_found is = go below.there refl
@@ -182,13 +168,9 @@ module _ (level : Level) (fill : List ℕ) (decode : List ℕ → Option (List E
   pub value_fails_by : {T : Type 0} (value : List ℕ) (P : T → Type 0) (r : Result T CodecError) → below.held under ≡ Some (Some value) → MatchResult r P (IsDecodeError (decode value) (says value)) → IfErr r Fails
   value_fails_by value P r is told = value_fails_if value r is (err_of P _ r told)
 
-  pub fill_fails : {T : Type 0} (r : Result T CodecError) → below.held under ≡ Some None → below.there ≡ false → IfErr r (λ e. (e ≡ codec.OutOfMemory) ⊎ IsOtherFill level fill e) → IfErr r Fails
-  fill_fails r is gone told = weaker_err _ _ r (λ e t. ⊎_elim (λ (m : e ≡ codec.OutOfMemory). let x : Fails e = inl (inl m) in x)
-      (λ (f : IsOtherFill level fill e). let x : Fails e = inr (inr gone, inr (subst (λ (h : Held). Own h e) (sym is) f)) in x) t) told
-
-  pub broken_fails : {T : Type 0} (r : Result T CodecError) → below.held under ≡ None → AreGiven below.there (below.part under) asked → IfErr r Fails
-  broken_fails (Ok v) is given = tt
-  broken_fails (Err e) is given = inr (none_found is, inr (subst (λ (h : Held). Own h e) (sym is) given))
+  pub broken_fails : (e : CodecError) → below.held under ≡ None → (e ≡ codec.OutOfMemory) ⊎ ranges_say level fill (undecoded decode says) below.there (below.part under) asked e → Fails e
+  broken_fails e is (inl memory) = inl (inl memory)
+  broken_fails e is (inr why) = inr (none_found is, inr (subst (λ (h : Held). Own h e) (sym is) why))
 
   -- ranges that are refused of a value that decodes are not all valid for it
   pub parts_fail : (ranges : List ByteRange) (e : CodecError) → asked ≡ Some ranges → ((value : List ℕ) → below.held under ≡ Some (Some value) → (range : ByteRange) → below.part under range ≡ value_part (Some value) range)
@@ -255,20 +237,7 @@ parts_sliced part (range ∷ ranges) value (bytes ∷ given) same are = go (is_v
           lengths = ap (λ (t : Told). then_answer t (lengths_answer ranges given)) (ap (length_answer range) here ∙ slice_told range value is) ∙ rest.lengths;
         }
 
--- the whole value as the part that is asked for
-pub whole_parts : (request : Option (List ByteRange)) (value : List ℕ) (given : List (List ℕ)) → request ≡ None → given ≡ value ∷ [] → parts.AreParts request value given
-whole_parts request value given none same = subst (λ (r : Option (List ByteRange)). parts.AreParts r value given) (sym none) same
-
-pub whole_fits : (request : Option (List ByteRange)) (given : List (List ℕ)) → request ≡ None → request_answer request given ≡ fine
-whole_fits request given none = ap (λ (r : Option (List ByteRange)). request_answer r given) none
-
--- the parts of a value as those that are asked for
-pub asked_parts : (request : Option (List ByteRange)) (ranges : List ByteRange) (value : List ℕ) (given : List (List ℕ)) → request ≡ Some ranges → given ≡ slices_of ranges value → parts.AreParts request value given
-asked_parts request ranges value given some same = subst (λ (r : Option (List ByteRange)). parts.AreParts r value given) (sym some) same
-
-pub asked_fits : (request : Option (List ByteRange)) (ranges : List ByteRange) (given : List (List ℕ)) → request ≡ Some ranges → lengths_answer ranges given ≡ fine → request_answer request given ≡ fine
-asked_fits request ranges given some fits = ap (λ (r : Option (List ByteRange)). request_answer r given) some ∙ fits
-
+-- as many parts as are asked for
 pub asked_answer : (part : ByteRange → Held) (request : Option (List ByteRange)) (ranges : List ByteRange) (given : List (List ℕ)) → request ≡ Some ranges → AreParts part ranges given → parts.IsAnswer request given
 asked_answer part request ranges given some are = subst (λ (r : Option (List ByteRange)). parts.IsAnswer r given) (sym some) (as_many part ranges given are)
 
@@ -276,58 +245,78 @@ never : true ≡ false → ⊥
 never e = cc
 
 module _ (level : Level) (fill : List ℕ) (decode : List ℕ → Option (List Element)) (absent : Option (List Element)) (held : Held) (there : Bool) (all : (value : Option (List ℕ)) → held ≡ Some value → is_some value ≡ there) where
-  pub box_of_absent : (box : Region) (r : Result code.ArrayBytes CodecError) → there ≡ false → GivesBox level fill box absent r → GivesBox level fill box (list_of decode absent (found there held)) r
-  box_of_absent box r gone gives = go held refl
+  pub list_absent : there ≡ false → list_of decode absent (found there held) ≡ absent
+  list_absent gone = go held refl
     where
-      go : (h : Held) → held ≡ h → GivesBox level fill box (list_of decode absent (found there held)) r
-      go None is = box_of_none level fill decode absent (found there held) box r (ap₂ found gone is) gives
-      go (Some None) is = box_of_none level fill decode absent (found there held) box r (ap (found there) is) gives
+      go : (h : Held) → held ≡ h → list_of decode absent (found there held) ≡ absent
+      go None is = ap (list_of decode absent) (ap₂ found gone is)
+      go (Some None) is = ap (list_of decode absent) (ap (found there) is)
       go (Some (Some value)) is = absurd (never (all (Some value) is ∙ gone))
 
   module _ (part : ByteRange → Held) (ranges : List ByteRange) (given : List (List ℕ)) (whole : (value : List ℕ) → held ≡ Some (Some value) → (range : ByteRange) → part range ≡ value_part (Some value) range) (are : AreParts part ranges given) (here : there ≡ true) where
     pub box_of_parts : (box : Region) (r : Result code.ArrayBytes CodecError)
         → ((value : List ℕ) (xs : List Element) → given ≡ slices_of ranges value → decode value ≡ Some xs → MatchResult r (λ v. list_at (at_box box level) (raw_of v) ≡ Some (select level.shape box xs)) (λ e. e ≡ codec.OutOfMemory))
-        → IfOk r (λ v. IsSome (list_at (at_box box level) (raw_of v))) → IfOk r (λ v. has_long_element (raw_of v) ≡ false) → GivesBox level fill box (list_of decode absent (found there held)) r
+        → IfOk r (λ v. IsSome (list_at (at_box box level) (raw_of v))) → IfOk r (λ v. has_long_element (raw_of v) ≡ false) → GivesElements (boxed box level) level fill (list_of decode absent (found there held)) r
     box_of_parts box r gives valid short = go held refl
       where
-        go : (h : Held) → held ≡ h → GivesBox level fill box (list_of decode absent (found there held)) r
+        go : (h : Held) → held ≡ h → GivesElements (boxed box level) level fill (list_of decode absent (found there held)) r
         go None is = box_of_broken level fill decode absent (found there held) box r (ap₂ found here is) valid short
         go (Some None) is = absurd (never (sym here ∙ sym (all None is)))
         go (Some (Some value)) is = box_of_value level fill decode absent (found there held) box value r (ap (found there) is) (λ xs e. gives value xs (parts_sliced part ranges value given (whole value is) are).slices e) valid short
 
--- why elements of what a handle gives are refused
-module _ (level : Level) (fill : List ℕ) (decode : List ℕ → Option (List Element)) (says : List ℕ → CodecError → Type 0) (tells : Option (List ByteRange) → CodecError → Type 0) (below : Seen) (under : Options) (sound : IsSound below) (asked : Option (List ByteRange)) (ranges : List ByteRange) (some : asked ≡ Some ranges) (before now : ℕ) where
-  abbrev FailsSo : CodecError → Type 0
-  FailsSo e = IsListError below.there (list_of decode (fills level fill) (held_in below under)) (list_says level fill says tells below under asked) before now e
+-- memory ran out, or it did not
+abbrev is_memory : CodecError → Bool
+is_memory codec.OutOfMemory = true
+is_memory _ = false
 
-  given_so : (parts : Option (List (List ℕ))) → GivesParts below.there (below.part under) ranges parts → AreGiven below.there (below.part under) asked
-  given_so parts given = subst (λ (a : Option (List ByteRange)). AreGiven below.there (below.part under) a) (sym some) (parts, given)
+memory_or : (e : CodecError) → (e ≡ codec.OutOfMemory) ⊎ (is_memory e ≡ false)
+memory_or codec.OutOfMemory = inl refl
+memory_or _ = inr refl
 
-  pub absent_fails : {T : Type 0} (r : Result T CodecError) → GivesParts below.there (below.part under) ranges None → IfErr r (λ e. (e ≡ codec.OutOfMemory) ⊎ IsOtherFill level fill e) → IfErr r FailsSo
-  absent_fails r given told = go (below.held under) refl
-    where
-      go : (h : Held) → below.held under ≡ h → IfErr r FailsSo
-      go None is = broken_fails level fill decode says tells below under asked before now r is (given_so None given)
-      go (Some None) is = fill_fails level fill decode says tells below under asked before now r is given.0 told
-      go (Some (Some value)) is = absurd (never (sound.all_there under (Some value) is ∙ given.0))
+no_memory : {P : Type 0} (e : CodecError) → is_memory e ≡ false → e ≡ codec.OutOfMemory → P
+no_memory e other is = absurd (never (sym (ap is_memory is) ∙ other))
 
-  pub given_fails : {T : Type 0} (parts : List (List ℕ)) (r : Result T CodecError) → GivesParts below.there (below.part under) ranges (Some parts)
-      → ((value : List ℕ) → parts ≡ slices_of ranges value → lengths_answer ranges parts ≡ fine → IfErr r (IsDecodeError (decode value) (says value))) → IfErr r FailsSo
-  given_fails parts r given told = go (below.held under) refl
-    where
-      go : (h : Held) → below.held under ≡ h → IfErr r FailsSo
-      go None is = broken_fails level fill decode says tells below under asked before now r is (given_so (Some parts) given)
-      go (Some None) is = absurd (never (sym given.0 ∙ sym (sound.all_there under None is)))
-      go (Some (Some value)) is = let s = parts_sliced (below.part under) ranges value parts (λ range. sound.whole under value range is) given.1 in value_fails_if level fill decode says tells below under asked before now value r is (told value s.slices s.lengths)
+-- what is told of parts, by their lengths and by every value that has them
+pub parts_told : (decode : List ℕ → Option (List Element)) (says : List ℕ → CodecError → Type 0) (ranges : List ByteRange) (given : List (List ℕ)) (e : CodecError) → RefusesAs {T = code.ArrayBytes} (lengths_answer ranges given) (Err e)
+    → ((value : List ℕ) → given ≡ slices_of ranges value → lengths_answer ranges given ≡ fine → IsDecodeError (decode value) (says value) e) → (e ≡ codec.OutOfMemory) ⊎ parts_say (undecoded decode says) ranges given (lengths_answer ranges given) e
+parts_told decode says ranges given e lengths cause = go (lengths_answer ranges given) lengths (λ value are long. cause value are long)
+  where
+    said : is_memory e ≡ false → (value : List ℕ) → IsDecodeError (decode value) (says value) e → undecoded decode says value e
+    said other value why = ⊎_elim (λ (m : e ≡ codec.OutOfMemory). no_memory e other m) (λ (s : (decode value ≡ None) × says value e). s) why
+
+    go : (told : Told) → RefusesAs {T = code.ArrayBytes} told (Err e) → ((value : List ℕ) → given ≡ slices_of ranges value → told ≡ fine → IsDecodeError (decode value) (says value) e) → (e ≡ codec.OutOfMemory) ⊎ parts_say (undecoded decode says) ranges given told e
+    go fine refuses cause =
+        ⊎_elim (λ (m : e ≡ codec.OutOfMemory). inl m)
+        (λ (other : is_memory e ≡ false). let say : parts_say (undecoded decode says) ranges given fine e = λ value are. said other value (cause value are refl) in inr say) (memory_or e)
+    go _ refuses cause = refuses
+
+-- why elements of parts are refused
+pub given_fails : {T : Type 0} (level : Level) (fill : List ℕ) (decode : List ℕ → Option (List Element)) (says : List ℕ → CodecError → Type 0) (tells : Option (List ByteRange) → CodecError → Type 0) (below : Seen) (under : Options) (sound : IsSound below)
+    (ranges : List ByteRange) (before now : ℕ) (given : List (List ℕ)) (r : Result T CodecError) → GivesParts below.there (below.part under) ranges (Some given)
+    → IfErr r (λ e. (e ≡ codec.OutOfMemory) ⊎ parts_say (undecoded decode says) ranges given (lengths_answer ranges given) e)
+    → ((value : List ℕ) → given ≡ slices_of ranges value → lengths_answer ranges given ≡ fine → IfErr r (IsDecodeError (decode value) (says value)))
+    → IfErr r (IsListError below.there (list_of decode (fills level fill) (held_in below under)) (list_says level fill decode says tells below under (Some ranges)) before now)
+given_fails level fill decode says tells below under sound ranges before now given r parts told cause = go (below.held under) refl
+  where
+    some : (e : CodecError) → (e ≡ codec.OutOfMemory) ⊎ parts_say (undecoded decode says) ranges given (lengths_answer ranges given) e → (e ≡ codec.OutOfMemory) ⊎ ranges_say level fill (undecoded decode says) below.there (below.part under) (Some ranges) e
+    some e (inl memory) = inl memory
+    some e (inr why) = inr (Some given, (parts, why))
+
+    go : (h : Held) → below.held under ≡ h → IfErr r (IsListError below.there (list_of decode (fills level fill) (held_in below under)) (list_says level fill decode says tells below under (Some ranges)) before now)
+    go None is = weaker_err _ _ r (λ e t. broken_fails level fill decode says tells below under (Some ranges) before now e is (some e t)) told
+    go (Some None) is = absurd (never (sym parts.0 ∙ sym (sound.all_there under None is)))
+    go (Some (Some value)) is =
+        let s = parts_sliced (below.part under) ranges value given (λ range. sound.whole under value range is) parts.1 in
+        value_fails_if level fill decode says tells below under (Some ranges) before now value r is (cause value s.slices s.lengths)
 
 -- elements at some tuples, out of all of them
 pub listed_gives : (level : Level) (fill : List ℕ) (list : Option (List Element)) (places : List (List ℕ)) (raw : ArrayBytes) (r : Result code.ArrayBytes CodecError)
     → ((xs : List Element) → list ≡ Some xs → list_at level raw ≡ Some xs) → IsSome (list_at level raw)
     → ((xs : List Element) → list_at level raw ≡ Some xs → IfOk r (λ v. meaning (kind_of level.data_type) (length places) (raw_of v) ≡ Some (picked null (linear level.shape places) xs)))
-    → (IsShort level fill → IfOk r (λ v. has_long_element (raw_of v) ≡ false)) → GivesPlaces level fill places list r
+    → (IsShort level fill → IfOk r (λ v. has_long_element (raw_of v) ≡ false)) → GivesElements (placed places level) level fill list r
 listed_gives level fill list places raw r value valid chosen short = record {
   value = λ xs e. chosen xs (value xs e);
-  valid = λ some. let all = listed_some (list_at level raw) valid in weaker _ _ r (λ v is. some_of _ _ is) (chosen all.0 all.1);
+  valid = let all = listed_some (list_at level raw) valid in weaker _ _ r (λ v is. some_of _ _ is) (chosen all.0 all.1);
   short = short;
 }
   where
@@ -345,22 +334,28 @@ listed_fails level fits raw (Err e) P inside valid answers memory = go (list_at 
     go None is some = cc
     go (Some xs) is some = subst P (sym (extract_told (kind_of level.data_type) fits (count_of level.shape) raw xs e inside is answers)) memory
 
-module _ (decode : List ℕ → Option (List Element)) (absent : Option (List Element)) (there : Bool) (held : Held) (all : (value : Option (List ℕ)) → held ≡ Some value → is_some value ≡ there) where
-  pub value_decodes : {T : Type 0} (given : T → Option (List Element)) (Q : CodecError → Type 0) (r : Result T CodecError) (value : List ℕ) → held ≡ Some (Some value) → MatchResult r (λ v. Gives (given v) (decode value)) Q
-      → OnOk r (IsSome (list_of decode absent (found there held)))
-  value_decodes given Q (Ok v) value is gives =
-      let same : list_of decode absent (found there held) ≡ decode value = ap (λ (h : Held). list_of decode absent (found there h)) is in
-      subst (λ (o : Option (List Element)). IsSome o) (gives.same ∙ sym same) gives.there
-  value_decodes given Q (Err e) value is gives = tt
+-- what is given has a list
+pub value_decodes : {T : Type 0} (decode : List ℕ → Option (List Element)) (absent : Option (List Element)) (there : Bool) (held : Held) (given : T → Option (List Element)) (Q : CodecError → Type 0) (r : Result T CodecError) (value : List ℕ) → held ≡ Some (Some value)
+    → MatchResult r (λ v. Gives (given v) (decode value)) Q → OnOk r (IsSome (list_of decode absent (found there held)))
+value_decodes decode absent there held given Q (Ok v) value is gives =
+    let same : list_of decode absent (found there held) ≡ decode value = ap (λ (h : Held). list_of decode absent (found there h)) is in
+    subst (λ (o : Option (List Element)). IsSome o) (gives.same ∙ sym same) gives.there
+value_decodes decode absent there held given Q (Err e) value is gives = tt
 
-  pub none_decodes : {P : Type 0} → held ≡ Some None → there ≡ true → P
-  none_decodes is here = absurd (never (sym here ∙ sym (all None is)))
+filled_some : (n : ℕ) (element : Option Element) → IsSome element → IsSome (option_map (replicate n) element)
+filled_some n None some = cc
+filled_some n (Some x) some = refl
+
+pub absent_decodes : (level : Level) (fill : List ℕ) (list : Option (List Element)) (there : Bool) → list ≡ fills level fill → there ≡ false → (there ≡ true) ⊎ Denotes level fill → IsSome list
+absent_decodes level fill list there is gone (inl here) = absurd (never (sym here ∙ gone))
+absent_decodes level fill list there is gone (inr denotes) = subst (λ (o : Option (List Element)). IsSome o) (sym is) (filled_some (count_of level.shape) (fill_element (kind_of level.data_type) fill) denotes)
 
 -- the elements of the box that an indexer is
-pub boxed_gives : (level : Level) (fill : List ℕ) (box : Region) (places : List (List ℕ)) (list : Option (List Element)) (r : Result code.ArrayBytes CodecError) → places ≡ tuples box → GivesBox level fill box list r → GivesPlaces level fill places list r
+pub boxed_gives : (level : Level) (fill : List ℕ) (box : Region) (places : List (List ℕ)) (list : Option (List Element)) (r : Result code.ArrayBytes CodecError) → places ≡ tuples box → GivesElements (boxed box level) level fill list r
+    → GivesElements (placed places level) level fill list r
 boxed_gives level fill box places list r same gives = record {
   value = λ xs e. weaker _ _ r (λ v is. boxed-picked level box places (raw_of v) xs same is) (gives.value xs e);
-  valid = λ some. weaker _ _ r (λ v is. boxed_some v is) (gives.valid some);
+  valid = weaker _ _ r (λ v is. boxed_some v is) gives.valid;
   short = gives.short;
 }
   where
@@ -394,11 +389,11 @@ module _ (level : Level) (fill : List ℕ) (unserved : Option Unserved) (meaning
   pub listed_looks : {T E : Type 0} (old new : Seen) (result : Result T E) → Looks old new result → LooksAt (listed level fill unserved meaning request old) (listed level fill unserved meaning request new) result
   listed_looks old new result looks = record { keeps = listed_keeps old new looks.keeps; asks = looks.asks; asks_err = looks.asks_err; taken = looks.taken }
 
-module _ (level : Level) (fill : List ℕ) (says : List ℕ → CodecError → Type 0) (asked : Option (List ByteRange)) (e : CodecError) where
+module _ (level : Level) (fill : List ℕ) (decode : List ℕ → Option (List Element)) (says : List ℕ → CodecError → Type 0) (asked : Option (List ByteRange)) (e : CodecError) where
   abbrev Said : Bool → (ByteRange → Held) → Held → (CodecError → Type 0) → Type 0
-  Said there part held tells = (IsRefused held part asked × tells e) ⊎ own_says level fill says (AreGiven there part asked) held e
+  Said there part held tells = (IsRefused held part asked × tells e) ⊎ own_says level fill says (ranges_say level fill (undecoded decode says) there part asked) held e
 
-  pub list_told : (old_tells new_tells : Option (List ByteRange) → CodecError → Type 0) (old new : Seen) (under : Options) → Keeps old new → (new_tells asked e → old_tells asked e) → list_says level fill says new_tells new under asked e → list_says level fill says old_tells old under asked e
+  pub list_told : (old_tells new_tells : Option (List ByteRange) → CodecError → Type 0) (old new : Seen) (under : Options) → Keeps old new → (new_tells asked e → old_tells asked e) → list_says level fill decode says new_tells new under asked e → list_says level fill decode says old_tells old under asked e
   list_told old_tells new_tells old new under keeps back told =
       let part : new.part under ≡ old.part under = fun_ext (λ range. keeps.part under range) in
       let same : Said old.there (old.part under) (old.held under) (new_tells asked) =
@@ -406,7 +401,7 @@ module _ (level : Level) (fill : List ℕ) (says : List ℕ → CodecError → T
       (subst (λ (p : ByteRange → Held). Said old.there p (new.held under) (new_tells asked)) part
       (subst (λ (t : Bool). Said t (new.part under) (new.held under) (new_tells asked)) keeps.there told)) in
       ⊎_elim (λ (t : IsRefused (old.held under) (old.part under) asked × new_tells asked e). inl (t.0, back t.1))
-      (λ (own : own_says level fill says (AreGiven old.there (old.part under) asked) (old.held under) e). inr own) same
+      (λ (own : own_says level fill says (ranges_say level fill (undecoded decode says) old.there (old.part under) asked) (old.held under) e). inr own) same
 
 -- the box that is read by itself is the indexer's
 pub smaller_is : (shape : List ℕ) (asked : Option Region) (box : Region) → smaller_box shape asked ≡ Some box → asked ≡ Some box

@@ -11,7 +11,7 @@ use Rattle.std.proofs.Math.Nat.{mul-le-mul_right}
 use Rattle.zarr_model.specs.Region.{Region, count_of, sizes, tuples, ends_within}
 use Rattle.zarr_model.proofs.RegionLaws.{length-tuples}
 use Rattle.zarr_model.proofs.BytesLaws.{length-meaning, refusal-meaning}
-use Rattle.zarr_model.specs.Element.{Element, of_bytes, null, some, Kind, fixed, variable, optional, same_element, fill_element, kind_of, fixed_size}
+use Rattle.zarr_model.specs.Element.{Element, of_bytes, null, some, Kind, fixed, variable, optional, DataType, same_element, fill_element, kind_of, fixed_size}
 use Rattle.zarr_model.specs.ArrayBytes.{ArrayBytes, fixed_bytes, variable_bytes, optional_bytes, meaning}
 use Rattle.zarr_model.specs.Codec.{Level, Options}
 use Rattle.zarr_model.specs.Command.{Refusal, bytes_refusal}
@@ -34,11 +34,12 @@ use Rattle.zarrs_codec_held.specs.Writes.{Holds, Stays, Stands, UnlessFault, Wri
 use Rattle.zarrs_codec_partial_traits.specs.Boxes.{same_lengths, is_all}
 use Rattle.zarrs_codec_partial_traits.specs.Lists.{ListSeen, by_codec, fills}
 use Rattle.zarrs_codec_partial_traits.specs.ListWrites.{given_answer, are_all, is_kept, updated, HoldsList, IsAbsent, SameList, IsLeft, ErasesList, PutsList, StaysList, KeepsRest}
-use Rattle.zarrs_codec_partial_traits.specs.Updates.{Stores}
+use Rattle.zarrs_codec_partial_traits.specs.Updates.{Change, Stores}
 use Rattle.zarrs_codec_partial_traits.proofs.FaultLaws.{handle_faults, own_faults}
 use Rattle.zarrs_codec_partial_traits.proofs.UpdateLaws.{unless, was_ok, fault_told, fault_only, handle_told}
 use Rattle.zarrs_codec_partial.specs.Level.{list_of, found, listed}
-use Rattle.zarrs_codec_partial.specs.Writing.{IsBeyond, IsTaken}
+use Rattle.zarrs_codec_partial.specs.Writing.{IsBeyond, IsTaken, MakesElements}
+use Rattle.zarrs_codec_partial.specs.declared.level.BottomLevel.{BottomLevel}
 use Rattle.zarrs_codec_partial.proofs.ExtractLaws.{says_some, masked, lengths_kept}
 
 -- a shape has elements
@@ -347,10 +348,6 @@ pub err_memory : {T : Type 0} (r : Result T CodecError) (told : CodecError → T
 err_memory (Ok v) told is to = tt
 err_memory (Err e) told is to = to e is
 
-pub told_first : {T : Type 0} (A B : CodecError → Type 0) (r : Result T CodecError) → IfErr r A → IfErr r (λ e. A e ⊎ B e)
-told_first A B (Ok v) told = tt
-told_first A B (Err e) told = inl told
-
 pub answers_err : {T : Type 0} (wanted : Told) (r : Result T CodecError) → Answers wanted r → IfErr r (λ e. (e ≡ codec.OutOfMemory) ⊎ (told_by e ≡ wanted))
 answers_err wanted (Ok v) is = tt
 answers_err wanted (Err e) is = is
@@ -376,3 +373,10 @@ all_gives level covers places indices given list raw copy all long same means =
     let is : list_at level copy ≡ Some given = ap (list_at level) same ∙ (ap (λ (n : ℕ). meaning (kind_of level.data_type) n raw) (sym long) ∙ means) in
     let gives : Gives (list_at level copy) (updated true indices given list) = record { same = is; there = some_now _ _ is } in
     subst (λ (b : Bool). Gives (list_at level copy) (updated b indices given list)) all gives
+
+-- new elements of which it is known whether all are given
+module _ {B X : Type 0} {unserved : B → Option (List ℕ) → Option DataType → Option (List ℕ) → Option Unserved} {meaning : B → Options → Level → List ℕ → Option (List Element)} {says : B → Options → Level → List ℕ → CodecError → Type 0}
+    {request : B → List ℕ → DataType → Region → Option (List ByteRange)} {seen : X → Seen} {Tells : X → Options → Option (List ByteRange) → CodecError → Type 0} {Same : X → X → Type 0} {bottom : BottomLevel B} {change : Change} {under : Options} {old new : X}
+    {result : Result code.ArrayBytes CodecError} {all : Bool} where
+  pub makes_so : all ≡ change.all → MakesElements unserved meaning says request seen Tells Same bottom (record change { all = all }) under old new result → MakesElements unserved meaning says request seen Tells Same bottom change under old new result
+  makes_so same makes = subst (λ (b : Bool). MakesElements unserved meaning says request seen Tells Same bottom (record change { all = b }) under old new result) same makes

@@ -74,21 +74,14 @@ impl<H: BytesPartialDecoderTraits, C: ArrayToBytesCodecTraits> ArrayPartialDecod
     for ArrayToBytesCodecPartialDefault<H, C> {
     ghost use Rattle.std.specs.Prelude.{◌&&◌};
     ghost use Rattle.std.proofs.Common.{refl, ◌∙◌};
-    ghost use Rattle.zarrs_codec_traits.specs.Errors.{unserved_at};
     ghost use Rattle.zarrs_codec_partial.specs.Counted.{listed_count, listed_absent};
     ghost use Rattle.zarrs_codec_partial_traits.specs.Lists.{fills};
-    ghost use Rattle.zarrs_codec_partial.specs.Level.{bottom_level, bottom_fill, listed, held_in, list_says, ranges_for};
+    ghost use Rattle.zarrs_codec_partial.specs.Level.{bottom_level, bottom_fill, held_in, says_in, request_for, seen_by};
 
-    ghost seen = { λ h. listed (bottom_level h.level) (bottom_fill h.level)
-        (unserved_at (C.unserved h.level.codec) (bottom_level h.level) (bottom_fill h.level))
-        (λ under. C.meaning h.level.codec under (bottom_level h.level))
-        (C.request h.level.codec (bottom_level h.level).shape (bottom_level h.level).data_type)
-        (H.seen h.handle) };
+    ghost seen = { λ h. seen_by C.unserved C.meaning C.request h.level (H.seen h.handle) };
 
-    ghost tells = { λ h under asked e. list_says (bottom_level h.level) (bottom_fill h.level)
-        (C.says h.level.codec under (bottom_level h.level)) (H.tells h.handle under)
-        (H.seen h.handle) under (ranges_for (C.request h.level.codec (bottom_level h.level).shape
-        (bottom_level h.level).data_type) (bottom_level h.level).shape asked) e };
+    ghost tells = { λ h under asked e. says_in C.meaning C.says h.level (H.tells h.handle)
+        (H.seen h.handle) under (request_for C.request h.level asked) e };
 
     ghost same = { λ a b. (a.level ≡ b.level) × H.same a.handle b.handle };
 

@@ -1,23 +1,16 @@
 //! The elements of what a handle of bytes holds, by a codec with its level.
 
-ghost use Rattle.std.specs.Prelude.{◌≡◌, ◌∷◌, [], ◌⊎◌, ◌+◌, ◌<◌, ◌^◌, true, false, List, Option, None, IsSome, IsOk, IfOk, IfErr, OnOk, option_map};
-ghost use Rattle.zarrs_storage.specs.declared.byte_range.ByteRange.{ByteRange};
+ghost use Rattle.std.specs.Prelude.{◌≡◌, ◌∷◌, [], ◌+◌, ◌<◌, ◌^◌, true, false, None, Some, IsSome, IsOk, IfOk, IfErr, option_map};
 ghost use Rattle.zarrs_storage.specs.ByteRange.{parts_of};
 ghost use Rattle.zarr_model.specs.Region.{count_of, ends_within};
-ghost use Rattle.zarr_model.specs.Element.{kind_of};
-ghost use Rattle.zarr_model.specs.Codec.{Options};
 ghost use Rattle.zarrs_array_subset.specs.ArraySubset.{region as box_of};
-ghost use Rattle.zarrs_codec_error.specs.declared.error.CodecError.{CodecError};
-ghost use Rattle.zarrs_codec_error.specs.declared.error.CodecError.TheVariants as codec;
 ghost use Rattle.zarrs_codec_array_bytes.specs.Refusals.{fine, first_answer, Answers, IfUnfit};
 ghost use Rattle.zarrs_codec_traits.specs.Errors.{unserved_at, IsNoFault, RefusesAs};
 ghost use Rattle.zarrs_codec_traits.specs.Views.{lengths, options_of};
 ghost use Rattle.zarrs_codec_traits.specs.Words.{IsFit};
-ghost use Rattle.zarrs_codec_held.specs.Reads.{Reads};
-ghost use Rattle.zarrs_codec_partial_traits.specs.Boxes.{is_all};
-ghost use Rattle.zarrs_codec_partial_traits.specs.Lists.{by_codec, fills, AreFew, IsUnread, IsListError, RefusesFor, TellsFault};
-ghost use Rattle.zarrs_codec_partial.specs.Boxes.{Denotes, GivesAll, GivesBox, GivesPlaces};
-ghost use Rattle.zarrs_codec_partial.specs.Level.{list_of, held_in, list_says, IsOtherFill, ranges_for};
+ghost use Rattle.zarrs_codec_partial_traits.specs.Lists.{by_codec, IsUnread, RefusesFor};
+ghost use Rattle.zarrs_codec_partial.specs.Boxes.{every, boxed, placed};
+ghost use Rattle.zarrs_codec_partial.specs.Reading.{FillsElements, ReadsElements};
 
 use crate::boxes::smaller_box;
 use crate::level::BottomLevel;
@@ -68,15 +61,14 @@ fn one(alloc: Global, value: Vec<u8>) -> Result<Vec<Vec<u8>>, AllocError>
 }
 
 impl<C: ArrayToBytesCodecTraits> BottomLevel<C> {
-    ghost use Rattle.zarrs_codec_partial.specs.Level.{bottom_level, bottom_fill};
+    ghost use Rattle.zarrs_codec_partial.specs.Level.{bottom_level, bottom_fill, IsServed, request_of};
 
     // Tests that the codec serves the shape, the data type and the fill value.
     pub(crate) fn expect_served(&self) -> Result<(), CodecError>
         requires fits { IsFit (bottom_level self.now).shape (bottom_level self.now).data_type }
         ensures named { RefusesFor (option_map by_codec (unserved_at (C.unserved self.now.codec)
             (bottom_level self.now) (bottom_fill self.now))) result }
-        ensures served { unserved_at (C.unserved self.now.codec) (bottom_level self.now)
-            (bottom_fill self.now) ≡ None → IsOk result }
+        ensures served { IsServed C.unserved self.now → IsOk result }
         ensures no_fault { IfErr result IsNoFault }
     {
         match self
@@ -91,10 +83,7 @@ impl<C: ArrayToBytesCodecTraits> BottomLevel<C> {
     // The fill value for each element.
     pub(crate) fn fill_whole(&self, alloc: Global) -> Result<ArrayBytes<'static>, CodecError>
         requires fits { IsFit (bottom_level self.now).shape (bottom_level self.now).data_type }
-        ensures gives { GivesAll (bottom_level self.now) (bottom_fill self.now)
-            (fills (bottom_level self.now) (bottom_fill self.now)) result }
-        ensures failed { IfErr result (λ e. (e ≡ codec.OutOfMemory)
-            ⊎ IsOtherFill (bottom_level self.now) (bottom_fill self.now) e) }
+        ensures { FillsElements every (bottom_level self.now) (bottom_fill self.now) result }
     {
         let number = num_elements(&self.shape);
         ArrayBytes::new_fill_value(alloc, &self.data_type, number, &self.fill_value)
@@ -108,10 +97,8 @@ impl<C: ArrayToBytesCodecTraits> BottomLevel<C> {
     ) -> Result<ArrayBytes<'static>, CodecError>
         requires fits { IsFit (bottom_level self.now).shape (bottom_level self.now).data_type }
         requires inside { ends_within (box_of region.now) (bottom_level self.now).shape ≡ true }
-        ensures gives { GivesBox (bottom_level self.now) (bottom_fill self.now)
-            (box_of region.now) (fills (bottom_level self.now) (bottom_fill self.now)) result }
-        ensures failed { IfErr result (λ e. (e ≡ codec.OutOfMemory)
-            ⊎ IsOtherFill (bottom_level self.now) (bottom_fill self.now) e) }
+        ensures { FillsElements (boxed (box_of region.now)) (bottom_level self.now)
+            (bottom_fill self.now) result }
     {
         let number = region.num_elements();
         ArrayBytes::new_fill_value(alloc, &self.data_type, number, &self.fill_value)
@@ -128,38 +115,8 @@ impl<C: ArrayToBytesCodecTraits> BottomLevel<C> {
         options: &CodecOptions,
     ) -> Result<ArrayBytes<'static>, CodecError>
         requires fits { IsFit (bottom_level self.now).shape (bottom_level self.now).data_type }
-        ensures gives { let level = bottom_level self.now in let fill = bottom_fill self.now in
-            let under = options_of options.now in
-            unserved_at (C.unserved self.now.codec) level fill ≡ None → GivesAll level fill
-            (list_of (C.meaning self.now.codec under level) (fills level fill)
-            (held_in (H.seen handle.old) under)) result }
-        ensures failed { let level = bottom_level self.now in let fill = bottom_fill self.now in
-            let under = options_of options.now in
-            unserved_at (C.unserved self.now.codec) level fill ≡ None → IfErr result
-            (IsListError (H.seen handle.old).there
-            (list_of (C.meaning self.now.codec under level) (fills level fill)
-            (held_in (H.seen handle.old) under))
-            (list_says level fill (C.says self.now.codec under level) (H.tells handle.old under)
-            (H.seen handle.old) under None)
-            (H.seen handle.old).shown.faults (H.seen handle.new).shown.faults) }
-        ensures decodes { let level = bottom_level self.now in let fill = bottom_fill self.now in
-            let under = options_of options.now in
-            unserved_at (C.unserved self.now.codec) level fill ≡ None
-            → (H.seen handle.old).there ≡ true → OnOk result
-            (IsSome (list_of (C.meaning self.now.codec under level) (fills level fill)
-            (held_in (H.seen handle.old) under))) }
-        ensures filled { let level = bottom_level self.now in let fill = bottom_fill self.now in
-            let under = options_of options.now in
-            unserved_at (C.unserved self.now.codec) level fill ≡ None
-            → Denotes level fill → OnOk result
-            (IsSome (list_of (C.meaning self.now.codec under level) (fills level fill)
-            (held_in (H.seen handle.old) under))) }
-        ensures reads { Reads None (H.seen handle.old) (H.seen handle.new) result }
-        ensures fault { IfErr result
-            (TellsFault (H.seen handle.old).shown.faults (H.seen handle.new).shown.faults) }
-        ensures same { H.same handle.old handle.new }
-        ensures tells { (under : Options) (asked : Option (List ByteRange)) (e : CodecError)
-            → H.tells handle.new under asked e → H.tells handle.old under asked e }
+        ensures { ReadsElements C.unserved C.meaning C.says H.seen H.tells H.same self.now
+            every None true (options_of options.now) handle.old handle.new result }
     {
         match handle.decode(alloc, options) {
             Ok(Some(value)) => self.codec.decode(
@@ -185,35 +142,10 @@ impl<C: ArrayToBytesCodecTraits> BottomLevel<C> {
     ) -> Result<ArrayBytes<'static>, CodecError>
         requires fits { IsFit (bottom_level self.now).shape (bottom_level self.now).data_type }
         requires inside { ends_within (box_of region.now) (bottom_level self.now).shape ≡ true }
-        requires whole { C.request self.now.codec (bottom_level self.now).shape
-            (bottom_level self.now).data_type (box_of region.now) ≡ None }
-        ensures gives { let level = bottom_level self.now in let fill = bottom_fill self.now in
-            let under = options_of options.now in
-            unserved_at (C.unserved self.now.codec) level fill ≡ None → GivesBox level fill
-            (box_of region.now) (list_of (C.meaning self.now.codec under level) (fills level fill)
-            (held_in (H.seen handle.old) under)) result }
-        ensures failed { let level = bottom_level self.now in let fill = bottom_fill self.now in
-            let under = options_of options.now in
-            unserved_at (C.unserved self.now.codec) level fill ≡ None → IfErr result
-            (IsListError (H.seen handle.old).there
-            (list_of (C.meaning self.now.codec under level) (fills level fill)
-            (held_in (H.seen handle.old) under))
-            (list_says level fill (C.says self.now.codec under level) (H.tells handle.old under)
-            (H.seen handle.old) under (C.request self.now.codec level.shape level.data_type
-            (box_of region.now)))
-            (H.seen handle.old).shown.faults (H.seen handle.new).shown.faults) }
-        ensures decodes { let level = bottom_level self.now in let fill = bottom_fill self.now in
-            let under = options_of options.now in
-            unserved_at (C.unserved self.now.codec) level fill ≡ None
-            → (H.seen handle.old).there ≡ true → OnOk result
-            (IsSome (list_of (C.meaning self.now.codec under level) (fills level fill)
-            (held_in (H.seen handle.old) under))) }
-        ensures reads { Reads None (H.seen handle.old) (H.seen handle.new) result }
-        ensures fault { IfErr result
-            (TellsFault (H.seen handle.old).shown.faults (H.seen handle.new).shown.faults) }
-        ensures same { H.same handle.old handle.new }
-        ensures tells { (under : Options) (asked : Option (List ByteRange)) (e : CodecError)
-            → H.tells handle.new under asked e → H.tells handle.old under asked e }
+        requires whole { request_of C.request self.now (box_of region.now) ≡ None }
+        ensures { ReadsElements C.unserved C.meaning C.says H.seen H.tells H.same self.now
+            (boxed (box_of region.now)) (request_of C.request self.now (box_of region.now)) true
+            (options_of options.now) handle.old handle.new result }
     {
         match handle.decode(alloc, options) {
             Ok(Some(value)) => match one(alloc, value) {
@@ -244,29 +176,10 @@ impl<C: ArrayToBytesCodecTraits> BottomLevel<C> {
     ) -> Result<ArrayBytes<'static>, CodecError>
         requires fits { IsFit (bottom_level self.now).shape (bottom_level self.now).data_type }
         requires inside { ends_within (box_of region.now) (bottom_level self.now).shape ≡ true }
-        requires asked { C.request self.now.codec (bottom_level self.now).shape
-            (bottom_level self.now).data_type (box_of region.now) ≡ Some ranges.now }
-        ensures gives { let level = bottom_level self.now in let fill = bottom_fill self.now in
-            let under = options_of options.now in
-            unserved_at (C.unserved self.now.codec) level fill ≡ None → GivesBox level fill
-            (box_of region.now) (list_of (C.meaning self.now.codec under level) (fills level fill)
-            (held_in (H.seen handle.old) under)) result }
-        ensures failed { let level = bottom_level self.now in let fill = bottom_fill self.now in
-            let under = options_of options.now in
-            unserved_at (C.unserved self.now.codec) level fill ≡ None → IfErr result
-            (IsListError (H.seen handle.old).there
-            (list_of (C.meaning self.now.codec under level) (fills level fill)
-            (held_in (H.seen handle.old) under))
-            (list_says level fill (C.says self.now.codec under level) (H.tells handle.old under)
-            (H.seen handle.old) under (C.request self.now.codec level.shape level.data_type
-            (box_of region.now)))
-            (H.seen handle.old).shown.faults (H.seen handle.new).shown.faults) }
-        ensures reads { Reads (Some ranges.now) (H.seen handle.old) (H.seen handle.new) result }
-        ensures fault { IfErr result
-            (TellsFault (H.seen handle.old).shown.faults (H.seen handle.new).shown.faults) }
-        ensures same { H.same handle.old handle.new }
-        ensures tells { (under : Options) (asked : Option (List ByteRange)) (e : CodecError)
-            → H.tells handle.new under asked e → H.tells handle.old under asked e }
+        requires asked { request_of C.request self.now (box_of region.now) ≡ Some ranges.now }
+        ensures { ReadsElements C.unserved C.meaning C.says H.seen H.tells H.same self.now
+            (boxed (box_of region.now)) (request_of C.request self.now (box_of region.now)) true
+            (options_of options.now) handle.old handle.new result }
     {
         match handle.partial_decode_many(alloc, ranges, options) {
             Ok(Some(parts)) => self.codec.decode_parts(
@@ -297,37 +210,9 @@ impl<C: ArrayToBytesCodecTraits> BottomLevel<C> {
     ) -> Result<ArrayBytes<'static>, CodecError>
         requires fits { IsFit (bottom_level self.now).shape (bottom_level self.now).data_type }
         requires inside { ends_within (box_of region.now) (bottom_level self.now).shape ≡ true }
-        ensures gives { let level = bottom_level self.now in let fill = bottom_fill self.now in
-            let under = options_of options.now in
-            unserved_at (C.unserved self.now.codec) level fill ≡ None → GivesBox level fill
-            (box_of region.now) (list_of (C.meaning self.now.codec under level) (fills level fill)
-            (held_in (H.seen handle.old) under)) result }
-        ensures failed { let level = bottom_level self.now in let fill = bottom_fill self.now in
-            let under = options_of options.now in
-            unserved_at (C.unserved self.now.codec) level fill ≡ None → IfErr result
-            (IsListError (H.seen handle.old).there
-            (list_of (C.meaning self.now.codec under level) (fills level fill)
-            (held_in (H.seen handle.old) under))
-            (list_says level fill (C.says self.now.codec under level) (H.tells handle.old under)
-            (H.seen handle.old) under (C.request self.now.codec level.shape level.data_type
-            (box_of region.now)))
-            (H.seen handle.old).shown.faults (H.seen handle.new).shown.faults) }
-        ensures decodes { let level = bottom_level self.now in let fill = bottom_fill self.now in
-            let under = options_of options.now in
-            unserved_at (C.unserved self.now.codec) level fill ≡ None
-            → (C.request self.now.codec level.shape level.data_type
-            (box_of region.now)) ≡ None
-            → (H.seen handle.old).there ≡ true → OnOk result
-            (IsSome (list_of (C.meaning self.now.codec under level) (fills level fill)
-            (held_in (H.seen handle.old) under))) }
-        ensures reads { Reads (C.request self.now.codec (bottom_level self.now).shape
-            (bottom_level self.now).data_type (box_of region.now))
-            (H.seen handle.old) (H.seen handle.new) result }
-        ensures fault { IfErr result
-            (TellsFault (H.seen handle.old).shown.faults (H.seen handle.new).shown.faults) }
-        ensures same { H.same handle.old handle.new }
-        ensures tells { (under : Options) (asked : Option (List ByteRange)) (e : CodecError)
-            → H.tells handle.new under asked e → H.tells handle.old under asked e }
+        ensures { ReadsElements C.unserved C.meaning C.says H.seen H.tells H.same self.now
+            (boxed (box_of region.now)) (request_of C.request self.now (box_of region.now)) true
+            (options_of options.now) handle.old handle.new result }
     {
         match self
             .codec
@@ -341,7 +226,7 @@ impl<C: ArrayToBytesCodecTraits> BottomLevel<C> {
 }
 
 impl<C: ArrayToBytesCodecTraits> BottomLevel<C> {
-    ghost use Rattle.zarrs_codec_partial.specs.Level.{bottom_level, bottom_fill};
+    ghost use Rattle.zarrs_codec_partial.specs.Level.{bottom_level, bottom_fill, request_for};
 
     // The elements at an indexer's indices, out of all elements.
     fn decode_listed<H: BytesPartialDecoderTraits, I: Indexer>(
@@ -355,37 +240,9 @@ impl<C: ArrayToBytesCodecTraits> BottomLevel<C> {
         requires fits { IsFit (bottom_level self.now).shape (bottom_level self.now).data_type }
         requires shape { numbers.now ≡ (bottom_level self.now).shape }
         requires fit { I.fits indexer.now numbers.now ≡ true }
-        ensures gives { let level = bottom_level self.now in let fill = bottom_fill self.now in
-            let under = options_of options.now in
-            unserved_at (C.unserved self.now.codec) level fill ≡ None → GivesPlaces level fill
-            (I.places indexer.now) (list_of (C.meaning self.now.codec under level)
-            (fills level fill) (held_in (H.seen handle.old) under)) result }
-        ensures failed { let level = bottom_level self.now in let fill = bottom_fill self.now in
-            let under = options_of options.now in
-            unserved_at (C.unserved self.now.codec) level fill ≡ None → IfErr result
-            (IsListError (H.seen handle.old).there
-            (list_of (C.meaning self.now.codec under level) (fills level fill)
-            (held_in (H.seen handle.old) under))
-            (list_says level fill (C.says self.now.codec under level) (H.tells handle.old under)
-            (H.seen handle.old) under None)
-            (H.seen handle.old).shown.faults (H.seen handle.new).shown.faults) }
-        ensures decodes { let level = bottom_level self.now in let fill = bottom_fill self.now in
-            let under = options_of options.now in
-            unserved_at (C.unserved self.now.codec) level fill ≡ None
-            → (H.seen handle.old).there ≡ true → OnOk result
-            (IsSome (list_of (C.meaning self.now.codec under level) (fills level fill)
-            (held_in (H.seen handle.old) under))) }
-        ensures all { let level = bottom_level self.now in let fill = bottom_fill self.now in
-            let under = options_of options.now in
-            unserved_at (C.unserved self.now.codec) level fill ≡ None → Denotes level fill
-            → OnOk result (IsSome (list_of (C.meaning self.now.codec under level) (fills level fill)
-            (held_in (H.seen handle.old) under))) }
-        ensures reads { Reads None (H.seen handle.old) (H.seen handle.new) result }
-        ensures fault { IfErr result
-            (TellsFault (H.seen handle.old).shown.faults (H.seen handle.new).shown.faults) }
-        ensures same { H.same handle.old handle.new }
-        ensures tells { (under : Options) (asked : Option (List ByteRange)) (e : CodecError)
-            → H.tells handle.new under asked e → H.tells handle.old under asked e }
+        ensures { ReadsElements C.unserved C.meaning C.says H.seen H.tells H.same self.now
+            (placed (I.places indexer.now)) None true (options_of options.now)
+            handle.old handle.new result }
     {
         match self.decode_whole(alloc, handle, options) {
             Ok(whole) => whole.extract_array_subset(alloc, indexer, numbers, &self.data_type),
@@ -394,7 +251,6 @@ impl<C: ArrayToBytesCodecTraits> BottomLevel<C> {
     }
 
     // The elements at the indices of an indexer that fits.
-    #[tactic(auto, using(zarrs_codec_held::proofs::IntervalLaws::unread))]
     fn decode_fit<H: BytesPartialDecoderTraits, I: Indexer>(
         &self,
         alloc: Global,
@@ -406,44 +262,10 @@ impl<C: ArrayToBytesCodecTraits> BottomLevel<C> {
         requires fits { IsFit (bottom_level self.now).shape (bottom_level self.now).data_type }
         requires shape { numbers.now ≡ (bottom_level self.now).shape }
         requires fit { I.fits indexer.now numbers.now ≡ true }
-        ensures gives { let level = bottom_level self.now in let fill = bottom_fill self.now in
-            let under = options_of options.now in
-            unserved_at (C.unserved self.now.codec) level fill ≡ None → GivesPlaces level fill
-            (I.places indexer.now) (list_of (C.meaning self.now.codec under level)
-            (fills level fill) (held_in (H.seen handle.old) under)) result }
-        ensures failed { let level = bottom_level self.now in let fill = bottom_fill self.now in
-            let under = options_of options.now in
-            unserved_at (C.unserved self.now.codec) level fill ≡ None → IfErr result
-            (IsListError (H.seen handle.old).there
-            (list_of (C.meaning self.now.codec under level) (fills level fill)
-            (held_in (H.seen handle.old) under))
-            (list_says level fill (C.says self.now.codec under level) (H.tells handle.old under)
-            (H.seen handle.old) under (ranges_for (C.request self.now.codec level.shape
-            level.data_type) level.shape (I.as_region indexer.now)))
-            (H.seen handle.old).shown.faults (H.seen handle.new).shown.faults) }
-        ensures decodes { let level = bottom_level self.now in let fill = bottom_fill self.now in
-            let under = options_of options.now in
-            unserved_at (C.unserved self.now.codec) level fill ≡ None
-            → (ranges_for (C.request self.now.codec level.shape
-            level.data_type) level.shape (I.as_region indexer.now)) ≡ None
-            → (H.seen handle.old).there ≡ true → OnOk result
-            (IsSome (list_of (C.meaning self.now.codec under level) (fills level fill)
-            (held_in (H.seen handle.old) under))) }
-        ensures all { let level = bottom_level self.now in let fill = bottom_fill self.now in
-            let under = options_of options.now in
-            unserved_at (C.unserved self.now.codec) level fill ≡ None → Denotes level fill
-            → is_all level.shape (I.as_region indexer.now) ≡ true
-            → OnOk result (IsSome (list_of (C.meaning self.now.codec under level) (fills level fill)
-            (held_in (H.seen handle.old) under))) }
-        ensures reads { Reads (ranges_for (C.request self.now.codec
-            (bottom_level self.now).shape (bottom_level self.now).data_type)
-            (bottom_level self.now).shape (I.as_region indexer.now))
-            (H.seen handle.old) (H.seen handle.new) result }
-        ensures fault { IfErr result
-            (TellsFault (H.seen handle.old).shown.faults (H.seen handle.new).shown.faults) }
-        ensures same { H.same handle.old handle.new }
-        ensures tells { (under : Options) (asked : Option (List ByteRange)) (e : CodecError)
-            → H.tells handle.new under asked e → H.tells handle.old under asked e }
+        ensures { ReadsElements C.unserved C.meaning C.says H.seen H.tells H.same self.now
+            (placed (I.places indexer.now))
+            (request_for C.request self.now (I.as_region indexer.now)) true
+            (options_of options.now) handle.old handle.new result }
     {
         match smaller_box(alloc, indexer, numbers) {
             Ok(Some(region)) => self.decode_box(alloc, handle, &region, options),
@@ -458,7 +280,6 @@ impl<C: ArrayToBytesCodecTraits> BottomLevel<C> {
     /// # Errors
     /// [`CodecError`] exactly where the indexer does not fit the shape, else where the codec does not serve its level, both
     /// before anything is read; else where what is below fails, where the value does not decode, or where memory runs out.
-    #[tactic(auto, using(zarrs_codec_held::proofs::IntervalLaws::unread))]
     pub fn decode_elements<H: BytesPartialDecoderTraits, I: Indexer>(
         &self,
         alloc: Global,
@@ -473,48 +294,17 @@ impl<C: ArrayToBytesCodecTraits> BottomLevel<C> {
             → IfErr result (IfUnfit (I.refuses indexer.now (bottom_level self.now).shape)) }
         ensures unread { I.fits indexer.now (bottom_level self.now).shape ≡ false
             → IsUnread (H.seen handle.old).shown (H.seen handle.new).shown }
-        ensures gives { let level = bottom_level self.now in let fill = bottom_fill self.now in
-            let under = options_of options.now in
-            unserved_at (C.unserved self.now.codec) level fill ≡ None → GivesPlaces level fill
-            (I.places indexer.now) (list_of (C.meaning self.now.codec under level)
-            (fills level fill) (held_in (H.seen handle.old) under)) result }
-        ensures failed { let level = bottom_level self.now in let fill = bottom_fill self.now in
-            let under = options_of options.now in
-            unserved_at (C.unserved self.now.codec) level fill ≡ None
-            → I.fits indexer.now level.shape ≡ true → IfErr result
-            (IsListError (H.seen handle.old).there
-            (list_of (C.meaning self.now.codec under level) (fills level fill)
-            (held_in (H.seen handle.old) under))
-            (list_says level fill (C.says self.now.codec under level) (H.tells handle.old under)
-            (H.seen handle.old) under (ranges_for (C.request self.now.codec level.shape
-            level.data_type) level.shape (I.as_region indexer.now)))
-            (H.seen handle.old).shown.faults (H.seen handle.new).shown.faults) }
         ensures named { I.fits indexer.now (bottom_level self.now).shape ≡ true
             → RefusesFor (option_map by_codec (unserved_at (C.unserved self.now.codec)
             (bottom_level self.now) (bottom_fill self.now))) result }
-        ensures decodes { let level = bottom_level self.now in let fill = bottom_fill self.now in
-            let under = options_of options.now in
-            unserved_at (C.unserved self.now.codec) level fill ≡ None
-            → (ranges_for (C.request self.now.codec level.shape
-            level.data_type) level.shape (I.as_region indexer.now)) ≡ None
-            → (H.seen handle.old).there ≡ true → OnOk result
-            (IsSome (list_of (C.meaning self.now.codec under level) (fills level fill)
-            (held_in (H.seen handle.old) under))) }
-        ensures all { let level = bottom_level self.now in let fill = bottom_fill self.now in
-            let under = options_of options.now in
-            unserved_at (C.unserved self.now.codec) level fill ≡ None → Denotes level fill
-            → is_all level.shape (I.as_region indexer.now) ≡ true
-            → OnOk result (IsSome (list_of (C.meaning self.now.codec under level) (fills level fill)
-            (held_in (H.seen handle.old) under))) }
-        ensures reads { Reads (ranges_for (C.request self.now.codec
-            (bottom_level self.now).shape (bottom_level self.now).data_type)
-            (bottom_level self.now).shape (I.as_region indexer.now))
-            (H.seen handle.old) (H.seen handle.new) result }
-        ensures fault { IfErr result
-            (TellsFault (H.seen handle.old).shown.faults (H.seen handle.new).shown.faults) }
-        ensures same { H.same handle.old handle.new }
-        ensures tells { (under : Options) (asked : Option (List ByteRange)) (e : CodecError)
-            → H.tells handle.new under asked e → H.tells handle.old under asked e }
+        ensures unserved { IsSome (unserved_at (C.unserved self.now.codec)
+            (bottom_level self.now) (bottom_fill self.now))
+            → IsUnread (H.seen handle.old).shown (H.seen handle.new).shown }
+        ensures read { ReadsElements C.unserved C.meaning C.says H.seen H.tells H.same self.now
+            (placed (I.places indexer.now))
+            (request_for C.request self.now (I.as_region indexer.now))
+            (I.fits indexer.now (bottom_level self.now).shape) (options_of options.now)
+            handle.old handle.new result }
     {
         match fitting_numbers(alloc, indexer, &self.shape) {
             Ok(numbers) => match self.expect_served() {

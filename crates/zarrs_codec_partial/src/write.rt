@@ -1,24 +1,21 @@
 //! Elements put into what a handle of bytes holds, by a codec with its level.
 
-ghost use Rattle.std.specs.Prelude.{◌≡◌, ◌⊎◌, ℕ, ◌<◌, true, false, not, List, length, Some, None, IsSome, IfOk, IfErr, OnOk, option_map};
+ghost use Rattle.std.specs.Prelude.{◌≡◌, ℕ, ◌<◌, true, false, not, List, length, Some, IsSome, IfErr, option_map};
 ghost use Rattle.zarr_model.specs.Element.{Element, kind_of, fill_element};
 ghost use Rattle.zarr_model.specs.ArrayBytes.{meaning};
 ghost use Rattle.zarrs_codec_array_bytes.specs.Raw.{raw_of};
-ghost use Rattle.zarrs_codec_array_bytes.specs.Refusals.{fine, validity, Answers, IfUnfit};
+ghost use Rattle.zarrs_codec_array_bytes.specs.Refusals.{fine, validity, IfUnfit};
 ghost use Rattle.zarrs_data_type_elements.specs.FillValue.{fill_bytes};
 ghost use Rattle.zarrs_data_type_names.specs.DataType.{type_of, size_of as size_of_type};
 ghost use Rattle.zarrs_codec_array_bytes.specs.Steps.{size_seen};
 ghost use Rattle.zarrs_codec_traits.specs.Errors.{unserved_at, RefusesAs};
 ghost use Rattle.zarrs_codec_traits.specs.Views.{lengths, options_of};
-ghost use Rattle.zarrs_codec_traits.specs.Words.{list_at, IsFit};
-ghost use Rattle.zarrs_codec_held.specs.Reads.{Reads};
-ghost use Rattle.zarrs_codec_partial_traits.specs.Boxes.{is_all};
-ghost use Rattle.zarrs_codec_partial_traits.specs.Lists.{by_codec, fills, AreFew, RefusesFor, IsListError, TellsFault};
-ghost use Rattle.zarrs_codec_partial_traits.specs.ListWrites.{given_answer, is_kept, IsUntouched, IsUnfilled};
-ghost use Rattle.zarrs_codec_partial_traits.specs.Updates.{change_of, ReadsListIf, GivesMade, Stores, Updates};
-ghost use Rattle.zarrs_codec_partial.specs.Boxes.{GivesAll};
-ghost use Rattle.zarrs_codec_partial.specs.Level.{list_of, held_in, list_says};
-ghost use Rattle.zarrs_codec_partial.specs.Writing.{IsBeyond, IsTaken};
+ghost use Rattle.zarrs_codec_traits.specs.Words.{IsFit};
+ghost use Rattle.zarrs_codec_partial_traits.specs.Lists.{by_codec, AreFew, IsUnread, RefusesFor};
+ghost use Rattle.zarrs_codec_partial_traits.specs.ListWrites.{is_kept, IsUntouched};
+ghost use Rattle.zarrs_codec_partial_traits.specs.Updates.{Stores};
+ghost use Rattle.zarrs_codec_partial.specs.Reading.{ReadsOld};
+ghost use Rattle.zarrs_codec_partial.specs.Writing.{IsBeyond, IsTaken, TestsGiven, answer_by, change_by, MakesElements, PutsElements};
 
 use crate::boxes::covers;
 use crate::fill::{expect_denoted, is_denoted};
@@ -61,14 +58,8 @@ pub fn expect_given<I: Indexer>(
 ) -> Result<Vec<u64>, CodecError>
     requires fits { IsFit (lengths shape.now) (type_of data_type.now) }
     requires few { AreFew (kind_of (type_of data_type.now)) (length (I.places indexer.now)) }
-    ensures value { IfOk result (λ v. v.items ≡ lengths shape.now) }
-    ensures fit { IfOk result (λ v. I.fits indexer.now (lengths shape.now) ≡ true) }
-    ensures answer { Answers (given_answer (kind_of (type_of data_type.now))
-        (I.fits indexer.now (lengths shape.now)) (length (I.places indexer.now))
-        (raw_of bytes.now)) result }
-    ensures refusal { validity (kind_of (type_of data_type.now))
-        (length (I.places indexer.now)) (raw_of bytes.now) ≡ fine
-        → IfErr result (IfUnfit (I.refuses indexer.now (lengths shape.now))) }
+    ensures { TestsGiven I.fits I.refuses I.places (lengths shape.now) (type_of data_type.now)
+        indexer.now (raw_of bytes.now) result }
 {
     match bytes.validate(indexer.len(), data_type) {
         Ok(()) => fitting_numbers(alloc, indexer, shape),
@@ -97,7 +88,7 @@ pub fn is_dropped(
 }
 
 impl<C: ArrayToBytesCodecTraits> BottomLevel<C> {
-    ghost use Rattle.zarrs_codec_partial.specs.Level.{bottom_level, bottom_fill, seen_by};
+    ghost use Rattle.zarrs_codec_partial.specs.Level.{bottom_level, seen_by};
 
     // Tests the elements that are given, and then the indexer that they are for.
     fn expect_given<I: Indexer>(
@@ -109,14 +100,8 @@ impl<C: ArrayToBytesCodecTraits> BottomLevel<C> {
         requires fits { IsFit (bottom_level self.now).shape (bottom_level self.now).data_type }
         requires few { AreFew (kind_of (bottom_level self.now).data_type)
             (length (I.places indexer.now)) }
-        ensures value { IfOk result (λ v. v.items ≡ (bottom_level self.now).shape) }
-        ensures fit { IfOk result (λ v. I.fits indexer.now (bottom_level self.now).shape ≡ true) }
-        ensures answer { Answers (given_answer (kind_of (bottom_level self.now).data_type)
-            (I.fits indexer.now (bottom_level self.now).shape) (length (I.places indexer.now))
-            (raw_of bytes.now)) result }
-        ensures refusal { validity (kind_of (bottom_level self.now).data_type)
-            (length (I.places indexer.now)) (raw_of bytes.now) ≡ fine
-            → IfErr result (IfUnfit (I.refuses indexer.now (bottom_level self.now).shape)) }
+        ensures { TestsGiven I.fits I.refuses I.places (bottom_level self.now).shape
+            (bottom_level self.now).data_type indexer.now (raw_of bytes.now) result }
     {
         expect_given(alloc, indexer, bytes, &self.shape, &self.data_type)
     }
@@ -130,31 +115,8 @@ impl<C: ArrayToBytesCodecTraits> BottomLevel<C> {
         options: &CodecOptions,
     ) -> Result<ArrayBytes<'static>, CodecError>
         requires fits { IsFit (bottom_level self.now).shape (bottom_level self.now).data_type }
-        ensures gives { let level = bottom_level self.now in let fill = bottom_fill self.now in
-            let under = options_of options.now in
-            unserved_at (C.unserved self.now.codec) level fill ≡ None → GivesAll level fill
-            (list_of (C.meaning self.now.codec under level) (fills level fill)
-            (held_in (H.seen handle.old) under)) result }
-        ensures listed { let level = bottom_level self.now in let fill = bottom_fill self.now in
-            let under = options_of options.now in
-            unserved_at (C.unserved self.now.codec) level fill ≡ None → OnOk result
-            (IsSome (list_of (C.meaning self.now.codec under level) (fills level fill)
-            (held_in (H.seen handle.old) under))) }
-        ensures failed { let level = bottom_level self.now in let fill = bottom_fill self.now in
-            let under = options_of options.now in let see = seen_by self.now
-            (C.unserved self.now.codec) (C.meaning self.now.codec) (C.request self.now.codec) in
-            unserved_at (C.unserved self.now.codec) level fill ≡ None → IfErr result (λ e.
-            IsListError (H.seen handle.old).there
-            (list_of (C.meaning self.now.codec under level) (fills level fill)
-            (held_in (H.seen handle.old) under))
-            (list_says level fill (C.says self.now.codec under level) (H.tells handle.old under)
-            (H.seen handle.old) under None)
-            (H.seen handle.old).shown.faults (H.seen handle.new).shown.faults e
-            ⊎ IsUnfilled (see (H.seen handle.old)) e) }
-        ensures reads { Reads None (H.seen handle.old) (H.seen handle.new) result }
-        ensures fault { IfErr result
-            (TellsFault (H.seen handle.old).shown.faults (H.seen handle.new).shown.faults) }
-        ensures same { H.same handle.old handle.new }
+        ensures { ReadsOld C.unserved C.meaning C.says H.seen H.tells H.same C.request self.now
+            (options_of options.now) handle.old handle.new result }
     {
         match handle.decode(alloc, options) {
             Ok(Some(value)) => self.codec.decode(
@@ -186,20 +148,10 @@ impl<C: ArrayToBytesCodecTraits> BottomLevel<C> {
         requires fits { IsFit (bottom_level self.now).shape (bottom_level self.now).data_type }
         requires shape { numbers.now ≡ (bottom_level self.now).shape }
         requires fit { I.fits indexer.now numbers.now ≡ true }
-        ensures made { let level = bottom_level self.now in let see = seen_by self.now
-            (C.unserved self.now.codec) (C.meaning self.now.codec) (C.request self.now.codec) in
-            let change = change_of level (I.fits indexer.now level.shape)
-            (I.as_region indexer.now) (I.places indexer.now) (raw_of bytes.now) in
-            GivesMade (options_of options.now) (record change { all = false })
-            (list_says level (bottom_fill self.now)
-            (C.says self.now.codec (options_of options.now) level)
-            (H.tells handle.old (options_of options.now)) (H.seen handle.old)
-            (options_of options.now) None)
-            (see (H.seen handle.old)) (see (H.seen handle.new)) result }
-        ensures reads { let see = seen_by self.now
-            (C.unserved self.now.codec) (C.meaning self.now.codec) (C.request self.now.codec) in
-            ReadsListIf true None (see (H.seen handle.old)) (see (H.seen handle.new)) result }
-        ensures same { H.same handle.old handle.new }
+        ensures { MakesElements C.unserved C.meaning C.says C.request H.seen H.tells H.same
+            self.now (record (change_by I.fits I.as_region I.places self.now indexer.now
+            (raw_of bytes.now)) { all = false })
+            (options_of options.now) handle.old handle.new result }
     {
         match self.old_elements(alloc, handle, options) {
             Ok(whole) => {
@@ -224,21 +176,9 @@ impl<C: ArrayToBytesCodecTraits> BottomLevel<C> {
         requires fits { IsFit (bottom_level self.now).shape (bottom_level self.now).data_type }
         requires shape { numbers.now ≡ (bottom_level self.now).shape }
         requires fit { I.fits indexer.now numbers.now ≡ true }
-        ensures made { let level = bottom_level self.now in let see = seen_by self.now
-            (C.unserved self.now.codec) (C.meaning self.now.codec) (C.request self.now.codec) in
-            let change = change_of level (I.fits indexer.now level.shape)
-            (I.as_region indexer.now) (I.places indexer.now) (raw_of bytes.now) in
-            GivesMade (options_of options.now) change
-            (list_says level (bottom_fill self.now)
-            (C.says self.now.codec (options_of options.now) level)
-            (H.tells handle.old (options_of options.now)) (H.seen handle.old)
-            (options_of options.now) None)
-            (see (H.seen handle.old)) (see (H.seen handle.new)) result }
-        ensures reads { let see = seen_by self.now
-            (C.unserved self.now.codec) (C.meaning self.now.codec) (C.request self.now.codec) in
-            ReadsListIf (not (is_all (bottom_level self.now).shape (I.as_region indexer.now)))
-            None (see (H.seen handle.old)) (see (H.seen handle.new)) result }
-        ensures same { H.same handle.old handle.new }
+        ensures { MakesElements C.unserved C.meaning C.says C.request H.seen H.tells H.same
+            self.now (change_by I.fits I.as_region I.places self.now indexer.now (raw_of bytes.now))
+            (options_of options.now) handle.old handle.new result }
     {
         match covers(alloc, indexer, numbers) {
             Ok(true) => match bytes.try_clone(alloc) {
@@ -260,8 +200,8 @@ impl<C: ArrayToBytesCodecTraits> BottomLevel<C> {
         options: &CodecOptions,
     ) -> Result<(), CodecError>
         requires fits { IsFit (bottom_level self.now).shape (bottom_level self.now).data_type }
-        ensures stores { let level = bottom_level self.now in let see = seen_by self.now
-            (C.unserved self.now.codec) (C.meaning self.now.codec) (C.request self.now.codec) in
+        ensures stores { let level = bottom_level self.now in
+            let see = seen_by C.unserved C.meaning C.request self.now in
             Stores (options_of options.now) (raw_of bytes.entry)
             (IsBeyond (C.beyond self.now.codec level) level)
             (IsTaken (C.beyond self.now.codec level) level) (C.takes self.now.codec level)
@@ -304,18 +244,10 @@ impl<C: ArrayToBytesCodecTraits> BottomLevel<C> {
         requires fits { IsFit (bottom_level self.now).shape (bottom_level self.now).data_type }
         requires shape { numbers.now ≡ (bottom_level self.now).shape }
         requires fit { I.fits indexer.now numbers.now ≡ true }
-        ensures updates { let level = bottom_level self.now in let see = seen_by self.now
-            (C.unserved self.now.codec) (C.meaning self.now.codec) (C.request self.now.codec) in
-            Updates (options_of options.now) (change_of level (I.fits indexer.now level.shape)
-            (I.as_region indexer.now) (I.places indexer.now) (raw_of bytes.now))
-            (list_says level (bottom_fill self.now)
-            (C.says self.now.codec (options_of options.now) level)
-            (H.tells handle.old (options_of options.now)) (H.seen handle.old)
-            (options_of options.now) None)
-            (IsBeyond (C.beyond self.now.codec level) level)
-            (IsTaken (C.beyond self.now.codec level) level) (C.takes self.now.codec level)
-            (see (H.seen handle.old)) (see (H.seen handle.new)) result }
-        ensures same { H.same handle.old handle.new }
+        ensures { PutsElements C.unserved C.meaning C.says C.request H.seen H.tells H.same
+            C.beyond C.takes self.now
+            (change_by I.fits I.as_region I.places self.now indexer.now (raw_of bytes.now))
+            (options_of options.now) handle.old handle.new result }
     {
         match self.new_elements(alloc, handle, indexer, numbers, bytes, options) {
             Ok(elements) => self.store_elements(alloc, handle, elements, options),
@@ -343,35 +275,26 @@ impl<C: ArrayToBytesCodecTraits> BottomLevel<C> {
         requires fits { IsFit (bottom_level self.now).shape (bottom_level self.now).data_type }
         requires few { AreFew (kind_of (bottom_level self.now).data_type)
             (length (I.places indexer.now)) }
-        ensures given { RefusesAs (given_answer (kind_of (bottom_level self.now).data_type)
-            (I.fits indexer.now (bottom_level self.now).shape) (length (I.places indexer.now))
-            (raw_of bytes.now)) result }
+        ensures given { RefusesAs
+            (answer_by I.fits I.places self.now indexer.now (raw_of bytes.now)) result }
         ensures refusal { validity (kind_of (bottom_level self.now).data_type)
             (length (I.places indexer.now)) (raw_of bytes.now) ≡ fine
             → I.fits indexer.now (bottom_level self.now).shape ≡ false
             → IfErr result (IfUnfit (I.refuses indexer.now (bottom_level self.now).shape)) }
-        ensures untouched { let see = seen_by self.now
-            (C.unserved self.now.codec) (C.meaning self.now.codec) (C.request self.now.codec) in
-            IsUntouched (given_answer (kind_of (bottom_level self.now).data_type)
-            (I.fits indexer.now (bottom_level self.now).shape) (length (I.places indexer.now))
-            (raw_of bytes.now)) (see (H.seen handle.old)) (see (H.seen handle.new)) }
-        ensures updates { let level = bottom_level self.now in let see = seen_by self.now
-            (C.unserved self.now.codec) (C.meaning self.now.codec) (C.request self.now.codec) in
-            Updates (options_of options.now) (change_of level (I.fits indexer.now level.shape)
-            (I.as_region indexer.now) (I.places indexer.now) (raw_of bytes.now))
-            (list_says level (bottom_fill self.now)
-            (C.says self.now.codec (options_of options.now) level)
-            (H.tells handle.old (options_of options.now)) (H.seen handle.old)
-            (options_of options.now) None)
-            (IsBeyond (C.beyond self.now.codec level) level)
-            (IsTaken (C.beyond self.now.codec level) level) (C.takes self.now.codec level)
-            (see (H.seen handle.old)) (see (H.seen handle.new)) result }
-        ensures named { given_answer (kind_of (bottom_level self.now).data_type)
-            (I.fits indexer.now (bottom_level self.now).shape) (length (I.places indexer.now))
-            (raw_of bytes.now) ≡ fine → RefusesFor (option_map by_codec
+        ensures untouched { let see = seen_by C.unserved C.meaning C.request self.now in
+            IsUntouched (answer_by I.fits I.places self.now indexer.now (raw_of bytes.now))
+            (see (H.seen handle.old)) (see (H.seen handle.new)) }
+        ensures named { answer_by I.fits I.places self.now indexer.now (raw_of bytes.now) ≡ fine
+            → RefusesFor (option_map by_codec
             (unserved_at (C.unserved self.now.codec) (bottom_level self.now)
             (bottom_fill self.now))) result }
-        ensures same { H.same handle.old handle.new }
+        ensures unserved { IsSome (unserved_at (C.unserved self.now.codec)
+            (bottom_level self.now) (bottom_fill self.now))
+            → IsUnread (H.seen handle.old).shown (H.seen handle.new).shown }
+        ensures puts { PutsElements C.unserved C.meaning C.says C.request H.seen H.tells H.same
+            C.beyond C.takes self.now
+            (change_by I.fits I.as_region I.places self.now indexer.now (raw_of bytes.now))
+            (options_of options.now) handle.old handle.new result }
     {
         match self.expect_given(alloc, indexer, bytes) {
             Ok(numbers) => match self.expect_served() {

@@ -3,3 +3,5 @@ mod FillLaws
 pub mod AboveLaws
 pub mod StoreLaws
 mod ServedLaws
+mod ReadLaws
+mod StepLaws

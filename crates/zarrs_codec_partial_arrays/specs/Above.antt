@@ -9,7 +9,9 @@ use Rattle.zarrs_data_type_elements.specs.FillValue.{fill_bytes}
 use Rattle.zarrs_codec_error.specs.declared.error.CodecError.{CodecError}
 use Rattle.zarrs_codec_traits.specs.Errors.{Unserved, unserved_at}
 use Rattle.zarrs_codec_traits.specs.Views.{level_of}
-use Rattle.zarrs_codec_traits.specs.Words.{list_at}
+use Rattle.zarrs_codec_traits.specs.Words.{list_at, IsFit}
+use Rattle.zarrs_codec_traits.specs.declared.codec_traits.ArrayCodecTraits as any
+use Rattle.zarrs_codec_traits.specs.declared.array_to_array.ArrayToArrayCodecTraits as array
 use Rattle.zarrs_codec_partial_traits.specs.Boxes.{smaller_box}
 use Rattle.zarrs_codec_partial_traits.specs.Lists.{Refused, by_codec, by_fill, ListSeen, is_short}
 use Rattle.zarrs_codec_partial_traits.specs.ListWrites.{is_kept}
@@ -77,12 +79,53 @@ raised level fill unserved codec region_below below = record {
   size = below.size;
 }
 
--- the same of a codec's members
-abbrev pub raised_by : {A : Type 0} → ArrayLevel A
-    → (Option (List ℕ) → Option DataType → Option (List ℕ) → Option Unserved) → ArrayCodec
-    → (List ℕ → Region → Region) → ListSeen → ListSeen
-raised_by above unserved codec region_below below = raised (array_level above) (array_fill above)
-    (unserved_at unserved (array_level above) (array_fill above)) codec region_below below
+-- a codec with its level: that, and the bytes of its fill value; why these are not served; how it
+-- decodes a list below, and its level, fill value and boxes there
+pub record CodecSeen : Type 0 where
+  pub level : Level
+  pub fill : List ℕ
+  pub unserved : Option Unserved
+  pub meaning : ArrayCodec
+  pub fill_below : DataType → List ℕ → List ℕ
+  pub region_below : List ℕ → Region → Region
+
+abbrev pub codec_seen : {A : Type 0} → any.Ghosts A → array.Ghosts A → ArrayLevel A → CodecSeen
+codec_seen own code above = record {
+  level = array_level above;
+  fill = array_fill above;
+  unserved = unserved_at (own.unserved above.codec) (array_level above) (array_fill above);
+  meaning = code.meaning above.codec;
+  fill_below = code.fill_below above.codec;
+  region_below = code.region_below above.codec;
+}
+
+-- its level below, the list above one there, and what is shown of a handle there
+abbrev pub level_below : CodecSeen → Level
+level_below at = at.meaning.level_below at.level
+
+abbrev pub list_above : CodecSeen → Option (List Element) → Option (List Element)
+list_above at list = option_and_then (at.meaning.decode_list at.level) list
+
+abbrev pub seen_above : CodecSeen → ListSeen → ListSeen
+seen_above at below =
+    raised at.level at.fill at.unserved at.meaning at.region_below below
+
+-- the codec serves its level, which fits, and a handle is one of the level below
+pub record IsOver (seen : ListSeen) (at : CodecSeen) : Type 0 where
+  pub fits : IsFit at.level.shape at.level.data_type
+  pub served : at.unserved ≡ None
+  pub below : IsBelow at.meaning at.fill_below at.level at.fill seen
+
+-- where the codec serves its level a handle is one of the level below
+abbrev pub IsBelowServed : ListSeen → CodecSeen → Type 0
+IsBelowServed seen at =
+    at.unserved ≡ None → IsBelow at.meaning at.fill_below at.level at.fill seen
+
+-- a box is all of the level below one that fits, and that the codec serves
+pub record IsAllBelow (box : Region) (at : CodecSeen) : Type 0 where
+  pub fits : IsFit at.level.shape at.level.data_type
+  pub served : at.unserved ≡ None
+  pub all : box ≡ whole (level_below at).shape
 
 -- some list below that decodes to these elements is not encoded
 pub record IsUnencodedBelow (decode : List Element → Option (List Element))

@@ -1,2 +1,4 @@
 pub mod Above
 pub mod Counted
+pub mod Reading
+pub mod Writing

@@ -1,25 +1,22 @@
 //! Elements put into what a handle of elements of the level below holds, by an array-to-array codec.
 
-ghost use Rattle.std.specs.Prelude.{◌≡◌, ◌⊎◌, ◌<◌, true, false, nat_lt, not, List, length, replicate, Some, None, IsSome, IfOk, IfErr, OnErr};
+ghost use Rattle.std.specs.Prelude.{◌≡◌, ◌<◌, true, false, nat_lt, length, replicate, Some, None, IsSome, IfOk, IfErr};
 ghost use Rattle.std.specs.List.{AllByRecursion, list_all};
 ghost use Rattle.zarr_model.specs.Region.{whole, count_of};
 ghost use Rattle.zarr_model.specs.Element.{kind_of};
-ghost use Rattle.zarr_model.specs.ArrayBytes.{meaning};
 ghost use Rattle.zarr_model.specs.Command.{has_long_element};
 ghost use Rattle.zarrs_array_subset.specs.ArraySubset.{region as box_of};
 ghost use Rattle.zarrs_data_type_elements.specs.FillValue.{fill_bytes};
 ghost use Rattle.zarrs_codec_error.specs.declared.error.CodecError.TheVariants as codec;
 ghost use Rattle.zarrs_codec_array_bytes.specs.Raw.{raw_of};
-ghost use Rattle.zarrs_codec_array_bytes.specs.Refusals.{fine, validity, IfUnfit};
-ghost use Rattle.zarrs_codec_traits.specs.Errors.{unserved_at, IsNoFault, RefusesAs};
+ghost use Rattle.zarrs_codec_traits.specs.Errors.{unserved_at, IsNoFault};
 ghost use Rattle.zarrs_codec_traits.specs.Views.{options_of};
 ghost use Rattle.zarrs_codec_traits.specs.Words.{list_at, IsFit};
 ghost use Rattle.zarrs_codec_partial.specs.Boxes.{Denotes};
-ghost use Rattle.zarrs_codec_partial_traits.specs.Boxes.{is_all};
-ghost use Rattle.zarrs_codec_partial_traits.specs.Lists.{AreFew, RefusesFor, is_short};
-ghost use Rattle.zarrs_codec_partial_traits.specs.ListWrites.{given_answer, KeepsRest, IsUntouched};
-ghost use Rattle.zarrs_codec_partial_traits.specs.Updates.{change_of, ReadsListIf, GivesMade, Stores, Updates};
-ghost use Rattle.zarrs_codec_partial_arrays.specs.Above.{IsBelow, HandsOn, IsUnencodedBelow, IsEncodedBelow};
+ghost use Rattle.zarrs_codec_partial_traits.specs.Lists.{AreFew, is_short};
+ghost use Rattle.zarrs_codec_partial_traits.specs.Updates.{change_of};
+ghost use Rattle.zarrs_codec_partial_arrays.specs.Above.{IsAllBelow, IsBelowServed, IsOver};
+ghost use Rattle.zarrs_codec_partial_arrays.specs.Writing.{FillsBelow, HandsBelow, MakesElements, StoresElements, UpdatesElements, EncodesElements};
 
 use crate::level::ArrayLevel;
 use std::alloc::Global;
@@ -50,7 +47,7 @@ pub(crate) fn are_fill_bytes(fill_value: &FillValue)
 }
 
 impl<C: ArrayToArrayCodecTraits> ArrayLevel<C> {
-    ghost use Rattle.zarrs_codec_partial_arrays.specs.Above.{array_level, array_fill, raised_by};
+    ghost use Rattle.zarrs_codec_partial_arrays.specs.Above.{array_level, array_fill, codec_seen};
 
     // The numbers in the fill value are bytes.
     pub(crate) fn fill_is_bytes(&self)
@@ -69,27 +66,16 @@ impl<C: ArrayToArrayCodecTraits> ArrayLevel<C> {
         bytes: &ArrayBytes<'_>,
         options: &CodecOptions,
     ) -> Result<ArrayBytes<'static>, CodecError>
-        requires fits { IsFit (array_level self.now).shape (array_level self.now).data_type }
+        requires over { IsOver (H.seen handle.old)
+            (codec_seen C.ArrayCodecTraits.own C.ArrayToArrayCodecTraits.own self.now) }
         requires shape { numbers.now ≡ (array_level self.now).shape }
         requires fit { I.fits indexer.now numbers.now ≡ true }
-        requires served { unserved_at (C.unserved self.now.codec) (array_level self.now)
-            (array_fill self.now) ≡ None }
-        requires below { IsBelow (C.meaning self.now.codec) (C.fill_below self.now.codec)
-            (array_level self.now) (array_fill self.now) (H.seen handle.old) }
-        ensures made { let level = array_level self.now in let see = raised_by self.now
-            (C.unserved self.now.codec) (C.meaning self.now.codec)
-            (C.region_below self.now.codec) in
-            let change = change_of level (I.fits indexer.now level.shape)
-            (I.as_region indexer.now) (I.places indexer.now) (raw_of bytes.now) in
-            GivesMade (options_of options.now) (record change { all = false })
-            (H.tells handle.old (options_of options.now)
-            (Some (whole ((C.meaning self.now.codec).level_below level).shape)))
-            (see (H.seen handle.old)) (see (H.seen handle.new)) result }
-        ensures reads { let level = array_level self.now in ReadsListIf true
-            (Some (whole ((C.meaning self.now.codec).level_below level).shape))
-            (H.seen handle.old) (H.seen handle.new) result }
-        ensures named { RefusesFor (H.seen handle.old).unserved result }
-        ensures same { H.same handle.old handle.new }
+        ensures { MakesElements H.ArrayPartialDecoderTraits
+            (codec_seen C.ArrayCodecTraits.own C.ArrayToArrayCodecTraits.own self.now)
+            (options_of options.now) (record (change_of (array_level self.now)
+            (I.fits indexer.now (array_level self.now).shape) (I.as_region indexer.now)
+            (I.places indexer.now) (raw_of bytes.now)) { all = false })
+            handle.old handle.new result }
     {
         match self.decode_whole(alloc, handle, options) {
             Ok(whole) => {
@@ -111,32 +97,16 @@ impl<C: ArrayToArrayCodecTraits> ArrayLevel<C> {
         bytes: &ArrayBytes<'_>,
         options: &CodecOptions,
     ) -> Result<ArrayBytes<'static>, CodecError>
-        requires fits { IsFit (array_level self.now).shape (array_level self.now).data_type }
+        requires over { IsOver (H.seen handle.old)
+            (codec_seen C.ArrayCodecTraits.own C.ArrayToArrayCodecTraits.own self.now) }
         requires shape { numbers.now ≡ (array_level self.now).shape }
         requires fit { I.fits indexer.now numbers.now ≡ true }
-        requires served { unserved_at (C.unserved self.now.codec) (array_level self.now)
-            (array_fill self.now) ≡ None }
-        requires below { IsBelow (C.meaning self.now.codec) (C.fill_below self.now.codec)
-            (array_level self.now) (array_fill self.now) (H.seen handle.old) }
-        ensures made { let level = array_level self.now in let see = raised_by self.now
-            (C.unserved self.now.codec) (C.meaning self.now.codec)
-            (C.region_below self.now.codec) in
-            let change = change_of level (I.fits indexer.now level.shape)
-            (I.as_region indexer.now) (I.places indexer.now) (raw_of bytes.now) in
-            GivesMade (options_of options.now) change
-            (H.tells handle.old (options_of options.now)
-            (Some (whole ((C.meaning self.now.codec).level_below level).shape)))
-            (see (H.seen handle.old)) (see (H.seen handle.new)) result }
-        ensures reads { let level = array_level self.now in
-            ReadsListIf (not (is_all level.shape (I.as_region indexer.now)))
-            (Some (whole ((C.meaning self.now.codec).level_below level).shape))
-            (H.seen handle.old) (H.seen handle.new) result }
-        ensures named { OnErr result (RefusesFor (H.seen handle.old).unserved result) }
-        ensures valid { let level = array_level self.now in
-            IsSome (meaning (kind_of level.data_type) (length (I.places indexer.now))
-            (raw_of bytes.now)) → IfOk result (λ v. RefusesFor (H.seen handle.old).unserved result
-            ⊎ IsSome (list_at level (raw_of v))) }
-        ensures same { H.same handle.old handle.new }
+        ensures { MakesElements H.ArrayPartialDecoderTraits
+            (codec_seen C.ArrayCodecTraits.own C.ArrayToArrayCodecTraits.own self.now)
+            (options_of options.now) (change_of (array_level self.now)
+            (I.fits indexer.now (array_level self.now).shape) (I.as_region indexer.now)
+            (I.places indexer.now) (raw_of bytes.now))
+            handle.old handle.new result }
     {
         match covers(alloc, indexer, numbers) {
             Ok(true) => match bytes.try_clone(alloc) {
@@ -150,7 +120,7 @@ impl<C: ArrayToArrayCodecTraits> ArrayLevel<C> {
 }
 
 impl<C: ArrayToArrayCodecTraits> ArrayLevel<C> {
-    ghost use Rattle.zarrs_codec_partial_arrays.specs.Above.{array_level, array_fill, raised_by};
+    ghost use Rattle.zarrs_codec_partial_arrays.specs.Above.{array_level, array_fill, codec_seen};
 
     // The fill value below for each element of the level below.
     fn filled_below(
@@ -158,19 +128,10 @@ impl<C: ArrayToArrayCodecTraits> ArrayLevel<C> {
         alloc: Global,
         all: &ArraySubset,
     ) -> Result<ArrayBytes<'static>, CodecError>
-        requires fits { IsFit (array_level self.now).shape (array_level self.now).data_type }
-        requires served { unserved_at (C.unserved self.now.codec) (array_level self.now)
-            (array_fill self.now) ≡ None }
-        requires all { box_of all.now
-            ≡ whole ((C.meaning self.now.codec).level_below (array_level self.now)).shape }
-        ensures value { let below = (C.meaning self.now.codec).level_below (array_level self.now) in
-            Denotes (array_level self.now) (array_fill self.now) → IfOk result
-            (λ v. list_at below (raw_of v) ≡ Some (replicate (count_of below.shape) below.fill)) }
-        ensures short { Denotes (array_level self.now) (array_fill self.now)
-            → is_short (array_level self.now) (array_fill self.now) ≡ true
-            → IfOk result (λ v. has_long_element (raw_of v) ≡ false) }
-        ensures failed { Denotes (array_level self.now) (array_fill self.now)
-            → IfErr result (λ e. e ≡ codec.OutOfMemory) }
+        requires all { IsAllBelow (box_of all.now)
+            (codec_seen C.ArrayCodecTraits.own C.ArrayToArrayCodecTraits.own self.now) }
+        ensures fills { FillsBelow
+            (codec_seen C.ArrayCodecTraits.own C.ArrayToArrayCodecTraits.own self.now) result }
         ensures no_fault { IfErr result IsNoFault }
     {
         match self.codec.encoded_data_type(alloc, &self.data_type) {
@@ -199,19 +160,12 @@ impl<C: ArrayToArrayCodecTraits> ArrayLevel<C> {
         bytes: ArrayBytes<'static>,
         options: &CodecOptions,
     ) -> Result<ArrayBytes<'static>, CodecError>
-        requires fits { IsFit (array_level self.now).shape (array_level self.now).data_type }
-        requires served { unserved_at (C.unserved self.now.codec) (array_level self.now)
-            (array_fill self.now) ≡ None }
-        requires all { box_of all.now
-            ≡ whole ((C.meaning self.now.codec).level_below (array_level self.now)).shape }
-        ensures hands { let level = array_level self.now in IfOk result (λ v. HandsOn
-            (C.meaning self.now.codec) level (array_fill self.now)
-            (C.fill_below self.now.codec level.data_type (array_fill self.now))
-            (options_of options.now) (raw_of bytes.entry) (raw_of v)) }
+        requires all { IsAllBelow (box_of all.now)
+            (codec_seen C.ArrayCodecTraits.own C.ArrayToArrayCodecTraits.own self.now) }
+        ensures hands { HandsBelow
+            (codec_seen C.ArrayCodecTraits.own C.ArrayToArrayCodecTraits.own self.now)
+            (options_of options.now) (raw_of bytes.entry) result }
         ensures denotes { IfOk result (λ _. Denotes (array_level self.now) (array_fill self.now)) }
-        ensures failed { Denotes (array_level self.now) (array_fill self.now)
-            → IsSome (list_at (array_level self.now) (raw_of bytes.entry))
-            → IfErr result (λ e. e ≡ codec.OutOfMemory) }
         ensures no_fault { IfErr result IsNoFault }
     {
         self.fill_is_bytes();
@@ -240,25 +194,11 @@ impl<C: ArrayToArrayCodecTraits> ArrayLevel<C> {
         bytes: ArrayBytes<'static>,
         options: &CodecOptions,
     ) -> Result<(), CodecError>
-        requires fits { IsFit (array_level self.now).shape (array_level self.now).data_type }
-        requires served { unserved_at (C.unserved self.now.codec) (array_level self.now)
-            (array_fill self.now) ≡ None }
-        requires below { IsBelow (C.meaning self.now.codec) (C.fill_below self.now.codec)
-            (array_level self.now) (array_fill self.now) (H.seen handle.old) }
-        ensures stores { let level = array_level self.now in let see = raised_by self.now
-            (C.unserved self.now.codec) (C.meaning self.now.codec)
-            (C.region_below self.now.codec) in
-            Stores (options_of options.now) (raw_of bytes.entry)
-            (IsUnencodedBelow ((C.meaning self.now.codec).decode_list level)
-            (H.unencoded handle.old))
-            (IsEncodedBelow ((C.meaning self.now.codec).decode_list level)
-            (H.encodes handle.old)) (H.encodes_short handle.old)
-            (see (H.seen handle.old)) (see (H.seen handle.new)) result }
-        ensures rest { KeepsRest (H.seen handle.old) (H.seen handle.new) }
-        ensures named { Denotes (array_level self.now) (array_fill self.now)
-            → IsSome (list_at (array_level self.now) (raw_of bytes.entry))
-            → RefusesFor (H.seen handle.old).unserved result }
-        ensures same { H.same handle.old handle.new }
+        requires over { IsOver (H.seen handle.old)
+            (codec_seen C.ArrayCodecTraits.own C.ArrayToArrayCodecTraits.own self.now) }
+        ensures { StoresElements H.ArrayPartialDecoderTraits H.ArrayPartialEncoderTraits.own
+            (codec_seen C.ArrayCodecTraits.own C.ArrayToArrayCodecTraits.own self.now)
+            (options_of options.now) (raw_of bytes.entry) handle.old handle.new result }
     {
         match self.whole_below(alloc) {
             Ok(all) => match self.elements_below(alloc, &all, bytes, options) {
@@ -279,31 +219,16 @@ impl<C: ArrayToArrayCodecTraits> ArrayLevel<C> {
         bytes: &ArrayBytes<'_>,
         options: &CodecOptions,
     ) -> Result<(), CodecError>
-        requires fits { IsFit (array_level self.now).shape (array_level self.now).data_type }
+        requires over { IsOver (H.seen handle.old)
+            (codec_seen C.ArrayCodecTraits.own C.ArrayToArrayCodecTraits.own self.now) }
         requires shape { numbers.now ≡ (array_level self.now).shape }
         requires fit { I.fits indexer.now numbers.now ≡ true }
-        requires served { unserved_at (C.unserved self.now.codec) (array_level self.now)
-            (array_fill self.now) ≡ None }
-        requires below { IsBelow (C.meaning self.now.codec) (C.fill_below self.now.codec)
-            (array_level self.now) (array_fill self.now) (H.seen handle.old) }
-        ensures updates { let level = array_level self.now in let see = raised_by self.now
-            (C.unserved self.now.codec) (C.meaning self.now.codec)
-            (C.region_below self.now.codec) in
-            Updates (options_of options.now) (change_of level (I.fits indexer.now level.shape)
-            (I.as_region indexer.now) (I.places indexer.now) (raw_of bytes.now))
-            (H.tells handle.old (options_of options.now)
-            (Some (whole ((C.meaning self.now.codec).level_below level).shape)))
-            (IsUnencodedBelow ((C.meaning self.now.codec).decode_list level)
-            (H.unencoded handle.old))
-            (IsEncodedBelow ((C.meaning self.now.codec).decode_list level)
-            (H.encodes handle.old)) (H.encodes_short handle.old)
-            (see (H.seen handle.old)) (see (H.seen handle.new)) result }
-        ensures rest { KeepsRest (H.seen handle.old) (H.seen handle.new) }
-        ensures named { Denotes (array_level self.now) (array_fill self.now)
-            → IsSome (meaning (kind_of (array_level self.now).data_type)
-            (length (I.places indexer.now)) (raw_of bytes.now))
-            → RefusesFor (H.seen handle.old).unserved result }
-        ensures same { H.same handle.old handle.new }
+        ensures { UpdatesElements H.ArrayPartialDecoderTraits H.ArrayPartialEncoderTraits.own
+            (codec_seen C.ArrayCodecTraits.own C.ArrayToArrayCodecTraits.own self.now)
+            (options_of options.now) (change_of (array_level self.now)
+            (I.fits indexer.now (array_level self.now).shape) (I.as_region indexer.now)
+            (I.places indexer.now) (raw_of bytes.now))
+            handle.old handle.new result }
     {
         match self.new_elements(alloc, handle, indexer, numbers, bytes, options) {
             Ok(elements) => self.store_elements(alloc, handle, elements, options),
@@ -331,43 +256,14 @@ impl<C: ArrayToArrayCodecTraits> ArrayLevel<C> {
         requires fits { IsFit (array_level self.now).shape (array_level self.now).data_type }
         requires few { AreFew (kind_of (array_level self.now).data_type)
             (length (I.places indexer.now)) }
-        requires below { unserved_at (C.unserved self.now.codec) (array_level self.now)
-            (array_fill self.now) ≡ None → IsBelow (C.meaning self.now.codec)
-            (C.fill_below self.now.codec) (array_level self.now) (array_fill self.now)
-            (H.seen handle.old) }
-        ensures given { RefusesAs (given_answer (kind_of (array_level self.now).data_type)
-            (I.fits indexer.now (array_level self.now).shape) (length (I.places indexer.now))
-            (raw_of bytes.now)) result }
-        ensures refusal { validity (kind_of (array_level self.now).data_type)
-            (length (I.places indexer.now)) (raw_of bytes.now) ≡ fine
-            → I.fits indexer.now (array_level self.now).shape ≡ false
-            → IfErr result (IfUnfit (I.refuses indexer.now (array_level self.now).shape)) }
-        ensures untouched { let see = raised_by self.now
-            (C.unserved self.now.codec) (C.meaning self.now.codec)
-            (C.region_below self.now.codec) in
-            IsUntouched (given_answer (kind_of (array_level self.now).data_type)
-            (I.fits indexer.now (array_level self.now).shape) (length (I.places indexer.now))
-            (raw_of bytes.now)) (see (H.seen handle.old)) (see (H.seen handle.new)) }
-        ensures updates { let level = array_level self.now in let see = raised_by self.now
-            (C.unserved self.now.codec) (C.meaning self.now.codec)
-            (C.region_below self.now.codec) in
-            Updates (options_of options.now) (change_of level (I.fits indexer.now level.shape)
-            (I.as_region indexer.now) (I.places indexer.now) (raw_of bytes.now))
-            (H.tells handle.old (options_of options.now)
-            (Some (whole ((C.meaning self.now.codec).level_below level).shape)))
-            (IsUnencodedBelow ((C.meaning self.now.codec).decode_list level)
-            (H.unencoded handle.old))
-            (IsEncodedBelow ((C.meaning self.now.codec).decode_list level)
-            (H.encodes handle.old)) (H.encodes_short handle.old)
-            (see (H.seen handle.old)) (see (H.seen handle.new)) result }
-        ensures rest { KeepsRest (H.seen handle.old) (H.seen handle.new) }
-        ensures named { let level = array_level self.now in let see = raised_by self.now
-            (C.unserved self.now.codec) (C.meaning self.now.codec)
-            (C.region_below self.now.codec) in
-            given_answer (kind_of level.data_type) (I.fits indexer.now level.shape)
-            (length (I.places indexer.now)) (raw_of bytes.now) ≡ fine
-            → RefusesFor (see (H.seen handle.old)).unserved result }
-        ensures same { H.same handle.old handle.new }
+        requires below { IsBelowServed (H.seen handle.old)
+            (codec_seen C.ArrayCodecTraits.own C.ArrayToArrayCodecTraits.own self.now) }
+        ensures { EncodesElements H.ArrayPartialDecoderTraits H.ArrayPartialEncoderTraits.own
+            (codec_seen C.ArrayCodecTraits.own C.ArrayToArrayCodecTraits.own self.now)
+            (options_of options.now) (change_of (array_level self.now)
+            (I.fits indexer.now (array_level self.now).shape) (I.as_region indexer.now)
+            (I.places indexer.now) (raw_of bytes.now))
+            (I.refuses indexer.now (array_level self.now).shape) handle.old handle.new result }
     {
         match expect_given(alloc, indexer, bytes, &self.shape, &self.data_type) {
             Ok(numbers) => match self.expect_served(alloc) {

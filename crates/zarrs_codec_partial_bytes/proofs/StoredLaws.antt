@@ -7,7 +7,7 @@ use Rattle.zarrs_storage.specs.declared.byte_range.ByteRange.{ByteRange}
 use Rattle.zarrs_storage.specs.declared.store.StorageError.{StorageError}
 use Rattle.zarrs_storage.specs.declared.store.StorageError.TheVariants as storage
 use Rattle.zarrs_storage.specs.ByteRange.{slices_of}
-use Rattle.zarrs_storage.specs.Store.{part_bytes, handed_parts, total_of, invalid_range, IsRangeError, IsFault, GetsParts}
+use Rattle.zarrs_storage.specs.Store.{part_bytes, handed_parts, total_of, invalid_range, IsRangeError, IsFault, SameContent, GetsParts}
 use Rattle.zarr_model.specs.Prelude.{Rose, Shown, counted}
 use Rattle.zarrs_codec_error.specs.declared.error.CodecError.{CodecError}
 use Rattle.zarrs_codec_error.specs.CodecError.{codec_of_storage}
@@ -36,11 +36,15 @@ stored_given (Some parts) ranges (Some value) same valid = let items : parts ≡
 
 -- the error of a store as one of a handle
 pub stored_told : (value : Option (List ℕ)) (ranges : List ByteRange) (before now : ℕ) (error : StorageError) (e : CodecError) → IsRangeError ranges value error → (IsFault error → Rose before now) → e ≡ codec_of_storage error
-    → reads.IsPartError (value_part value) ranges reads.IsRangeError before now e
+    → reads.IsPartError (value_part value) ranges (reads.TellsRangeOf (Some ranges) value) before now e
 stored_told value ranges before now storage.Failed e range rose is = inl (inr (is, rose tt))
 stored_told None ranges before now (storage.InvalidByteRange error) e range rose is = absurd range
-stored_told (Some value) ranges before now (storage.InvalidByteRange error) e range rose is = inr (first_refused value ranges error.range range.0, subst reads.IsRangeError (sym is) tt)
+stored_told (Some value) ranges before now (storage.InvalidByteRange error) e range rose is = inr (first_refused value ranges error.range range.0, subst (reads.IsRangeErrorOf ranges (length value)) (sym is) range)
 stored_told value ranges before now storage.OutOfMemory e range rose is = inl (inl is)
+
+-- what tells of a value after a call that reads tells of it before
+pub told_stored : (asked : Option (List ByteRange)) (key : List ℕ) (old new : Shown) (e : CodecError) → SameContent old new → reads.TellsRangeOf asked (new.content key) e → reads.TellsRangeOf asked (old.content key) e
+told_stored asked key old new e same told = subst (λ (value : Option (List ℕ)). reads.TellsRangeOf asked value e) (same key) told
 
 -- a read of ranges of a store, as one of a handle
 pub stored_reads : {E : Type 0} (name : ℕ) (key : List ℕ) (ranges : List ByteRange) (old new : Shown) (parts : Option (Vec (Vec ℕ Global) Global)) → GetsParts key ranges old new (Ok parts)

@@ -5,9 +5,10 @@ use Rattle.zarrs_storage.specs.ByteRange.{first_invalid}
 use Rattle.zarrs_codec_error.specs.declared.error.CodecError.{CodecError}
 use Rattle.zarrs_codec_traits.specs.Errors.{IsNoFault}
 use Rattle.zarrs_codec_held.specs.Held.{Held}
+use Rattle.zarrs_codec_held.specs.Reads.{IsRangeErrorOf}
 use Rattle.zarrs_codec_held.specs.Interval.{shifted, range_or, interval_tells}
 use Rattle.zarrs_codec_held.specs.Through.{says_of, through_says}
-use Rattle.zarrs_codec_partial_traits.specs.Ranges.{range_no_fault}
+use Rattle.zarrs_codec_partial_traits.specs.Ranges.{range_no_fault, value_no_fault}
 
 pub interval_no_fault : (offset len : ℕ)
     (tells : Option (List ByteRange) → CodecError → Type 0) (asked : Option (List ByteRange))
@@ -17,19 +18,21 @@ interval_no_fault offset len tells None e law told = law _ told
 interval_no_fault offset len tells (Some ranges) e law told = go (first_invalid len ranges) told
   where
     go : (o : Option ByteRange)
-        → range_or o (tells (Some (map (shifted offset len) ranges))) e → IsNoFault e
-    go (Some range) told = range_no_fault e told
+        → range_or o (IsRangeErrorOf ranges len) (tells (Some (map (shifted offset len) ranges))) e
+        → IsNoFault e
+    go (Some range) told = range_no_fault ranges len e told
     go None told = law _ told
 
 pub through_no_fault : (decode : List ℕ → Option (List ℕ))
     (says : List ℕ → CodecError → Type 0) (tells : CodecError → Type 0) (held : Held)
-    (e : CodecError) → (tells e → IsNoFault e)
+    (asked : Option (List ByteRange)) (e : CodecError) → (tells e → IsNoFault e)
     → ((value : List ℕ) → says value e → IsNoFault e)
-    → through_says decode says tells held e → IsNoFault e
-through_no_fault decode says tells None e law codec told = law told
-through_no_fault decode says tells (Some None) e law codec told = absurd told
-through_no_fault decode says tells (Some (Some value)) e law codec told = go (decode value) told
+    → through_says decode says tells held asked e → IsNoFault e
+through_no_fault decode says tells None asked e law codec told = law told
+through_no_fault decode says tells (Some None) asked e law codec told = absurd told
+through_no_fault decode says tells (Some (Some value)) asked e law codec told =
+    go (decode value) told
   where
-    go : (o : Option (List ℕ)) → says_of o (says value) e → IsNoFault e
+    go : (o : Option (List ℕ)) → says_of o (says value) asked e → IsNoFault e
     go None told = codec value told
-    go (Some bytes) told = range_no_fault e told
+    go (Some bytes) told = value_no_fault asked (Some bytes) e told

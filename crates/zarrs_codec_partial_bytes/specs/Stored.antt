@@ -1,10 +1,11 @@
 -- A value under a key of a store.
-use Rattle.std.specs.Prelude.{ℕ, List, ◌∷◌, length, is_some, Option, Some, None}
+use Rattle.std.specs.Prelude.{ℕ, List, ◌∷◌, length, is_some, Option, Some, None, refl}
 use Rattle.std.specs.List.{sum_by}
 use Rattle.zarr_model.specs.Shown.{Shown}
 use Rattle.zarrs_storage.specs.declared.byte_range.ByteRange.{ByteRange}
 use Rattle.zarrs_storage.specs.ByteRange.{slices_of}
-use Rattle.zarrs_codec_held.specs.Held.{Seen, value_part}
+use Rattle.zarrs_codec_held.specs.Held.{Seen, IsSound, value_part}
+use Rattle.zarrs_codec_held.proofs.PartLaws.{sound_by}
 
 -- how many bytes lists have together
 abbrev pub bytes_in : List (List ℕ) → ℕ
@@ -29,3 +30,8 @@ stored name key shown = record {
   taking = λ asked. taken_of asked (shown.content key);
   size = 0;
 }
+
+-- what is read of it belongs together
+pub stored_sound : (name : ℕ) (key : List ℕ) (shown : Shown) → IsSound (stored name key shown)
+stored_sound name key shown = sound_by (stored name key shown) (shown.content key) refl
+    (λ under. refl) (λ under range. refl)

@@ -1,9 +1,9 @@
 //! An interval of the value that a handle holds.
 
-ghost use Rattle.std.specs.Prelude.{◌≡◌, ◌⊎◌, ◌+◌, ◌<◌, ◌^◌, true, map, None, IsSome, IfOk, IfErr};
+ghost use Rattle.std.specs.Prelude.{◌≡◌, ◌⊎◌, ◌+◌, ◌<◌, ◌^◌, true, map, None, IfOk, IfErr};
 ghost use Rattle.zarrs_storage.specs.ByteRange.{is_valid, first_invalid};
 ghost use Rattle.zarrs_codec_error.specs.declared.error.CodecError.TheVariants as codec;
-ghost use Rattle.zarrs_codec_held.specs.Reads.{IsRangeError};
+ghost use Rattle.zarrs_codec_held.specs.Reads.{IsRangeErrorOf};
 ghost use Rattle.zarrs_codec_held.specs.Interval.{shifted};
 
 use std::alloc::Global;
@@ -44,8 +44,8 @@ fn shift_all(
     requires { offset + length < 2 ^ 64 }
     ensures valid { IfOk result (λ v. first_invalid length ranges.now ≡ None) }
     ensures value { IfOk result (λ v. v.items ≡ map (shifted offset length) ranges.now) }
-    ensures refused { IfErr result (λ e. (e ≡ codec.OutOfMemory)
-        ⊎ (IsSome (first_invalid length ranges.now) × IsRangeError e)) }
+    ensures refused { IfErr result
+        (λ e. (e ≡ codec.OutOfMemory) ⊎ IsRangeErrorOf ranges.now length e) }
 {
     let mut shifted = Vec::with_capacity(alloc, ranges.len())?;
     for range in ranges {

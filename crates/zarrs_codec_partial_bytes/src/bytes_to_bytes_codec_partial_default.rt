@@ -99,7 +99,7 @@ impl<H: BytesPartialDecoderTraits, C: BytesToBytesCodecTraits> BytesToBytesCodec
             (through_says (C.meaning self.old.codec (options_of options.now))
             (C.says self.old.codec (options_of options.now))
             (H.tells self.old.handle (options_of options.now) None)
-            ((H.seen self.old.handle).held (options_of options.now)))
+            ((H.seen self.old.handle).held (options_of options.now)) None)
             (H.seen self.old.handle).shown.faults (H.seen self.new.handle).shown.faults) }
         ensures first { RefusesFirst (H.early self.old.handle None)
             (H.seen self.old.handle).shown (H.seen self.new.handle).shown result }
@@ -137,7 +137,8 @@ impl<H: BytesPartialDecoderTraits, C: BytesToBytesCodecTraits> BytesPartialDecod
     ghost seen = { λ h. decoded (C.meaning h.codec) (H.seen h.handle) };
 
     ghost tells = { λ h under asked e. through_says (C.meaning h.codec under)
-        (C.says h.codec under) (H.tells h.handle under None) ((H.seen h.handle).held under) e };
+        (C.says h.codec under) (H.tells h.handle under None) ((H.seen h.handle).held under)
+        asked e };
 
     ghost same = { λ a b. (a.codec ≡ b.codec)
         × ((a.decoded_representation ≡ b.decoded_representation) × H.same a.handle b.handle) };
@@ -157,8 +158,8 @@ impl<H: BytesPartialDecoderTraits, C: BytesToBytesCodecTraits> BytesPartialDecod
     ghost reads_parts = { λ h. (C.decodes_parts h.codec).partial_decode && H.reads_parts h.handle };
 
     ghost no_fault = { λ h under asked e told. through_no_fault (C.meaning h.codec under)
-        (C.says h.codec under) (H.tells h.handle under None) ((H.seen h.handle).held under) e
-        (λ more. H.no_fault h.handle under None e more)
+        (C.says h.codec under) (H.tells h.handle under None) ((H.seen h.handle).held under)
+        asked e (λ more. H.no_fault h.handle under None e more)
         (λ value said. C.no_fault h.codec under value e said) told };
 
     ghost sound = { λ h. decoded_sound (C.meaning h.codec) (H.seen h.handle)
@@ -225,13 +226,13 @@ impl<H: BytesPartialEncoderTraits, C: BytesToBytesCodecTraits> BytesToBytesCodec
             (decoded (C.meaning self.old.codec) (H.seen self.old.handle))
             (decoded (C.meaning self.old.codec) (H.seen self.new.handle)) result }
         ensures unasked { Unasked (H.seen self.old.handle) (H.seen self.new.handle) }
-        ensures tells { (under : Options) (e : CodecError)
+        ensures tells { (under : Options) (asked : Option (List ByteRange)) (e : CodecError)
             → through_says (C.meaning self.old.codec under) (C.says self.old.codec under)
-            (H.tells self.new.handle under None) ((H.seen self.new.handle).held under) e
+            (H.tells self.new.handle under None) ((H.seen self.new.handle).held under) asked e
             → ToldAfter
-            (through (C.meaning self.old.codec under) ((H.seen self.new.handle).held under))
+            (through (C.meaning self.old.codec under) ((H.seen self.new.handle).held under)) asked
             (through_says (C.meaning self.old.codec under) (C.says self.old.codec under)
-            (H.tells self.old.handle under None) ((H.seen self.old.handle).held under)) e }
+            (H.tells self.old.handle under None) ((H.seen self.old.handle).held under) asked) e }
         ensures cause { IfErr result (IsHandleError (H.seen self.old.handle).shown.faults
             (H.seen self.new.handle).shown.faults) }
         ensures same { (self.old.codec ≡ self.new.codec)

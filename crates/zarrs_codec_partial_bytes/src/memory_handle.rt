@@ -36,15 +36,15 @@ impl MemoryHandle {
 }
 
 impl BytesPartialDecoderTraits for MemoryHandle {
-    ghost use Rattle.std.specs.Prelude.{true, false};
+    ghost use Rattle.std.specs.Prelude.{true, None};
     ghost use Rattle.zarrs_codec_held.specs.Held.{in_memory};
-    ghost use Rattle.zarrs_codec_held.specs.Reads.{IsRangeError};
-    ghost use Rattle.zarrs_codec_partial_traits.specs.Ranges.{range_no_fault};
+    ghost use Rattle.zarrs_codec_held.specs.Reads.{TellsRangeOf};
+    ghost use Rattle.zarrs_codec_partial_traits.specs.Ranges.{value_no_fault};
     ghost use Rattle.zarrs_codec_held.proofs.PartLaws.{sound_memory};
 
     ghost seen = { λ h. in_memory (value_bytes h.value) };
 
-    ghost tells = { λ h under asked e. IsRangeError e };
+    ghost tells = { λ h under asked e. TellsRangeOf asked (value_bytes h.value) e };
 
     ghost same = { λ a b. Unit {0} };
 
@@ -52,11 +52,12 @@ impl BytesPartialDecoderTraits for MemoryHandle {
 
     ghost same_twice = { λ a b c x y. tt };
 
-    ghost early = { λ h asked. false };
+    ghost early = { λ h asked. None };
 
     ghost reads_parts = { λ h. true };
 
-    ghost no_fault = { λ h under asked e told. range_no_fault e told };
+    ghost no_fault = { λ h under asked e told. value_no_fault asked (value_bytes h.value)
+        e told };
 
     ghost sound = { λ h. sound_memory (value_bytes h.value) };
 

@@ -11,8 +11,8 @@ use zarrs_storage::{ByteRange, StorageError, Store, StoreKey};
 /// The value under one key of a store, which is read.
 #[derive(Drop)]
 pub struct StoragePartialDecoder<'s, S> {
-    storage: &'s mut S,
-    key: StoreKey,
+    pub(crate) storage: &'s mut S,
+    pub(crate) key: StoreKey,
 }
 
 impl<'s, S: Store> StoragePartialDecoder<'s, S> {
@@ -36,16 +36,15 @@ impl<'s, S: Store> StoragePartialDecoder<'s, S> {
 }
 
 impl<S: Store> BytesPartialDecoderTraits for StoragePartialDecoder<'_, S> {
-    ghost use Rattle.std.specs.Prelude.{false};
-    ghost use Rattle.std.proofs.Common.{refl};
-    ghost use Rattle.zarrs_codec_held.specs.Reads.{IsRangeError};
-    ghost use Rattle.zarrs_codec_partial_traits.specs.Ranges.{range_no_fault};
-    ghost use Rattle.zarrs_codec_held.proofs.PartLaws.{sound_by};
-    ghost use Rattle.zarrs_codec_partial_bytes.specs.Stored.{stored};
+    ghost use Rattle.std.specs.Prelude.{None};
+    ghost use Rattle.zarrs_codec_held.specs.Reads.{TellsRangeOf};
+    ghost use Rattle.zarrs_codec_partial_traits.specs.Ranges.{value_no_fault};
+    ghost use Rattle.zarrs_codec_partial_bytes.specs.Stored.{stored, stored_sound};
 
     ghost seen = { λ h. stored h.storage.ghost_name h.key (S.shown h.storage.now) };
 
-    ghost tells = { λ h under asked e. IsRangeError e };
+    ghost tells = { λ h under asked e. TellsRangeOf asked
+        ((S.shown h.storage.now).content h.key) e };
 
     ghost same = { λ a b. Unit {0} };
 
@@ -53,19 +52,20 @@ impl<S: Store> BytesPartialDecoderTraits for StoragePartialDecoder<'_, S> {
 
     ghost same_twice = { λ a b c x y. tt };
 
-    ghost early = { λ h asked. false };
+    ghost early = { λ h asked. None };
 
     ghost reads_parts = { λ h. S.gets_parts h.storage.now };
 
-    ghost no_fault = { λ h under asked e told. range_no_fault e told };
+    ghost no_fault = { λ h under asked e told. value_no_fault asked
+        ((S.shown h.storage.now).content h.key) e told };
 
-    ghost sound = { λ h. sound_by (stored h.storage.ghost_name h.key (S.shown h.storage.now))
-        ((S.shown h.storage.now).content h.key) refl (λ under. refl) (λ under range. refl) };
+    ghost sound = { λ h. stored_sound h.storage.ghost_name h.key (S.shown h.storage.now) };
 
     fn faults(&self) -> u64 {
         self.storage.faults()
     }
 
+    #[tactic(auto, using(crate::proofs::StoredLaws::told_stored))]
     fn exists(&mut self) -> Result<bool, StorageError> {
         match self.storage.size_key(&self.key) {
             Ok(size) => Ok(size.is_some()),
@@ -81,6 +81,7 @@ impl<S: Store> BytesPartialDecoderTraits for StoragePartialDecoder<'_, S> {
         self.storage.supports_get_partial()
     }
 
+    #[tactic(auto, using(crate::proofs::StoredLaws::told_stored))]
     fn partial_decode_many(
         &mut self,
         alloc: Global,
@@ -96,6 +97,7 @@ impl<S: Store> BytesPartialDecoderTraits for StoragePartialDecoder<'_, S> {
         }
     }
 
+    #[tactic(auto, using(crate::proofs::StoredLaws::told_stored))]
     fn decode(
         &mut self,
         alloc: Global,

@@ -2,6 +2,7 @@
 
 ghost use Rattle.std.specs.Prelude.{◌≡◌};
 
+use crate::storage_partial_decoder::StoragePartialDecoder;
 use std::alloc::Global;
 use zarrs_codec_error::CodecError;
 use zarrs_codec_options::CodecOptions;
@@ -11,119 +12,111 @@ use zarrs_storage::{ByteRange, OffsetBytes, StorageError, Store, StoreKey};
 /// The value under one key of a store, which is read and written.
 #[derive(Drop)]
 pub struct StoragePartialEncoder<'s, S> {
-    storage: &'s mut S,
-    key: StoreKey,
+    decoder: StoragePartialDecoder<'s, S>,
 }
 
 impl<'s, S: Store> StoragePartialEncoder<'s, S> {
     /// The value under this key.
     pub fn new(storage: &'s mut S, key: StoreKey) -> Self
-        ensures same_reference { result.storage.ghost_name ≡ storage.entry.ghost_name }
-        ensures value { result.storage.now ≡ storage.old }
-        ensures key { result.key ≡ key }
+        ensures same_reference { result.decoder.storage.ghost_name ≡ storage.entry.ghost_name }
+        ensures value { result.decoder.storage.now ≡ storage.old }
+        ensures key { result.decoder.key ≡ key }
     {
-        StoragePartialEncoder { storage, key }
+        StoragePartialEncoder {
+            decoder: StoragePartialDecoder::new(storage, key),
+        }
     }
 
     /// The store again.
     pub fn into_storage(self) -> &'s mut S
-        ensures same_reference { result.ghost_name ≡ self.entry.storage.ghost_name }
-        ensures value { result.now ≡ self.entry.storage.now }
+        ensures same_reference { result.ghost_name ≡ self.entry.decoder.storage.ghost_name }
+        ensures value { result.now ≡ self.entry.decoder.storage.now }
     {
-        let StoragePartialEncoder { storage, key: _ } = self;
-        storage
+        self.decoder.into_storage()
     }
 }
 
-impl<S: Store> BytesPartialDecoderTraits for StoragePartialEncoder<'_, S> {
-    ghost use Rattle.std.specs.Prelude.{false};
-    ghost use Rattle.std.proofs.Common.{refl};
-    ghost use Rattle.zarrs_codec_held.specs.Reads.{IsRangeError};
-    ghost use Rattle.zarrs_codec_partial_traits.specs.Ranges.{range_no_fault};
-    ghost use Rattle.zarrs_codec_held.proofs.PartLaws.{sound_by};
-    ghost use Rattle.zarrs_codec_partial_bytes.specs.Stored.{stored};
+impl<'s, S: Store> BytesPartialDecoderTraits for StoragePartialEncoder<'s, S> {
+    ghost use Rattle.zarrs_codec_partial_traits.specs.Ranges.{value_no_fault};
+    ghost use Rattle.zarrs_codec_partial_bytes.specs.Stored.{stored_sound};
 
-    ghost seen = { λ h. stored h.storage.ghost_name h.key (S.shown h.storage.now) };
+    ghost seen = { λ h. ⟦<StoragePartialDecoder<'s, S> as BytesPartialDecoderTraits>⟧.seen
+        h.decoder };
 
-    ghost tells = { λ h under asked e. IsRangeError e };
+    ghost tells = { λ h. ⟦<StoragePartialDecoder<'s, S> as BytesPartialDecoderTraits>⟧.tells
+        h.decoder };
 
-    ghost same = { λ a b. Unit {0} };
+    ghost same = { λ a b. ⟦<StoragePartialDecoder<'s, S> as BytesPartialDecoderTraits>⟧.same
+        a.decoder b.decoder };
 
     ghost same_self = { λ h. tt };
 
     ghost same_twice = { λ a b c x y. tt };
 
-    ghost early = { λ h asked. false };
+    ghost early = { λ h. ⟦<StoragePartialDecoder<'s, S> as BytesPartialDecoderTraits>⟧.early
+        h.decoder };
 
-    ghost reads_parts = { λ h. S.gets_parts h.storage.now };
+    ghost reads_parts = { λ h.
+        ⟦<StoragePartialDecoder<'s, S> as BytesPartialDecoderTraits>⟧.reads_parts h.decoder };
 
-    ghost no_fault = { λ h under asked e told. range_no_fault e told };
+    ghost no_fault = { λ h under asked e told. value_no_fault asked
+        ((S.shown h.decoder.storage.now).content h.decoder.key) e told };
 
-    ghost sound = { λ h. sound_by (stored h.storage.ghost_name h.key (S.shown h.storage.now))
-        ((S.shown h.storage.now).content h.key) refl (λ under. refl) (λ under range. refl) };
+    ghost sound = { λ h. stored_sound h.decoder.storage.ghost_name h.decoder.key
+        (S.shown h.decoder.storage.now) };
 
     fn faults(&self) -> u64 {
-        self.storage.faults()
+        self.decoder.faults()
     }
 
     fn exists(&mut self) -> Result<bool, StorageError> {
-        match self.storage.size_key(&self.key) {
-            Ok(size) => Ok(size.is_some()),
-            Err(error) => Err(error),
-        }
+        self.decoder.exists()
     }
 
     fn size_held(&self) -> usize {
-        0
+        self.decoder.size_held()
     }
 
     fn supports_partial_decode(&self) -> bool {
-        self.storage.supports_get_partial()
+        self.decoder.supports_partial_decode()
     }
 
     fn partial_decode_many(
         &mut self,
         alloc: Global,
         decoded_regions: &[ByteRange],
-        _options: &CodecOptions,
+        options: &CodecOptions,
     ) -> Result<Option<Vec<Vec<u8>>>, CodecError> {
-        match self
-            .storage
-            .get_partial_many(alloc, &self.key, decoded_regions)
-        {
-            Ok(parts) => Ok(parts),
-            Err(error) => Err(CodecError::from(error)),
-        }
+        self.decoder
+            .partial_decode_many(alloc, decoded_regions, options)
     }
 
     fn decode(
         &mut self,
         alloc: Global,
-        _options: &CodecOptions,
+        options: &CodecOptions,
     ) -> Result<Option<Vec<u8>>, CodecError> {
-        match self.storage.get(alloc, &self.key) {
-            Ok(value) => Ok(value),
-            Err(error) => Err(CodecError::from(error)),
-        }
+        self.decoder.decode(alloc, options)
     }
 }
 
 impl<S: Store> BytesPartialEncoderTraits for StoragePartialEncoder<'_, S> {
     ghost use Rattle.std.specs.Prelude.{false};
 
-    ghost writes_parts = { λ h. S.sets_parts h.storage.now };
+    ghost writes_parts = { λ h. S.sets_parts h.decoder.storage.now };
 
     ghost rereads = { λ h. false };
 
     fn erase(&mut self) -> Result<(), CodecError> {
-        match self.storage.erase(&self.key) {
+        let decoder = &mut self.decoder;
+        match decoder.storage.erase(&decoder.key) {
             Ok(()) => Ok(()),
             Err(error) => Err(CodecError::from(error)),
         }
     }
 
     fn supports_partial_encode(&self) -> bool {
-        self.storage.supports_set_partial()
+        self.decoder.storage.supports_set_partial()
     }
 
     fn partial_encode_many(
@@ -132,9 +125,10 @@ impl<S: Store> BytesPartialEncoderTraits for StoragePartialEncoder<'_, S> {
         offset_values: &[OffsetBytes],
         _options: &CodecOptions,
     ) -> Result<(), CodecError> {
-        match self
+        let decoder = &mut self.decoder;
+        match decoder
             .storage
-            .set_partial_many(alloc, &self.key, offset_values)
+            .set_partial_many(alloc, &decoder.key, offset_values)
         {
             Ok(()) => Ok(()),
             Err(error) => Err(CodecError::from(error)),
@@ -147,7 +141,8 @@ impl<S: Store> BytesPartialEncoderTraits for StoragePartialEncoder<'_, S> {
         bytes: &[u8],
         _options: &CodecOptions,
     ) -> Result<(), CodecError> {
-        match self.storage.set(alloc, &self.key, bytes) {
+        let decoder = &mut self.decoder;
+        match decoder.storage.set(alloc, &decoder.key, bytes) {
             Ok(()) => Ok(()),
             Err(error) => Err(CodecError::from(error)),
         }

@@ -4,6 +4,7 @@ ghost use Rattle.std.specs.Prelude.{◌≡◌, ◌∷◌, [], Bool, List, Option
 ghost use Rattle.zarr_model.specs.Codec.{Options};
 ghost use Rattle.zarr_model.specs.Prelude.{Rose};
 ghost use Rattle.zarrs_storage.specs.declared.byte_range.ByteRange.{ByteRange};
+ghost use Rattle.zarrs_storage.specs.declared.byte_range.InvalidByteRangeError.{InvalidByteRangeError};
 ghost use Rattle.zarrs_storage.specs.Store.{value_bytes, part_bytes};
 ghost use Rattle.zarrs_storage.specs.declared.store.StorageError.TheVariants as storage;
 ghost use Rattle.zarrs_codec_error.specs.declared.error.CodecError.{CodecError};
@@ -29,8 +30,8 @@ pub trait BytesPartialDecoderTraits {
     // Two states have the same settings, which are what a handle has beside its value: a codec, or where an interval lies.
     ghost same: { Self → Self → Type 0 };
 
-    // Whether a range is refused before anything is read, of those that are asked for, or for the whole value.
-    ghost early: { Self → Option (List ByteRange) → Bool };
+    // The error of a range that is refused before anything is read, of those asked for, or for the whole value.
+    ghost early: { Self → Option (List ByteRange) → Option InvalidByteRangeError };
 
     // Whether it reads a part of the value without the rest.
     ghost reads_parts: { Self → Bool };
@@ -97,9 +98,9 @@ pub trait BytesPartialDecoderTraits {
     /// The bytes of each range of the value, in the order of the ranges, or [`None`] where it is absent.
     ///
     /// # Errors
-    /// Where a range is refused, what tells why: [`CodecError::InvalidByteRangeError`] of a value that is read whole, and
-    /// what its codec says of one that does not decode. [`CodecError::StorageError`] where what is below fails; or
-    /// [`CodecError::OutOfMemory`].
+    /// Where a range is refused, what tells why: [`CodecError::InvalidByteRangeError`] of a value that is read whole,
+    /// which names the first range that is not valid and the value's length, and what its codec says of one that does
+    /// not decode. [`CodecError::StorageError`] where what is below fails; or [`CodecError::OutOfMemory`].
     fn partial_decode_many(
         &mut self,
         alloc: Global,

@@ -31,7 +31,8 @@ pub trait BytesPartialEncoderTraits: BytesPartialDecoderTraits {
         ensures same { Self.same self.old self.new }
         ensures tells { (under : Options) (asked : Option (List ByteRange)) (e : CodecError)
             → Self.tells self.new under asked e
-            → ToldAfter ((Self.seen self.new).held under) (Self.tells self.old under asked) e }
+            → ToldAfter ((Self.seen self.new).held under) asked
+            (Self.tells self.old under asked) e }
         ensures writes { Writes None (Self.seen self.old) (Self.seen self.new) result }
         ensures unasked { Unasked (Self.seen self.old) (Self.seen self.new) }
         ensures cause { IfErr result (IsFault (Self.seen self.old).shown.faults
@@ -56,7 +57,8 @@ pub trait BytesPartialEncoderTraits: BytesPartialDecoderTraits {
         ensures same { Self.same self.old self.new }
         ensures tells { (under : Options) (asked : Option (List ByteRange)) (e : CodecError)
             → Self.tells self.new under asked e
-            → ToldAfter ((Self.seen self.new).held under) (Self.tells self.old under asked) e }
+            → ToldAfter ((Self.seen self.new).held under) asked
+            (Self.tells self.old under asked) e }
         ensures edits { Edits
             (λ value. with_parts (record { offset = offset; bytes = bytes } ∷ []) value)
             (rereads self.old) (options_of options.now)
@@ -86,7 +88,8 @@ pub trait BytesPartialEncoderTraits: BytesPartialDecoderTraits {
         ensures same { Self.same self.old self.new }
         ensures tells { (under : Options) (asked : Option (List ByteRange)) (e : CodecError)
             → Self.tells self.new under asked e
-            → ToldAfter ((Self.seen self.new).held under) (Self.tells self.old under asked) e }
+            → ToldAfter ((Self.seen self.new).held under) asked
+            (Self.tells self.old under asked) e }
         ensures edits { Edits (with_parts offset_values.now) (rereads self.old)
             (options_of options.now) (Self.seen self.old) (Self.seen self.new) result }
         ensures cause { IfErr result
@@ -108,7 +111,8 @@ pub trait BytesPartialEncoderTraits: BytesPartialDecoderTraits {
         ensures same { Self.same self.old self.new }
         ensures tells { (under : Options) (asked : Option (List ByteRange)) (e : CodecError)
             → Self.tells self.new under asked e
-            → ToldAfter ((Self.seen self.new).held under) (Self.tells self.old under asked) e }
+            → ToldAfter ((Self.seen self.new).held under) asked
+            (Self.tells self.old under asked) e }
         ensures writes { Writes (Some bytes.now) (Self.seen self.old) (Self.seen self.new) result }
         ensures unasked { Unasked (Self.seen self.old) (Self.seen self.new) }
         ensures cause { IfErr result (IsHandleError (Self.seen self.old).shown.faults

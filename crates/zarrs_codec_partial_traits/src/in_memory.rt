@@ -12,15 +12,15 @@ use zarrs_codec_options::CodecOptions;
 use zarrs_storage::{ByteRange, StorageError};
 
 impl BytesPartialDecoderTraits for Vec<u8> {
-    ghost use Rattle.std.specs.Prelude.{true, false, Some};
+    ghost use Rattle.std.specs.Prelude.{true, Some, None};
     ghost use Rattle.zarrs_codec_held.specs.Held.{in_memory};
-    ghost use Rattle.zarrs_codec_held.specs.Reads.{IsRangeError};
+    ghost use Rattle.zarrs_codec_held.specs.Reads.{TellsRangeOf};
     ghost use Rattle.zarrs_codec_held.proofs.PartLaws.{sound_memory};
-    ghost use Rattle.zarrs_codec_partial_traits.specs.Ranges.{range_no_fault};
+    ghost use Rattle.zarrs_codec_partial_traits.specs.Ranges.{value_no_fault};
 
     ghost seen = { λ v. in_memory (Some v.items) };
 
-    ghost tells = { λ v under asked e. IsRangeError e };
+    ghost tells = { λ v under asked e. TellsRangeOf asked (Some v.items) e };
 
     ghost same = { λ a b. Unit {0} };
 
@@ -28,11 +28,11 @@ impl BytesPartialDecoderTraits for Vec<u8> {
 
     ghost same_twice = { λ a b c x y. tt };
 
-    ghost early = { λ h asked. false };
+    ghost early = { λ h asked. None };
 
     ghost reads_parts = { λ v. true };
 
-    ghost no_fault = { λ v under asked e told. range_no_fault e told };
+    ghost no_fault = { λ v under asked e told. value_no_fault asked (Some v.items) e told };
 
     ghost sound = { λ v. sound_memory (Some v.items) };
 
@@ -84,15 +84,15 @@ fn items_of<'b>(bytes: &'b CowSlice<'_, u8>) -> &'b [u8]
 }
 
 impl BytesPartialDecoderTraits for CowSlice<'_, u8> {
-    ghost use Rattle.std.specs.Prelude.{true, false, Some};
+    ghost use Rattle.std.specs.Prelude.{true, Some, None};
     ghost use Rattle.zarrs_codec_held.specs.Held.{in_memory};
-    ghost use Rattle.zarrs_codec_held.specs.Reads.{IsRangeError};
+    ghost use Rattle.zarrs_codec_held.specs.Reads.{TellsRangeOf};
     ghost use Rattle.zarrs_codec_held.proofs.PartLaws.{sound_memory};
-    ghost use Rattle.zarrs_codec_partial_traits.specs.Ranges.{range_no_fault};
+    ghost use Rattle.zarrs_codec_partial_traits.specs.Ranges.{value_no_fault};
 
     ghost seen = { λ v. in_memory (Some (cow_slice_items v)) };
 
-    ghost tells = { λ v under asked e. IsRangeError e };
+    ghost tells = { λ v under asked e. TellsRangeOf asked (Some (cow_slice_items v)) e };
 
     ghost same = { λ a b. Unit {0} };
 
@@ -100,11 +100,12 @@ impl BytesPartialDecoderTraits for CowSlice<'_, u8> {
 
     ghost same_twice = { λ a b c x y. tt };
 
-    ghost early = { λ h asked. false };
+    ghost early = { λ h asked. None };
 
     ghost reads_parts = { λ v. true };
 
-    ghost no_fault = { λ v under asked e told. range_no_fault e told };
+    ghost no_fault = { λ v under asked e told. value_no_fault asked
+        (Some (cow_slice_items v)) e told };
 
     ghost sound = { λ v. sound_memory (Some (cow_slice_items v)) };
 

@@ -7,5 +7,5 @@ returns-clause-tells g c = λ under asked e told.
     let level = bottom_level c.args.self.now.level in
     let code = g.C.ArrayToBytesCodecTraits in
     let handle = g.H.BytesPartialDecoderTraits in
-    list_told level (bottom_fill c.args.self.now.level) (code.says c.args.self.now.level.codec under level) (ranges_for (code.request c.args.self.now.level.codec level.shape level.data_type) level.shape asked) e
+    list_told level (bottom_fill c.args.self.now.level) (code.meaning c.args.self.now.level.codec under level) (code.says c.args.self.now.level.codec under level) (ranges_for (code.request c.args.self.now.level.codec level.shape level.data_type) level.shape asked) e
     (handle.tells c.args.self.now.handle under) (handle.tells c.exists.new.self under) (handle.seen c.args.self.now.handle) (handle.seen c.exists.new.self) under c.exists.ensures.looks.keeps (c.exists.ensures.tells under (ranges_for (code.request c.args.self.now.level.codec level.shape level.data_type) level.shape asked) e) told

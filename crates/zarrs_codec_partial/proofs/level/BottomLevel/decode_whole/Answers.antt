@@ -1,28 +1,19 @@
-use Rattle.std.proofs.Common.{◌∙◌, sym, ap, Some, None}
+use Rattle.std.proofs.Common.{◌∙◌, ap, Some}
 use Rattle.zarrs_storage.specs.Store.{value_bytes}
-use Rattle.zarrs_codec_traits.specs.Views.{options_of}
-use Rattle.zarrs_codec_partial_traits.specs.Lists.{fills}
-use Rattle.zarrs_codec_partial.specs.Level.{bottom_level, bottom_fill}
-use Rattle.zarrs_codec_partial.proofs.HeldLaws.{none_decodes, fill_fails}
+use Rattle.zarrs_codec_partial.proofs.ReadLaws.{value_read, absent_read, not_read}
 use Rattle.zarrs_codec_partial.proofs.level.BottomLevel.decode_whole.Goals as goal
 
-pub returns-in-Ok-None-clause-decodes : goal.returns-in-Ok-None-clause-decodes
-returns-in-Ok-None-clause-decodes g c = λ served here.
-    let level = bottom_level c.args.self.now in
-    let under = options_of c.args.options.now in
-    let code = g.C.ArrayToBytesCodecTraits in
-    let below = g.H.BytesPartialDecoderTraits.seen c.args.handle.now in
-    let sound = g.met.H.BytesPartialDecoderTraits.sound c.args.handle.now in
-    none_decodes (code.meaning c.args.self.now.codec under level) (fills level (bottom_fill c.args.self.now)) below.there (below.held under) (sound.all_there under)
-    (c.in-Ok-None.ensures.value ∙ ap (λ v. Some (value_bytes v)) c.in-Ok-None.field-0-is) here
+pub returns-in-Ok-Some : goal.returns-in-Ok-Some
+returns-in-Ok-Some g c =
+    let is = c.in-Ok-Some.ensures.value ∙ ap (λ v. Some (value_bytes v)) c.in-Ok-Some.field-0-is in
+    let decoded = c.decode-in-Ok-Some.ensures in
+    value_read c.in-Ok-Some.value.items is c.in-Ok-Some.ensures.reads c.in-Ok-Some.ensures.same c.in-Ok-Some.ensures.tells g.met.C.ArrayToBytesCodecTraits.no_fault
+    (rw c.deref.ensures.value at decoded.unserved) (rw c.deref.ensures.value at decoded.value) decoded.short
 
-pub returns-in-Ok-None-clause-failed : goal.returns-in-Ok-None-clause-failed
-returns-in-Ok-None-clause-failed g c = λ served.
-    let level = bottom_level c.args.self.now in
-    let under = options_of c.args.options.now in
-    let code = g.C.ArrayToBytesCodecTraits in
-    let below = g.H.BytesPartialDecoderTraits.seen c.args.handle.now in
-    let sound = g.met.H.BytesPartialDecoderTraits.sound c.args.handle.now in
+pub returns-in-Ok-None : goal.returns-in-Ok-None
+returns-in-Ok-None g c =
     let is = c.in-Ok-None.ensures.value ∙ ap (λ v. Some (value_bytes v)) c.in-Ok-None.field-0-is in
-    fill_fails level (bottom_fill c.args.self.now) (code.meaning c.args.self.now.codec under level) (code.says c.args.self.now.codec under level) (g.H.BytesPartialDecoderTraits.tells c.args.handle.now under)
-    below under None _ _ c.fill_whole.result is (sym (sound.all_there under None is)) c.fill_whole.ensures.failed
+    absent_read (g.met.H.BytesPartialDecoderTraits.sound c.args.handle.now) is c.in-Ok-None.ensures.reads c.in-Ok-None.ensures.same c.in-Ok-None.ensures.tells c.fill_whole.ensures
+
+pub returns-in-Err : goal.returns-in-Err
+returns-in-Err g c = not_read c.in-Err.ensures.reads c.in-Err.ensures.same c.in-Err.ensures.tells g.met.H.BytesPartialDecoderTraits.no_fault c.in-Err.ensures.cause

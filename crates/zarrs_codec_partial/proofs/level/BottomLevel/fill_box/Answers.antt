@@ -18,9 +18,9 @@ new_fill_value-requires-clause-count g c = rw c.num_elements-number.ensures (box
 pub new_fill_value-requires-clause-bytes : goal.new_fill_value-requires-clause-bytes
 new_fill_value-requires-clause-bytes g c = rw c.num_elements-number.ensures (box-fits (bottom_level c.args.self.now) (box_of c.args.region.now) c.requires.inside c.requires.fits).bytes
 
-pub returns-clause-gives : goal.returns-clause-gives
-returns-clause-gives g c =
-    fill_part (bottom_level c.args.self.now) (bottom_fill c.args.self.now) (box_of c.args.region.now) c.new_fill_value.result c.requires.inside (rw c.num_elements-number.ensures at c.new_fill_value.ensures.filled) c.new_fill_value.ensures.short
-
-pub returns-clause-failed : goal.returns-clause-failed
-returns-clause-failed g c = fill_told (bottom_level c.args.self.now) (bottom_fill c.args.self.now) c.new_fill_value.result c.new_fill_value.ensures.answer
+pub returns : goal.returns
+returns g c = record {
+  gives = fill_part (bottom_level c.args.self.now) (bottom_fill c.args.self.now) (box_of c.args.region.now) c.new_fill_value.result c.requires.inside c.new_fill_value.ensures.answer
+      (rw c.num_elements-number.ensures at c.new_fill_value.ensures.value) (rw c.num_elements-number.ensures at c.new_fill_value.ensures.filled) c.new_fill_value.ensures.short;
+  failed = fill_told (bottom_level c.args.self.now) (bottom_fill c.args.self.now) c.new_fill_value.result c.new_fill_value.ensures.answer;
+}

@@ -1,30 +1,29 @@
-use Rattle.std.proofs.Common.{◌∙◌, sym, ap, inr, Some, None}
+use Rattle.std.proofs.Common.{◌∙◌, sym, ap, inl, inr, Some}
 use Rattle.zarrs_storage.specs.Store.{value_bytes}
 use Rattle.zarrs_codec_traits.specs.Views.{options_of}
-use Rattle.zarrs_codec_partial_traits.specs.ListWrites.{IsUnfilled}
-use Rattle.zarrs_codec_partial.specs.Level.{bottom_level, bottom_fill, seen_by}
-use Rattle.zarrs_codec_partial.proofs.HeldLaws.{fill_fails}
-use Rattle.zarrs_codec_partial.proofs.WriteLaws.{told_first}
+use Rattle.zarrs_codec_partial.proofs.ReadLaws.{value_read, absent_read, not_read, old_so, old_not, old_unfilled}
 use Rattle.zarrs_codec_partial.proofs.level.BottomLevel.old_elements.Goals as goal
 
-pub returns-in-Ok-clause-failed : goal.returns-in-Ok-clause-failed
-returns-in-Ok-clause-failed g c = λ served.
-    let level = bottom_level c.args.self.now in
-    let under = options_of c.args.options.now in
-    let code = g.C.ArrayToBytesCodecTraits in
-    let below = g.H.BytesPartialDecoderTraits.seen c.args.handle.now in
+pub returns-in-Ok-Some : goal.returns-in-Ok-Some
+returns-in-Ok-Some g c =
     let sound = g.met.H.BytesPartialDecoderTraits.sound c.args.handle.now in
-    let is = c.in-Ok-None.ensures.value ∙ ap (λ v. Some (value_bytes v)) c.in-Ok-None.field-0-is in
-    told_first _ _ c.fill_whole.result
-    (fill_fails level (bottom_fill c.args.self.now) (code.meaning c.args.self.now.codec under level) (code.says c.args.self.now.codec under level) (g.H.BytesPartialDecoderTraits.tells c.args.handle.now under)
-    below under None _ _ c.fill_whole.result is (sym (sound.all_there under None is)) c.fill_whole.ensures.failed)
+    let is = c.in-Ok-Some.ensures.value ∙ ap (λ v. Some (value_bytes v)) c.in-Ok-Some.field-0-is in
+    let decoded = c.decode-in-Ok-Some.ensures in
+    old_so
+    (value_read c.in-Ok-Some.value.items is c.in-Ok-Some.ensures.reads c.in-Ok-Some.ensures.same c.in-Ok-Some.ensures.tells g.met.C.ArrayToBytesCodecTraits.no_fault
+    (rw c.deref.ensures.value at decoded.unserved) (rw c.deref.ensures.value at decoded.value) decoded.short)
+    (inl (sym (sound.all_there (options_of c.args.options.now) (Some c.in-Ok-Some.value.items) is)))
 
-pub returns-in-Err-expect_denoted-clause-failed : goal.returns-in-Err-expect_denoted-clause-failed
-returns-in-Err-expect_denoted-clause-failed g c = λ served.
-    let see = seen_by c.args.self.now (g.C.ArrayCodecTraits.unserved c.args.self.now.codec) (g.C.ArrayToBytesCodecTraits.meaning c.args.self.now.codec) (g.C.ArrayToBytesCodecTraits.request c.args.self.now.codec) in
-    let sound = g.met.H.BytesPartialDecoderTraits.sound c.args.handle.now in
+pub returns-in-Ok : goal.returns-in-Ok
+returns-in-Ok g c =
+    let is = c.in-Ok-None.ensures.value ∙ ap (λ v. Some (value_bytes v)) c.in-Ok-None.field-0-is in
+    old_so (absent_read (g.met.H.BytesPartialDecoderTraits.sound c.args.handle.now) is c.in-Ok-None.ensures.reads c.in-Ok-None.ensures.same c.in-Ok-None.ensures.tells c.fill_whole.ensures) (inr c.in-Ok.ensures.denotes)
+
+pub returns-in-Err-expect_denoted : goal.returns-in-Err-expect_denoted
+returns-in-Err-expect_denoted g c =
     let is = c.in-Ok-None.ensures.value ∙ ap (λ v. Some (value_bytes v)) c.in-Ok-None.field-0-is in
     let told = c.in-Err-expect_denoted.ensures in
-    let none : IsUnfilled (see (g.H.BytesPartialDecoderTraits.seen c.args.handle.now)) c.in-Err-expect_denoted.error =
-    record { absent = sym (sound.all_there (options_of c.args.options.now) None is); undenoted = told.refused; told = told.told } in
-    inr none
+    old_unfilled (g.met.H.BytesPartialDecoderTraits.sound c.args.handle.now) is told.refused told.told c.in-Ok-None.ensures.reads c.in-Ok-None.ensures.same
+
+pub returns-in-Err : goal.returns-in-Err
+returns-in-Err g c = old_not (not_read c.in-Err.ensures.reads c.in-Err.ensures.same c.in-Err.ensures.tells g.met.H.BytesPartialDecoderTraits.no_fault c.in-Err.ensures.cause)

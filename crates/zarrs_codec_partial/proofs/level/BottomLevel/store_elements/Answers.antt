@@ -57,7 +57,7 @@ returns-in-Err-clause-stores g c =
     let exact = rw c.deref.ensures.value at c.in-Err.ensures.exact in
     let beyond = code.beyond c.args.self.now.codec level in
     stores_not under (raw_of c.args.bytes) (IsBeyond beyond level) (IsTaken beyond level) (code.takes c.args.self.now.codec level)
-    (seen_by c.args.self.now (g.C.ArrayCodecTraits.unserved c.args.self.now.codec) (code.meaning c.args.self.now.codec) (code.request c.args.self.now.codec) (handle.seen c.args.handle.now)) c.in-Err.error
+    (seen_by g.C.ArrayCodecTraits.unserved g.C.ArrayToBytesCodecTraits.meaning g.C.ArrayToBytesCodecTraits.request c.args.self.now (handle.seen c.args.handle.now)) c.in-Err.error
     (λ list served means. beyond_told level (raw_of c.args.bytes) list beyond _ _ c.in-Err.error means (exact (codec_served _ served)))
     (λ served few takes there short. short_told level (raw_of c.args.bytes) beyond _ _ c.in-Err.error there (g.met.C.ArrayToBytesCodecTraits.taken c.args.self.now.codec level fill (raw_of c.args.bytes) (codec_served _ served) takes there short) (exact (codec_served _ served)))
     (encode_no_fault _ level (raw_of c.args.bytes) (beyond (raw_of c.args.bytes)) unserved c.in-Err.error (g.met.C.ArrayToBytesCodecTraits.refuses_form c.args.self.now.codec level (raw_of c.args.bytes)) (rw c.deref.ensures.value at c.in-Err.ensures.unserved) exact)

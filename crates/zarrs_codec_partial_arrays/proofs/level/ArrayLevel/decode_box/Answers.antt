@@ -1,162 +1,99 @@
 use Rattle.std.proofs.Common.{◌≡◌, ◌∙◌, sym, ap, refl, inl, true, false, subst, Some, IsSome, List, ℕ}
-use Rattle.zarr_model.specs.Region.{Region, count_of, ends_within}
+use Rattle.zarr_model.specs.Region.{Region, count_of, sizes, ends_within}
 use Rattle.zarr_model.specs.Element.{kind_of, fill_element}
 use Rattle.zarrs_array_subset.specs.ArraySubset.{region as box_of}
 use Rattle.zarrs_codec_array_bytes.specs.Raw.{raw_of}
 use Rattle.zarrs_codec_traits.specs.Views.{options_of}
 use Rattle.zarrs_codec_traits.specs.Words.{list_at, at_box, select}
-use Rattle.zarrs_codec_partial_traits.specs.Lists.{IsListError}
-use Rattle.zarrs_codec_partial_arrays.specs.Above.{array_level, array_fill}
+use Rattle.zarrs_codec_traits.proofs.FaultLaws.{answers_no_fault, known_validity}
 use Rattle.zarrs_codec_partial.proofs.AbsentLaws.{denoted_fill}
-use Rattle.zarrs_codec_partial_arrays.proofs.AboveLaws.{box_few, box_valid, box_means, above_of, above_some, above_told, valid_fails, ok_always, below_fill}
-use Rattle.zarrs_codec_partial_traits.proofs.NamedLaws.{refused_never, refused_memory}
+use Rattle.zarrs_codec_partial_traits.proofs.NamedLaws.{refused_never}
+use Rattle.zarrs_codec_partial_arrays.specs.Above.{codec_seen, level_below}
+use Rattle.zarrs_codec_partial_arrays.specs.Reading.{in_box}
+use Rattle.zarrs_codec_partial_arrays.proofs.AboveLaws.{box_few, box_valid, box_means, above_of, above_some, valid_fails, ok_always, below_fill, below_served, fill_served}
+use Rattle.zarrs_codec_partial_arrays.proofs.ReadLaws.{reads_early, reads_failed, below_still}
 use Rattle.zarrs_codec_partial_arrays.proofs.level.ArrayLevel.decode_box.Goals as goal
 
 pub partial_decode-requires : goal.partial_decode-requires
 partial_decode-requires g c =
-    let level = array_level c.args.self.now in
-    let fill = array_fill c.args.self.now in
-    let under = options_of c.args.options.now in
-    let code = g.C.ArrayToArrayCodecTraits in
+    let at = codec_seen g.C.ArrayCodecTraits g.C.ArrayToArrayCodecTraits c.args.self.now in
     let laws = g.met.C.ArrayToArrayCodecTraits in
     let codec = c.args.self.now.codec in
-    let meaning = code.meaning codec in
-    let below = meaning.level_below level in
     let old = g.H.ArrayPartialDecoderTraits.seen c.args.handle.now in
-    let part = g.met.C.ArrayCodecTraits.serves_parts codec level fill c.requires.served true false false in
+    let over = c.requires.over in
+    let part = g.met.C.ArrayCodecTraits.serves_parts codec at.level at.fill over.served true false false in
     let inner = (rw c.deref.ensures.value at c.in-Ok.ensures.value) part in
-    let inside_region = laws.region_inside codec level fill (box_of c.args.region.now) c.requires.served c.requires.inside in
-    let inside = subst (λ (b : Region). ends_within b below.shape ≡ true) (sym inner) inside_region in
-    record { few = box_few meaning (code.fill_below codec) level fill old c.requires.below (box_of c.in-Ok.inner) (laws.keeps_fit codec level fill c.requires.served c.requires.fits) inside }
+    let inside_region = laws.region_inside codec at.level at.fill (box_of c.args.region.now) over.served c.requires.inside in
+    let inside = subst (λ (b : Region). ends_within b (level_below at).shape ≡ true) (sym inner) inside_region in
+    record { few = box_few at.meaning at.fill_below at.level at.fill old over.below (box_of c.in-Ok.inner) (laws.keeps_fit codec at.level at.fill over.served over.fits) inside }
 
-pub returns-in-Ok-partial_decode-clause-value : goal.returns-in-Ok-partial_decode-clause-value
-returns-in-Ok-partial_decode-clause-value g c = λ xs ok some is.
-    let level = array_level c.args.self.now in
-    let fill = array_fill c.args.self.now in
+pub returns-in-Ok-partial_decode : goal.returns-in-Ok-partial_decode
+returns-in-Ok-partial_decode g c =
+    let at = codec_seen g.C.ArrayCodecTraits g.C.ArrayToArrayCodecTraits c.args.self.now in
+    let level = at.level in
+    let fill = at.fill in
+    let below = level_below at in
     let under = options_of c.args.options.now in
-    let code = g.C.ArrayToArrayCodecTraits in
     let laws = g.met.C.ArrayToArrayCodecTraits in
     let codec = c.args.self.now.codec in
-    let meaning = code.meaning codec in
-    let below = meaning.level_below level in
-    let old = g.H.ArrayPartialDecoderTraits.seen c.args.handle.now in
-    let part = g.met.C.ArrayCodecTraits.serves_parts codec level fill c.requires.served true false false in
+    let handle = g.H.ArrayPartialDecoderTraits in
+    let old = handle.seen c.args.handle.now in
+    let over = c.requires.over in
+    let region = box_of c.args.region.now in
+    let part = g.met.C.ArrayCodecTraits.serves_parts codec level fill over.served true false false in
     let inner = (rw c.deref.ensures.value at c.in-Ok.ensures.value) part in
-    let above = above_of (meaning.decode_list level) (old.list under) xs is in
-    let long = g.met.H.ArrayPartialDecoderTraits.counted c.args.handle.now under above.0 ok above.1.0 ∙ ap count_of c.requires.below.shape in
+    let inside = subst (λ (b : Region). ends_within b below.shape ≡ true) (sym inner) (laws.region_inside codec level fill region over.served c.requires.inside) in
+    let fits = subst (λ (s : List ℕ). ends_within (box_of c.in-Ok.inner) s ≡ true) (sym over.below.shape) inside in
+    let read = c.in-Ok-partial_decode.ensures in
     let raw = raw_of c.in-Ok-partial_decode.bytes in
-    let given = box_means meaning (code.fill_below codec) level fill old c.requires.below (box_of c.in-Ok.inner) raw above.0 (c.in-Ok-partial_decode.ensures.value above.0 ok above.1.0) in
-    let moved = subst (λ (b : Region). list_at (at_box b below) raw ≡ Some (select below.shape b above.0)) inner given in
-    (rw c.deref-in-Ok-partial_decode.ensures.value at c.decode_region.ensures.value) above.0 xs c.requires.served long above.1.1 moved
+    let exact = (rw c.deref-in-Ok-partial_decode.ensures.value at c.decode_region.ensures.exact) over.served in
+    record {
+      gives = λ served.
+          let ok = below_served at.unserved old.unserved (fill_element (kind_of level.data_type) fill) served in
+          let some = fill_served at.unserved old.unserved (fill_element (kind_of level.data_type) fill) served in
+          let denoted = laws.denotes codec level fill over.served (denoted_fill (fill_element (kind_of level.data_type) fill) some) in
+          let filled = below_fill at.meaning at.fill_below level fill old below.fill over.below denoted in
+          let there = subst (λ (b : Region). IsSome (list_at (at_box b below) raw)) inner (box_valid at.meaning at.fill_below level fill old over.below (box_of c.in-Ok.inner) raw (read.valid ok filled)) in
+          record {
+            value = λ xs is.
+                let above = above_of (at.meaning.decode_list level) (old.list under) xs is in
+                let long = g.met.H.ArrayPartialDecoderTraits.counted c.args.handle.now under above.0 ok above.1.0 ∙ ap count_of over.below.shape in
+                let given = box_means at.meaning at.fill_below level fill old over.below (box_of c.in-Ok.inner) raw above.0 (read.value above.0 ok above.1.0) in
+                let moved = subst (λ (b : Region). list_at (at_box b below) raw ≡ Some (select below.shape b above.0)) inner given in
+                (rw c.deref-in-Ok-partial_decode.ensures.value at c.decode_region.ensures.value) above.0 xs over.served long above.1.1 moved;
+            valid = (rw c.deref-in-Ok-partial_decode.ensures.value at c.decode_region.ensures.valid) over.served;
+            failed = λ fit. valid_fails (at_box (at.region_below level.shape region) below) raw _ c.decode_region.result there exact (inl (inl refl));
+            decodes = λ present all.
+                let whole = subst (λ (b : Region). old.whole (Some b) ≡ true) (sym inner) all in
+                ok_always c.decode_region.result (above_some (at.meaning.decode_list level) (old.list under) (read.decodes ok present whole)
+                (λ ys e. laws.decodes codec level fill ys over.served (g.met.H.ArrayPartialDecoderTraits.counted c.args.handle.now under ys ok e ∙ ap count_of over.below.shape)));
+            all = λ none. cc;
+          };
+      named = refused_never old.unserved c.in-Ok-partial_decode.bytes c.decode_region.result (read.named fits);
+      below = below_still handle (box_of c.in-Ok.inner) (at.region_below level.shape region) c.args.handle.now c.partial_decode.new.self c.in-Ok-partial_decode.bytes c.decode_region.result inner
+          (record { reads = read.reads; same = read.same; tells = read.tells; fault = tt; short = read.short })
+          c.decode_region.ensures.short (answers_no_fault c.decode_region.result _ (known_validity (kind_of below.data_type) (count_of (sizes (at.region_below level.shape region))) raw) exact);
+    }
 
-pub returns-in-Ok-partial_decode-clause-failed : goal.returns-in-Ok-partial_decode-clause-failed
-returns-in-Ok-partial_decode-clause-failed g c = λ ok some.
-    let level = array_level c.args.self.now in
-    let fill = array_fill c.args.self.now in
-    let under = options_of c.args.options.now in
-    let code = g.C.ArrayToArrayCodecTraits in
+pub returns-in-Ok : goal.returns-in-Ok
+returns-in-Ok g c =
+    let at = codec_seen g.C.ArrayCodecTraits g.C.ArrayToArrayCodecTraits c.args.self.now in
     let laws = g.met.C.ArrayToArrayCodecTraits in
     let codec = c.args.self.now.codec in
-    let meaning = code.meaning codec in
-    let below = meaning.level_below level in
-    let old = g.H.ArrayPartialDecoderTraits.seen c.args.handle.now in
-    let part = g.met.C.ArrayCodecTraits.serves_parts codec level fill c.requires.served true false false in
+    let over = c.requires.over in
+    let region = box_of c.args.region.now in
+    let part = g.met.C.ArrayCodecTraits.serves_parts codec at.level at.fill over.served true false false in
     let inner = (rw c.deref.ensures.value at c.in-Ok.ensures.value) part in
-    let denoted = laws.denotes codec level fill c.requires.served (denoted_fill (fill_element (kind_of level.data_type) fill) some) in
-    let filled = below_fill meaning (code.fill_below codec) level fill old below.fill c.requires.below denoted in
-    let raw = raw_of c.in-Ok-partial_decode.bytes in
-    let there = box_valid meaning (code.fill_below codec) level fill old c.requires.below (box_of c.in-Ok.inner) raw (c.in-Ok-partial_decode.ensures.valid ok filled) in
-    let moved = subst (λ (b : Region). IsSome (list_at (at_box b below) raw)) inner there in
-    valid_fails (at_box (code.region_below codec level.shape (box_of c.args.region.now)) below) raw _ c.decode_region.result moved ((rw c.deref-in-Ok-partial_decode.ensures.value at c.decode_region.ensures.exact) c.requires.served) (inl (inl refl))
+    let inside = subst (λ (b : Region). ends_within b (level_below at).shape ≡ true) (sym inner) (laws.region_inside codec at.level at.fill region over.served c.requires.inside) in
+    let fits = subst (λ (s : List ℕ). ends_within (box_of c.in-Ok.inner) s ≡ true) (sym over.below.shape) inside in
+    let read = c.in-Err-partial_decode.ensures in
+    reads_failed g.H.ArrayPartialDecoderTraits at (options_of c.args.options.now) (in_box region) (box_of c.in-Ok.inner) c.args.handle.now c.partial_decode.new.self c.in-Err-partial_decode.error inner
+    (λ ok. read.failed ok fits) (read.named fits) (record { reads = read.reads; same = read.same; tells = read.tells; fault = read.fault; short = λ served few. tt })
 
-pub returns-in-Ok-partial_decode-clause-decodes : goal.returns-in-Ok-partial_decode-clause-decodes
-returns-in-Ok-partial_decode-clause-decodes g c = λ ok some there all.
-    let level = array_level c.args.self.now in
-    let fill = array_fill c.args.self.now in
-    let under = options_of c.args.options.now in
-    let code = g.C.ArrayToArrayCodecTraits in
-    let laws = g.met.C.ArrayToArrayCodecTraits in
-    let codec = c.args.self.now.codec in
-    let meaning = code.meaning codec in
-    let below = meaning.level_below level in
-    let old = g.H.ArrayPartialDecoderTraits.seen c.args.handle.now in
-    let part = g.met.C.ArrayCodecTraits.serves_parts codec level fill c.requires.served true false false in
-    let inner = (rw c.deref.ensures.value at c.in-Ok.ensures.value) part in
-    let read = subst (λ (b : Region). old.whole (Some b) ≡ true) (sym inner) all in
-    ok_always c.decode_region.result (above_some (meaning.decode_list level) (old.list under) (c.in-Ok-partial_decode.ensures.decodes ok there read)
-    (λ ys e. laws.decodes codec level fill ys c.requires.served (g.met.H.ArrayPartialDecoderTraits.counted c.args.handle.now under ys ok e ∙ ap count_of c.requires.below.shape)))
-
-pub returns-in-Ok-clause-failed : goal.returns-in-Ok-clause-failed
-returns-in-Ok-clause-failed g c = λ ok some.
-    let level = array_level c.args.self.now in
-    let fill = array_fill c.args.self.now in
-    let under = options_of c.args.options.now in
-    let code = g.C.ArrayToArrayCodecTraits in
-    let laws = g.met.C.ArrayToArrayCodecTraits in
-    let codec = c.args.self.now.codec in
-    let meaning = code.meaning codec in
-    let below = meaning.level_below level in
-    let old = g.H.ArrayPartialDecoderTraits.seen c.args.handle.now in
-    let part = g.met.C.ArrayCodecTraits.serves_parts codec level fill c.requires.served true false false in
-    let inner = (rw c.deref.ensures.value at c.in-Ok.ensures.value) part in
-    let inside_region = laws.region_inside codec level fill (box_of c.args.region.now) c.requires.served c.requires.inside in
-    let inside = subst (λ (b : Region). ends_within b below.shape ≡ true) (sym inner) inside_region in
-    let fits = subst (λ (s : List ℕ). ends_within (box_of c.in-Ok.inner) s ≡ true) (sym c.requires.below.shape) inside in
-    let told = c.in-Err-partial_decode.ensures.failed ok fits in
-    let now = (g.H.ArrayPartialDecoderTraits.seen c.partial_decode.new.self).shown.faults in
-    let moved = subst (λ (b : Region). IsListError old.there (old.list under) (g.H.ArrayPartialDecoderTraits.tells c.args.handle.now under (Some b)) old.shown.faults now c.in-Err-partial_decode.error) inner told in
-    above_told (meaning.decode_list level) (old.list under) old.there (g.H.ArrayPartialDecoderTraits.tells c.args.handle.now under (Some (code.region_below codec level.shape (box_of c.args.region.now)))) _ _ c.in-Err-partial_decode.error moved
-
-pub returns-clause-failed : goal.returns-clause-failed
-returns-clause-failed g c = λ ok some.
-    let level = array_level c.args.self.now in
-    let fill = array_fill c.args.self.now in
-    let under = options_of c.args.options.now in
-    let code = g.C.ArrayToArrayCodecTraits in
-    let laws = g.met.C.ArrayToArrayCodecTraits in
-    let codec = c.args.self.now.codec in
-    let meaning = code.meaning codec in
-    let below = meaning.level_below level in
-    let old = g.H.ArrayPartialDecoderTraits.seen c.args.handle.now in
-    let part = g.met.C.ArrayCodecTraits.serves_parts codec level fill c.requires.served true false false in
-    inl (inl ((rw c.deref.ensures.value at c.in-Err.ensures.value) part))
-
-pub returns-in-Ok-partial_decode-clause-named : goal.returns-in-Ok-partial_decode-clause-named
-returns-in-Ok-partial_decode-clause-named g c =
-    let level = array_level c.args.self.now in
-    let fill = array_fill c.args.self.now in
-    let code = g.C.ArrayToArrayCodecTraits in
-    let laws = g.met.C.ArrayToArrayCodecTraits in
-    let codec = c.args.self.now.codec in
-    let meaning = code.meaning codec in
-    let below = meaning.level_below level in
-    let old = g.H.ArrayPartialDecoderTraits.seen c.args.handle.now in
-    let part = g.met.C.ArrayCodecTraits.serves_parts codec level fill c.requires.served true false false in
-    let inner = (rw c.deref.ensures.value at c.in-Ok.ensures.value) part in
-    let inside_region = laws.region_inside codec level fill (box_of c.args.region.now) c.requires.served c.requires.inside in
-    let inside = subst (λ (b : Region). ends_within b below.shape ≡ true) (sym inner) inside_region in
-    let fits = subst (λ (s : List ℕ). ends_within (box_of c.in-Ok.inner) s ≡ true) (sym c.requires.below.shape) inside in
-    refused_never old.unserved c.in-Ok-partial_decode.bytes c.decode_region.result (c.in-Ok-partial_decode.ensures.named fits)
-
-pub returns-in-Ok-clause-named : goal.returns-in-Ok-clause-named
-returns-in-Ok-clause-named g c =
-    let level = array_level c.args.self.now in
-    let fill = array_fill c.args.self.now in
-    let code = g.C.ArrayToArrayCodecTraits in
-    let laws = g.met.C.ArrayToArrayCodecTraits in
-    let codec = c.args.self.now.codec in
-    let meaning = code.meaning codec in
-    let below = meaning.level_below level in
-    let old = g.H.ArrayPartialDecoderTraits.seen c.args.handle.now in
-    let part = g.met.C.ArrayCodecTraits.serves_parts codec level fill c.requires.served true false false in
-    let inner = (rw c.deref.ensures.value at c.in-Ok.ensures.value) part in
-    let inside_region = laws.region_inside codec level fill (box_of c.args.region.now) c.requires.served c.requires.inside in
-    let inside = subst (λ (b : Region). ends_within b below.shape ≡ true) (sym inner) inside_region in
-    let fits = subst (λ (s : List ℕ). ends_within (box_of c.in-Ok.inner) s ≡ true) (sym c.requires.below.shape) inside in
-    c.in-Err-partial_decode.ensures.named fits
-
-pub returns-clause-named : goal.returns-clause-named
-returns-clause-named g c =
-    let level = array_level c.args.self.now in
-    let part = g.met.C.ArrayCodecTraits.serves_parts c.args.self.now.codec level (array_fill c.args.self.now) c.requires.served true false false in
-    refused_memory _ (g.H.ArrayPartialDecoderTraits.seen c.args.handle.now).unserved c.in-Err.error ((rw c.deref.ensures.value at c.in-Err.ensures.value) part)
+pub returns : goal.returns
+returns g c =
+    let at = codec_seen g.C.ArrayCodecTraits g.C.ArrayToArrayCodecTraits c.args.self.now in
+    let handle = g.H.ArrayPartialDecoderTraits in
+    let part = g.met.C.ArrayCodecTraits.serves_parts c.args.self.now.codec at.level at.fill c.requires.over.served true false false in
+    reads_early handle at (options_of c.args.options.now) (in_box (box_of c.args.region.now)) c.args.handle.now c.in-Err.error (g.met.H.ArrayPartialDecoderTraits.same_self c.args.handle.now)
+    ((rw c.deref.ensures.value at c.in-Err.ensures.value) part)

@@ -1,34 +1,19 @@
-use Rattle.zarr_model.specs.Element.{kind_of, fill_element}
-use Rattle.zarrs_codec_traits.specs.Errors.{unserved_at}
-use Rattle.zarrs_codec_partial_traits.proofs.NamedLaws.{refused_still}
-use Rattle.zarrs_codec_partial.proofs.ServedLaws.{fitting_named}
-use Rattle.zarrs_codec_partial_arrays.specs.Above.{array_level, array_fill, first_unserved}
-use Rattle.zarrs_codec_partial_arrays.proofs.ServedLaws.{named_above}
+use Rattle.zarrs_codec_traits.specs.Views.{options_of}
+use Rattle.zarrs_codec_partial_arrays.specs.Above.{codec_seen}
+use Rattle.zarrs_codec_partial_arrays.proofs.ReadLaws.{decodes_fit, decodes_unserved, decodes_unfit}
 use Rattle.zarrs_codec_partial_arrays.proofs.level.ArrayLevel.decode_elements.Goals as goal
 
-pub returns-in-Ok-expect_served-clause-named : goal.returns-in-Ok-expect_served-clause-named
-returns-in-Ok-expect_served-clause-named g c = λ fit.
-    let level = array_level c.args.self.now in
-    let fill = array_fill c.args.self.now in
-    let unserved = unserved_at (g.C.ArrayCodecTraits.unserved c.args.self.now.codec) level fill in
-    let element = fill_element (kind_of level.data_type) fill in
-    let old = g.H.ArrayPartialDecoderTraits.seen c.args.handle.now in
-    named_above unserved old.unserved element c.decode_fit.result c.in-Ok-expect_served.ensures.served c.in-Ok-expect_served.ensures.denotes c.decode_fit.ensures.named
+pub returns-in-Ok-expect_served : goal.returns-in-Ok-expect_served
+returns-in-Ok-expect_served g c =
+    decodes_fit g.H.ArrayPartialDecoderTraits (codec_seen g.C.ArrayCodecTraits g.C.ArrayToArrayCodecTraits c.args.self.now) (options_of c.args.options.now) _ _ _ c.args.handle.now c.decode_fit.new.handle c.decode_fit.result
+    (rw c.deref.ensures.value at c.in-Ok.ensures.fit) c.in-Ok-expect_served.ensures.served c.in-Ok-expect_served.ensures.denotes c.decode_fit.ensures
 
-pub returns-in-Ok-clause-named : goal.returns-in-Ok-clause-named
-returns-in-Ok-clause-named g c = λ fit.
-    let level = array_level c.args.self.now in
-    let fill = array_fill c.args.self.now in
-    let unserved = unserved_at (g.C.ArrayCodecTraits.unserved c.args.self.now.codec) level fill in
-    let element = fill_element (kind_of level.data_type) fill in
-    let old = g.H.ArrayPartialDecoderTraits.seen c.args.handle.now in
-    refused_still _ _ (first_unserved unserved old.unserved element) c.in-Err-expect_served.error (c.in-Err-expect_served.ensures.named old.unserved)
+pub returns-in-Ok : goal.returns-in-Ok
+returns-in-Ok g c =
+    decodes_unserved g.H.ArrayPartialDecoderTraits (codec_seen g.C.ArrayCodecTraits g.C.ArrayToArrayCodecTraits c.args.self.now) (options_of c.args.options.now) _ _ _ c.args.handle.now c.in-Err-expect_served.error
+    (g.met.H.ArrayPartialDecoderTraits.same_self c.args.handle.now) (rw c.deref.ensures.value at c.in-Ok.ensures.fit) c.in-Err-expect_served.ensures
 
-pub returns-clause-named : goal.returns-clause-named
-returns-clause-named g c = λ fit.
-    let level = array_level c.args.self.now in
-    let fill = array_fill c.args.self.now in
-    let unserved = unserved_at (g.C.ArrayCodecTraits.unserved c.args.self.now.codec) level fill in
-    let element = fill_element (kind_of level.data_type) fill in
-    let old = g.H.ArrayPartialDecoderTraits.seen c.args.handle.now in
-    fitting_named _ (first_unserved unserved old.unserved element) _ c.in-Err.error fit (rw c.deref.ensures.value at c.in-Err.ensures.answer)
+pub returns : goal.returns
+returns g c =
+    decodes_unfit g.H.ArrayPartialDecoderTraits (codec_seen g.C.ArrayCodecTraits g.C.ArrayToArrayCodecTraits c.args.self.now) (options_of c.args.options.now) _ _ _ c.args.handle.now c.in-Err.error
+    (g.met.H.ArrayPartialDecoderTraits.same_self c.args.handle.now) (rw c.deref.ensures.value at c.in-Err.ensures.answer) (rw c.deref.ensures.value at c.in-Err.ensures.unfit)

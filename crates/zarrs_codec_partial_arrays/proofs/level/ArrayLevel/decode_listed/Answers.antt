@@ -1,20 +1,44 @@
 use Rattle.std.proofs.Common.{refl, inl}
+use Rattle.zarr_model.specs.Region.{count_of}
+use Rattle.zarr_model.specs.Element.{kind_of}
 use Rattle.zarrs_codec_array_bytes.specs.Raw.{raw_of}
-use Rattle.zarrs_codec_partial_arrays.specs.Above.{array_level}
+use Rattle.zarrs_codec_traits.proofs.FaultLaws.{answers_no_fault, known_extract}
 use Rattle.zarrs_codec_partial.proofs.HeldLaws.{listed_fails}
-use Rattle.zarrs_codec_partial_arrays.proofs.AboveLaws.{placed_valid}
 use Rattle.zarrs_codec_partial_traits.proofs.NamedLaws.{refused_never}
+use Rattle.zarrs_codec_partial_arrays.specs.Above.{codec_seen}
+use Rattle.zarrs_codec_partial_arrays.proofs.AboveLaws.{placed_valid, ok_always}
+use Rattle.zarrs_codec_partial_arrays.proofs.ReadLaws.{below_still}
 use Rattle.zarrs_codec_partial_arrays.proofs.level.ArrayLevel.decode_listed.Goals as goal
 
-pub returns-in-Ok-clause-valid : goal.returns-in-Ok-clause-valid
-returns-in-Ok-clause-valid g c = λ ok some.
-    placed_valid (array_level c.args.self.now) (g.I.Indexer.places c.args.indexer.now) c.extract_array_subset.result (raw_of c.in-Ok.all) (c.in-Ok.ensures.valid ok some) (rw c.requires.shape at c.extract_array_subset.ensures.selected)
-
-pub returns-in-Ok-clause-failed : goal.returns-in-Ok-clause-failed
-returns-in-Ok-clause-failed g c = λ ok some.
+pub returns-in-Ok : goal.returns-in-Ok
+returns-in-Ok g c =
+    let at = codec_seen g.C.ArrayCodecTraits g.C.ArrayToArrayCodecTraits c.args.self.now in
+    let handle = g.H.ArrayPartialDecoderTraits in
+    let places = g.I.Indexer.places c.args.indexer.now in
+    let raw = raw_of c.in-Ok.all in
+    let selected = rw c.requires.shape at c.extract_array_subset.ensures.selected in
     let answer = rw c.requires.shape at c.extract_array_subset.ensures.answer in
     let fit = rw c.requires.shape at c.requires.fit in
-    listed_fails (array_level c.args.self.now) _ (raw_of c.in-Ok.all) c.extract_array_subset.result _ fit (c.in-Ok.ensures.valid ok some) answer (inl (inl refl))
+    record {
+      gives = λ served.
+          let given = c.in-Ok.ensures.gives served in
+          record {
+            value = λ xs is. selected xs (given.value xs is);
+            valid = placed_valid at.level places c.extract_array_subset.result raw given.valid selected;
+            failed = λ fits. listed_fails at.level _ raw c.extract_array_subset.result _ fit given.valid answer (inl (inl refl));
+            decodes = λ there all. ok_always c.extract_array_subset.result (given.decodes there all);
+            all = λ none. ok_always c.extract_array_subset.result (given.all refl);
+          };
+      named = refused_never (handle.seen c.args.handle.now).unserved c.in-Ok.all c.extract_array_subset.result c.in-Ok.ensures.named;
+      below = below_still handle _ _ c.args.handle.now c.decode_whole.new.handle c.in-Ok.all c.extract_array_subset.result refl c.in-Ok.ensures.below c.extract_array_subset.ensures.short
+          (answers_no_fault c.extract_array_subset.result _ (known_extract (kind_of at.level.data_type) (g.I.Indexer.fits c.args.indexer.now at.level.shape) (count_of at.level.shape) raw) answer);
+    }
 
-pub returns-in-Ok-clause-named : goal.returns-in-Ok-clause-named
-returns-in-Ok-clause-named g c = refused_never (g.H.ArrayPartialDecoderTraits.seen c.args.handle.now).unserved c.in-Ok.all c.extract_array_subset.result c.in-Ok.ensures.named
+pub returns-in-Err : goal.returns-in-Err
+returns-in-Err g c =
+    let read = c.in-Err.ensures in
+    record {
+      gives = λ served. let given = read.gives served in record { value = λ xs is. tt; valid = tt; failed = given.failed; decodes = λ there all. tt; all = λ none. tt };
+      named = read.named;
+      below = read.below;
+    }

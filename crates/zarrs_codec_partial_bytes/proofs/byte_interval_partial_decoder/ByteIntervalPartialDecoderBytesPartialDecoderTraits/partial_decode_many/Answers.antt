@@ -29,4 +29,4 @@ returns-in-Ok-clause-first g c =
     c.in-Ok.ensures.valid (c.deref.ensures.value ∙ c.in-Ok.ensures.value) c.partial_decode_many.ensures.first
 
 pub returns-in-Err-clause-first : goal.returns-in-Err-clause-first
-returns-in-Err-clause-first g c = first_refused _ _ c.args.self.now.byte_length c.args.decoded_regions.now _ c.in-Err.error c.in-Err.ensures.refused
+returns-in-Err-clause-first g c = first_refused _ c.args.self.now.byte_offset c.args.self.now.byte_length (g.H.BytesPartialDecoderTraits.early c.args.self.now.handle) c.args.decoded_regions.now _ c.in-Err.error c.in-Err.ensures.refused

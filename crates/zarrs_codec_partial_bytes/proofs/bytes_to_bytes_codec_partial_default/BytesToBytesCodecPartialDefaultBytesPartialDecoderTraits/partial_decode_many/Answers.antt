@@ -4,7 +4,7 @@ use Rattle.zarrs_storage.specs.ByteRange.{parts_of}
 use Rattle.zarrs_codec_traits.specs.Views.{options_of}
 use Rattle.zarrs_codec_held.specs.Through.{through, through_says}
 use Rattle.zarrs_codec_held.proofs.IntervalLaws.{first_ok, first_err}
-use Rattle.zarrs_codec_held.proofs.ThroughLaws.{decoded_sound, range_told, many_told, many_refused, many_given, many_absent}
+use Rattle.zarrs_codec_held.proofs.ThroughLaws.{decoded_sound, range_told, whole_told, many_told, many_refused, many_given, many_absent}
 use Rattle.zarrs_codec_partial_bytes.proofs.bytes_to_bytes_codec_partial_default.BytesToBytesCodecPartialDefaultBytesPartialDecoderTraits.partial_decode_many.Goals as goal
 
 pub returns-in-Ok-clause-value : goal.returns-in-Ok-clause-value
@@ -24,7 +24,7 @@ returns-in-Ok-Some-clause-cause g c =
     let below = g.H.BytesPartialDecoderTraits.seen c.args.self.now.handle in
     let tells = g.H.BytesPartialDecoderTraits.tells c.args.self.now.handle under None in
     let is = c.in-Ok-Some.ensures.value ∙ ap (λ v. Some (value_bytes v)) c.in-Ok-Some.field-0-is in
-    many_refused (through (meaning under) (below.held under)) c.in-Ok-Some.value.items c.args.decoded_regions.now (λ e. through_says (meaning under) says tells (below.held under) e) _ _ c.in-Err-parts_in_memory.error is (λ range. range_told (meaning under) says tells (below.held under) _ _ is range) (rw c.deref.ensures.value at c.in-Err-parts_in_memory.ensures.cause)
+    many_refused (through (meaning under) (below.held under)) c.in-Ok-Some.value.items c.args.decoded_regions.now (λ e. through_says (meaning under) says tells (below.held under) (Some c.args.decoded_regions.now) e) _ _ c.in-Err-parts_in_memory.error is (λ range. range_told (meaning under) says tells (below.held under) _ c.args.decoded_regions.now _ is range) (rw c.deref.ensures.value at c.in-Err-parts_in_memory.ensures.cause)
 
 pub returns-in-Ok-None-clause-value : goal.returns-in-Ok-None-clause-value
 returns-in-Ok-None-clause-value g c =
@@ -42,7 +42,8 @@ returns-clause-cause g c =
     let says = g.C.BytesToBytesCodecTraits.says c.args.self.now.codec under in
     let below = g.H.BytesPartialDecoderTraits.seen c.args.self.now.handle in
     let tells = g.H.BytesPartialDecoderTraits.tells c.args.self.now.handle under None in
-    many_told (through (meaning under) (below.held under)) c.args.decoded_regions.now (λ e. through_says (meaning under) says tells (below.held under) e) _ _ c.in-Err.error c.in-Err.ensures.cause
+    many_told (through (meaning under) (below.held under)) c.args.decoded_regions.now (through_says (meaning under) says tells (below.held under) None) (through_says (meaning under) says tells (below.held under) (Some c.args.decoded_regions.now)) _ _ c.in-Err.error
+    (whole_told (meaning under) says tells (below.held under) (Some c.args.decoded_regions.now) c.in-Err.error) c.in-Err.ensures.cause
 
 pub returns-in-Ok-clause-first : goal.returns-in-Ok-clause-first
 returns-in-Ok-clause-first g c = first_ok _ _ _ _ _ _ _ c.in-Ok-Some.ensures.first
