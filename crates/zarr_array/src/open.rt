@@ -7,6 +7,7 @@ ghost use Rattle.zarr_model.specs.Prelude.{fixed, kind_of};
 ghost use Rattle.zarrs_data_type.specs.DataType.{type_of};
 ghost use Rattle.zarr_array_regions.specs.parts.basics.Registries.{names_of};
 ghost use Rattle.zarr_array_regions.specs.parts.Opening.{open_document};
+ghost use Rattle.zarr_array_regions.specs.parts.ChunkChain.{owned};
 ghost use Rattle.zarr_array_regions.specs.parts.Sizes.{have_chunks};
 ghost use Rattle.zarr_chain.specs.Levels.{above};
 ghost use Rattle.zarr_array_regions.specs.stored.Fetch.{HasFill};
@@ -51,14 +52,14 @@ impl OpenArray {
         self.parts.has_chunks()
     }
 
-    /// The chain of the array's codecs with their levels, which is one for all chunks. The array has a chunk. With
+    /// A chain of copies of the array's codecs with their levels. One chain serves all chunks. The array has a chunk. With
     /// [`ChainHandle::from_parts`](crate::ChainHandle::from_parts) it becomes a handle on one chunk in a store.
     ///
     /// # Errors
     /// [`AllocError`] where memory runs out.
     pub fn chain(&self, alloc: Global) -> Result<BasicChain, AllocError>
         requires some { have_chunks (described self.now).grid.grid_shape ≡ true }
-        ensures codecs { IfOk result (IsChainOf (documented self.now)) }
+        ensures codecs { IfOk result (IsChainOf owned (documented self.now)) }
         ensures fill { IfOk result HasFill }
         ensures takes { IfOk result (λ chain. ⟦<BasicArrayToBytes as ArrayToBytesCodecTraits>⟧.takes
             chain.bottom.codec (above chain.bottom)) }

@@ -36,7 +36,7 @@ given_once k p f (x ∷ xs) before value each (suc i) d h e =
     given_once k p f xs (if k == p x then f x else before) value (λ j z l m. each (suc j) z (omega (arith, l)) m) i d (omega (arith, h)) e
 
 -- moving a region keeps its sizes
-count-moved : (region : Region) (offset : List ℕ) → starts_past region offset ≡ true → count (moved_back region offset) ≡ count region
+pub count-moved : (region : Region) (offset : List ℕ) → starts_past region offset ≡ true → count (moved_back region offset) ≡ count region
 count-moved [] [] h = refl
 count-moved [] (o ∷ offset) h = cc
 count-moved (span ∷ region) [] h = cc

@@ -1,5 +1,6 @@
 pub mod Elements
 pub mod Shared
+pub mod SharedBox
 pub mod Joined
 pub mod Grown
 pub mod Given

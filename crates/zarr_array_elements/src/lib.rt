@@ -13,3 +13,4 @@ mod shared;
 
 pub use box_elements::BoxElements;
 pub use overlap::put_overlap;
+pub use shared::SharedBox;

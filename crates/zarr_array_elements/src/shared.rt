@@ -47,6 +47,39 @@ pub(crate) fn part_in(
     }
 }
 
+/// What a box shares with another one of its rank.
+#[derive(Drop)]
+pub struct SharedBox {
+    /// The part that both have.
+    pub subset: ArraySubset,
+    /// The same by its place in the other one.
+    pub within: ArraySubset,
+}
+
+impl SharedBox {
+    ghost use Rattle.zarr_array_elements.specs.SharedBox.{IsSharedBy};
+
+    /// What a box shares with another one of its rank.
+    ///
+    /// # Errors
+    /// [`AllocError`] where memory runs out.
+    pub fn of(
+        alloc: Global,
+        subset: &ArraySubset,
+        other: &ArraySubset,
+    ) -> Result<SharedBox, AllocError>
+        requires { length (region subset.now) ≡ length (region other.now) }
+        ensures { IfOk result (IsSharedBy (region subset.now) (region other.now)) }
+    {
+        let part = shared_part(alloc, subset, other)?;
+        let within = part_in(alloc, &part, other)?;
+        Ok(SharedBox {
+            subset: part,
+            within,
+        })
+    }
+}
+
 /// The elements that bytes over a box have in a part of it.
 pub(crate) fn piece_in(
     alloc: Global,

@@ -1,5 +1,6 @@
 -- The chain of an array's codecs is the one that its document describes, and it serves each chunk.
 use Rattle.std.proofs.Common.{◌≡◌, ℕ, ◌+◌, ◌*◌, ◌^◌, ◌<◌, Bool, true, false, List, [], ◌∷◌, length, map, Option, Some, None, is_some, IsSome, unwrap_or, refl, sym, ap, ◌∙◌, subst}
+use Rattle.std.specs.Borrow.{Bor}
 use Rattle.zarr_model.specs.Prelude.{count, count_of, sizes, Element, null, DataType, kind, kind_of, fixed_size, fill_element, has_long_element, Options, Level, Chain, ArrayCodec, offset_codec, checksum_codec, decode_array_to_bytes, decode_chain, IsChunk}
 use Rattle.zarrs_data_type_elements.specs.FillValue.{fill_bytes}
 use Rattle.zarrs_data_type_names.specs.DataType.{type_of}
@@ -20,7 +21,7 @@ use Rattle.zarr_array_parts.specs.Chain.{array_form, byte_form, chain_form}
 use Rattle.zarr_chain.specs.Chain.{Listing, Opening, first_level, first_fill, chain_of, IsServed, HasCodecs}
 use Rattle.zarr_chain.specs.declared.level.CodecLevel.{CodecLevel}
 use Rattle.zarr_chain.specs.declared.chain.CodecChain.{CodecChain}
-use Rattle.zarr_array_parts.specs.ChunkChain.{chunk_level, DecodesChunks, FillsChunks, HasForms}
+use Rattle.zarr_array_parts.specs.ChunkChain.{chunk_level, DecodesChunks, FillsChunks, CodecViews, owned, lent, HasForms}
 use Rattle.zarr_array_parts.specs.Sizes.{have_chunks}
 use Rattle.zarr_array_parts.specs.Parts.{documented, described}
 use Rattle.zarr_array_parts.specs.declared.parts.ArrayParts.{ArrayParts}
@@ -45,35 +46,66 @@ byte_means codec options value = checksum_codec options.validate_checksums value
 abbrev pub bytes_mean : BasicArrayToBytes → Options → Level → List ℕ → Option (List Element)
 bytes_mean codec options level value = decode_array_to_bytes options (codec_of (plain_of codec)) level value
 
-arrays_mean : (cs : List BasicArrayToArray) → map array_means cs ≡ map array_codec_of (map array_form cs)
-arrays_mean [] = refl
-arrays_mean (c ∷ cs) = ap (λ l. array_means c ∷ l) (arrays_mean cs)
+abbrev pub chain_with : List ArrayCodec → (Level → List ℕ → Option (List Element)) → List (List ℕ → Option (List ℕ)) → Chain
+chain_with array_codecs to_elements byte_codecs = record { array_codecs = array_codecs; to_elements = to_elements; byte_codecs = byte_codecs }
 
 byte_codec_means : (options : Options) (c : BasicBytesToBytes) → byte_means c options ≡ byte_codec_of options (byte_form c)
 byte_codec_means options (Sha256 c) = refl
 
-byte_codecs_mean : (options : Options) (cs : List BasicBytesToBytes) → byte_codecs byte_means options cs ≡ map (byte_codec_of options) (map byte_form cs)
-byte_codecs_mean options [] = refl
-byte_codecs_mean options (c ∷ cs) =
-    ap (λ f. f ∷ byte_codecs byte_means options cs) (byte_codec_means options c) ∙ ap (λ l. byte_codec_of options (byte_form c) ∷ l) (byte_codecs_mean options cs)
+-- a chain with the codecs of an array, its own or lent ones
+module _ {A B C : Type 0} (views : CodecViews A B C) where
+  abbrev pub array_mean : A → ArrayCodec
+  array_mean codec = array_means (views.array codec)
 
-abbrev pub chain_with : List ArrayCodec → (Level → List ℕ → Option (List Element)) → List (List ℕ → Option (List ℕ)) → Chain
-chain_with array_codecs to_elements byte_codecs = record { array_codecs = array_codecs; to_elements = to_elements; byte_codecs = byte_codecs }
+  abbrev pub list_mean : B → Options → Level → List ℕ → Option (List Element)
+  list_mean codec options level value = bytes_mean (views.to_bytes codec) options level value
 
-pub described_chain : (array : ArrayParts) (options : Options) →
-    chain_with (map array_means array.array_codecs.items) (bytes_mean array.to_bytes options) (byte_codecs byte_means options array.byte_codecs.items) ≡ (described array).chain options
-described_chain array options =
-    ap (λ l. chain_with l (bytes_mean array.to_bytes options) (byte_codecs byte_means options array.byte_codecs.items)) (arrays_mean array.array_codecs.items)
-    ∙ ap (λ l. chain_with (map array_codec_of (map array_form array.array_codecs.items)) (bytes_mean array.to_bytes options) l)
-    (byte_codecs_mean options array.byte_codecs.items)
+  abbrev pub value_mean : C → Options → List ℕ → Option (List ℕ)
+  value_mean codec options value = byte_means (views.bytes codec) options value
 
-pub chain_means : (array : ArrayParts) (array_codecs : List BasicArrayToArray) (copy : BasicArrayToBytes) (codecs : List BasicBytesToBytes) → array_codecs ≡ array.array_codecs.items → plain_of copy ≡ plain_of array.to_bytes
-    → codecs ≡ array.byte_codecs.items → (options : Options) → chain_with (map array_means array_codecs) (bytes_mean copy options) (byte_codecs byte_means options codecs) ≡ (described array).chain options
-chain_means array array_codecs copy codecs same_arrays copied same_bytes options =
-    ap (λ cs. chain_with (map array_means cs) (bytes_mean copy options) (byte_codecs byte_means options codecs)) same_arrays
-    ∙ ap (λ p. chain_with (map array_means array.array_codecs.items) (decode_array_to_bytes options (codec_of p)) (byte_codecs byte_means options codecs)) copied
-    ∙ ap (λ cs. chain_with (map array_means array.array_codecs.items) (bytes_mean array.to_bytes options) (byte_codecs byte_means options cs)) same_bytes
-    ∙ described_chain array options
+  arrays_mean : (cs : List A) → map array_mean cs ≡ map array_codec_of (map array_form (map views.array cs))
+  arrays_mean [] = refl
+  arrays_mean (c ∷ cs) = ap (λ l. array_mean c ∷ l) (arrays_mean cs)
+
+  byte_codecs_mean : (options : Options) (cs : List C) → byte_codecs value_mean options cs ≡ map (byte_codec_of options) (map byte_form (map views.bytes cs))
+  byte_codecs_mean options [] = refl
+  byte_codecs_mean options (c ∷ cs) =
+      ap (λ f. f ∷ byte_codecs value_mean options cs) (byte_codec_means options (views.bytes c)) ∙ ap (λ l. byte_codec_of options (byte_form (views.bytes c)) ∷ l) (byte_codecs_mean options cs)
+
+  -- these are the codecs of an array
+  pub record AreCodecsOf (array : ArrayParts) (array_codecs : List A) (to_bytes : B) (codecs : List C) : Type 0 where
+    pub arrays : map views.array array_codecs ≡ array.array_codecs.items
+    pub bottom : plain_of (views.to_bytes to_bytes) ≡ plain_of array.to_bytes
+    pub bytes : map views.bytes codecs ≡ array.byte_codecs.items
+
+  -- they mean the chain that the document describes
+  pub chain_means : (array : ArrayParts) (array_codecs : List A) (to_bytes : B) (codecs : List C) → AreCodecsOf array array_codecs to_bytes codecs → (options : Options) →
+      chain_with (map array_mean array_codecs) (list_mean to_bytes options) (byte_codecs value_mean options codecs) ≡ (described array).chain options
+  chain_means array array_codecs to_bytes codecs are options =
+      ap (λ l. chain_with l (list_mean to_bytes options) (byte_codecs value_mean options codecs)) (arrays_mean array_codecs ∙ ap (λ cs. map array_codec_of (map array_form cs)) are.arrays)
+      ∙ ap (λ p. chain_with (map array_codec_of (map array_form array.array_codecs.items)) (decode_array_to_bytes options (codec_of p)) (byte_codecs value_mean options codecs)) are.bottom
+      ∙ ap (λ l. chain_with (map array_codec_of (map array_form array.array_codecs.items)) (bytes_mean array.to_bytes options) l)
+      (byte_codecs_mean options codecs ∙ ap (λ cs. map (byte_codec_of options) (map byte_form cs)) are.bytes)
+
+-- codecs that are copied, and lent ones
+each_kept : {A : Type 0} (xs : List A) → map (λ x. x) xs ≡ xs
+each_kept [] = refl
+each_kept (x ∷ xs) = ap (λ l. x ∷ l) (each_kept xs)
+
+pub are_copies : (array : ArrayParts) (array_codecs : List BasicArrayToArray) (to_bytes : BasicArrayToBytes) (codecs : List BasicBytesToBytes) → array_codecs ≡ array.array_codecs.items → plain_of to_bytes ≡ plain_of array.to_bytes
+    → codecs ≡ array.byte_codecs.items → AreCodecsOf owned array array_codecs to_bytes codecs
+are_copies array array_codecs to_bytes codecs arrays bottom bytes = record {
+  arrays = each_kept array_codecs ∙ arrays;
+  bottom = bottom;
+  bytes = each_kept codecs ∙ bytes;
+}
+
+abbrev pub codec_lent : Bor ArrayParts → Bor BasicArrayToBytes
+codec_lent array = record { ref_ptr = array.ref_ptr; now = array.now.to_bytes }
+
+pub are_lent : (array : ArrayParts) (array_codecs : List (Bor BasicArrayToArray)) (to_bytes : Bor BasicArrayToBytes) (codecs : List (Bor BasicBytesToBytes)) → map (λ codec. codec.now) array_codecs ≡ array.array_codecs.items
+    → to_bytes.now ≡ array.to_bytes → map (λ codec. codec.now) codecs ≡ array.byte_codecs.items → AreCodecsOf lent array array_codecs to_bytes codecs
+are_lent array array_codecs to_bytes codecs arrays bottom bytes = record { arrays = arrays; bottom = ap plain_of bottom; bytes = bytes }
 
 -- the fill value denotes an element, which is that of the document
 denoted : (o : Option Element) → is_some o ≡ true → o ≡ Some (unwrap_or o null)
@@ -139,33 +171,38 @@ fills_chunks array chain filled = record {
         go true stores = (chunk_short array chunk is_chunk stores).1
         go false stores = absurd (unstored_sized (plain_of array.to_bytes) (type_of array.data_type) stores served unsized)
 
--- array-to-array codecs keep the shape, so the last level has a chunk's number of elements
-same_shape : (unserved : Serving BasicArrayToArray) (levels : List (CodecLevel BasicArrayToArray)) (bottom : Level) → AreLinked array_means unserved levels bottom → (top levels bottom).shape ≡ bottom.shape
-same_shape unserved [] bottom linked = refl
-same_shape unserved (level ∷ levels) bottom linked = ap (λ (l : Level). l.shape) linked.0.below ∙ same_shape unserved levels bottom linked.1
+module _ {A B C : Type 0} (views : CodecViews A B C) where
+  -- array-to-array codecs keep the shape, so the last level has a chunk's number of elements
+  same_shape : (unserved : Serving A) (levels : List (CodecLevel A)) (bottom : Level) → AreLinked (array_mean views) unserved levels bottom → (top levels bottom).shape ≡ bottom.shape
+  same_shape unserved [] bottom linked = refl
+  same_shape unserved (level ∷ levels) bottom linked = ap (λ (l : Level). l.shape) linked.0.below ∙ same_shape unserved levels bottom linked.1
 
--- which is taken
-pub takes_chunks : (unserved : Serving BasicArrayToArray) (unserved_below : Serving BasicArrayToBytes) (array : ArrayParts) (shape : List ℕ) (chain : CodecChain BasicArrayToArray BasicArrayToBytes BasicBytesToBytes)
-    → have_chunks (described array).grid.grid_shape ≡ true → ((chunk : List ℕ) → IsChunk (described array).grid chunk → sizes ((described array).grid.chunk_box chunk) ≡ shape)
-    → IsServed array_means unserved unserved_below chain → (first_level chain).shape ≡ shape → plain_of chain.bottom.codec ≡ plain_of array.to_bytes
-    → takes_by (plain_of chain.bottom.codec) (count_of (above chain.bottom).shape)
-takes_chunks unserved unserved_below array shape chain some all served first copied =
-    taken (plain_of chain.bottom.codec) (count_of (above chain.bottom).shape)
-    (λ stores.
-    let chunk = first_chunk (described array).grid.grid_shape in
-    let is_chunk = is_first_chunk (described array).grid.grid_shape some in
-    subst (λ s. count_of s < 2 ^ 32) (all chunk is_chunk ∙ (sym first ∙ same_shape unserved chain.levels.items (above chain.bottom) served.linked))
-    (chunk_short array chunk is_chunk (ap stores_lengths (sym copied) ∙ stores)).0)
+  -- which is taken
+  pub takes_chunks : (unserved : Serving A) (unserved_below : Serving B) (array : ArrayParts) (shape : List ℕ) (chain : CodecChain A B C)
+      → have_chunks (described array).grid.grid_shape ≡ true → ((chunk : List ℕ) → IsChunk (described array).grid chunk → sizes ((described array).grid.chunk_box chunk) ≡ shape)
+      → IsServed (array_mean views) unserved unserved_below chain → (first_level chain).shape ≡ shape → plain_of (views.to_bytes chain.bottom.codec) ≡ plain_of array.to_bytes
+      → takes_by (plain_of (views.to_bytes chain.bottom.codec)) (count_of (above chain.bottom).shape)
+  takes_chunks unserved unserved_below array shape chain some all served first copied =
+      taken (plain_of (views.to_bytes chain.bottom.codec)) (count_of (above chain.bottom).shape)
+      (λ stores.
+      let chunk = first_chunk (described array).grid.grid_shape in
+      let is_chunk = is_first_chunk (described array).grid.grid_shape some in
+      subst (λ s. count_of s < 2 ^ 32) (all chunk is_chunk ∙ (sym first ∙ same_shape unserved chain.levels.items (above chain.bottom) served.linked))
+      (chunk_short array chunk is_chunk (ap stores_lengths (sym copied) ∙ stores)).0)
 
--- and it has the codecs that the document names
-forms_of : (levels : List (CodecLevel BasicArrayToArray)) → map (λ level. array_form level.codec) levels ≡ map array_form (map (λ level. level.codec) levels)
-forms_of [] = refl
-forms_of (level ∷ levels) = ap (λ l. array_form level.codec ∷ l) (forms_of levels)
+  -- and it has the codecs that the document names
+  forms_of : (levels : List (CodecLevel A)) → map (λ level. array_form (views.array level.codec)) levels ≡ map array_form (map views.array (map (λ level. level.codec) levels))
+  forms_of [] = refl
+  forms_of (level ∷ levels) = ap (λ l. array_form (views.array level.codec) ∷ l) (forms_of levels)
 
-pub has_forms : (array : ArrayParts) (array_codecs : List BasicArrayToArray) (copy : BasicArrayToBytes) (codecs : List BasicBytesToBytes) (chain : CodecChain BasicArrayToArray BasicArrayToBytes BasicBytesToBytes)
-    → array_codecs ≡ array.array_codecs.items → plain_of copy ≡ plain_of array.to_bytes → codecs ≡ array.byte_codecs.items → HasCodecs array_codecs copy codecs chain → HasForms (documented array) chain
-has_forms array array_codecs copy codecs chain same_arrays copied same_bytes held = record {
-  levels = forms_of chain.levels.items ∙ ap (map array_form) (held.levels ∙ same_arrays);
-  bottom = ap plain_of held.bottom ∙ copied;
-  codecs = ap (map byte_form) (held.codecs ∙ same_bytes);
-}
+  byte_forms_of : (codecs : List C) → map (λ codec. byte_form (views.bytes codec)) codecs ≡ map byte_form (map views.bytes codecs)
+  byte_forms_of [] = refl
+  byte_forms_of (codec ∷ codecs) = ap (λ l. byte_form (views.bytes codec) ∷ l) (byte_forms_of codecs)
+
+  pub has_forms : (array : ArrayParts) (array_codecs : List A) (to_bytes : B) (codecs : List C) (chain : CodecChain A B C) → AreCodecsOf views array array_codecs to_bytes codecs →
+      HasCodecs array_codecs to_bytes codecs chain → HasForms views (documented array) chain
+  has_forms array array_codecs to_bytes codecs chain are held = record {
+    levels = forms_of chain.levels.items ∙ ap (λ cs. map array_form (map views.array cs)) held.levels ∙ ap (map array_form) are.arrays;
+    bottom = ap (λ codec. plain_of (views.to_bytes codec)) held.bottom ∙ are.bottom;
+    codecs = byte_forms_of chain.codecs.items ∙ ap (λ cs. map byte_form (map views.bytes cs)) held.codecs ∙ ap (map byte_form) are.bytes;
+  }

@@ -1,7 +1,7 @@
 -- When the lengths of some chunk can't be stored: all chunks of a grid have one shape, so the first one tells.
 use Rattle.std.proofs.Common.{◌≡◌, ℕ, ◌+◌, ◌^◌, ◌<◌, ◌≤◌, nat_le, ◌||◌, Bool, true, false, List, length, None, refl, sym, ap, ◌∙◌, arith}
 use Rattle.std.proofs.lemmas.Bool.{true≢false, le-leb}
-use Rattle.zarr_model.specs.Prelude.{count_of, sizes, Grid, IsChunk, is_too_large}
+use Rattle.zarr_model.specs.Prelude.{count_of, Grid, IsChunk, is_too_large}
 use Rattle.zarr_basics_grids.specs.BasicGrid.{basic_grid, basic_lengths}
 use Rattle.zarr_basics_grids.specs.Limits.{has_large_chunk}
 use Rattle.zarr_basics_grids.specs.declared.basic_grid.BasicGrid.{BasicGrid}

@@ -16,10 +16,9 @@ use Rattle.zarr_codecs_array_to_bytes.specs.Views.{plain_of}
 use Rattle.zarr_codecs_array_to_bytes.specs.declared.codecs.BasicArrayToBytes.{BasicArrayToBytes}
 use Rattle.zarr_basics.specs.kinds.Basic.{basic_offset}
 use Rattle.zarr_basics.specs.kinds.declared.array_to_array.BasicArrayToArray.{BasicArrayToArray}
-use Rattle.zarr_basics.specs.kinds.declared.bytes_to_bytes.BasicBytesToBytes.{BasicBytesToBytes}
 use Rattle.zarr_chain.specs.Building.{chain_unserved, IsReason, FailsToBuild}
 use Rattle.zarr_array_parts.specs.Document.{ArrayToArray, offset, ChainForm}
-use Rattle.zarr_array_parts.specs.Chain.{array_form, chain_form}
+use Rattle.zarr_array_parts.specs.Chain.{array_form}
 use Rattle.zarr_array_parts.specs.OpenError.{open_refusal_of, unserved_as}
 use Rattle.zarr_array_parts.specs.Parts.{StopsBy}
 use Rattle.zarr_array_parts.proofs.OpeningLaws.{fails_after}
@@ -85,14 +84,15 @@ offset_serves bytes_type e = cc
 offset_serves (optional_type inner) e = cc
 
 -- so no codec of a chain refuses its level
-pub none_refuses : (codecs : List BasicArrayToArray) (codec : BasicArrayToBytes) (level : Level) (fill : List ℕ) → bottom_type (map array_form codecs) level.data_type ≡ Ok level.data_type
-    → unserved_by (plain_of codec) level.data_type ≡ None
-    → chain_unserved (λ (c : BasicArrayToArray). offset_codec (basic_offset c)) (λ c _ data_type _. offset_unserved data_type) (λ c _ fill. bytes_less (opposite (basic_offset c)) fill)
-    (λ (c : BasicArrayToBytes) _ data_type _. plain_unserved (plain_of c) data_type) codecs codec level fill ≡ None
-none_refuses [] codec level fill arrays serves = serves
-none_refuses (first ∷ codecs) codec level fill arrays serves =
-    let ends = test_passed (is_whole_number level.data_type) level.data_type level.data_type unsupported_data_type (bottom_type (map array_form codecs)) arrays in
-    rw (offset_serves level.data_type ends.0) (none_refuses codecs codec ((offset_codec (basic_offset first)).level_below level) (bytes_less (opposite (basic_offset first)) fill) ends.1 serves)
+pub none_refuses : {A B : Type 0} (array : A → BasicArrayToArray) (to_bytes : B → BasicArrayToBytes) (codecs : List A) (codec : B) (level : Level) (fill : List ℕ)
+    → bottom_type (map array_form (map array codecs)) level.data_type ≡ Ok level.data_type → unserved_by (plain_of (to_bytes codec)) level.data_type ≡ None
+    → chain_unserved (λ (c : A). offset_codec (basic_offset (array c))) (λ c _ data_type _. offset_unserved data_type) (λ c _ fill. bytes_less (opposite (basic_offset (array c))) fill)
+    (λ (c : B) _ data_type _. plain_unserved (plain_of (to_bytes c)) data_type) codecs codec level fill ≡ None
+none_refuses array to_bytes [] codec level fill arrays serves = serves
+none_refuses array to_bytes (first ∷ codecs) codec level fill arrays serves =
+    let ends = test_passed (is_whole_number level.data_type) level.data_type level.data_type unsupported_data_type (bottom_type (map array_form (map array codecs))) arrays in
+    rw (offset_serves level.data_type ends.0)
+    (none_refuses array to_bytes codecs codec ((offset_codec (basic_offset (array first))).level_below level) (bytes_less (opposite (basic_offset (array first))) fill) ends.1 serves)
 
 -- the type below an offset, and why there is none
 pub below_made : (number : ℤ) (type : DataType) (t : types.DataType) → RefusesBy {T = types.DataType} (offset_unserved (Some type)) (Ok t)
@@ -143,13 +143,11 @@ only_memory : (reason : Option Unserved) (e : CodecError) → FailsToBuild reaso
 only_memory reason e (inl memory) none = memory
 only_memory reason e (inr why) none = absurd (subst (λ r. IsReason r e) none why)
 
-pub not_built : (array_codecs codecs : List BasicArrayToArray) (to_bytes copy : BasicArrayToBytes) (byte_codecs : List BasicBytesToBytes) (level : Level) (fill : List ℕ) (e : CodecError)
-    → is_served (chain_form array_codecs to_bytes byte_codecs) level.data_type ≡ true → codecs ≡ array_codecs → plain_of copy ≡ plain_of to_bytes
-    → FailsToBuild (chain_unserved (λ (c : BasicArrayToArray). offset_codec (basic_offset c)) (λ c _ data_type _. offset_unserved data_type) (λ c _ fill. bytes_less (opposite (basic_offset c)) fill)
-    (λ (c : BasicArrayToBytes) _ data_type _. plain_unserved (plain_of c) data_type) codecs copy level fill) e → e ≡ codec.OutOfMemory
-not_built array_codecs codecs to_bytes copy byte_codecs level fill e served same copied fails =
-    let serves = is_served-serves (chain_form array_codecs to_bytes byte_codecs) level.data_type served in
+pub not_built : {A B : Type 0} (array : A → BasicArrayToArray) (to_bytes : B → BasicArrayToBytes) (form : ChainForm) (codecs : List A) (bottom : B) (level : Level) (fill : List ℕ) (e : CodecError)
+    → is_served form level.data_type ≡ true → map array_form (map array codecs) ≡ form.array_codecs → plain_of (to_bytes bottom) ≡ form.to_bytes
+    → FailsToBuild (chain_unserved (λ (c : A). offset_codec (basic_offset (array c))) (λ c _ data_type _. offset_unserved data_type) (λ c _ fill. bytes_less (opposite (basic_offset (array c))) fill)
+    (λ (c : B) _ data_type _. plain_unserved (plain_of (to_bytes c)) data_type) codecs bottom level fill) e → e ≡ codec.OutOfMemory
+not_built array to_bytes form codecs bottom level fill e served arrays same fails =
+    let serves = is_served-serves form level.data_type served in
     only_memory _ e fails
-    (ap (λ cs. chain_unserved (λ (c : BasicArrayToArray). offset_codec (basic_offset c)) (λ c _ data_type _. offset_unserved data_type) (λ c _ fill. bytes_less (opposite (basic_offset c)) fill)
-    (λ (c : BasicArrayToBytes) _ data_type _. plain_unserved (plain_of c) data_type) cs copy level fill) same
-    ∙ none_refuses array_codecs copy level fill serves.arrays (ap (λ p. unserved_by p level.data_type) copied ∙ serves.bytes))
+    (none_refuses array to_bytes codecs bottom level fill (ap (λ l. bottom_type l level.data_type) arrays ∙ serves.arrays) (ap (λ p. unserved_by p level.data_type) same ∙ serves.bytes))

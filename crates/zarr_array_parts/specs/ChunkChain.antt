@@ -1,5 +1,6 @@
 -- The chain of an array's chunks.
 use Rattle.std.specs.Prelude.{◌≡◌, ℕ, false, List, map, Some}
+use Rattle.std.specs.Borrow.{Bor}
 use Rattle.zarr_model.specs.Prelude.{sizes, count, Level, ArrayCodec, Options, IsChunk, Description, kind, fill_element, has_long_element, layout}
 use Rattle.zarrs_codec_bytes.specs.Filling.{filled_with}
 use Rattle.zarr_basics.specs.kinds.declared.array_to_array.BasicArrayToArray.{BasicArrayToArray}
@@ -37,9 +38,29 @@ pub record FillsChunks {A B C : Type 0} (description : Description) (chain : Cod
       → has_long_element (filled_with (kind description) (count (description.grid.chunk_box chunk))
       (first_fill chain)) ≡ false
 
+-- which of this project's codecs each codec of a chain is
+pub record CodecViews (A B C : Type 0) : Type 0 where
+  pub array : A → BasicArrayToArray
+  pub to_bytes : B → BasicArrayToBytes
+  pub bytes : C → BasicBytesToBytes
+
+-- of a chain that owns its codecs
+abbrev pub owned : CodecViews BasicArrayToArray BasicArrayToBytes BasicBytesToBytes
+owned = record { array = λ codec. codec; to_bytes = λ codec. codec; bytes = λ codec. codec }
+
+-- of a chain that its codecs are lent to
+abbrev pub lent : CodecViews (Bor BasicArrayToArray) (Bor BasicArrayToBytes) (Bor BasicBytesToBytes)
+lent = record {
+  array = λ codec. codec.now;
+  to_bytes = λ codec. codec.now;
+  bytes = λ codec. codec.now;
+}
+
 -- a chain has the codecs that a document names, in its order
-pub record HasForms (document : ArrayDocument)
-    (chain : CodecChain BasicArrayToArray BasicArrayToBytes BasicBytesToBytes) : Type 0 where
-  pub levels : map (λ level. array_form level.codec) chain.levels.items ≡ document.array_codecs
-  pub bottom : plain_of chain.bottom.codec ≡ document.to_bytes
-  pub codecs : map byte_form chain.codecs.items ≡ document.byte_codecs
+pub record HasForms {A B C : Type 0} (views : CodecViews A B C) (document : ArrayDocument)
+    (chain : CodecChain A B C) : Type 0 where
+  pub levels : map (λ level. array_form (views.array level.codec)) chain.levels.items
+      ≡ document.array_codecs
+  pub bottom : plain_of (views.to_bytes chain.bottom.codec) ≡ document.to_bytes
+  pub codecs : map (λ codec. byte_form (views.bytes codec)) chain.codecs.items
+      ≡ document.byte_codecs

@@ -1,10 +1,10 @@
 //! The chain of an array's chunks.
 
-ghost use Rattle.std.specs.Prelude.{◌≡◌, true, IfOk};
+ghost use Rattle.std.specs.Prelude.{◌≡◌, true, map, IfOk};
 ghost use Rattle.zarrs_codec_error.specs.declared.error.CodecError.TheVariants as codec;
 ghost use Rattle.zarr_chain.specs.Chain.{IsServed};
 ghost use Rattle.zarr_chain.specs.Levels.{above};
-ghost use Rattle.zarr_array_parts.specs.ChunkChain.{HasForms, DecodesChunks, FillsChunks};
+ghost use Rattle.zarr_array_parts.specs.ChunkChain.{owned, lent, HasForms, DecodesChunks, FillsChunks};
 ghost use Rattle.zarr_array_parts.specs.Parts.{documented, described};
 ghost use Rattle.zarr_array_parts.specs.Sizes.{have_chunks};
 
@@ -21,7 +21,14 @@ use zarrs_codec_traits::{
 /// A chain of this project's codecs.
 pub type BasicChain = CodecChain<BasicArrayToArray, BasicArrayToBytes, BasicBytesToBytes>;
 
-// The same items.
+/// A chain of this project's codecs that are lent to it.
+pub type LentChain<'a> = CodecChain<
+    &'a BasicArrayToArray,
+    &'a BasicArrayToBytes,
+    &'a BasicBytesToBytes,
+>;
+
+// Copies of items, in order.
 fn copies<T: Copy>(alloc: Global, items: &[T]) -> Result<Vec<T>, AllocError>
     ensures { IfOk result (λ v. v.items ≡ items.now) }
 {
@@ -30,6 +37,17 @@ fn copies<T: Copy>(alloc: Global, items: &[T]) -> Result<Vec<T>, AllocError>
         same.push(*item)?;
     }
     Ok(same)
+}
+
+// References to items, in order.
+fn references<'a, T>(alloc: Global, items: &'a [T]) -> Result<Vec<&'a T>, AllocError>
+    ensures { IfOk result (λ v. map (λ item. item.now) v.items ≡ items.now) }
+{
+    let mut references = Vec::with_capacity(alloc, items.len())?;
+    for item in items {
+        references.push(item)?;
+    }
+    Ok(references)
 }
 
 // The only error of building a chain whose codecs serve their levels.
@@ -47,7 +65,7 @@ impl ArrayParts {
         has_chunks(&self.grid)
     }
 
-    /// The chain of the array's codecs with their levels, which is one for all chunks.
+    /// A chain of copies of the array's codecs with their levels. One chain serves all chunks.
     ///
     /// # Errors
     /// [`AllocError`] where memory runs out.
@@ -65,7 +83,7 @@ impl ArrayParts {
             ⟦<BasicBytesToBytes as BytesToBytesCodecTraits>⟧.meaning
             (described self.now)) }
         ensures fill { IfOk result (FillsChunks (described self.now)) }
-        ensures forms { IfOk result (HasForms (documented self.now)) }
+        ensures forms { IfOk result (HasForms owned (documented self.now)) }
     {
         let array_codecs = copies(alloc, &self.array_codecs)?;
         let to_bytes = self.to_bytes.try_clone(alloc)?;
@@ -74,6 +92,44 @@ impl ArrayParts {
             alloc,
             array_codecs,
             to_bytes,
+            byte_codecs,
+            self.grid.chunk_lengths(),
+            &self.data_type,
+            &self.fill,
+        );
+        match built {
+            Ok(chain) => Ok(chain),
+            Err(error) => Err(no_memory(error)),
+        }
+    }
+
+    /// A chain of the array's own codecs with their levels. One chain serves all chunks.
+    ///
+    /// # Errors
+    /// [`AllocError`] where memory runs out.
+    pub fn lent_chain<'a>(&'a self, alloc: Global) -> Result<LentChain<'a>, AllocError>
+        requires some { have_chunks (described self.now).grid.grid_shape ≡ true }
+        ensures served { IfOk result (IsServed
+            ⟦<&'a BasicArrayToArray as ArrayToArrayCodecTraits>⟧.meaning
+            ⟦<&'a BasicArrayToArray as ArrayCodecTraits>⟧.unserved
+            ⟦<&'a BasicArrayToBytes as ArrayCodecTraits>⟧.unserved) }
+        ensures takes { IfOk result (λ chain.
+            ⟦<&'a BasicArrayToBytes as ArrayToBytesCodecTraits>⟧.takes
+            chain.bottom.codec (above chain.bottom)) }
+        ensures chunks { IfOk result (DecodesChunks
+            ⟦<&'a BasicArrayToArray as ArrayToArrayCodecTraits>⟧.meaning
+            ⟦<&'a BasicArrayToBytes as ArrayToBytesCodecTraits>⟧.meaning
+            ⟦<&'a BasicBytesToBytes as BytesToBytesCodecTraits>⟧.meaning
+            (described self.now)) }
+        ensures fill { IfOk result (FillsChunks (described self.now)) }
+        ensures forms { IfOk result (HasForms lent (documented self.now)) }
+    {
+        let array_codecs = references(alloc, &self.array_codecs)?;
+        let byte_codecs = references(alloc, &self.byte_codecs)?;
+        let built = CodecChain::build(
+            alloc,
+            array_codecs,
+            &self.to_bytes,
             byte_codecs,
             self.grid.chunk_lengths(),
             &self.data_type,

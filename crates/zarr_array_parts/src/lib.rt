@@ -10,7 +10,7 @@ mod open_error;
 pub mod parts;
 mod served;
 
-pub use chain::BasicChain;
+pub use chain::{BasicChain, LentChain};
 pub use open_error::OpenError;
 pub use parts::ArrayParts;
 pub use zarr_basics::{

@@ -16,8 +16,9 @@ use Rattle.zarr_chain_stored.specs.Put as put
 use Rattle.zarr_array_parts.specs.kinds.codecs.Sha256.{says_digest, sha256_says}
 use Rattle.zarr_codecs_array_to_bytes.specs.Plain.{Plain, plain_bytes, plain_vlen, plain_optional, held_type, says_by, says_optional}
 use Rattle.zarr_codecs_array_to_bytes.specs.Views.{plain_of}
-use Rattle.zarr_array_parts.specs.kinds.declared.bytes_to_bytes.BasicBytesToBytes.{BasicBytesToBytes}
-use Rattle.zarr_array_regions.specs.Codecs.{Codecs, array_meaning, list_meaning, list_says, bytes_meaning, bytes_says, ServesChunks}
+use Rattle.zarr_array_parts.specs.ChunkChain.{CodecViews}
+use Rattle.zarr_chain.specs.declared.chain.CodecChain.{CodecChain}
+use Rattle.zarr_array_regions.specs.Codecs.{array_meaning, list_meaning, list_says, bytes_meaning, bytes_says, ServesChunks}
 use Rattle.zarr_array_regions.specs.Chunk.{storage_kind, is_dropped, decode_at, PutsElements, MayPutElements, chunk_kind, FailsToFetch}
 use Rattle.zarr_array_regions.specs.Fetch.{chunk_list, MeanChunk}
 use Rattle.zarr_array_regions.specs.declared.error.SessionErrorKind.{SessionErrorKind}
@@ -59,14 +60,14 @@ module _ (holds : List ℕ → SessionErrorKind → Type 0) where
   by_kind key (codec.ArraySubsetError error) storage memory other = other
 
 -- a chain that serves the chunks decodes their values as the array's does
-module _ (array : Description) (chain : Codecs) (serves : ServesChunks array chain) (options : Options) (chunk : List ℕ) (is_chunk : IsChunk array.grid chunk) where
+module _ {A B C : Type 0} (views : CodecViews A B C) (array : Description) (chain : CodecChain A B C) (serves : ServesChunks views array chain) (options : Options) (chunk : List ℕ) (is_chunk : IsChunk array.grid chunk) where
   abbrev chain_decodes : put.Decoding
-  chain_decodes = decoded array_meaning list_meaning bytes_meaning chain
+  chain_decodes = decoded (array_meaning views) (list_meaning views) (bytes_meaning views) chain
 
   pub decodes_as : (under : Options) (value : List ℕ) → chain_decodes under value ≡ decode_at array chunk under value
   decodes_as under value = serves.chunks.values under chunk value is_chunk
 
-  pub content_as : (value : Option (List ℕ)) → stored.chunk_content array_meaning list_meaning bytes_meaning chain options value ≡ box_content (layout array options) (array.grid.chunk_box chunk) value
+  pub content_as : (value : Option (List ℕ)) → stored.chunk_content (array_meaning views) (list_meaning views) (bytes_meaning views) chain options value ≡ box_content (layout array options) (array.grid.chunk_box chunk) value
   content_as None = ap (λ (l : Level). Some (replicate (count_of l.shape) l.fill)) (serves.chunks.level chunk is_chunk)
   content_as (Some value) = decodes_as options value
 
@@ -109,10 +110,10 @@ module _ (array : Description) (chain : Codecs) (serves : ServesChunks array cha
   said None earlier error none says = none says
   said (Some before) earlier error none says = digest_say (nat_le 32 (length before)) before error says
 
-  bytes_say : (codecs : List BasicBytesToBytes) (value : List ℕ) (error : StorageError) → values.bytes_says bytes_meaning bytes_says options codecs value (codec.StorageError error) → ⊥
+  bytes_say : (codecs : List C) (value : List ℕ) (error : StorageError) → values.bytes_says (bytes_meaning views) (bytes_says views) options codecs value (codec.StorageError error) → ⊥
   bytes_say [] value error says = says
   bytes_say (c ∷ codecs) value error says =
-      said (decode_bytes (byte_codecs bytes_meaning options codecs) value) (values.bytes_says bytes_meaning bytes_says options codecs value) error (bytes_say codecs value error) says
+      said (decode_bytes (byte_codecs (bytes_meaning views) options codecs) value) (values.bytes_says (bytes_meaning views) (bytes_says views) options codecs value) error (bytes_say codecs value error) says
 
   -- nor does an array-to-bytes codec
   plain_say : (plain : Plain) (number : ℕ) (type : DataType) (value : List ℕ) (error : StorageError) → says_by plain number type value (codec.StorageError error) → ⊥
@@ -128,33 +129,33 @@ module _ (array : Description) (chain : Codecs) (serves : ServesChunks array cha
       go rest true true says = rest says
 
   list_say : (before : Option (List ℕ)) (earlier : CodecError → Type 0) (error : StorageError) → (earlier (codec.StorageError error) → ⊥) →
-      values.said_at before earlier (list_says chain.bottom.codec options (above chain.bottom)) (codec.StorageError error) → ⊥
+      values.said_at before earlier ((list_says views) chain.bottom.codec options (above chain.bottom)) (codec.StorageError error) → ⊥
   list_say None earlier error none says = none says
-  list_say (Some before) earlier error none says = plain_say (plain_of chain.bottom.codec) (count_of (above chain.bottom).shape) (above chain.bottom).data_type before error says
+  list_say (Some before) earlier error none says = plain_say (plain_of (views.to_bytes chain.bottom.codec)) (count_of (above chain.bottom).shape) (above chain.bottom).data_type before error says
 
-  pub chunk_say : (value : Option (List ℕ)) (error : StorageError) → stored.chunk_says list_says bytes_meaning bytes_says chain options value (codec.StorageError error) → ⊥
+  pub chunk_say : (value : Option (List ℕ)) (error : StorageError) → stored.chunk_says (list_says views) (bytes_meaning views) (bytes_says views) chain options value (codec.StorageError error) → ⊥
   chunk_say None error says = says
   chunk_say (Some value) error says =
-      list_say (decode_bytes (byte_codecs bytes_meaning options chain.codecs.items) value) (values.bytes_says bytes_meaning bytes_says options chain.codecs.items value) error
+      list_say (decode_bytes (byte_codecs (bytes_meaning views) options chain.codecs.items) value) (values.bytes_says (bytes_meaning views) (bytes_says views) options chain.codecs.items value) error
       (bytes_say chain.codecs.items value error) says
 
   damaged : (key : List ℕ) (before now : Shown) (content : Option (List ℕ)) (error : CodecError) → box_content (layout array options) (array.grid.chunk_box chunk) content ≡ None →
-      stored.chunk_says list_says bytes_meaning bytes_says chain options content error →
+      stored.chunk_says (list_says views) (bytes_meaning views) (bytes_says views) chain options content error →
       FailsToFetch (box_content (layout array options) (array.grid.chunk_box chunk) content) key before now (chunk_kind key error)
   damaged key before now content error none says =
       by_kind (λ k kind. FailsToFetch (box_content (layout array options) (array.grid.chunk_box chunk) content) k before now kind) key error
-      (λ fault is. absurd (chunk_say content fault (subst (stored.chunk_says list_says bytes_meaning bytes_says chain options content) is says))) tt (refl, none)
+      (λ fault is. absurd (chunk_say content fault (subst (stored.chunk_says (list_says views) (bytes_meaning views) (bytes_says views) chain options content) is says))) tt (refl, none)
 
   -- why a chunk was not fetched
   fetch_fails : (key : List ℕ) (before now : Shown) (content : Option (List ℕ)) (error : CodecError) →
-      stored.ChunkFails array_meaning list_meaning bytes_meaning list_says bytes_says chain options content before.faults now.faults error →
+      stored.ChunkFails (array_meaning views) (list_meaning views) (bytes_meaning views) (list_says views) (bytes_says views) chain options content before.faults now.faults error →
       FailsToFetch (box_content (layout array options) (array.grid.chunk_box chunk) content) key before now (chunk_kind key error)
   fetch_fails key before now content error fails = ⊎_elim
       (λ (handle : IsHandleError before.faults now.faults error). ⊎_elim
       (λ (memory : error ≡ codec.OutOfMemory). subst fails_by (sym memory) tt)
       (λ (fault : (error ≡ codec.StorageError storage.Failed) × Rose before.faults now.faults). subst fails_by (sym fault.0) fault.1)
       handle)
-      (λ (none : (stored.chunk_content array_meaning list_meaning bytes_meaning chain options content ≡ None) × stored.chunk_says list_says bytes_meaning bytes_says chain options content error).
+      (λ (none : (stored.chunk_content (array_meaning views) (list_meaning views) (bytes_meaning views) chain options content ≡ None) × stored.chunk_says (list_says views) (bytes_meaning views) (bytes_says views) chain options content error).
       damaged key before now content error (sym (content_as content) ∙ none.0) none.1)
       fails
     where
@@ -162,7 +163,7 @@ module _ (array : Description) (chain : Codecs) (serves : ServesChunks array cha
       fails_by e = FailsToFetch (box_content (layout array options) (array.grid.chunk_box chunk) content) key before now (chunk_kind key e)
 
   pub not_fetched : (key : List ℕ) (before now : Shown) (error : CodecError) → key ≡ array.key chunk →
-      stored.ChunkFails array_meaning list_meaning bytes_meaning list_says bytes_says chain options (before.content key) before.faults now.faults error →
+      stored.ChunkFails (array_meaning views) (list_meaning views) (bytes_meaning views) (list_says views) (bytes_says views) chain options (before.content key) before.faults now.faults error →
       FailsToFetch (chunk_content (layout array options) before.content chunk) (array.key chunk) before now (chunk_kind key error)
   not_fetched key before now error its_key fails =
       subst (λ k. FailsToFetch (box_content (layout array options) (array.grid.chunk_box chunk) (before.content k)) k before now (chunk_kind key error)) its_key
@@ -174,7 +175,7 @@ some_list (Some list) h = refl
 some_list None h = cc
 
 -- the elements of a chunk
-module _ (array : ArrayParts) (chain : Codecs) (serves : ServesChunks (described array) chain) (options : Options) (chunk : List ℕ) (is_chunk : IsChunk (described array).grid chunk) where
+module _ {A B C : Type 0} (views : CodecViews A B C) (array : ArrayParts) (chain : CodecChain A B C) (serves : ServesChunks views (described array) chain) (options : Options) (chunk : List ℕ) (is_chunk : IsChunk (described array).grid chunk) where
   abbrev box : Region
   box = (described array).grid.chunk_box chunk
 
@@ -185,11 +186,11 @@ module _ (array : ArrayParts) (chain : Codecs) (serves : ServesChunks (described
   given_mean bytes content gives short = record { means = subst IsSome (at_level bytes) gives.there; short = short }
 
   pub fetched_elements : (bytes : ArrayBytes) (key : List ℕ) (before : Shown) → key ≡ (described array).key chunk →
-      Gives (list_at (first_level chain) bytes) (stored.chunk_content array_meaning list_meaning bytes_meaning chain options (before.content key)) →
+      Gives (list_at (first_level chain) bytes) (stored.chunk_content (array_meaning views) (list_meaning views) (bytes_meaning views) chain options (before.content key)) →
       chunk_content (layout (described array) options) before.content chunk ≡ Some (chunk_list array chunk bytes)
   fetched_elements bytes key before its_key gives =
       ap (λ k. box_content (layout (described array) options) box (before.content k)) (sym its_key)
-      ∙ (sym (content_as (described array) chain serves options chunk is_chunk (before.content key))
+      ∙ (sym (content_as views (described array) chain serves options chunk is_chunk (before.content key))
       ∙ (sym gives.same ∙ (at_level bytes ∙ some_list (meaning (kind (described array)) (count box) bytes) (subst IsSome (at_level bytes) gives.there))))
 
   -- and bytes that mean as many

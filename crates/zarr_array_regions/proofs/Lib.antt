@@ -9,6 +9,8 @@ pub mod MetLaws
 pub mod ChunkLaws
 pub mod ToldLaws
 pub mod FetchSteps
+pub mod SharedLaws
+pub mod SharedSteps
 pub mod ReadLaws
 pub mod DecodeLaws
 pub mod ReadSteps

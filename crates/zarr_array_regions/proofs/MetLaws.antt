@@ -2,6 +2,7 @@
 use Rattle.std.proofs.Common.{◌≡◌, ℕ, zero, suc, ◌+◌, ◌<◌, true, List, [], ◌∷◌, length, get_or, slice_get, Some, nat_le, refl, sym, ap, ◌∙◌, subst, arith}
 use Rattle.std.proofs.lemmas.Bool.{and_parts}
 use Rattle.zarr_model.specs.Prelude.{Region, count, tuples, tuple_at, ends_within, Grid, IsChunk, chunks_meeting, CoversShape}
+use Rattle.zarr_model.specs.Region.{share_tuple}
 use Rattle.zarr_model.proofs.RegionLaws.{length-tuples, get_or-tuples}
 use Rattle.zarr_model.proofs.FailureLaws.{meeting_is}
 use Rattle.zarrs_array_subset.specs.ArraySubset.{region as region_of_subset}
@@ -67,3 +68,6 @@ module _ (chunks : RegionChunks) (are : AreMet chunks) where
     pub its_rank : length (region_of_subset chunks.subset.now) ≡ length ((described chunks.array.now).grid.chunk_box (chunk_at chunks number))
     its_rank = met_rank (described chunks.array.now).shape (described chunks.array.now).grid (region_of_subset chunks.subset.now) (chunk_at chunks number)
         (described_covers chunks.array.now) are.inside met_chunk
+
+    pub met_shares : share_tuple ((described chunks.array.now).grid.chunk_box (chunk_at chunks number)) (region_of_subset chunks.subset.now) ≡ true
+    met_shares = (meeting_is (described chunks.array.now).grid (region_of_subset chunks.subset.now) number (chunk_at chunks number) met_here).1

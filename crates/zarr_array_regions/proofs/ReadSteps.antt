@@ -13,6 +13,8 @@ use Rattle.zarr_array_regions.specs.declared.error.SessionErrorKind.TheVariants.
 use Rattle.zarr_array_regions.specs.Chunk.{FailsToFetch}
 use Rattle.zarr_array_regions.specs.CommandError.{before_chunks}
 use Rattle.zarr_array_regions.specs.Fetch.{HasAsked, chunk_list, HasElements, NotFetched}
+use Rattle.zarr_array_regions.specs.Shared.{HoldsShared, IsHeldShared}
+use Rattle.zarr_array_regions.specs.declared.shared.FetchedChunk.{FetchedChunk}
 use Rattle.zarr_array_regions.specs.Read.{HasReadCause, FailsToRead, HasReadChunk, HasReadList, HasReadRegion, NotReadRegion}
 use Rattle.zarr_array_regions.proofs.ReadLaws.{HasRead, read-start, read-step, read-end, chunk_copied}
 use Rattle.zarr_array_regions.proofs.DecodeLaws.{decode-step, decode-all}
@@ -73,6 +75,16 @@ module _ (array : ArrayParts) (options : Options) (region : Region) where
         copied = λ plain has. chunk_copied (layout (described array) options) before.content region chunk (chunk_list array chunk bytes) old new plain held.elements moved has;
         as_long = moved.as_long;
       }
+
+  -- what a chunk that was fetched shares with the region was put into the region's elements
+  pub shared_read : (chunk : List ℕ) (held : FetchedChunk) (old new : List Element) (before now : Shown) → HasAsked before now → IsHeldShared array options region chunk before held →
+      ((list : List Element) → HoldsShared array region chunk list held → Copied region ((described array).grid.chunk_box chunk) list old new) → HasReadChunk array options region chunk old new before now
+  shared_read chunk held old new before now asked is put = record {
+    asked = asked;
+    decodes = subst IsSome (sym is.content) refl;
+    copied = λ plain has. chunk_copied (layout (described array) options) before.content region chunk is.list old new plain is.content (put is.list is.holds) has;
+    as_long = (put is.list is.holds).as_long;
+  }
 
   pub none_read : (list : List Element) (store : Shown) → length list ≡ count region → store.asks ≤ 2 ^ 64 - 1 → HasReadSome array options region 0 list store store
   none_read list store long fits = record {

@@ -4,7 +4,7 @@ use Rattle.std.specs.List.{list_all}
 use Rattle.std.proofs.lemmas.Bool.{and_parts}
 use Rattle.std.proofs.lemmas.Slice.Eq.{bytes_eq-Decides}
 use Rattle.std.proofs.lemmas.List.{length-map, get_or-map, get_or_default, same_lists}
-use Rattle.zarr_model.specs.Prelude.{Region, count, sizes, contains, tuples, place, tuple_at, Element, of_bytes, null, some, same_element, Array, elements_in, written, Options, Content, Layout, box_content, chunk_content, Shown, Description, layout, ChunkHas, Rose}
+use Rattle.zarr_model.specs.Prelude.{Region, count, contains, tuples, place, tuple_at, Element, of_bytes, null, some, same_element, Array, elements_in, written, Options, Content, Layout, box_content, chunk_content, Shown, Description, layout, ChunkHas, Rose}
 use Rattle.zarr_model.proofs.RegionLaws.{length-tuples, get_or-tuples}
 use Rattle.zarrs_storage.specs.Store.{IsFault, IsPlain}
 use Rattle.zarrs_storage.specs.declared.store.StorageError.{StorageError}

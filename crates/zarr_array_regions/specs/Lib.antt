@@ -7,6 +7,7 @@ pub mod Told
 pub mod RegionChunks
 pub mod Fetch
 pub mod HeldChunk
+pub mod Shared
 pub mod Store
 pub mod Read
 pub mod Write

@@ -4,6 +4,7 @@ use Rattle.zarr_model.specs.Prelude.{count, tuples, tuple_at, ends_within, Descr
 use Rattle.zarrs_array_subset.specs.ArraySubset.{region}
 use Rattle.zarrs_array_subset.specs.declared.array_subset.ArraySubset.{ArraySubset}
 use Rattle.zarr_array_parts.specs.Parts.{documented, described}
+use Rattle.zarr_array_parts.specs.ChunkChain.{lent}
 use Rattle.zarr_array_parts.specs.declared.parts.ArrayParts.{ArrayParts}
 use Rattle.zarr_array_regions.specs.declared.region_chunks.RegionChunks.{RegionChunks}
 use Rattle.zarr_array_regions.specs.declared.region_chunks.ChunkPlace.{ChunkPlace}
@@ -20,7 +21,7 @@ pub record AreMet (met : RegionChunks) : Type 0 where
   pub listed : tuples (region met.chunks)
       ≡ chunks_meeting (described met.array.now).grid (region met.subset.now)
   pub few : count (region met.chunks) < 2 ^ 64
-  pub codecs : IsChainOf (documented met.array.now) met.chain
+  pub codecs : IsChainOf lent (documented met.array.now) met.chain
 
 -- the chunks that a region of an array meets, if it meets one
 pub record AreMetBy (array : ArrayParts) (subset : ArraySubset) (met : RegionChunks) : Type 0 where

@@ -31,9 +31,9 @@ pub(crate) struct HeldChunk {
 impl RegionChunks<'_> {
     ghost use Rattle.zarr_array_regions.specs.HeldChunk.{IsHeld};
 
-    // The elements of the chunk of a number, under its key: those of its value, or the fill value where the key is
-    // absent. One reading call.
-    fn fetch_elements<S: Store>(
+    /// The elements of the chunk of a number, under its key: those of its value, or the fill value where the key is
+    /// absent. One reading call.
+    pub(crate) fn fetch_elements<S: Store>(
         &self,
         alloc: Global,
         number: u64,

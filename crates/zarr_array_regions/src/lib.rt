@@ -7,6 +7,7 @@ mod error;
 mod place;
 mod read;
 mod region_chunks;
+mod shared;
 mod write;
 
 pub use chain::codec_chain;

@@ -8,12 +8,12 @@ ghost use Rattle.zarrs_codec_array_bytes.specs.Raw.{raw_of};
 ghost use Rattle.zarrs_codec_traits.specs.Views.{options_of};
 ghost use Rattle.zarr_array_elements.specs.BoxElements.{list_held};
 ghost use Rattle.zarr_array_parts.specs.Parts.{described};
-ghost use Rattle.zarr_array_regions.specs.RegionChunks.{chunk_at, AreMet};
+ghost use Rattle.zarr_array_regions.specs.RegionChunks.{chunk_at, AreMet, IsPlaceOf};
 ghost use Rattle.zarr_array_regions.specs.Fetch.{NotFetched};
 ghost use Rattle.zarr_array_regions.specs.Read.{HoldsRegion, HasReadChunk, HasReadList, HasReadRegion, NotReadRegion};
 
-use crate::error::{CommandError, SessionErrorKind};
-use crate::region_chunks::RegionChunks;
+use crate::error::{CommandError, SessionErrorKind, chunk_error};
+use crate::region_chunks::{ChunkPlace, RegionChunks};
 use std::alloc::Global;
 use zarr_array_elements::BoxElements;
 use zarr_array_parts::ArrayParts;
@@ -23,7 +23,65 @@ use zarrs_codec_options::CodecOptions;
 use zarrs_storage::store::Store;
 
 impl RegionChunks<'_> {
-    // Takes the elements that the chunk of a number shares with the region.
+    // Takes the elements of the chunk of a number, which stands at this place.
+    fn read_whole<S: Store>(
+        &self,
+        alloc: Global,
+        number: u64,
+        place: ChunkPlace,
+        elements: &mut BoxElements<'_>,
+        store: &mut S,
+        options: &CodecOptions,
+    ) -> Result<(), SessionErrorKind>
+        requires met { AreMet self.now }
+        requires below { number < count (region self.now.chunks) }
+        requires place { IsPlaceOf (described self.now.array.now) (chunk_at self.now number) place }
+        requires holds { HoldsRegion self.now.array.now (region self.now.subset.now) elements.old }
+        ensures read { MatchResult result
+            (λ _. HasReadChunk self.now.array.now (options_of options.now)
+            (region self.now.subset.now) (chunk_at self.now number) (list_held elements.old)
+            (list_held elements.new) (S.shown store.old) (S.shown store.new))
+            (NotFetched self.now.array.now (options_of options.now) (chunk_at self.now number)
+            (S.shown store.old) (S.shown store.new)) }
+        ensures holds { HoldsRegion self.now.array.now (region self.now.subset.now) elements.new }
+    {
+        match self.fetch_elements(alloc, number, &place.key, store, options) {
+            Ok(chunk) => {
+                elements.put(alloc, &chunk, &place.subset)?;
+                Ok(())
+            }
+            Err(error) => Err(chunk_error(place.key, error)),
+        }
+    }
+
+    // Takes the elements that it shares with the region.
+    fn read_shared<S: Store>(
+        &self,
+        alloc: Global,
+        number: u64,
+        place: ChunkPlace,
+        elements: &mut BoxElements<'_>,
+        store: &mut S,
+        options: &CodecOptions,
+    ) -> Result<(), SessionErrorKind>
+        requires met { AreMet self.now }
+        requires below { number < count (region self.now.chunks) }
+        requires place { IsPlaceOf (described self.now.array.now) (chunk_at self.now number) place }
+        requires holds { HoldsRegion self.now.array.now (region self.now.subset.now) elements.old }
+        ensures read { MatchResult result
+            (λ _. HasReadChunk self.now.array.now (options_of options.now)
+            (region self.now.subset.now) (chunk_at self.now number) (list_held elements.old)
+            (list_held elements.new) (S.shown store.old) (S.shown store.new))
+            (NotFetched self.now.array.now (options_of options.now) (chunk_at self.now number)
+            (S.shown store.old) (S.shown store.new)) }
+        ensures holds { HoldsRegion self.now.array.now (region self.now.subset.now) elements.new }
+    {
+        let chunk = self.fetch_shared(alloc, number, place, store, options)?;
+        self.put_shared(alloc, number, &chunk, elements)?;
+        Ok(())
+    }
+
+    // Takes the elements that the chunk of a number shares with the region: all, where it lies inside the region.
     fn read_chunk<S: Store>(
         &self,
         alloc: Global,
@@ -43,12 +101,11 @@ impl RegionChunks<'_> {
             (S.shown store.old) (S.shown store.new)) }
         ensures holds { HoldsRegion self.now.array.now (region self.now.subset.now) elements.new }
     {
-        match self.fetch_chunk(alloc, number, store, options) {
-            Ok(chunk) => match elements.put(alloc, &chunk.elements, &chunk.place.subset) {
-                Ok(()) => Ok(()),
-                Err(_) => Err(SessionErrorKind::OutOfMemory),
-            },
-            Err(kind) => Err(kind),
+        let place = self.place(alloc, number)?;
+        if place.subset.inbounds(self.subset) {
+            self.read_whole(alloc, number, place, elements, store, options)
+        } else {
+            self.read_shared(alloc, number, place, elements, store, options)
         }
     }
 

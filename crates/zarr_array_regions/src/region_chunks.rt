@@ -5,9 +5,9 @@ ghost use Rattle.zarr_model.specs.Prelude.{count, tuples, ends_within, chunks_me
 ghost use Rattle.zarrs_array_subset.specs.ArraySubset.{region};
 ghost use Rattle.zarr_array_parts.specs.Parts.{described};
 
-use crate::chain::codec_chain;
+use crate::chain::lent_chain;
 use std::alloc::{AllocError, Global};
-use zarr_array_parts::{ArrayParts, BasicChain};
+use zarr_array_parts::{ArrayParts, LentChain};
 use zarrs_array_subset::ArraySubset;
 use zarrs_chunk_grid_traits::ChunkGridTraits;
 use zarrs_storage::store_key::StoreKey;
@@ -21,7 +21,7 @@ pub(crate) struct RegionChunks<'a> {
     pub(crate) subset: &'a ArraySubset,
     // The indices of its chunks, as a box of the grid's.
     pub(crate) chunks: ArraySubset,
-    pub(crate) chain: BasicChain,
+    pub(crate) chain: LentChain<'a>,
 }
 
 /// Where a chunk lies, and the key that its value stands under.
@@ -64,7 +64,7 @@ impl<'a> RegionChunks<'a> {
         if chunks.num_elements() == 0 {
             return Ok(None);
         }
-        let chain = codec_chain(array, alloc)?;
+        let chain = lent_chain(array, alloc)?;
         Ok(Some(RegionChunks {
             array,
             subset,

@@ -1,5 +1,5 @@
 -- A box of array bytes that are valid is refused for want of memory alone.
-use Rattle.std.proofs.Common.{◌≡◌, ⊎_elim, ℕ, ◌*◌, Bool, true, List, [], length, get_or, Some, None, Result, Ok, Err, IfOk, MatchResult, refl, sym, ap, ap₂, ◌∙◌}
+use Rattle.std.proofs.Common.{◌≡◌, ⊎_elim, ℕ, ◌*◌, Bool, true, List, [], length, get_or, Option, Some, None, IsSome, Result, Ok, Err, IfOk, IfErr, MatchResult, refl, sym, ap, ap₂, ◌∙◌, subst}
 use Rattle.std.proofs.lemmas.Simd.{map-map}
 use Rattle.std.proofs.lemmas.Option.{same_Some}
 use Rattle.zarr_model.specs.Element.{Element, Kind, fixed, variable, optional, fixed_size, null}
@@ -71,3 +71,16 @@ pub picked_selects : {E : Type 0} (kind : Kind) (shape : List ℕ) (box : Region
 picked_selects kind shape box xs (Ok v) is =
     ap (λ n. meaning kind n (raw_of v)) (sym (length-tuples box)) ∙ (is ∙ ap Some (map-map (λ (k : ℕ). get_or xs k null) (linear_index shape) (tuples box)))
 picked_selects kind shape box xs (Err e) is = tt
+
+-- a step that only want of memory ends
+pub ok_half : {T E : Type 0} (P : T → Type 0) (Q : E → Type 0) (r : Result T E) → MatchResult r P Q → IfOk r P
+ok_half P Q (Ok v) is = is
+ok_half P Q (Err e) is = tt
+
+pub starves : {T : Type 0} (P : T → Type 0) (fails : CodecError → Type 0) (r : Result T CodecError) → MatchResult r P (λ e. e ≡ codec.OutOfMemory) → fails codec.OutOfMemory → IfErr r fails
+starves P fails (Ok v) is memory = tt
+starves P fails (Err e) is memory = subst fails (sym is) memory
+
+pub some_of : {A : Type 0} (o : Option A) → IsSome o → (x : A) × (o ≡ Some x)
+some_of (Some x) h = (x, refl)
+some_of None h = cc

@@ -3,14 +3,16 @@
 //! See <https://zarr-specs.readthedocs.io/en/latest/v3/core/index.html#chunk-encoding>.
 #![tactic(auto)]
 
+mod fetched;
 mod fetching;
 mod handle;
 mod putting;
 mod reading;
 mod updating;
 
+pub use fetched::Fetched;
 pub use fetching::fetch;
 pub use handle::ChainHandle;
 pub use putting::put;
-pub use reading::read;
+pub use reading::{fetch_region, read};
 pub use updating::write;

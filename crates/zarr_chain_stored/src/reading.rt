@@ -1,6 +1,6 @@
 //! A region of a chunk in a store.
 
-ghost use Rattle.std.specs.Prelude.{◌≡◌, ◌≤◌, true, false, List, map, replicate, Some, IsSome, IfOk, IfErr, MatchResult};
+ghost use Rattle.std.specs.Prelude.{◌≡◌, ◌==◌, ◌||◌, ◌<◌, ◌≤◌, ◌+◌, ◌^◌, true, false, List, length, map, Some, IsSome, IfOk, IfErr, MatchResult};
 ghost use Rattle.zarr_model.specs.Command.{has_long_element};
 ghost use Rattle.zarr_model.specs.Cost.{counted};
 ghost use Rattle.zarr_model.specs.ArrayBytes.{meaning};
@@ -17,8 +17,9 @@ ghost use Rattle.zarrs_codec_traits.specs.Words.{list_at, at_box, select, IsFit}
 ghost use Rattle.zarr_chain.specs.Levels.{above};
 ghost use Rattle.zarr_chain.specs.Chain.{IsServed, first_level, decoded, chain_says};
 ghost use Rattle.zarr_chain.specs.Regions.{boxes_below, bottom_box};
-ghost use Rattle.zarr_chain_stored.specs.Fetch.{HasFill, chunk_content, chunk_says, ChunkFails};
+ghost use Rattle.zarr_chain_stored.specs.Fetch.{HasFill, chunk_content, chunk_says, ChunkFails, GivesRegion, gives_chunk, fetched_bytes};
 
+use crate::fetched::Fetched;
 use crate::fetching::blank;
 use std::alloc::Global;
 use std::num::NonZeroU64;
@@ -28,7 +29,8 @@ use zarrs_codec_array_bytes::ArrayBytes;
 use zarrs_codec_error::CodecError;
 use zarrs_codec_options::CodecOptions;
 use zarrs_codec_traits::{
-    ArrayToArrayCodecTraits, ArrayToBytesCodecTraits, BytesToBytesCodecTraits, shape_numbers,
+    ArrayToArrayCodecTraits, ArrayToBytesCodecTraits, BytesToBytesCodecTraits, num_elements,
+    shape_numbers,
 };
 use zarrs_data_type_names::DataType;
 use zarrs_storage::{Store, StoreKey};
@@ -136,61 +138,126 @@ fn region_of_value<
     chain.decode_boxes_up(alloc, part, &boxes, region, options)
 }
 
-// The elements of a region of a chunk that is absent.
-fn region_of_blank<
+// Whether a region inside a shape is all of it.
+fn is_whole(region: &ArraySubset, shape: &[NonZeroU64]) -> bool
+    requires few { count_of (lengths shape.now) + 1 < 2 ^ 64 }
+    requires inside { ends_within (box_of region.now) (lengths shape.now) ≡ true }
+    ensures { result ≡ (count (box_of region.now) == count_of (lengths shape.now)) }
+{
+    region.num_elements() == num_elements(shape)
+}
+
+// Elements of a chunk for a region of it, by the chunk's value: all of them where the chain has no array-to-array codec,
+// or the region is all of the chunk, and else those of the region.
+fn fetched_of_value<
     A: ArrayToArrayCodecTraits,
     B: ArrayToBytesCodecTraits,
     C: BytesToBytesCodecTraits,
 >(
     chain: &CodecChain<A, B, C>,
     alloc: Global,
+    value: Vec<u8>,
     region: &ArraySubset,
-) -> Result<ArrayBytes<'static>, CodecError>
+    options: &CodecOptions,
+) -> Result<Fetched, CodecError>
     requires served { IsServed A.meaning A.unserved B.unserved chain.now }
-    requires fill { HasFill chain.now }
     requires inside { ends_within (box_of region.now) (first_level chain.now).shape ≡ true }
-    ensures value { let level = first_level chain.now in MatchResult result
-        (λ v. list_at (at_box (box_of region.now) level) (raw_of v)
-        ≡ Some (select level.shape (box_of region.now)
-        (replicate (count_of level.shape) level.fill))) (λ e. e ≡ codec.OutOfMemory) }
-    ensures short { IfOk result (λ v. has_long_element (raw_of v) ≡ false) }
+    ensures elements { let under = options_of options.now in (list : List Element)
+        → decoded A.meaning B.meaning C.meaning chain.now under value.items ≡ Some list
+        → IfOk result (GivesRegion (first_level chain.now) (box_of region.now) list) }
+    ensures decodes { IfOk result (λ _. IsSome
+        (decoded A.meaning B.meaning C.meaning chain.now (options_of options.now) value.items)) }
+    ensures failed { let under = options_of options.now in IfErr result (IsDecodeError
+        (decoded A.meaning B.meaning C.meaning chain.now under value.items)
+        (chain_says B.says C.meaning C.says chain.now under value.items)) }
+    ensures short { IfOk result (λ v. has_long_element (fetched_bytes v) ≡ false) }
+    ensures which { IfOk result (λ v. gives_chunk v ≡ (length chain.now.levels.items == 0
+        || count (box_of region.now) == count_of (first_level chain.now).shape)) }
 {
-    let whole = blank(chain, alloc)?;
-    part_of(chain, alloc, &whole, region)
+    if chain.levels.is_empty() || is_whole(region, chain.shape()) {
+        let chunk = chain.decode(alloc, value, options)?;
+        Ok(Fetched::Chunk(chunk))
+    } else {
+        let part = region_of_value(chain, alloc, value, region, options)?;
+        Ok(Fetched::Region(part))
+    }
 }
 
-// The elements of a region of a chunk, by what stands under its key.
-fn region_held<A: ArrayToArrayCodecTraits, B: ArrayToBytesCodecTraits, C: BytesToBytesCodecTraits>(
+// The same by what stands under its key.
+fn fetched_of<A: ArrayToArrayCodecTraits, B: ArrayToBytesCodecTraits, C: BytesToBytesCodecTraits>(
     chain: &CodecChain<A, B, C>,
     alloc: Global,
     value: Option<Vec<u8>>,
     region: &ArraySubset,
     options: &CodecOptions,
-) -> Result<ArrayBytes<'static>, CodecError>
+) -> Result<Fetched, CodecError>
     requires served { IsServed A.meaning A.unserved B.unserved chain.now }
     requires fill { HasFill chain.now }
     requires inside { ends_within (box_of region.now) (first_level chain.now).shape ≡ true }
-    ensures elements { let level = first_level chain.now in (list : List Element)
-        → chunk_content A.meaning B.meaning C.meaning chain.now (options_of options.now)
-        (value_bytes value) ≡ Some list
-        → IfOk result (λ v. list_at (at_box (box_of region.now) level) (raw_of v)
-        ≡ Some (select level.shape (box_of region.now) list)) }
+    ensures elements { let under = options_of options.now in (list : List Element)
+        → chunk_content A.meaning B.meaning C.meaning chain.now under (value_bytes value)
+        ≡ Some list
+        → IfOk result (GivesRegion (first_level chain.now) (box_of region.now) list) }
     ensures decodes { IfOk result
         (λ _. IsSome (chunk_content A.meaning B.meaning C.meaning chain.now
         (options_of options.now) (value_bytes value))) }
     ensures failed { let under = options_of options.now in IfErr result (IsDecodeError
         (chunk_content A.meaning B.meaning C.meaning chain.now under (value_bytes value))
         (chunk_says B.says C.meaning C.says chain.now under (value_bytes value))) }
-    ensures short { IfOk result (λ v. has_long_element (raw_of v) ≡ false) }
+    ensures short { IfOk result (λ v. has_long_element (fetched_bytes v) ≡ false) }
 {
     match value {
-        Some(value) => region_of_value(chain, alloc, value, region, options),
-        None => region_of_blank(chain, alloc, region),
+        Some(value) => fetched_of_value(chain, alloc, value, region, options),
+        None => {
+            let chunk = blank(chain, alloc)?;
+            Ok(Fetched::Chunk(chunk))
+        }
     }
 }
 
-/// The elements of a region of a chunk: the region is taken down the levels of the chain, and its elements come up again;
-/// where the key is absent they are the fill value. One reading call. The region lies inside the chunk.
+/// Elements of a chunk for a region of it, and the fill value where its key is absent: those of the region, which is
+/// taken down the levels of the chain and comes up again; or all elements, where the chain has no array-to-array codec,
+/// where the region is all of the chunk, or where the key is absent. One reading call. The region lies inside the chunk.
+///
+/// # Errors
+/// As those of `fetch`.
+pub fn fetch_region<
+    S: Store,
+    A: ArrayToArrayCodecTraits,
+    B: ArrayToBytesCodecTraits,
+    C: BytesToBytesCodecTraits,
+>(
+    chain: &CodecChain<A, B, C>,
+    alloc: Global,
+    key: &StoreKey,
+    region: &ArraySubset,
+    store: &mut S,
+    options: &CodecOptions,
+) -> Result<Fetched, CodecError>
+    requires served { IsServed A.meaning A.unserved B.unserved chain.now }
+    requires fill { HasFill chain.now }
+    requires inside { ends_within (box_of region.now) (first_level chain.now).shape ≡ true }
+    ensures elements { let under = options_of options.now in (list : List Element)
+        → chunk_content A.meaning B.meaning C.meaning chain.now under
+        ((S.shown store.old).content key.now) ≡ Some list
+        → IfOk result (GivesRegion (first_level chain.now) (box_of region.now) list) }
+    ensures decodes { IfOk result
+        (λ _. IsSome (chunk_content A.meaning B.meaning C.meaning chain.now
+        (options_of options.now) ((S.shown store.old).content key.now))) }
+    ensures failed { IfErr result (ChunkFails A.meaning B.meaning C.meaning B.says C.says chain.now
+        (options_of options.now) ((S.shown store.old).content key.now)
+        (S.shown store.old).faults (S.shown store.new).faults) }
+    ensures short { IfOk result (λ v. has_long_element (fetched_bytes v) ≡ false) }
+    ensures same { SameContent (S.shown store.old) (S.shown store.new) }
+    ensures asks { (S.shown store.new).asks ≡ counted (S.shown store.old).asks 1 }
+    ensures later { (S.shown store.old).faults ≤ (S.shown store.new).faults }
+{
+    let value = store.get(alloc, key)?;
+    fetched_of(chain, alloc, value, region, options)
+}
+
+/// The elements of a region of a chunk, and the fill value where its key is absent. One reading call. The region lies
+/// inside the chunk.
 ///
 /// # Errors
 /// As those of `fetch`.
@@ -226,6 +293,9 @@ pub fn read<
     ensures asks { (S.shown store.new).asks ≡ counted (S.shown store.old).asks 1 }
     ensures later { (S.shown store.old).faults ≤ (S.shown store.new).faults }
 {
-    let value = store.get(alloc, key)?;
-    region_held(chain, alloc, value, region, options)
+    match fetch_region(chain, alloc, key, region, store, options) {
+        Ok(Fetched::Chunk(whole)) => part_of(chain, alloc, &whole, region),
+        Ok(Fetched::Region(part)) => Ok(part),
+        Err(error) => Err(error),
+    }
 }

@@ -110,8 +110,8 @@ fn updated<A: ArrayToArrayCodecTraits, B: ArrayToBytesCodecTraits, C: BytesToByt
 }
 
 /// Replaces the elements of a region of a chunk, of which an old value that does not decode is an error. One reading
-/// call, and then one that puts or erases. The region lies inside the chunk, its bytes are valid, no element of them or of the fill value is too
-/// long to be stored, and the array-to-bytes codec takes such chunks.
+/// call, and then one that puts or erases. The region lies inside the chunk, its bytes are valid, no element of them or of
+/// the fill value is too long to be stored, and the array-to-bytes codec takes such chunks.
 ///
 /// # Errors
 /// As those of `fetch` and `put`; where it is not a fault of the store, the store is as it was.

@@ -1,14 +1,17 @@
-//! A region of one chunk, through a handle on its key.
+//! A region of one chunk, read and replaced through a handle on its key.
 
-ghost use Rattle.std.specs.Prelude.{◌≡◌, ℕ, List, true, Some, IfOk};
-ghost use Rattle.zarr_model.specs.Prelude.{Element, IsChunk, ends_within, chunk_content, layout};
+ghost use Rattle.std.specs.Prelude.{◌≡◌, ℕ, List, true, false, Some, IsSome, IfOk, OnOk};
+ghost use Rattle.zarr_model.specs.Prelude.{Element, IsChunk, ends_within, chunk_content, layout, has_long_element};
 ghost use Rattle.zarrs_array_subset.specs.ArraySubset.{region as region_of_subset};
 ghost use Rattle.zarrs_storage.specs.Store.{SameContent};
 ghost use Rattle.zarrs_codec_array_bytes.specs.Raw.{raw_of};
 ghost use Rattle.zarrs_codec_traits.specs.Views.{options_of};
 ghost use Rattle.zarrs_codec_traits.specs.Words.{list_at, at_box, select};
+ghost use Rattle.zarrs_codec_held.specs.Writes.{UnlessFault};
+ghost use Rattle.zarr_chain_stored.specs.Update.{with_box};
 ghost use Rattle.zarr_array_parts.specs.ChunkChain.{chunk_level};
 ghost use Rattle.zarr_array_parts.specs.Sizes.{have_chunks};
+ghost use Rattle.zarr_array_regions.specs.Chunk.{PutsElements};
 ghost use Rattle.zarr_array.specs.OpenArray.{described};
 
 use std::alloc::Global;
@@ -46,6 +49,45 @@ pub fn region_of_chunk<S: Store>(
     let chain = array.chain(alloc)?;
     let mut handle = ChainHandle::from_parts(chain, store, key);
     let result = handle.partial_decode(alloc, region, options);
+    let _store = handle.into_storage();
+    result
+}
+
+/// Replaces a region of the chunk under a key: the chunk then has these elements there and its own elsewhere.
+///
+/// # Errors
+/// As of `ChainHandle::partial_encode`.
+pub fn change_region_of_chunk<S: Store>(
+    alloc: Global,
+    array: &OpenArray,
+    store: &mut S,
+    key: StoreKey,
+    region: &ArraySubset,
+    bytes: &ArrayBytes<'_>,
+    options: &CodecOptions,
+) -> Result<(), CodecError>
+    requires some { have_chunks (described array.now).grid.grid_shape ≡ true }
+    requires inside { (chunk : List ℕ) → IsChunk (described array.now).grid chunk →
+        ends_within (region_of_subset region.now) (chunk_level (described array.now) chunk).shape
+        ≡ true }
+    requires means { (chunk : List ℕ) → IsChunk (described array.now).grid chunk →
+        IsSome (list_at (at_box (region_of_subset region.now)
+        (chunk_level (described array.now) chunk)) (raw_of bytes.now)) }
+    requires short { has_long_element (raw_of bytes.now) ≡ false }
+    ensures replaced { let under = options_of options.now in
+        (chunk : List ℕ) (old new : List Element) →
+        IsChunk (described array.now).grid chunk → key ≡ (described array.now).key chunk →
+        chunk_content (layout (described array.now) under) (S.shown store.old).content chunk
+        ≡ Some old → let level = chunk_level (described array.now) chunk in
+        list_at (at_box (region_of_subset region.now) level) (raw_of bytes.now) ≡ Some new →
+        OnOk result (PutsElements (described array.now) under chunk
+        (with_box level.shape (region_of_subset region.now) new old)
+        (S.shown store.old).content (S.shown store.new).content key) }
+    ensures unchanged { UnlessFault result (SameContent (S.shown store.old) (S.shown store.new)) }
+{
+    let chain = array.chain(alloc)?;
+    let mut handle = ChainHandle::from_parts(chain, store, key);
+    let result = handle.partial_encode(alloc, region, bytes, options);
     let _store = handle.into_storage();
     result
 }

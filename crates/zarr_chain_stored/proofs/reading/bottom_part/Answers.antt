@@ -1,5 +1,4 @@
-use Rattle.std.proofs.Common.{◌≡◌, ◌∙◌, sym, ap, true}
-use Rattle.zarr_model.specs.Region.{ends_within}
+use Rattle.std.proofs.Common.{◌∙◌, sym, ap}
 use Rattle.zarrs_array_subset.specs.ArraySubset.{region as box_of}
 use Rattle.zarr_chain.specs.Levels.{above}
 use Rattle.zarr_chain.specs.Regions.{last_item}

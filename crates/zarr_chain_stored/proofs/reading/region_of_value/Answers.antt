@@ -1,4 +1,4 @@
-use Rattle.std.proofs.Common.{◌≡◌, ◌∙◌, sym, ap, subst, [], length, Some, IsSome, inl, refl, rules}
+use Rattle.std.proofs.Common.{◌∙◌, sym, ap, subst, length, Some, IsSome, inl, refl, rules}
 use Rattle.std.proofs.lemmas.Option.{same_Some}
 use Rattle.zarr_model.specs.Element.{kind_of}
 use Rattle.zarr_model.specs.Region.{count_of}
@@ -6,9 +6,9 @@ use Rattle.zarr_model.proofs.BytesLaws.{length-meaning}
 use Rattle.zarrs_array_subset.specs.ArraySubset.{region as box_of}
 use Rattle.zarrs_codec_array_bytes.specs.Raw.{raw_of}
 use Rattle.zarrs_codec_traits.specs.Views.{options_of}
-use Rattle.zarrs_codec_traits.specs.Words.{list_at, at_box, select}
+use Rattle.zarrs_codec_traits.specs.Words.{list_at}
 use Rattle.zarr_chain.specs.Levels.{above}
-use Rattle.zarr_chain.specs.Regions.{bottom_box, HoldsBox, IsCounted}
+use Rattle.zarr_chain.specs.Regions.{bottom_box}
 use Rattle.zarr_chain.proofs.LevelLaws.{some-list}
 use Rattle.zarr_chain.proofs.RegionLaws.{all-decode}
 use Rattle.zarr_chain.proofs.ChainLaws.{decoded-is, err_of}

@@ -9,8 +9,8 @@ returns-then-num_elements-eq0 c =
     none_met (described c.args.array.now).grid (region c.args.subset.now) (region c.in_ok-chunks.chunks) c.in_ok-chunks.ensures.listed
     (sym c.num_elements.ensures ∙ c.if-num_elements-eq0.true)
 
-pub codec_chain-requires : goal.codec_chain-requires
-codec_chain-requires c = record {
+pub lent_chain-requires : goal.lent_chain-requires
+lent_chain-requires c = record {
   some = some_met (described c.args.array.now).grid (region c.args.subset.now) (region c.in_ok-chunks.chunks) c.in_ok-chunks.ensures.listed
       (λ none. c.if-num_elements-eq0.false (c.num_elements.ensures ∙ none));
 }

@@ -1,0 +1,123 @@
+-- Fetching what a chunk shares with a region, and putting it into the region's elements.
+use Rattle.std.proofs.Common.{◌≡◌, ℕ, suc, ◌+◌, ◌*◌, ◌^◌, ◌<◌, true, List, [], ◌∷◌, length, Option, Some, IsSome, unwrap_or, refl, sym, ap, ◌∙◌, subst, subst₂, arith}
+use Rattle.zarr_model.specs.Prelude.{Region, starts, sizes, count, ends_within, Element, Kind, kind, fixed_size, ArrayBytes, meaning, Options, Level, Shown, IsChunk, box_content, layout}
+use Rattle.zarr_model.specs.Region.{share_tuple}
+use Rattle.zarrs_array_subset.specs.ArraySubset.{region as region_of_subset}
+use Rattle.zarrs_array_subset.specs.Boxes.{overlap_of, moved_back}
+use Rattle.zarrs_codec_bytes.specs.Overlap.{Copied}
+use Rattle.zarrs_codec_bytes.specs.Picking.{size_in}
+use Rattle.zarrs_codec_traits.specs.Words.{list_at, at_box, select}
+use Rattle.zarr_chain.specs.declared.chain.CodecChain.{CodecChain}
+use Rattle.zarr_chain.specs.Chain.{first_level}
+use Rattle.zarr_chain_stored.specs.Fetch as stored
+use Rattle.zarr_chain_stored.specs.Fetch.{GivesRegion}
+use Rattle.zarr_chain_stored.specs.declared.fetched.Fetched.{Fetched}
+use Rattle.zarr_array_elements.specs.Elements.{list_in}
+use Rattle.zarr_array_elements.specs.SharedBox.{IsSharedBy}
+use Rattle.zarr_array_elements.specs.declared.shared.SharedBox.{SharedBox}
+use Rattle.zarr_array_elements.proofs.ShareLaws.{count-moved, shares_second}
+use Rattle.zarr_array_parts.specs.ChunkChain.{CodecViews, chunk_level}
+use Rattle.zarr_array_parts.specs.Parts.{described}
+use Rattle.zarr_array_parts.specs.declared.parts.ArrayParts.{ArrayParts}
+use Rattle.zarr_array_parts.proofs.ServedLaws.{described_sound, chunk_counts}
+use Rattle.zarr_array_regions.specs.Codecs.{array_meaning, list_meaning, bytes_meaning, ServesChunks}
+use Rattle.zarr_array_regions.specs.RegionChunks.{IsPlaceOf}
+use Rattle.zarr_array_regions.specs.Shared.{HasList, IsPartOf, IsHeldShared}
+use Rattle.zarr_array_regions.specs.declared.shared.FetchedChunk.{FetchedChunk}
+use Rattle.zarr_array_regions.proofs.ChunkLaws.{content_as, some_list}
+use Rattle.zarr_array_regions.proofs.SharedLaws.{shared_inside, copied_part, content_long, shared_few}
+
+-- what the chain gives for a box inside a chunk are elements of the chunk
+module _ {A B C : Type 0} (views : CodecViews A B C) (array : ArrayParts) (chain : CodecChain A B C) (serves : ServesChunks views (described array) chain) (options : Options) (chunk : List ℕ) (is_chunk : IsChunk (described array).grid chunk) where
+  abbrev stored_content : Option (List ℕ) → Option (List Element)
+  stored_content value = stored.chunk_content (array_meaning views) (list_meaning views) (bytes_meaning views) chain options value
+
+  pub within_level : (within : Region) → ends_within within (sizes ((described array).grid.chunk_box chunk)) ≡ true → ends_within within (first_level chain).shape ≡ true
+  within_level within inside = subst (λ (l : Level). ends_within within l.shape ≡ true) (sym (serves.chunks.level chunk is_chunk)) inside
+
+  pub fetched_part : (within : Region) (fetched : Fetched) (key : List ℕ) (before : Shown) → key ≡ (described array).key chunk → IsSome (stored_content (before.content key)) →
+      ((list : List Element) → stored_content (before.content key) ≡ Some list → GivesRegion (first_level chain) within list fetched) → IsPartOf array options chunk within before fetched
+  fetched_part within fetched key before its_key decodes gives = record {
+    list = list;
+    content = content;
+    has = record {
+      as_long = content_long (layout (described array) options) before.content chunk list (described_sound array options) is_chunk content;
+      gives = subst (λ (l : Level). GivesRegion l within list fetched) (serves.chunks.level chunk is_chunk) (gives list here);
+    };
+  }
+    where
+      list : List Element
+      list = unwrap_or (stored_content (before.content key)) []
+
+      here : stored_content (before.content key) ≡ Some list
+      here = some_list (stored_content (before.content key)) decodes
+
+      content : HasList array options chunk before list
+      content =
+          ap (λ k. box_content (layout (described array) options) ((described array).grid.chunk_box chunk) (before.content k)) (sym its_key)
+          ∙ (sym (content_as views (described array) chain serves options chunk is_chunk (before.content key)) ∙ here)
+
+-- what a region shares with a chunk lies inside the chunk
+pub shared_lies : (region box own within : Region) → own ≡ box → within ≡ moved_back (overlap_of region own) (starts own) → share_tuple box region ≡ true → ends_within within (sizes box) ≡ true
+shared_lies region box own within own_is is some =
+    subst (λ b. ends_within b (sizes box) ≡ true) (sym (is ∙ ap (λ b. moved_back (overlap_of region b) (starts b)) own_is)) (shared_inside region box some)
+
+pub shared_is : (region own box : Region) (shared : SharedBox) → own ≡ box → IsSharedBy region own shared → IsSharedBy region box shared
+shared_is region own box shared own_is is = subst (λ b. IsSharedBy region b shared) own_is is
+
+pub held_shared : (array : ArrayParts) (options : Options) (region : Region) (chunk : List ℕ) (before : Shown) (held : FetchedChunk) → IsPlaceOf (described array) chunk held.place →
+    IsSharedBy region (region_of_subset held.place.subset) held.shared → IsPartOf array options chunk (region_of_subset held.shared.within) before held.elements → IsHeldShared array options region chunk before held
+held_shared array options region chunk before held place shared is = record {
+  list = is.list;
+  content = is.content;
+  holds = record {
+    place = place;
+    shared = shared_is region (region_of_subset held.place.subset) ((described array).grid.chunk_box chunk) held.shared place.lies shared;
+    has = is.has;
+  };
+}
+
+-- it is put into the region's elements by itself
+overlap_rank : (a b : Region) → length a ≡ length b → length a ≡ length (overlap_of a b)
+overlap_rank [] [] e = refl
+overlap_rank [] (y ∷ b) e = refl
+overlap_rank (x ∷ a) [] e = cc
+overlap_rank (x ∷ a) (y ∷ b) e = ap suc (overlap_rank a b (omega (arith, e)))
+
+module _ (array : ArrayParts) (region : Region) (chunk : List ℕ) (is_chunk : IsChunk (described array).grid chunk) (rank : length region ≡ length ((described array).grid.chunk_box chunk))
+    (some : share_tuple ((described array).grid.chunk_box chunk) region ≡ true) (shared : SharedBox) (are : IsSharedBy region ((described array).grid.chunk_box chunk) shared) where
+  abbrev box : Region
+  box = (described array).grid.chunk_box chunk
+
+  abbrev own : Region
+  own = region_of_subset shared.subset
+
+  abbrev within : Region
+  within = region_of_subset shared.within
+
+  pub its_rank_too : length region ≡ length own
+  its_rank_too = overlap_rank region box rank ∙ ap length (sym are.subset)
+
+  as_many : count within ≡ count own
+  as_many = ap count are.within ∙ (count-moved (overlap_of region box) (starts box) (shares_second region box rank) ∙ ap count (sym are.subset))
+
+  pub its_counts : (of_kind : Kind) → of_kind ≡ kind (described array) → (count own + 1 < 2 ^ 64) × (count own * size_in (fixed_size of_kind) < 2 ^ 64)
+  its_counts of_kind kind_is =
+      let counts = chunk_counts array chunk is_chunk in
+      subst₂ (λ b k. (count b + 1 < 2 ^ 64) × (count b * size_in (fixed_size k) < 2 ^ 64)) (sym are.subset) (sym kind_is)
+      (shared_few region box (size_in (fixed_size (kind (described array)))) rank some counts.0 counts.1)
+
+  module _ (bytes : ArrayBytes) (list : List Element) (gives : list_at (at_box within (chunk_level (described array) chunk)) bytes ≡ Some (select (sizes box) within list)) where
+    pub its_meaning : (of_kind : Kind) → of_kind ≡ kind (described array) → meaning of_kind (count own) bytes ≡ Some (select (sizes box) within list)
+    its_meaning of_kind kind_is = subst₂ (λ k n. meaning k n bytes ≡ Some (select (sizes box) within list)) (sym kind_is) as_many gives
+
+    pub its_means : (of_kind : Kind) → of_kind ≡ kind (described array) → IsSome (meaning of_kind (count own) bytes)
+    its_means of_kind kind_is = subst IsSome (sym (its_meaning of_kind kind_is)) refl
+
+    pub its_copy : (of_kind : Kind) (over : Region) (old new : List Element) → of_kind ≡ kind (described array) → over ≡ region → length list ≡ count box →
+        Copied over own (list_in of_kind own bytes) old new → Copied region box list old new
+    its_copy of_kind over old new kind_is over_is long copied =
+        let listed : list_in of_kind own bytes ≡ select (sizes box) within list = ap (λ o. unwrap_or o []) (its_meaning of_kind kind_is) in
+        copied_part region box rank list old new long
+        (subst₂ (λ b xs. Copied region b xs old new) are.subset (listed ∙ ap (λ b. select (sizes box) b list) are.within)
+        (subst (λ r. Copied r own (list_in of_kind own bytes) old new) over_is copied))
