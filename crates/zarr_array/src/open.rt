@@ -11,12 +11,15 @@ ghost use Rattle.zarr_array_regions.specs.parts.ChunkChain.{owned};
 ghost use Rattle.zarr_array_regions.specs.parts.Sizes.{have_chunks};
 ghost use Rattle.zarr_chain.specs.Levels.{above};
 ghost use Rattle.zarr_array_regions.specs.stored.Fetch.{HasFill};
+ghost use Rattle.zarr_chain.specs.Chain.{IsServed};
 ghost use Rattle.zarr_array_regions.specs.Codecs.{IsChainOf};
 
 use std::alloc::{AllocError, Global};
-use zarr_array_regions::{ArrayParts, BasicChain, OpenError, Registries, codec_chain};
+use zarr_array_regions::{
+    ArrayParts, BasicArrayToArray, BasicChain, OpenError, Registries, codec_chain,
+};
 use zarr_codecs_array_to_bytes::BasicArrayToBytes;
-use zarrs_codec_traits::ArrayToBytesCodecTraits;
+use zarrs_codec_traits::{ArrayCodecTraits, ArrayToArrayCodecTraits, ArrayToBytesCodecTraits};
 use zarrs_data_type::DataType;
 
 /// An array that a document describes.
@@ -60,6 +63,10 @@ impl OpenArray {
     pub fn chain(&self, alloc: Global) -> Result<BasicChain, AllocError>
         requires some { have_chunks (described self.now).grid.grid_shape ≡ true }
         ensures codecs { IfOk result (IsChainOf owned (documented self.now)) }
+        ensures served { IfOk result (IsServed
+            ⟦<BasicArrayToArray as ArrayToArrayCodecTraits>⟧.meaning
+            ⟦<BasicArrayToArray as ArrayCodecTraits>⟧.unserved
+            ⟦<BasicArrayToBytes as ArrayCodecTraits>⟧.unserved) }
         ensures fill { IfOk result HasFill }
         ensures takes { IfOk result (λ chain. ⟦<BasicArrayToBytes as ArrayToBytesCodecTraits>⟧.takes
             chain.bottom.codec (above chain.bottom)) }

@@ -14,5 +14,6 @@ pub use chain::{BasicChain, LentChain};
 pub use open_error::OpenError;
 pub use parts::ArrayParts;
 pub use zarr_basics::{
-    ChunkKeyKind, CodecKind, DataTypeKind, GridKind, Registries, builtin_registries, vlen_fits,
+    BasicArrayToArray, ChunkKeyKind, CodecKind, DataTypeKind, GridKind, Registries,
+    builtin_registries, vlen_fits,
 };

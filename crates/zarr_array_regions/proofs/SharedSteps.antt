@@ -10,7 +10,7 @@ use Rattle.zarrs_codec_traits.specs.Words.{list_at, at_box, select}
 use Rattle.zarr_chain.specs.declared.chain.CodecChain.{CodecChain}
 use Rattle.zarr_chain.specs.Chain.{first_level}
 use Rattle.zarr_chain_stored.specs.Fetch as stored
-use Rattle.zarr_chain_stored.specs.Fetch.{GivesRegion}
+use Rattle.zarr_chain_stored.specs.Regions.{GivesRegion}
 use Rattle.zarr_chain_stored.specs.declared.fetched.Fetched.{Fetched}
 use Rattle.zarr_array_elements.specs.Elements.{list_in}
 use Rattle.zarr_array_elements.specs.SharedBox.{IsSharedBy}

@@ -1,17 +1,20 @@
 -- What reading a region owes.
-use Rattle.std.specs.Prelude.{◌≡◌, ◌<◌, ◌≤◌, ◌+◌, ◌⊎◌, ℕ, List, length, slice_get, Some, None, IsSome}
+use Rattle.std.specs.Prelude.{◌≡◌, ◌<◌, ◌≤◌, ◌+◌, ◌⊎◌, ℕ, List, length, slice_get, Some, None, IsSome, Result, MatchResult}
 use Rattle.zarr_model.specs.Prelude.{Region, count, Element, Array, kind, ArrayBytes, meaning, elements_in, chunks_meeting, chunk_content, WhollyMeans, ChunkHas, Shown, Options, Description, layout, counted, Rose}
+use Rattle.zarrs_array_subset.specs.ArraySubset.{region as region_of_subset}
 use Rattle.zarrs_storage.specs.Store.{SameContent}
 use Rattle.zarrs_codec_bytes.specs.Overlap.{Copied}
 use Rattle.zarr_array_elements.specs.Elements.{list_in}
-use Rattle.zarr_array_elements.specs.BoxElements.{kind_held, box_held}
+use Rattle.zarr_array_elements.specs.BoxElements.{kind_held, box_held, list_held}
 use Rattle.zarr_array_elements.specs.declared.box_elements.BoxElements.{BoxElements}
 use Rattle.zarr_array_parts.specs.Parts.{documented, described}
 use Rattle.zarr_array_parts.specs.declared.parts.ArrayParts.{ArrayParts}
 use Rattle.zarr_array_regions.specs.declared.error.CommandError.{CommandError}
 use Rattle.zarr_array_regions.specs.declared.error.SessionErrorKind.{SessionErrorKind}
 use Rattle.zarr_array_regions.specs.declared.error.SessionErrorKind.TheVariants.{NotOpened, ChunkDecode, Store, OutOfMemory}
-use Rattle.zarr_array_regions.specs.Fetch.{HasAsked}
+use Rattle.zarr_array_regions.specs.declared.region_chunks.RegionChunks.{RegionChunks}
+use Rattle.zarr_array_regions.specs.RegionChunks.{chunk_at}
+use Rattle.zarr_array_regions.specs.Fetch.{HasAsked, NotFetched}
 use Rattle.zarr_array_regions.specs.Told.{TellsWhy}
 
 -- the cause at the next chunk after k of the region's: its value does not decode, the store failed,
@@ -51,6 +54,14 @@ pub record HasReadChunk (array : ArrayParts) (options : Options) (region : Regio
       → Copied region ((described array).grid.chunk_box chunk)
       (elements_in ((described array).grid.chunk_box chunk) plain) old new
   pub as_long : length new ≡ length old
+
+-- the chunk of a number was read so into the region's elements, or it was not fetched
+abbrev pub ReadsChunk : {T : Type 0} → RegionChunks → ℕ → Options → BoxElements → BoxElements
+    → Shown → Shown → Result T SessionErrorKind → Type 0
+ReadsChunk met number options old new before now result = MatchResult result
+    (λ _. HasReadChunk met.array.now options (region_of_subset met.subset.now)
+    (chunk_at met number) (list_held old) (list_held new) before now)
+    (NotFetched met.array.now options (chunk_at met number) before now)
 
 -- elements are those of a region of the array that a store means, each of whose chunks decodes and
 -- was asked for once

@@ -2,7 +2,7 @@
 use Rattle.std.specs.Prelude.{◌≡◌, ℕ, List, length, Some}
 use Rattle.zarr_model.specs.Prelude.{Region, count, Element, Options, Shown, chunk_content, layout}
 use Rattle.zarrs_array_subset.specs.ArraySubset.{region as region_of_subset}
-use Rattle.zarr_chain_stored.specs.Fetch.{GivesRegion}
+use Rattle.zarr_chain_stored.specs.Regions.{GivesRegion}
 use Rattle.zarr_chain_stored.specs.declared.fetched.Fetched.{Fetched}
 use Rattle.zarr_array_elements.specs.SharedBox.{IsSharedBy}
 use Rattle.zarr_array_parts.specs.ChunkChain.{chunk_level}

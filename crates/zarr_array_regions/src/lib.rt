@@ -16,7 +16,7 @@ pub use place::chunk_key;
 pub use read::read_elements;
 pub use write::write_elements;
 pub use zarr_array_parts::{
-    ArrayParts, BasicChain, ChunkKeyKind, CodecKind, DataTypeKind, GridKind, OpenError, Registries,
-    builtin_registries, vlen_fits,
+    ArrayParts, BasicArrayToArray, BasicChain, ChunkKeyKind, CodecKind, DataTypeKind, GridKind,
+    OpenError, Registries, builtin_registries, vlen_fits,
 };
 pub use zarr_chain_stored::ChainHandle;

@@ -9,8 +9,7 @@ ghost use Rattle.zarrs_codec_traits.specs.Views.{options_of};
 ghost use Rattle.zarr_array_elements.specs.BoxElements.{list_held};
 ghost use Rattle.zarr_array_parts.specs.Parts.{described};
 ghost use Rattle.zarr_array_regions.specs.RegionChunks.{chunk_at, AreMet, IsPlaceOf};
-ghost use Rattle.zarr_array_regions.specs.Fetch.{NotFetched};
-ghost use Rattle.zarr_array_regions.specs.Read.{HoldsRegion, HasReadChunk, HasReadList, HasReadRegion, NotReadRegion};
+ghost use Rattle.zarr_array_regions.specs.Read.{HoldsRegion, ReadsChunk, HasReadList, HasReadRegion, NotReadRegion};
 
 use crate::error::{CommandError, SessionErrorKind, chunk_error};
 use crate::region_chunks::{ChunkPlace, RegionChunks};
@@ -37,12 +36,8 @@ impl RegionChunks<'_> {
         requires below { number < count (region self.now.chunks) }
         requires place { IsPlaceOf (described self.now.array.now) (chunk_at self.now number) place }
         requires holds { HoldsRegion self.now.array.now (region self.now.subset.now) elements.old }
-        ensures read { MatchResult result
-            (λ _. HasReadChunk self.now.array.now (options_of options.now)
-            (region self.now.subset.now) (chunk_at self.now number) (list_held elements.old)
-            (list_held elements.new) (S.shown store.old) (S.shown store.new))
-            (NotFetched self.now.array.now (options_of options.now) (chunk_at self.now number)
-            (S.shown store.old) (S.shown store.new)) }
+        ensures read { ReadsChunk self.now number (options_of options.now) elements.old
+            elements.new (S.shown store.old) (S.shown store.new) result }
         ensures holds { HoldsRegion self.now.array.now (region self.now.subset.now) elements.new }
     {
         match self.fetch_elements(alloc, number, &place.key, store, options) {
@@ -68,12 +63,8 @@ impl RegionChunks<'_> {
         requires below { number < count (region self.now.chunks) }
         requires place { IsPlaceOf (described self.now.array.now) (chunk_at self.now number) place }
         requires holds { HoldsRegion self.now.array.now (region self.now.subset.now) elements.old }
-        ensures read { MatchResult result
-            (λ _. HasReadChunk self.now.array.now (options_of options.now)
-            (region self.now.subset.now) (chunk_at self.now number) (list_held elements.old)
-            (list_held elements.new) (S.shown store.old) (S.shown store.new))
-            (NotFetched self.now.array.now (options_of options.now) (chunk_at self.now number)
-            (S.shown store.old) (S.shown store.new)) }
+        ensures read { ReadsChunk self.now number (options_of options.now) elements.old
+            elements.new (S.shown store.old) (S.shown store.new) result }
         ensures holds { HoldsRegion self.now.array.now (region self.now.subset.now) elements.new }
     {
         let chunk = self.fetch_shared(alloc, number, place, store, options)?;
@@ -93,12 +84,8 @@ impl RegionChunks<'_> {
         requires met { AreMet self.now }
         requires below { number < count (region self.now.chunks) }
         requires holds { HoldsRegion self.now.array.now (region self.now.subset.now) elements.old }
-        ensures read { MatchResult result
-            (λ _. HasReadChunk self.now.array.now (options_of options.now)
-            (region self.now.subset.now) (chunk_at self.now number) (list_held elements.old)
-            (list_held elements.new) (S.shown store.old) (S.shown store.new))
-            (NotFetched self.now.array.now (options_of options.now) (chunk_at self.now number)
-            (S.shown store.old) (S.shown store.new)) }
+        ensures read { ReadsChunk self.now number (options_of options.now) elements.old
+            elements.new (S.shown store.old) (S.shown store.new) result }
         ensures holds { HoldsRegion self.now.array.now (region self.now.subset.now) elements.new }
     {
         let place = self.place(alloc, number)?;

@@ -13,6 +13,7 @@ mod regions;
 mod representation;
 
 pub use chain::CodecChain;
+pub use decode::decode_through;
 pub use level::CodecLevel;
 pub use regions::last_or;
 pub use representation::ChunkRepresentation;

@@ -29,11 +29,11 @@ fill_memory : (b : Bool) (e : CodecError) → b ≡ true → (e ≡ codec.OutOfM
 fill_memory true e fits answer = ⊎_elim (λ (memory : e ≡ codec.OutOfMemory). memory) (λ (told : told_by e ≡ fine). absurd (says_some e told)) answer
 fill_memory false e fits answer = cc
 
-denoted : (o : Option Element) → IsSome o → o ≡ Some (unwrap_or o null)
+pub denoted : (o : Option Element) → IsSome o → o ≡ Some (unwrap_or o null)
 denoted None there = cc
 denoted (Some x) there = refl
 
-filled_gives : (level : Level) (number : ℕ) (fill : List ℕ) (r : Result code.ArrayBytes CodecError) → number ≡ count_of level.shape → fill_element (kind_of level.data_type) fill ≡ Some level.fill →
+pub filled_gives : (level : Level) (number : ℕ) (fill : List ℕ) (r : Result code.ArrayBytes CodecError) → number ≡ count_of level.shape → fill_element (kind_of level.data_type) fill ≡ Some level.fill →
     Answers (fill_answer (has_size (kind_of level.data_type) fill)) r →
     ((x : Element) → fill_element (kind_of level.data_type) fill ≡ Some x → IfOk r (λ v. meaning (kind_of level.data_type) number (raw_of v) ≡ Some (replicate number x))) →
     MatchResult r (λ v. list_at level (raw_of v) ≡ Some (replicate (count_of level.shape) level.fill)) (λ e. e ≡ codec.OutOfMemory)

@@ -1,52 +1,30 @@
 -- A box of array bytes that are valid is refused for want of memory alone.
-use Rattle.std.proofs.Common.{◌≡◌, ⊎_elim, ℕ, ◌*◌, Bool, true, List, [], length, get_or, Option, Some, None, IsSome, Result, Ok, Err, IfOk, IfErr, MatchResult, refl, sym, ap, ap₂, ◌∙◌, subst}
+use Rattle.std.proofs.Common.{◌≡◌, ℕ, Bool, true, List, [], length, get_or, Option, Some, None, IsSome, Result, Ok, Err, IfOk, IfErr, MatchResult, refl, sym, ap, ◌∙◌, subst}
 use Rattle.std.proofs.lemmas.Simd.{map-map}
 use Rattle.std.proofs.lemmas.Option.{same_Some}
-use Rattle.zarr_model.specs.Element.{Element, Kind, fixed, variable, optional, fixed_size, null}
-use Rattle.zarr_model.specs.ArrayBytes.{ArrayBytes, fixed_bytes, variable_bytes, optional_bytes, meaning}
+use Rattle.zarr_model.specs.Element.{Element, Kind, null}
+use Rattle.zarr_model.specs.ArrayBytes.{ArrayBytes, meaning}
 use Rattle.zarr_model.specs.Region.{Region, count, tuples, linear_index}
-use Rattle.zarr_model.specs.Command.{bytes_refusal}
 use Rattle.zarr_model.proofs.RegionLaws.{length-tuples}
-use Rattle.zarrs_codec_bytes.specs.Picking.{size_in, picked}
+use Rattle.zarrs_codec_bytes.specs.Picking.{picked}
 use Rattle.zarrs_codec_error.specs.declared.error.CodecError.{CodecError}
 use Rattle.zarrs_codec_error.specs.declared.error.CodecError.TheVariants as codec
 use Rattle.zarrs_codec_array_bytes.specs.declared.array_bytes.ArrayBytes as code
-use Rattle.zarrs_codec_array_bytes.specs.Levels.{inner_length}
 use Rattle.zarrs_codec_array_bytes.specs.Raw.{raw_of}
 use Rattle.zarrs_codec_array_bytes.specs.Selection.{linear}
-use Rattle.zarrs_codec_array_bytes.specs.Refusals.{fine, kind_refusal, first_answer, lengths_answer, sized_answer, extract_answer, told_by, Answers}
+use Rattle.zarrs_codec_array_bytes.specs.Refusals.{extract_answer, Answers}
 use Rattle.zarr_model.specs.Codec.{Level, ArrayCodec}
 use Rattle.zarrs_codec_traits.specs.Words.{list_at, at_box, select}
 use Rattle.zarr_chain.specs.declared.level.CodecLevel.{CodecLevel}
 use Rattle.zarr_chain.specs.Levels.{top, elements_above}
 use Rattle.zarr_chain.specs.Regions.{HoldsBox}
-use Rattle.zarr_chain.proofs.LevelLaws.{says_some}
-use Rattle.zarr_chain_stored.proofs.UpdateLaws.{both_none, lengths_none, valid_of}
+use Rattle.zarrs_codec_partial.proofs.ExtractLaws.{extract_told}
 
--- valid array bytes are of their kind
-kind_none : (kind : Kind) (n : ℕ) (raw : ArrayBytes) → bytes_refusal kind n raw ≡ None → kind_refusal kind raw ≡ None
-kind_none (fixed k) n (fixed_bytes a) valid = refl
-kind_none (fixed k) n (variable_bytes a from) valid = cc
-kind_none (fixed k) n (optional_bytes a mask) valid = cc
-kind_none variable n (fixed_bytes a) valid = cc
-kind_none variable n (variable_bytes a from) valid = refl
-kind_none variable n (optional_bytes a mask) valid = cc
-kind_none (optional kind) n (fixed_bytes a) valid = cc
-kind_none (optional kind) n (variable_bytes a from) valid = cc
-kind_none (optional kind) n (optional_bytes a mask) valid = kind_none kind n a (both_none _ _ valid).1
-
-extract_fine : (kind : Kind) (fits : Bool) (n : ℕ) (raw : ArrayBytes) (xs : List Element) → fits ≡ true → meaning kind n raw ≡ Some xs → extract_answer kind fits n raw ≡ fine
-extract_fine kind fits n raw xs inside was =
-    let valid = valid_of kind n raw xs was in
-    ap₂ (λ o b. first_answer o b (lengths_answer (size_in (fixed_size kind)) n raw)) (kind_none kind n raw valid) inside
-    ∙ ap (sized_answer (inner_length raw) (n * size_in (fixed_size kind))) (lengths_none kind n raw valid)
-
+-- what is taken out of valid array bytes is refused for want of memory alone
 pub extract_gives : (kind : Kind) (fits : Bool) (n : ℕ) (raw : ArrayBytes) (xs : List Element) (Wanted : code.ArrayBytes → Type 0) (r : Result code.ArrayBytes CodecError) → fits ≡ true → meaning kind n raw ≡ Some xs →
     Answers (extract_answer kind fits n raw) r → IfOk r Wanted → MatchResult r Wanted (λ e. e ≡ codec.OutOfMemory)
 extract_gives kind fits n raw xs Wanted (Ok v) inside was answers gives = gives
-extract_gives kind fits n raw xs Wanted (Err e) inside was answers gives =
-    ⊎_elim (λ (memory : e ≡ codec.OutOfMemory). memory)
-    (λ (told : told_by e ≡ extract_answer kind fits n raw). absurd (says_some e (told ∙ extract_fine kind fits n raw xs inside was))) answers
+extract_gives kind fits n raw xs Wanted (Err e) inside was answers gives = extract_told kind fits n raw xs e inside was answers
 
 -- a fact that stands without a result
 pub ok_all : {T E : Type 0} (P : Type 0) (r : Result T E) → P → IfOk r (λ v. P)
@@ -76,6 +54,10 @@ picked_selects kind shape box xs (Err e) is = tt
 pub ok_half : {T E : Type 0} (P : T → Type 0) (Q : E → Type 0) (r : Result T E) → MatchResult r P Q → IfOk r P
 ok_half P Q (Ok v) is = is
 ok_half P Q (Err e) is = tt
+
+pub ok_there : {T E X : Type 0} (f : T → Option X) (x : X) (Q : E → Type 0) (r : Result T E) → MatchResult r (λ v. f v ≡ Some x) Q → IfOk r (λ v. IsSome (f v))
+ok_there f x Q (Ok v) is = subst IsSome (sym is) refl
+ok_there f x Q (Err e) is = tt
 
 pub starves : {T : Type 0} (P : T → Type 0) (fails : CodecError → Type 0) (r : Result T CodecError) → MatchResult r P (λ e. e ≡ codec.OutOfMemory) → fails codec.OutOfMemory → IfErr r fails
 starves P fails (Ok v) is memory = tt

@@ -1,19 +1,15 @@
 -- The elements of a chunk, by what stands under its key.
-use Rattle.std.specs.Prelude.{◌≡◌, ◌⊎◌, ℕ, Bool, true, false, List, replicate, Option, Some, None}
-use Rattle.zarr_model.specs.Region.{Region, count_of}
+use Rattle.std.specs.Prelude.{◌≡◌, ◌⊎◌, ℕ, false, List, replicate, Option, Some, None}
+use Rattle.zarr_model.specs.Region.{count_of}
 use Rattle.zarr_model.specs.Element.{Element, kind_of, fill_element}
 use Rattle.zarr_model.specs.ArrayBytes.{ArrayBytes}
 use Rattle.zarr_model.specs.Codec.{Level, ArrayCodec, Options}
 use Rattle.zarr_model.specs.Command.{has_long_element}
 use Rattle.zarrs_codec_bytes.specs.Filling.{filled_with}
 use Rattle.zarrs_codec_error.specs.declared.error.CodecError.{CodecError}
-use Rattle.zarrs_codec_array_bytes.specs.Raw.{raw_of}
-use Rattle.zarrs_codec_traits.specs.Words.{list_at, at_box, select}
 use Rattle.zarrs_codec_held.specs.Reads.{IsHandleError}
 use Rattle.zarr_chain.specs.declared.chain.CodecChain.{CodecChain}
 use Rattle.zarr_chain.specs.Chain.{Listing, Opening, first_level, first_fill, decoded, chain_says}
-use Rattle.zarr_chain_stored.specs.declared.fetched.Fetched.{Fetched}
-use Rattle.zarr_chain_stored.specs.declared.fetched.Fetched.TheVariants as fetched
 
 -- array bytes of a chunk that has the fill value everywhere
 abbrev pub blank_chunk : Level → List ℕ → ArrayBytes
@@ -50,19 +46,3 @@ abbrev pub ChunkFails : {A B C : Type 0} → (A → ArrayCodec) → Listing B �
 ChunkFails array to_list opens list_says says chain under value before now e =
     IsHandleError before now e ⊎ ((chunk_content array to_list opens chain under value ≡ None)
     × chunk_says list_says opens says chain under value e)
-
--- what was fetched for a region are elements of a chunk's list: all of them, or the region's
-abbrev pub GivesRegion : Level → Region → List Element → Fetched → Type 0
-GivesRegion level region list (fetched.Chunk bytes) = list_at level (raw_of bytes) ≡ Some list
-GivesRegion level region list (fetched.Region bytes) =
-    list_at (at_box region level) (raw_of bytes) ≡ Some (select level.shape region list)
-
--- whether all elements of the chunk were fetched
-abbrev pub gives_chunk : Fetched → Bool
-gives_chunk (fetched.Chunk bytes) = true
-gives_chunk (fetched.Region bytes) = false
-
--- the array bytes that were fetched
-abbrev pub fetched_bytes : Fetched → ArrayBytes
-fetched_bytes (fetched.Chunk bytes) = raw_of bytes
-fetched_bytes (fetched.Region bytes) = raw_of bytes

@@ -1,3 +1,4 @@
 pub mod Fetch
+pub mod Regions
 pub mod Put
 pub mod Update

@@ -1,6 +1,6 @@
 //! The elements of a chunk in a store.
 
-ghost use Rattle.std.specs.Prelude.{◌≡◌, ◌≤◌, false, Some, IsSome, replicate, IfOk, IfErr, MatchResult};
+ghost use Rattle.std.specs.Prelude.{◌≡◌, ◌≤◌, false, Some, None, IsSome, replicate, IfOk, IfErr, OnOk, MatchResult};
 ghost use Rattle.zarr_model.specs.Command.{has_long_element};
 ghost use Rattle.zarr_model.specs.Element.{fill_element, kind_of};
 ghost use Rattle.zarr_model.specs.Region.{count_of};
@@ -13,6 +13,7 @@ ghost use Rattle.zarrs_codec_array_bytes.specs.Raw.{raw_of};
 ghost use Rattle.zarrs_codec_traits.specs.Errors.{IsDecodeError};
 ghost use Rattle.zarrs_codec_traits.specs.Views.{lengths, level_of, options_of};
 ghost use Rattle.zarrs_codec_traits.specs.Words.{list_at, Gives, IsFit};
+ghost use Rattle.zarrs_codec_partial_bytes.specs.Stored.{taken_of};
 ghost use Rattle.zarr_chain.specs.Chain.{IsServed, first_level};
 ghost use Rattle.zarr_chain_stored.specs.Fetch.{blank_chunk, HasFill, chunk_content, chunk_says, ChunkFails};
 
@@ -117,6 +118,8 @@ pub fn fetch<
     ensures short { IfOk result (λ v. has_long_element (raw_of v) ≡ false) }
     ensures same { SameContent (S.shown store.old) (S.shown store.new) }
     ensures asks { (S.shown store.new).asks ≡ counted (S.shown store.old).asks 1 }
+    ensures taken { OnOk result ((S.shown store.new).taken ≡ counted (S.shown store.old).taken
+        (taken_of None ((S.shown store.old).content key.now))) }
     ensures later { (S.shown store.old).faults ≤ (S.shown store.new).faults }
 {
     let value = store.get(alloc, key)?;

@@ -13,9 +13,11 @@ ghost use Rattle.zarrs_codec_traits.specs.Views.{options_of};
 ghost use Rattle.zarrs_codec_traits.specs.Words.{list_at, at_box, select};
 ghost use Rattle.zarrs_codec_held.specs.Reads.{IsFault};
 ghost use Rattle.zarrs_codec_held.specs.Writes.{UnlessFault};
+ghost use Rattle.zarrs_codec_partial_bytes.specs.Stored.{taken_of};
 ghost use Rattle.zarr_chain.specs.Levels.{above};
 ghost use Rattle.zarr_chain.specs.Chain.{IsServed, first_level, decoded};
 ghost use Rattle.zarr_chain_stored.specs.Fetch.{HasFill, chunk_content, ChunkFails};
+ghost use Rattle.zarr_chain_stored.specs.Regions.{is_whole_chunk, region_request, ReadsRegion, GivesAlike};
 ghost use Rattle.zarr_chain_stored.specs.Put.{is_dropped};
 ghost use Rattle.zarr_chain_stored.specs.Update.{with_box, UpdatesChunk, MayUpdateChunk};
 
@@ -61,7 +63,7 @@ impl<
         }
     }
 
-    /// The elements of a region of the chunk, by one reading call. The region lies inside the chunk.
+    /// The elements of a region of the chunk, which lies inside it. What is read is as of `fetch_region`.
     ///
     /// # Errors
     /// As those of `read`.
@@ -80,19 +82,23 @@ impl<
             ((S.shown self.old.storage.now).content self.old.key) ≡ Some list
             → IfOk result (λ v. list_at (at_box (box_of region.now) level) (raw_of v)
             ≡ Some (select level.shape (box_of region.now) list)) }
-        ensures decodes { IfOk result
-            (λ _. IsSome (chunk_content A.meaning B.meaning C.meaning self.old.chain
-            (options_of options.now) ((S.shown self.old.storage.now).content self.old.key))) }
-        ensures failed { IfErr result (ChunkFails A.meaning B.meaning C.meaning B.says C.says
-            self.old.chain (options_of options.now)
+        ensures alike { let level = first_level self.old.chain in let box = box_of region.now in
+            GivesAlike A.meaning B.meaning B.says C.meaning C.says
+            (λ list v. list_at (at_box box level) (raw_of v)
+            ≡ Some (select level.shape box list)) self.old.chain (options_of options.now)
+            (region_request B.request A.region_below self.old.chain box)
             ((S.shown self.old.storage.now).content self.old.key)
-            (S.shown self.old.storage.now).faults (S.shown self.new.storage.now).faults) }
+            (S.shown self.old.storage.now).faults (S.shown self.new.storage.now).faults result }
+        ensures valid { IfOk result (λ v. IsSome (list_at (at_box (box_of region.now)
+            (first_level self.old.chain)) (raw_of v))) }
         ensures short { IfOk result (λ v. has_long_element (raw_of v) ≡ false) }
-        ensures same { SameContent (S.shown self.old.storage.now) (S.shown self.new.storage.now) }
-        ensures asks { (S.shown self.new.storage.now).asks
+        ensures read { ReadsRegion A.meaning B.meaning B.says C.meaning C.says self.old.chain
+            (options_of options.now)
+            (region_request B.request A.region_below self.old.chain (box_of region.now))
+            self.old.key (S.shown self.old.storage.now) (S.shown self.new.storage.now) result }
+        ensures whole { is_whole_chunk (first_level self.old.chain) (box_of region.now) ≡ true
+            → (S.shown self.new.storage.now).asks
             ≡ counted (S.shown self.old.storage.now).asks 1 }
-        ensures later { (S.shown self.old.storage.now).faults
-            ≤ (S.shown self.new.storage.now).faults }
         ensures chain { self.new.chain ≡ self.old.chain }
         ensures key { self.new.key ≡ self.old.key }
         ensures same_reference { self.new.storage.ghost_name ≡ self.old.storage.ghost_name }
@@ -145,6 +151,9 @@ impl<
             (S.shown self.old.storage.now).faults (S.shown self.new.storage.now).faults) }
         ensures asks { (S.shown self.new.storage.now).asks
             ≡ counted (S.shown self.old.storage.now).asks 1 }
+        ensures taken { OnOk result ((S.shown self.new.storage.now).taken
+            ≡ counted (S.shown self.old.storage.now).taken
+            (taken_of None ((S.shown self.old.storage.now).content self.old.key))) }
         ensures later { (S.shown self.old.storage.now).faults
             ≤ (S.shown self.new.storage.now).faults }
         ensures chain { self.new.chain ≡ self.old.chain }
@@ -175,6 +184,8 @@ impl<
             (S.shown self.new.storage.now).faults) }
         ensures asks { (S.shown self.new.storage.now).asks
             ≡ (S.shown self.old.storage.now).asks }
+        ensures taken { (S.shown self.new.storage.now).taken
+            ≡ (S.shown self.old.storage.now).taken }
         ensures later { (S.shown self.old.storage.now).faults
             ≤ (S.shown self.new.storage.now).faults }
         ensures chain { self.new.chain ≡ self.old.chain }

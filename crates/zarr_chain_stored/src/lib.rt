@@ -6,9 +6,12 @@
 mod fetched;
 mod fetching;
 mod handle;
+mod parts;
 mod putting;
 mod reading;
+mod region;
 mod updating;
+mod value;
 
 pub use fetched::Fetched;
 pub use fetching::fetch;

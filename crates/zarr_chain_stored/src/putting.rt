@@ -87,6 +87,7 @@ pub fn put<
         → SameContent (S.shown store.old) (S.shown store.new) }
     ensures plain { IfErr result IsPlain }
     ensures asks { (S.shown store.new).asks ≡ (S.shown store.old).asks }
+    ensures taken { (S.shown store.new).taken ≡ (S.shown store.old).taken }
     ensures cause { HasCause IsFault (S.shown store.old).faults (S.shown store.new).faults result }
 {
     if is_left_out(chain, &chunk, options) {

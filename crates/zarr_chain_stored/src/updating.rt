@@ -1,6 +1,6 @@
 //! A region of a chunk in a store, replaced.
 
-ghost use Rattle.std.specs.Prelude.{◌≡◌, ◌≤◌, true, false, List, Some, IsSome, option_map, IfOk, IfErr, OnOk, OnErr, MatchResult};
+ghost use Rattle.std.specs.Prelude.{◌≡◌, ◌≤◌, true, false, List, Some, None, IsSome, option_map, IfOk, IfErr, OnOk, OnErr, MatchResult};
 ghost use Rattle.zarr_model.specs.Command.{has_long_element};
 ghost use Rattle.zarr_model.specs.Cost.{counted};
 ghost use Rattle.zarr_model.specs.ArrayBytes.{meaning};
@@ -15,6 +15,7 @@ ghost use Rattle.zarrs_codec_array_bytes.specs.Steps.{size_seen};
 ghost use Rattle.zarrs_codec_traits.specs.Views.{lengths, options_of};
 ghost use Rattle.zarrs_codec_traits.specs.Words.{list_at, at_box, IsFit};
 ghost use Rattle.zarrs_codec_held.specs.Writes.{UnlessFault};
+ghost use Rattle.zarrs_codec_partial_bytes.specs.Stored.{taken_of};
 ghost use Rattle.zarr_chain.specs.Levels.{above};
 ghost use Rattle.zarr_chain.specs.Chain.{IsServed, first_level, decoded};
 ghost use Rattle.zarr_chain_stored.specs.Fetch.{HasFill, chunk_content, ChunkFails};
@@ -110,8 +111,8 @@ fn updated<A: ArrayToArrayCodecTraits, B: ArrayToBytesCodecTraits, C: BytesToByt
 }
 
 /// Replaces the elements of a region of a chunk, of which an old value that does not decode is an error. One reading
-/// call, and then one that puts or erases. The region lies inside the chunk, its bytes are valid, no element of them or of
-/// the fill value is too long to be stored, and the array-to-bytes codec takes such chunks.
+/// call, and then one that puts or erases. The region lies inside the chunk, its bytes are valid, no element of them or
+/// of the fill value is too long to be stored, and the array-to-bytes codec takes such chunks.
 ///
 /// # Errors
 /// As those of `fetch` and `put`; where it is not a fault of the store, the store is as it was.
@@ -157,6 +158,8 @@ pub fn write<
         (options_of options.now) ((S.shown store.old).content key.now)
         (S.shown store.old).faults (S.shown store.new).faults) }
     ensures asks { (S.shown store.new).asks ≡ counted (S.shown store.old).asks 1 }
+    ensures taken { OnOk result ((S.shown store.new).taken ≡ counted (S.shown store.old).taken
+        (taken_of None ((S.shown store.old).content key.now))) }
     ensures later { (S.shown store.old).faults ≤ (S.shown store.new).faults }
 {
     let whole = fetch(chain, alloc, key, store, options)?;

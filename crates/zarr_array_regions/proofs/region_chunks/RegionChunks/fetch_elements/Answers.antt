@@ -1,3 +1,4 @@
+use Rattle.std.proofs.Common.{inr}
 use Rattle.std.proofs.lemmas.Result.{err_from_is_err_and}
 use Rattle.zarrs_codec_array_bytes.specs.Raw.{raw_of}
 use Rattle.zarrs_codec_traits.specs.Views.{options_of}
@@ -19,7 +20,7 @@ returns-in_err-bytes g c =
     let met = c.args.self.now in
     rw (p.1, p.2) (fetch_failed lent met.array.now (options_of c.args.options.now) (chunk_at met c.args.number) met.chain c.requires.met.codecs
     (met_chunk met c.requires.met c.args.number c.requires.below) c.args.key.now (g.S.Store.shown c.args.store.now) (g.S.Store.shown c.fetch.new.store) _ c.requires.key
-    (record { same = c.fetch.ensures.same; asks = c.fetch.ensures.asks; later = c.fetch.ensures.later }) c.in_err-bytes.ensures.failed)
+    (record { same = c.fetch.ensures.same; asks = inr c.fetch.ensures.asks; later = c.fetch.ensures.later }) c.in_err-bytes.ensures.failed)
 
 pub returns : goal.returns
 returns g c =

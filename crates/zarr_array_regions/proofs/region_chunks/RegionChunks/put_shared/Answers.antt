@@ -3,7 +3,7 @@ use Rattle.zarr_model.specs.Prelude.{count, fixed_size}
 use Rattle.zarrs_array_subset.specs.ArraySubset.{region}
 use Rattle.zarrs_codec_bytes.specs.Picking.{size_in}
 use Rattle.zarrs_codec_array_bytes.specs.Raw.{raw_of}
-use Rattle.zarr_chain_stored.specs.Fetch.{GivesRegion}
+use Rattle.zarr_chain_stored.specs.Regions.{GivesRegion}
 use Rattle.zarr_array_elements.specs.BoxElements.{kind_held, box_held, list_held}
 use Rattle.zarr_array_parts.specs.ChunkChain.{chunk_level}
 use Rattle.zarr_array_parts.specs.Parts.{described}

@@ -3,7 +3,7 @@ use Rattle.zarrs_array_subset.specs.ArraySubset.{region as box_of}
 use Rattle.zarr_chain.specs.Levels.{above}
 use Rattle.zarr_chain.specs.Regions.{last_item}
 use Rattle.zarr_chain.proofs.RegionLaws.{inside-bottom, map_last}
-use Rattle.zarr_chain_stored.proofs.reading.bottom_part.Goals as goal
+use Rattle.zarr_chain_stored.proofs.region.bottom_part.Goals as goal
 
 pub region_of-requires : goal.region_of-requires
 region_of-requires g c =

@@ -8,7 +8,7 @@ use Rattle.zarrs_codec_array_bytes.specs.Raw.{raw_of}
 use Rattle.zarrs_codec_traits.specs.Views.{lengths}
 use Rattle.zarrs_codec_traits.specs.Words.{select}
 use Rattle.zarr_chain_stored.proofs.ReadLaws.{extract_gives, picked_selects}
-use Rattle.zarr_chain_stored.proofs.reading.region_of.Goals as goal
+use Rattle.zarr_chain_stored.proofs.region.region_of.Goals as goal
 
 pub returns-clause-value : goal.returns-clause-value
 returns-clause-value c = λ list was.

@@ -13,7 +13,7 @@ use Rattle.zarr_chain.proofs.LevelLaws.{some-list}
 use Rattle.zarr_chain.proofs.RegionLaws.{all-decode}
 use Rattle.zarr_chain.proofs.ChainLaws.{decoded-is, err_of}
 use Rattle.zarr_chain_stored.proofs.ReadLaws.{box_of_list, held_of, ok_all}
-use Rattle.zarr_chain_stored.proofs.reading.region_of_value.Goals as goal
+use Rattle.zarr_chain_stored.proofs.value.region_of_value.Goals as goal
 
 pub decode_boxes_up-requires : goal.decode_boxes_up-requires
 decode_boxes_up-requires g c =

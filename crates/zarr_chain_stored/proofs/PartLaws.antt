@@ -1,0 +1,262 @@
+-- Regions of a chunk by the ranges that its array-to-bytes codec asks for.
+use Rattle.std.proofs.Common.{◌≡◌, ◌⊎◌, ⊎_elim, inl, inr, ℕ, ◌≤◌, Bool, true, false, if◌then◌else◌, List, [], ◌∷◌, length, Option, Some, None, option_map, option_and_then, Result, Ok, Err, IfOk, IfErr, OnOk, MatchResult, Vec, Global, refl, sym, ap, ◌∙◌, subst}
+use Rattle.std.proofs.lemmas.List.{length-map}
+use Rattle.zarr_model.specs.Element.{Element}
+use Rattle.zarr_model.specs.Region.{Region}
+use Rattle.zarr_model.specs.Codec.{Level, ArrayCodec, Options, decode_bytes, decode_levels}
+use Rattle.zarr_model.specs.Shown.{Shown}
+use Rattle.zarr_model.specs.Cost.{counted}
+use Rattle.zarrs_storage.specs.declared.byte_range.ByteRange.{ByteRange}
+use Rattle.zarrs_storage.specs.ByteRange.{is_valid, first_invalid, slice_of, slices_of, parts_of}
+use Rattle.zarrs_storage.specs.Store.{SameContent, invalid_range}
+use Rattle.zarrs_codec_error.specs.declared.error.CodecError.{CodecError}
+use Rattle.zarrs_codec_error.specs.declared.error.CodecError.TheVariants as codec
+use Rattle.zarrs_codec_array_bytes.specs.Refusals.{fine}
+use Rattle.zarrs_codec_traits.specs.Errors.{IsDecodeError}
+use Rattle.zarrs_codec_traits.specs.Parts as parts
+use Rattle.zarrs_codec_held.specs.Held.{Held, value_part}
+use Rattle.zarrs_codec_held.specs.Reads.{AreParts, IsHandleError, TellsRangeOf}
+use Rattle.zarrs_codec_held.specs.Through.{through}
+use Rattle.zarrs_codec_held.proofs.PartLaws.{slices_given}
+use Rattle.zarrs_codec_partial.proofs.HeldLaws.{parts_sliced}
+use Rattle.zarrs_codec_partial_bytes.specs.Stored.{taken_of}
+use Rattle.zarr_chain.specs.declared.chain.CodecChain.{CodecChain}
+use Rattle.zarr_chain.specs.Levels.{above, Serving, AreLinked, array_codecs}
+use Rattle.zarr_chain.specs.Values.{byte_codecs, bytes_says, said_at}
+use Rattle.zarr_chain.specs.Chain.{Listing, Opening, first_level, decoded, chain_says}
+use Rattle.zarr_chain.proofs.LevelLaws.{chain-none}
+use Rattle.zarr_chain_stored.specs.Fetch.{chunk_says}
+use Rattle.zarr_chain_stored.specs.Regions.{stored_request, given_bytes, first_outside, IsGiven, AreGivenParts, IsAlike, GivesAlike, parts_say, range_says, AsksOnce, RegionFails, ReadsRegion, FetchesRegion}
+
+-- parts that are given of bytes lie within these
+all_valid : (value : List ℕ) (ranges : List ByteRange) (given : List (List ℕ)) → AreParts (value_part (Some value)) ranges given → first_invalid (length value) ranges ≡ None
+all_valid value [] given are = refl
+all_valid value (range ∷ ranges) [] are = absurd are
+all_valid value (range ∷ ranges) (bytes ∷ given) are = go (is_valid range (length value)) are.0 (all_valid value ranges given are.1)
+  where
+    go : (b : Bool) → (if b then Some (Some (slice_of range value)) else None) ≡ Some (Some bytes) → first_invalid (length value) ranges ≡ None → (if b then first_invalid (length value) ranges else Some range) ≡ None
+    go true is rest = rest
+    go false is rest = cc
+
+parts_given : (given : Option (List ℕ)) (bytes : List ℕ) (ranges : List ByteRange) (items : List (List ℕ)) → given ≡ Some bytes → AreParts (value_part (Some bytes)) ranges items →
+    AreGivenParts ranges (option_map Some given) (Some items)
+parts_given given bytes ranges items is are = subst (λ (g : Option (List ℕ)). AreGivenParts ranges (option_map Some g) (Some items)) (sym is)
+    (ap Some (parts_sliced (value_part (Some bytes)) ranges bytes items (λ range. refl) are).slices, all_valid bytes ranges items are)
+
+pub parts_ok : (given : Option (List ℕ)) (bytes : List ℕ) (ranges : List ByteRange) (r : Result (Vec (Vec ℕ Global) Global) CodecError) → given ≡ Some bytes → IfOk r (λ items. AreParts (value_part (Some bytes)) ranges (parts_of items)) →
+    IfOk r (λ items. AreGivenParts ranges (option_map Some given) (Some (parts_of items)))
+parts_ok given bytes ranges (Ok items) is are = parts_given given bytes ranges (parts_of items) is are
+parts_ok given bytes ranges (Err e) is are = tt
+
+-- what stands under a key, and what the bytes-to-bytes codecs give of it, where parts are given
+pub record AreOpened (decode : List ℕ → Option (List ℕ)) (ranges : List ByteRange) (stored : Option (List ℕ)) (items : List (List ℕ)) : Type 0 where
+  pub value : List ℕ
+  pub there : stored ≡ Some value
+  pub bytes : List ℕ
+  pub first : decode value ≡ Some bytes
+  pub slices : items ≡ slices_of ranges bytes
+  pub valid : first_invalid (length bytes) ranges ≡ None
+
+pub opened_parts : (decode : List ℕ → Option (List ℕ)) (ranges : List ByteRange) (stored : Option (List ℕ)) (items : List (List ℕ)) → AreGivenParts ranges (through decode (Some stored)) (Some items) → AreOpened decode ranges stored items
+opened_parts decode ranges None items are = absurd (never are.0)
+  where
+    never : Some items ≡ None → ⊥
+    never e = cc
+opened_parts decode ranges (Some value) items are = go (decode value) refl are
+  where
+    go : (o : Option (List ℕ)) → decode value ≡ o → AreGivenParts ranges (option_map Some o) (Some items) → AreOpened decode ranges (Some value) items
+    go None is are = absurd are
+    go (Some bytes) is are = record { value = value; there = refl; bytes = bytes; first = is; slices = (let same : items ≡ slices_of ranges bytes = cc in same); valid = are.1 }
+
+-- they answer a request, and each is as long as its range
+pub record AreAnswered (request : Option (List ByteRange)) (bytes : List ℕ) (items : List (List ℕ)) : Type 0 where
+  pub are : parts.AreParts request bytes items
+  pub answered : parts.IsAnswer request items
+  pub long : parts.request_answer request items ≡ fine
+
+pub answered_parts : (request : Option (List ByteRange)) (ranges : List ByteRange) (bytes : List ℕ) (items : List (List ℕ)) → request ≡ Some ranges → items ≡ slices_of ranges bytes → first_invalid (length bytes) ranges ≡ None → AreAnswered request bytes items
+answered_parts request ranges bytes items asked slices valid = subst (λ (r : Option (List ByteRange)). AreAnswered r bytes items) (sym asked) (record {
+  are = slices;
+  answered = ap length slices ∙ length-map ranges (λ (range : ByteRange). slice_of range bytes);
+  long = (parts_sliced (value_part (Some bytes)) ranges bytes items (λ range. refl) (slices_given bytes ranges items valid slices)).lengths;
+})
+
+-- one reading call was made
+pub asks_any : {T : Type 0} (before now : ℕ) (r : Result T CodecError) → now ≡ counted before 1 → AsksOnce before now r
+asks_any before now (Ok v) once = once
+asks_any before now (Err e) once = inl once
+
+pub on_any : {T E P : Type 0} (r : Result T E) → P → OnOk r P
+on_any (Ok v) p = p
+on_any (Err e) p = tt
+
+module _ {A B C : Type 0} (array : A → ArrayCodec) (unserved : Serving A) (to_list : Listing B)
+    (list_says : B → Options → Level → List ℕ → CodecError → Type 0) (opens : Opening C) (says : C → Options → List ℕ → CodecError → Type 0) (chain : CodecChain A B C) (under : Options) where
+  abbrev decode : List ℕ → Option (List ℕ)
+  decode = decode_bytes (byte_codecs opens under chain.codecs.items)
+
+  -- the parts of a value that the bytes-to-bytes codecs refuse, or that does not have them
+  pub value_parts_fail : (ranges : List ByteRange) (stored : Option (List ℕ)) (value : List ℕ) (e : CodecError) → Some value ≡ stored →
+      (e ≡ codec.OutOfMemory) ⊎ parts_say ranges (through decode (Some (Some value))) (bytes_says opens says under chain.codecs.items value) e →
+      (e ≡ codec.OutOfMemory) ⊎ parts_say ranges (given_bytes opens chain under stored) (chunk_says list_says opens says chain under stored) e
+  value_parts_fail ranges stored value e is cause =
+      subst (λ (s : Option (List ℕ)). (e ≡ codec.OutOfMemory) ⊎ parts_say ranges (given_bytes opens chain under s) (chunk_says list_says opens says chain under s) e) is
+      (⊎_elim (λ (m : e ≡ codec.OutOfMemory). inl m)
+      (λ (told : parts_say ranges (through decode (Some (Some value))) (bytes_says opens says under chain.codecs.items value) e). inr (go (decode value) told)) cause)
+    where
+      go : (o : Option (List ℕ)) → parts_say ranges (option_map Some o) (bytes_says opens says under chain.codecs.items value) e →
+          parts_say ranges (option_map Some o) (said_at o (bytes_says opens says under chain.codecs.items value) (list_says chain.bottom.codec under (above chain.bottom))) e
+      go None told = told
+      go (Some bytes) told = told
+
+  -- a value that decodes does so at the bottom
+  pub bottom_there : (value bytes : List ℕ) (list : List Element) → AreLinked array unserved chain.levels.items (above chain.bottom) → decode value ≡ Some bytes → decoded array to_list opens chain under value ≡ Some list →
+      (xs : List Element) × (to_list chain.bottom.codec under (above chain.bottom) bytes ≡ Some xs)
+  bottom_there value bytes list links first is = go (to_list chain.bottom.codec under (above chain.bottom) bytes) refl
+    where
+      nothing : decoded array to_list opens chain under value ≡ None → ⊥
+      nothing none = cc
+
+      go : (o : Option (List Element)) → to_list chain.bottom.codec under (above chain.bottom) bytes ≡ o → (xs : List Element) × (o ≡ Some xs)
+      go None here = absurd (nothing (chain-none array unserved (above chain.bottom) chain.levels.items (to_list chain.bottom.codec under) (byte_codecs opens under chain.codecs.items) value bytes links first here))
+      go (Some xs) here = (xs, refl)
+
+  -- a value that the bytes-to-bytes codecs refuse does not decode
+  none_opened : (value : List ℕ) → decode value ≡ None → decoded array to_list opens chain under value ≡ None
+  none_opened value none = ap (option_and_then (decode_levels (array_codecs array chain.levels.items) (to_list chain.bottom.codec under) (first_level chain))) none
+
+  module _ (ranges : List ByteRange) (links : AreLinked array unserved chain.levels.items (above chain.bottom))
+      (asks : (bytes : List ℕ) → ¬ (first_invalid (length bytes) ranges ≡ None) → to_list chain.bottom.codec under (above chain.bottom) bytes ≡ None) where
+    -- where parts are not given, the region has no elements
+    pub parts_region_fails : (stored : Option (List ℕ)) (before now : ℕ) (e : CodecError) → IsHandleError before now e ⊎ parts_say ranges (given_bytes opens chain under stored) (chunk_says list_says opens says chain under stored) e →
+        RegionFails array to_list list_says opens says chain under (Some ranges) stored before now e
+    parts_region_fails stored before now e (inl handle) = inl handle
+    parts_region_fails None before now e (inr told) = absurd (told.0 refl)
+    parts_region_fails (Some value) before now e (inr told) = inr (go (decode value) refl told)
+      where
+        outside : (bytes : List ℕ) (first : Option ByteRange) → ¬ (first ≡ None) → TellsRangeOf (Some ranges) (Some bytes) e →
+            range_says first (Some ranges) (Some (Some bytes)) (chunk_says list_says opens says chain under (Some value)) e
+        outside bytes None some tells = absurd (some refl)
+        outside bytes (Some range) some tells = tells
+
+        go : (o : Option (List ℕ)) → decode value ≡ o → parts_say ranges (option_map Some o) (chunk_says list_says opens says chain under (Some value)) e →
+            (decoded array to_list opens chain under value ≡ None) × range_says (first_outside (Some ranges) (option_map Some o)) (Some ranges) (option_map Some o) (chunk_says list_says opens says chain under (Some value)) e
+        go None is told = (none_opened value is, told)
+        go (Some bytes) is told = (
+          chain-none array unserved (above chain.bottom) chain.levels.items (to_list chain.bottom.codec under) (byte_codecs opens under chain.codecs.items) value bytes links is (asks bytes told.0),
+          outside bytes (first_invalid (length bytes) ranges) told.0 told.1,
+        )
+
+    pub parts_not_read : {T : Type 0} (key : List ℕ) (before now : Shown) (e : CodecError) → IsHandleError before.faults now.faults e ⊎ parts_say ranges (given_bytes opens chain under (before.content key)) (chunk_says list_says opens says chain under (before.content key)) e →
+        SameContent before now → before.faults ≤ now.faults → now.asks ≡ counted before.asks 1 → ReadsRegion array to_list list_says opens says {T = T} chain under (Some ranges) key before now (Err e)
+    parts_not_read key before now e cause same later once = record {
+      decodes = λ none. tt;
+      given = tt;
+      failed = parts_region_fails (before.content key) before.faults now.faults e cause;
+      same = same;
+      later = later;
+      asks = inl once;
+      taken = tt;
+    }
+
+  -- where parts are given, the codecs decode them or tell why the chunk does not decode
+  pub parts_read : {T : Type 0} (ranges : List ByteRange) (key : List ℕ) (before now : Shown) (items : List (List ℕ)) (r : Result T CodecError) → (are : AreOpened decode ranges (before.content key) items) →
+      IfErr r (IsDecodeError (decoded array to_list opens chain under are.value) (chain_says list_says opens says chain under are.value)) →
+      SameContent before now → before.faults ≤ now.faults → now.asks ≡ counted before.asks 1 → now.taken ≡ counted before.taken (taken_of (stored_request chain (Some ranges)) (before.content key)) →
+      ReadsRegion array to_list list_says opens says chain under (Some ranges) key before now r
+  parts_read {T} ranges key before now items r are fails same later once took = record {
+    decodes = λ none. absurd (never none);
+    given = on_any r (subst (IsGiven (Some ranges)) (sym given_is) (record { there = refl; within = are.valid }));
+    failed = go r fails;
+    same = same;
+    later = later;
+    asks = asks_any before.asks now.asks r once;
+    taken = on_any r took;
+  }
+    where
+      never : Some ranges ≡ None → ⊥
+      never e = cc
+
+      given_is : given_bytes opens chain under (before.content key) ≡ Some (Some are.bytes)
+      given_is = ap (λ (s : Option (List ℕ)). through decode (Some s)) are.there ∙ ap (option_map Some) are.first
+
+      fails_so : (e : CodecError) → IsDecodeError (decoded array to_list opens chain under are.value) (chain_says list_says opens says chain under are.value) e →
+          RegionFails array to_list list_says opens says chain under (Some ranges) (Some are.value) before.faults now.faults e
+      fails_so e (inl memory) = inl (inl memory)
+      fails_so e (inr told) = inr (
+        told.0,
+        subst (λ (g : Option (List ℕ)). range_says (first_outside (Some ranges) (option_map Some g)) (Some ranges) (option_map Some g) (chain_says list_says opens says chain under are.value) e) (sym are.first)
+            (subst (λ (f : Option ByteRange). range_says f (Some ranges) (Some (Some are.bytes)) (chain_says list_says opens says chain under are.value) e) (sym are.valid) told.1),
+      )
+
+      go : (r : Result T CodecError) → IfErr r (IsDecodeError (decoded array to_list opens chain under are.value) (chain_says list_says opens says chain under are.value)) →
+          IfErr r (RegionFails array to_list list_says opens says chain under (Some ranges) (before.content key) before.faults now.faults)
+      go (Ok v) fails = tt
+      go (Err e) fails = subst (λ (s : Option (List ℕ)). RegionFails array to_list list_says opens says chain under (Some ranges) s before.faults now.faults e) (sym are.there) (fails_so e fails)
+
+  -- what was fetched by a read, and then cut, which only want of memory ends
+  pub cut_reads : {T X : Type 0} (asked : Option (List ByteRange)) (key : List ℕ) (before now : Shown) (fetched : X) (P : T → Type 0) (r : Result T CodecError) → MatchResult r P (λ e. e ≡ codec.OutOfMemory) →
+      ReadsRegion array to_list list_says opens says {T = X} chain under asked key before now (Ok fetched) → ReadsRegion array to_list list_says opens says chain under asked key before now r
+  cut_reads {T} asked key before now fetched P r cut read = record {
+    decodes = λ none. on_any r (read.decodes none);
+    given = on_any r read.given;
+    failed = go r cut;
+    same = read.same;
+    later = read.later;
+    asks = asks_any before.asks now.asks r read.asks;
+    taken = on_any r read.taken;
+  }
+    where
+      go : (r : Result T CodecError) → MatchResult r P (λ e. e ≡ codec.OutOfMemory) → IfErr r (RegionFails array to_list list_says opens says chain under asked (before.content key) before.faults now.faults)
+      go (Ok v) cut = tt
+      go (Err e) cut = inl (inl cut)
+
+  -- parts that are not given of bytes that have the ranges
+  pub parts_wanting : (ranges : List ByteRange) (given : Held) (bytes : List ℕ) (said : CodecError → Type 0) (Handle : Type 0) (e : CodecError) → given ≡ Some (Some bytes) → invalid_range ranges (Some bytes) ≡ None →
+      Handle ⊎ parts_say ranges given said e → Handle
+  parts_wanting ranges given bytes said Handle e is valid (inl handle) = handle
+  parts_wanting ranges given bytes said Handle e is valid (inr told) = absurd ((subst (λ (g : Held). parts_say ranges g said e) is told).0 valid)
+
+  -- and those that are given of them, by any value that has the same
+  pub alike_parts : (request : Option (List ByteRange)) (ranges : List ByteRange) (bytes : List ℕ) (items : List (List ℕ)) (other : List ℕ) (given : Option (List ℕ)) → request ≡ Some ranges → items ≡ slices_of ranges bytes →
+      decode other ≡ given → IsAlike ranges bytes (option_map Some given) → (found : List ℕ) × (decode other ≡ Some found) × parts.AreParts request found items
+  alike_parts request ranges bytes items other None asked slices is alike = absurd alike
+  alike_parts request ranges bytes items other (Some found) asked slices is alike =
+      (found, is, subst (λ (r : Option (List ByteRange)). parts.AreParts r found items) (sym asked) (slices ∙ sym alike))
+
+  pub alike_given : {T : Type 0} (gives : T → Type 0) (Handle : CodecError → Type 0) (other : List ℕ) (list : List Element) (r : Result T CodecError) → decoded array to_list opens chain under other ≡ Some list →
+      ((e : CodecError) → e ≡ codec.OutOfMemory → Handle e) → IfOk r gives → IfErr r (IsDecodeError (decoded array to_list opens chain under other) (chain_says list_says opens says chain under other)) → MatchResult r gives Handle
+  alike_given gives Handle other list (Ok v) is memory ok err = ok
+  alike_given gives Handle other list (Err e) is memory ok (inl m) = memory e m
+  alike_given gives Handle other list (Err e) is memory ok (inr told) = absurd (never told.0)
+    where
+      never : decoded array to_list opens chain under other ≡ None → ⊥
+      never none = cc
+
+  pub same_given : (bytes found : List ℕ) (stored : Option (List ℕ)) (value : List ℕ) → stored ≡ Some value → decode value ≡ Some found → given_bytes opens chain under stored ≡ Some (Some bytes) → found ≡ bytes
+  same_given bytes found stored value there first given =
+      let both : Some (Some found) ≡ Some (Some bytes) = sym (ap (λ (s : Option (List ℕ)). through decode (Some s)) there ∙ ap (option_map Some) first) ∙ given in
+      cc
+
+  pub cut_alike : {T X : Type 0} (asked : Option (List ByteRange)) (value : Option (List ℕ)) (before now : ℕ) (fetched : X) (Gives : List Element → X → Type 0) (Cut : List Element → T → Type 0) (r : Result T CodecError) →
+      ((list : List Element) → Gives list fetched → MatchResult r (Cut list) (λ e. e ≡ codec.OutOfMemory)) →
+      GivesAlike array to_list list_says opens says {T = X} Gives chain under asked value before now (Ok fetched) → GivesAlike array to_list list_says opens says {T = T} Cut chain under asked value before now r
+  cut_alike None value before now fetched Gives Cut r cut alike = tt
+  cut_alike {T} (Some ranges) value before now fetched Gives Cut r cut alike = λ bytes other list given valid same is. go r list (cut list (alike bytes other list given valid same is))
+    where
+      go : (r : Result T CodecError) (list : List Element) → MatchResult r (Cut list) (λ e. e ≡ codec.OutOfMemory) → MatchResult r (Cut list) (IsHandleError before now)
+      go (Ok v) list cut = cut
+      go (Err e) list cut = inl cut
+
+  -- a part that was not read gives nothing for its region
+  pub not_fetched : {T : Type 0} (Gives : List Element → T → Type 0) (region : Region) (asked : Option (List ByteRange)) (ranges : List ByteRange) (key : List ℕ) (before now : Shown) (e : CodecError) → asked ≡ Some ranges →
+      GivesAlike array to_list list_says opens says {T = T} Gives chain under (Some ranges) (before.content key) before.faults now.faults (Err e) →
+      ReadsRegion array to_list list_says opens says {T = T} chain under (Some ranges) key before now (Err e) → FetchesRegion array to_list list_says opens says chain under region asked key before now (Err e)
+  not_fetched Gives region asked ranges key before now e is alike read = subst (λ (a : Option (List ByteRange)). FetchesRegion array to_list list_says opens says chain under region a key before now (Err e)) (sym is) (record {
+    elements = λ list has. tt;
+    alike = alike;
+    valid = tt;
+    short = tt;
+    which = tt;
+    read = record { decodes = read.decodes; given = read.given; failed = read.failed; same = read.same; later = read.later; asks = read.asks; taken = read.taken };
+  })

@@ -1,0 +1,34 @@
+use Rattle.std.proofs.Common.{◌∙◌, sym, ap}
+use Rattle.zarrs_array_subset.specs.ArraySubset.{region as box_of}
+use Rattle.zarr_chain.specs.Levels.{above}
+use Rattle.zarr_chain.specs.Regions.{last_item}
+use Rattle.zarr_chain.proofs.RegionLaws.{inside-bottom, map_last}
+use Rattle.zarr_chain_stored.proofs.parts.bottom_of_parts.Goals as goal
+
+pub decode_parts-requires-clause-inside : goal.decode_parts-requires-clause-inside
+decode_parts-requires-clause-inside g c =
+    let chain = c.args.chain.now in
+    let array = g.A.ArrayToArrayCodecTraits in
+    let here = ap box_of c.last_or.ensures ∙ (sym (map_last box_of c.args.boxes.now c.args.region.now) ∙ ap (λ boxes. last_item boxes (box_of c.args.region.now)) c.requires.boxes) in
+    rw (here, c.deref.ensures.value) (inside-bottom array.meaning g.A.ArrayCodecTraits.unserved array.region_below (above chain.bottom) g.met.A.ArrayToArrayCodecTraits.region_inside
+    chain.levels.items (box_of c.args.region.now) c.requires.served.linked c.requires.inside)
+
+pub decode_parts-requires-clause-answered : goal.decode_parts-requires-clause-answered
+decode_parts-requires-clause-answered g c =
+    let here = ap box_of c.last_or.ensures ∙ (sym (map_last box_of c.args.boxes.now c.args.region.now) ∙ ap (λ boxes. last_item boxes (box_of c.args.region.now)) c.requires.boxes) in
+    rw (here, c.deref.ensures.value) c.requires.answered
+
+pub returns-clause-value : goal.returns-clause-value
+returns-clause-value g c = λ bytes xs are is.
+    let here = ap box_of c.last_or.ensures ∙ (sym (map_last box_of c.args.boxes.now c.args.region.now) ∙ ap (λ boxes. last_item boxes (box_of c.args.region.now)) c.requires.boxes) in
+    (rw (here, c.deref.ensures.value) at c.decode_parts.ensures.value) bytes xs c.requires.served.served are is
+
+pub returns-clause-failed : goal.returns-clause-failed
+returns-clause-failed g c = λ bytes are long.
+    let here = ap box_of c.last_or.ensures ∙ (sym (map_last box_of c.args.boxes.now c.args.region.now) ∙ ap (λ boxes. last_item boxes (box_of c.args.region.now)) c.requires.boxes) in
+    (rw (here, c.deref.ensures.value) at c.decode_parts.ensures.cause) bytes c.requires.served.served are long
+
+pub returns-clause-valid : goal.returns-clause-valid
+returns-clause-valid g c =
+    let here = ap box_of c.last_or.ensures ∙ (sym (map_last box_of c.args.boxes.now c.args.region.now) ∙ ap (λ boxes. last_item boxes (box_of c.args.region.now)) c.requires.boxes) in
+    (rw (here, c.deref.ensures.value) at c.decode_parts.ensures.valid) c.requires.served.served

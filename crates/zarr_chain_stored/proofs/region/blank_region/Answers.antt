@@ -1,0 +1,26 @@
+use Rattle.std.proofs.Common.{◌≡◌, List, ℕ, Some, replicate, IfOk, MatchResult, subst, subst₂}
+use Rattle.zarr_model.specs.Codec.{Level}
+use Rattle.zarr_model.specs.Element.{DataType, kind_of}
+use Rattle.zarr_model.specs.Region.{count}
+use Rattle.zarrs_array_subset.specs.ArraySubset.{region as box_of}
+use Rattle.zarrs_codec_bytes.specs.Filling.{filled_with}
+use Rattle.zarrs_codec_error.specs.declared.error.CodecError.TheVariants as codec
+use Rattle.zarrs_codec_array_bytes.specs.Raw.{raw_of}
+use Rattle.zarrs_codec_traits.specs.Words.{list_at, at_box}
+use Rattle.zarr_chain.specs.Chain.{first_level, first_fill}
+use Rattle.zarr_chain_stored.proofs.RegionLaws.{filled_selects, filled_less, level_same}
+use Rattle.zarr_chain_stored.proofs.region.blank_region.Goals as goal
+
+pub returns-clause-value : goal.returns-clause-value
+returns-clause-value g c =
+    let level = first_level c.args.chain.now in
+    let box = box_of c.args.region.now in
+    let same = level_same c.shape.result.now c.data_type.result.now c.fill_value.result.now level (first_fill c.args.chain.now) c.shape.ensures c.data_type.ensures c.fill_value.ensures c.requires.fill.denotes in
+    filled_selects level box c.filled_region.result c.requires.inside
+    (subst (λ (l : Level). MatchResult c.filled_region.result (λ v. list_at (at_box box l) (raw_of v) ≡ Some (replicate (count box) l.fill)) (λ e. e ≡ codec.OutOfMemory)) same c.filled_region.ensures.value)
+
+pub returns-clause-short : goal.returns-clause-short
+returns-clause-short g c =
+    let box = box_of c.args.region.now in
+    filled_less (first_level c.args.chain.now) (first_fill c.args.chain.now) box c.filled_region.result c.requires.inside c.requires.fill.short
+    (subst₂ (λ (t : DataType) (f : List ℕ). IfOk c.filled_region.result (λ v. raw_of v ≡ filled_with (kind_of t) (count box) f)) c.data_type.ensures c.fill_value.ensures c.filled_region.ensures.bytes)

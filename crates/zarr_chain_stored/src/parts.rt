@@ -1,0 +1,279 @@
+//! A region of a chunk, by the ranges that the array-to-bytes codec asks for.
+
+ghost use Rattle.std.specs.Prelude.{◌≡◌, ◌≤◌, ◌⊎◌, ℕ, true, false, List, map, Option, Some, IsSome, IfOk, IfErr, OnOk, MatchResult};
+ghost use Rattle.zarr_model.specs.Codec.{decode_bytes};
+ghost use Rattle.zarr_model.specs.Command.{has_long_element};
+ghost use Rattle.zarr_model.specs.Cost.{counted};
+ghost use Rattle.zarr_model.specs.Element.{Element};
+ghost use Rattle.zarr_model.specs.Region.{ends_within};
+ghost use Rattle.zarrs_array_subset.specs.ArraySubset.{region as box_of};
+ghost use Rattle.zarrs_storage.specs.ByteRange.{parts_of};
+ghost use Rattle.zarrs_storage.specs.Store.{SameContent, part_bytes};
+ghost use Rattle.zarrs_codec_error.specs.declared.error.CodecError.TheVariants as codec;
+ghost use Rattle.zarrs_codec_array_bytes.specs.Raw.{raw_of};
+ghost use Rattle.zarrs_codec_array_bytes.specs.Refusals.{fine};
+ghost use Rattle.zarrs_codec_traits.specs.Errors.{IsDecodeError};
+ghost use Rattle.zarrs_codec_traits.specs.Parts.{AreParts, IsAnswer, request_answer};
+ghost use Rattle.zarrs_codec_traits.specs.Views.{options_of, ranges_of};
+ghost use Rattle.zarrs_codec_traits.specs.Words.{list_at, at_box, select};
+ghost use Rattle.zarrs_codec_held.specs.Reads.{IsHandleError};
+ghost use Rattle.zarrs_codec_held.specs.Through.{through};
+ghost use Rattle.zarrs_codec_partial_bytes.specs.Stored.{taken_of};
+ghost use Rattle.zarr_chain.specs.Levels.{above};
+ghost use Rattle.zarr_chain.specs.Chain.{IsServed, first_level, decoded, chain_says};
+ghost use Rattle.zarr_chain.specs.Regions.{boxes_below, bottom_box};
+ghost use Rattle.zarr_chain.specs.Values.{byte_codecs, bytes_says};
+ghost use Rattle.zarr_chain_stored.specs.Fetch.{HasFill, chunk_content, chunk_says};
+ghost use Rattle.zarr_chain_stored.specs.Regions.{bottom_request, stored_request, given_bytes, AreGivenParts, parts_say, ReadsRegion, GivesAlike};
+
+use crate::region::blank_region;
+use std::alloc::Global;
+use zarr_chain::{CodecChain, decode_through, last_or};
+use zarrs_array_subset::ArraySubset;
+use zarrs_codec_array_bytes::ArrayBytes;
+use zarrs_codec_error::CodecError;
+use zarrs_codec_held::parts_in_memory;
+use zarrs_codec_options::CodecOptions;
+use zarrs_codec_traits::{
+    ArrayToArrayCodecTraits, ArrayToBytesCodecTraits, BytesToBytesCodecTraits,
+};
+use zarrs_storage::{ByteRange, Store, StoreKey};
+
+/// The ranges that the array-to-bytes codec asks for to read a region of a chunk, with the boxes that the region is
+/// taken down to, and [`None`] where it needs all of its bytes.
+///
+/// # Errors
+/// [`CodecError::OutOfMemory`].
+pub(crate) fn byte_request<
+    A: ArrayToArrayCodecTraits,
+    B: ArrayToBytesCodecTraits,
+    C: BytesToBytesCodecTraits,
+>(
+    chain: &CodecChain<A, B, C>,
+    alloc: Global,
+    boxes: &[ArraySubset],
+    region: &ArraySubset,
+) -> Result<Option<Vec<ByteRange>>, CodecError>
+    requires served { IsServed A.meaning A.unserved B.unserved chain.now }
+    requires inside { ends_within (box_of region.now) (first_level chain.now).shape ≡ true }
+    requires boxes { map box_of boxes.now
+        ≡ boxes_below A.region_below chain.now.levels.items (box_of region.now) }
+    ensures { MatchResult result (λ r. ranges_of r
+        ≡ bottom_request B.request A.region_below chain.now (box_of region.now))
+        (λ e. e ≡ codec.OutOfMemory) }
+{
+    let bottom = &chain.bottom;
+    bottom.codec.byte_request(
+        alloc,
+        last_or(boxes, region),
+        &bottom.shape,
+        &bottom.data_type,
+    )
+}
+
+// The ranges of what bytes-to-bytes codecs give of a value.
+fn parts_through<C: BytesToBytesCodecTraits>(
+    codecs: &[C],
+    alloc: Global,
+    value: Vec<u8>,
+    ranges: &[ByteRange],
+    options: &CodecOptions,
+) -> Result<Vec<Vec<u8>>, CodecError>
+    ensures value { let given = through
+        (decode_bytes (byte_codecs C.meaning (options_of options.now) codecs.now))
+        (Some (Some value.items)) in
+        IfOk result (λ parts. AreGivenParts ranges.now given (Some (parts_of parts))) }
+    ensures failed { let given = through
+        (decode_bytes (byte_codecs C.meaning (options_of options.now) codecs.now))
+        (Some (Some value.items)) in
+        IfErr result (λ e. (e ≡ codec.OutOfMemory) ⊎ parts_say ranges.now given
+        (bytes_says C.meaning C.says (options_of options.now) codecs.now value.items) e) }
+{
+    let bytes = decode_through(alloc, codecs, value, options)?;
+    parts_in_memory(alloc, &bytes, ranges)
+}
+
+// The ranges of what the bytes-to-bytes codecs give of the value under a key, and none where it is absent: by one
+// reading call for these ranges where there is no such codec, and else for all of the value.
+fn fetch_parts<
+    S: Store,
+    A: ArrayToArrayCodecTraits,
+    B: ArrayToBytesCodecTraits,
+    C: BytesToBytesCodecTraits,
+>(
+    chain: &CodecChain<A, B, C>,
+    alloc: Global,
+    key: &StoreKey,
+    ranges: &[ByteRange],
+    store: &mut S,
+    options: &CodecOptions,
+) -> Result<Option<Vec<Vec<u8>>>, CodecError>
+    ensures value { let given = given_bytes C.meaning chain.now (options_of options.now)
+        ((S.shown store.old).content key.now) in
+        IfOk result (λ parts. AreGivenParts ranges.now given (part_bytes parts)) }
+    ensures failed { let content = (S.shown store.old).content key.now in
+        let given = given_bytes C.meaning chain.now (options_of options.now) content in
+        IfErr result (λ e.
+        IsHandleError (S.shown store.old).faults (S.shown store.new).faults e
+        ⊎ parts_say ranges.now given
+        (chunk_says B.says C.meaning C.says chain.now (options_of options.now) content) e) }
+    ensures same { SameContent (S.shown store.old) (S.shown store.new) }
+    ensures asks { (S.shown store.new).asks ≡ counted (S.shown store.old).asks 1 }
+    ensures taken { OnOk result ((S.shown store.new).taken ≡ counted (S.shown store.old).taken
+        (taken_of (stored_request chain.now (Some ranges.now))
+        ((S.shown store.old).content key.now))) }
+    ensures later { (S.shown store.old).faults ≤ (S.shown store.new).faults }
+{
+    if chain.codecs.is_empty() {
+        let parts = store.get_partial_many(alloc, key, ranges)?;
+        return Ok(parts);
+    }
+    match store.get(alloc, key)? {
+        Some(value) => {
+            let parts = parts_through(&chain.codecs, alloc, value, ranges, options)?;
+            Ok(Some(parts))
+        }
+        None => Ok(None),
+    }
+}
+
+// The elements of the box at the bottom that a region of a chunk needs, by the parts that were asked for.
+fn bottom_of_parts<
+    A: ArrayToArrayCodecTraits,
+    B: ArrayToBytesCodecTraits,
+    C: BytesToBytesCodecTraits,
+>(
+    chain: &CodecChain<A, B, C>,
+    alloc: Global,
+    parts: Vec<Vec<u8>>,
+    boxes: &[ArraySubset],
+    region: &ArraySubset,
+    options: &CodecOptions,
+) -> Result<ArrayBytes<'static>, CodecError>
+    requires served { IsServed A.meaning A.unserved B.unserved chain.now }
+    requires inside { ends_within (box_of region.now) (first_level chain.now).shape ≡ true }
+    requires boxes { map box_of boxes.now
+        ≡ boxes_below A.region_below chain.now.levels.items (box_of region.now) }
+    requires answered { IsAnswer (bottom_request B.request A.region_below chain.now
+        (box_of region.now)) (parts_of parts) }
+    ensures value { let bottom = above chain.now.bottom in
+        let box = bottom_box A.region_below chain.now.levels.items (box_of region.now) in
+        (bytes : List ℕ) (xs : List Element)
+        → AreParts (bottom_request B.request A.region_below chain.now (box_of region.now)) bytes
+        (parts_of parts)
+        → B.meaning chain.now.bottom.codec (options_of options.now) bottom bytes ≡ Some xs
+        → MatchResult result (λ v. list_at (at_box box bottom) (raw_of v)
+        ≡ Some (select bottom.shape box xs)) (λ e. e ≡ codec.OutOfMemory) }
+    ensures failed { let bottom = above chain.now.bottom in
+        let asked = bottom_request B.request A.region_below chain.now (box_of region.now) in
+        (bytes : List ℕ) → AreParts asked bytes (parts_of parts)
+        → request_answer asked (parts_of parts) ≡ fine → IfErr result (IsDecodeError
+        (B.meaning chain.now.bottom.codec (options_of options.now) bottom bytes)
+        (B.says chain.now.bottom.codec (options_of options.now) bottom bytes)) }
+    ensures valid { IfOk result (λ v. IsSome (list_at (at_box
+        (bottom_box A.region_below chain.now.levels.items (box_of region.now))
+        (above chain.now.bottom)) (raw_of v))) }
+    ensures short { IfOk result (λ v. has_long_element (raw_of v) ≡ false) }
+{
+    let bottom = &chain.bottom;
+    bottom.codec.decode_parts(
+        alloc,
+        parts,
+        last_or(boxes, region),
+        &bottom.shape,
+        &bottom.data_type,
+        &bottom.fill_value,
+        options,
+    )
+}
+
+// The elements of a region of a chunk, by the parts that were asked for.
+fn region_of_parts<
+    A: ArrayToArrayCodecTraits,
+    B: ArrayToBytesCodecTraits,
+    C: BytesToBytesCodecTraits,
+>(
+    chain: &CodecChain<A, B, C>,
+    alloc: Global,
+    parts: Vec<Vec<u8>>,
+    boxes: &[ArraySubset],
+    region: &ArraySubset,
+    options: &CodecOptions,
+) -> Result<ArrayBytes<'static>, CodecError>
+    requires served { IsServed A.meaning A.unserved B.unserved chain.now }
+    requires inside { ends_within (box_of region.now) (first_level chain.now).shape ≡ true }
+    requires boxes { map box_of boxes.now
+        ≡ boxes_below A.region_below chain.now.levels.items (box_of region.now) }
+    requires answered { IsAnswer (bottom_request B.request A.region_below chain.now
+        (box_of region.now)) (parts_of parts) }
+    ensures elements { let level = first_level chain.now in
+        let under = options_of options.now in (value bytes : List ℕ) (list : List Element)
+        → decode_bytes (byte_codecs C.meaning under chain.now.codecs.items) value ≡ Some bytes
+        → AreParts (bottom_request B.request A.region_below chain.now (box_of region.now)) bytes
+        (parts_of parts)
+        → decoded A.meaning B.meaning C.meaning chain.now under value ≡ Some list
+        → IfOk result (λ v. list_at (at_box (box_of region.now) level) (raw_of v)
+        ≡ Some (select level.shape (box_of region.now) list)) }
+    ensures failed { let under = options_of options.now in
+        let asked = bottom_request B.request A.region_below chain.now (box_of region.now) in
+        (value bytes : List ℕ)
+        → decode_bytes (byte_codecs C.meaning under chain.now.codecs.items) value ≡ Some bytes
+        → AreParts asked bytes (parts_of parts)
+        → request_answer asked (parts_of parts) ≡ fine → IfErr result (IsDecodeError
+        (decoded A.meaning B.meaning C.meaning chain.now under value)
+        (chain_says B.says C.meaning C.says chain.now under value)) }
+    ensures valid { IfOk result (λ v. IsSome (list_at (at_box (box_of region.now)
+        (first_level chain.now)) (raw_of v))) }
+    ensures short { IfOk result (λ v. has_long_element (raw_of v) ≡ false) }
+{
+    let part = bottom_of_parts(chain, alloc, parts, boxes, region, options)?;
+    chain.decode_boxes_up(alloc, part, boxes, region, options)
+}
+
+/// The elements of a region of a chunk, with the boxes that the region is taken down to, by the ranges that the
+/// array-to-bytes codec asks for.
+pub(crate) fn fetch_by_parts<
+    S: Store,
+    A: ArrayToArrayCodecTraits,
+    B: ArrayToBytesCodecTraits,
+    C: BytesToBytesCodecTraits,
+>(
+    chain: &CodecChain<A, B, C>,
+    alloc: Global,
+    key: &StoreKey,
+    ranges: &[ByteRange],
+    boxes: &[ArraySubset],
+    region: &ArraySubset,
+    store: &mut S,
+    options: &CodecOptions,
+) -> Result<ArrayBytes<'static>, CodecError>
+    requires served { IsServed A.meaning A.unserved B.unserved chain.now }
+    requires fill { HasFill chain.now }
+    requires inside { ends_within (box_of region.now) (first_level chain.now).shape ≡ true }
+    requires boxes { map box_of boxes.now
+        ≡ boxes_below A.region_below chain.now.levels.items (box_of region.now) }
+    requires asked { bottom_request B.request A.region_below chain.now (box_of region.now)
+        ≡ Some ranges.now }
+    ensures elements { let level = first_level chain.now in (list : List Element)
+        → chunk_content A.meaning B.meaning C.meaning chain.now (options_of options.now)
+        ((S.shown store.old).content key.now) ≡ Some list
+        → IfOk result (λ v. list_at (at_box (box_of region.now) level) (raw_of v)
+        ≡ Some (select level.shape (box_of region.now) list)) }
+    ensures alike { let level = first_level chain.now in let box = box_of region.now in
+        GivesAlike A.meaning B.meaning B.says C.meaning C.says
+        (λ list v. list_at (at_box box level) (raw_of v) ≡ Some (select level.shape box list))
+        chain.now (options_of options.now) (Some ranges.now)
+        ((S.shown store.old).content key.now) (S.shown store.old).faults
+        (S.shown store.new).faults result }
+    ensures valid { IfOk result (λ v. IsSome (list_at (at_box (box_of region.now)
+        (first_level chain.now)) (raw_of v))) }
+    ensures short { IfOk result (λ v. has_long_element (raw_of v) ≡ false) }
+    ensures read { ReadsRegion A.meaning B.meaning B.says C.meaning C.says chain.now
+        (options_of options.now) (Some ranges.now) key.now (S.shown store.old)
+        (S.shown store.new) result }
+{
+    match fetch_parts(chain, alloc, key, ranges, store, options)? {
+        Some(parts) => region_of_parts(chain, alloc, parts, boxes, region, options),
+        None => blank_region(chain, alloc, region),
+    }
+}

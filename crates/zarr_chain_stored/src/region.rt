@@ -1,0 +1,161 @@
+//! The elements of a region of a chunk, out of all of them, or all the fill value.
+
+ghost use Rattle.std.specs.Prelude.{◌≡◌, true, false, List, replicate, map, Some, IsSome, IfOk, MatchResult};
+ghost use Rattle.zarr_model.specs.Command.{has_long_element};
+ghost use Rattle.zarr_model.specs.ArrayBytes.{meaning};
+ghost use Rattle.zarr_model.specs.Element.{Element, fill_element, kind_of};
+ghost use Rattle.zarr_model.specs.Region.{count, count_of, ends_within};
+ghost use Rattle.zarrs_array_subset.specs.ArraySubset.{region as box_of};
+ghost use Rattle.zarrs_data_type_elements.specs.FillValue.{fill_bytes};
+ghost use Rattle.zarrs_data_type_names.specs.DataType.{type_of};
+ghost use Rattle.zarrs_codec_bytes.specs.Filling.{filled_with};
+ghost use Rattle.zarrs_codec_error.specs.declared.error.CodecError.TheVariants as codec;
+ghost use Rattle.zarrs_codec_array_bytes.specs.Raw.{raw_of};
+ghost use Rattle.zarrs_codec_traits.specs.Views.{lengths, level_of};
+ghost use Rattle.zarrs_codec_traits.specs.Words.{list_at, at_box, select, IsFit};
+ghost use Rattle.zarr_chain.specs.Levels.{above};
+ghost use Rattle.zarr_chain.specs.Chain.{IsServed, first_level};
+ghost use Rattle.zarr_chain.specs.Regions.{boxes_below, bottom_box};
+ghost use Rattle.zarr_chain_stored.specs.Fetch.{HasFill};
+
+use std::alloc::Global;
+use std::num::NonZeroU64;
+use zarr_chain::{CodecChain, last_or};
+use zarrs_array_subset::ArraySubset;
+use zarrs_codec_array_bytes::ArrayBytes;
+use zarrs_codec_error::CodecError;
+use zarrs_codec_traits::{
+    ArrayToArrayCodecTraits, ArrayToBytesCodecTraits, BytesToBytesCodecTraits, num_elements,
+    shape_numbers,
+};
+use zarrs_data_type_elements::FillValue;
+use zarrs_data_type_names::DataType;
+
+// The elements of a box inside a shape.
+fn region_of(
+    alloc: Global,
+    whole: &ArrayBytes<'_>,
+    shape: &[NonZeroU64],
+    data_type: &DataType,
+    region: &ArraySubset,
+) -> Result<ArrayBytes<'static>, CodecError>
+    requires fits { IsFit (lengths shape.now) (type_of data_type.now) }
+    requires inside { ends_within (box_of region.now) (lengths shape.now) ≡ true }
+    ensures value { let kind = kind_of (type_of data_type.now) in (list : List Element)
+        → meaning kind (count_of (lengths shape.now)) (raw_of whole.now) ≡ Some list
+        → MatchResult result (λ v. meaning kind (count (box_of region.now)) (raw_of v)
+        ≡ Some (select (lengths shape.now) (box_of region.now) list))
+        (λ e. e ≡ codec.OutOfMemory) }
+    ensures short { has_long_element (raw_of whole.now) ≡ false
+        → IfOk result (λ v. has_long_element (raw_of v) ≡ false) }
+{
+    let numbers = shape_numbers(alloc, shape)?;
+    whole.extract_array_subset(alloc, region, &numbers, data_type)
+}
+
+// The elements of a region of a chunk.
+pub(crate) fn part_of<
+    A: ArrayToArrayCodecTraits,
+    B: ArrayToBytesCodecTraits,
+    C: BytesToBytesCodecTraits,
+>(
+    chain: &CodecChain<A, B, C>,
+    alloc: Global,
+    whole: &ArrayBytes<'_>,
+    region: &ArraySubset,
+) -> Result<ArrayBytes<'static>, CodecError>
+    requires served { IsServed A.meaning A.unserved B.unserved chain.now }
+    requires inside { ends_within (box_of region.now) (first_level chain.now).shape ≡ true }
+    ensures value { let level = first_level chain.now in (list : List Element)
+        → list_at level (raw_of whole.now) ≡ Some list
+        → MatchResult result (λ v. list_at (at_box (box_of region.now) level) (raw_of v)
+        ≡ Some (select level.shape (box_of region.now) list)) (λ e. e ≡ codec.OutOfMemory) }
+    ensures short { has_long_element (raw_of whole.now) ≡ false
+        → IfOk result (λ v. has_long_element (raw_of v) ≡ false) }
+{
+    region_of(alloc, whole, chain.shape(), chain.data_type(), region)
+}
+
+// The elements of the box at the bottom that a region of a chunk needs, out of all that stand there.
+pub(crate) fn bottom_part<
+    A: ArrayToArrayCodecTraits,
+    B: ArrayToBytesCodecTraits,
+    C: BytesToBytesCodecTraits,
+>(
+    chain: &CodecChain<A, B, C>,
+    alloc: Global,
+    below: &ArrayBytes<'_>,
+    boxes: &[ArraySubset],
+    region: &ArraySubset,
+) -> Result<ArrayBytes<'static>, CodecError>
+    requires served { IsServed A.meaning A.unserved B.unserved chain.now }
+    requires inside { ends_within (box_of region.now) (first_level chain.now).shape ≡ true }
+    requires boxes { map box_of boxes.now
+        ≡ boxes_below A.region_below chain.now.levels.items (box_of region.now) }
+    ensures value { let bottom = above chain.now.bottom in
+        let box = bottom_box A.region_below chain.now.levels.items (box_of region.now) in
+        (list : List Element) → list_at bottom (raw_of below.now) ≡ Some list
+        → MatchResult result (λ v. list_at (at_box box bottom) (raw_of v)
+        ≡ Some (select bottom.shape box list)) (λ e. e ≡ codec.OutOfMemory) }
+    ensures short { has_long_element (raw_of below.now) ≡ false
+        → IfOk result (λ v. has_long_element (raw_of v) ≡ false) }
+{
+    let bottom = &chain.bottom;
+    region_of(
+        alloc,
+        below,
+        &bottom.shape,
+        &bottom.data_type,
+        last_or(boxes, region),
+    )
+}
+
+// The fill value for each element of a box inside a shape.
+fn filled_region(
+    alloc: Global,
+    shape: &[NonZeroU64],
+    data_type: &DataType,
+    fill_value: &FillValue,
+    region: &ArraySubset,
+) -> Result<ArrayBytes<'static>, CodecError>
+    requires fits { IsFit (lengths shape.now) (type_of data_type.now) }
+    requires denotes { IsSome (fill_element (kind_of (type_of data_type.now))
+        (fill_bytes fill_value.now)) }
+    requires inside { ends_within (box_of region.now) (lengths shape.now) ≡ true }
+    ensures value { let level = level_of shape.now data_type.now fill_value.now in
+        MatchResult result (λ v. list_at (at_box (box_of region.now) level) (raw_of v)
+        ≡ Some (replicate (count (box_of region.now)) level.fill))
+        (λ e. e ≡ codec.OutOfMemory) }
+    ensures bytes { IfOk result (λ v. raw_of v ≡ filled_with (kind_of (type_of data_type.now))
+        (count (box_of region.now)) (fill_bytes fill_value.now)) }
+{
+    ArrayBytes::new_fill_value(alloc, data_type, region.num_elements(), fill_value)
+}
+
+// The same of a region of a chain's chunk.
+pub(crate) fn blank_region<
+    A: ArrayToArrayCodecTraits,
+    B: ArrayToBytesCodecTraits,
+    C: BytesToBytesCodecTraits,
+>(
+    chain: &CodecChain<A, B, C>,
+    alloc: Global,
+    region: &ArraySubset,
+) -> Result<ArrayBytes<'static>, CodecError>
+    requires served { IsServed A.meaning A.unserved B.unserved chain.now }
+    requires fill { HasFill chain.now }
+    requires inside { ends_within (box_of region.now) (first_level chain.now).shape ≡ true }
+    ensures value { let level = first_level chain.now in
+        MatchResult result (λ v. list_at (at_box (box_of region.now) level) (raw_of v)
+        ≡ Some (select level.shape (box_of region.now)
+        (replicate (count_of level.shape) level.fill))) (λ e. e ≡ codec.OutOfMemory) }
+    ensures short { IfOk result (λ v. has_long_element (raw_of v) ≡ false) }
+{
+    filled_region(
+        alloc,
+        chain.shape(),
+        chain.data_type(),
+        chain.fill_value(),
+        region,
+    )
+}
