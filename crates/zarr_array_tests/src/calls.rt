@@ -1,36 +1,70 @@
 //! Each call on an open array once.
 
-use crate::made::{LINE, elements_in, opened, read, reply_name, write};
+use crate::made::{LINE, number_of_keys, opened, region};
 use std::alloc::Global;
 use std::process::Abort;
-use zarr_array::CodecOptions;
 use zarr_array::open::OpenArray;
+use zarr_array::{CodecOptions, Reply, SessionError};
 use zarrs_codec_array_bytes::ArrayBytes;
+use zarrs_codec_array_bytes::array_bytes::bytes_in;
 use zarrs_storage::memory_store::MemoryStore;
 
-// What an erase of a chunk replies.
-fn erase(
-    rt: &impl Abort,
-    alloc: Global,
-    array: &OpenArray,
-    chunk: &[u64],
-    store: &mut MemoryStore,
-) -> &'static str {
-    let mut options = CodecOptions::default();
-    options.set_store_empty_chunks(true);
-    let reply = array.erase(alloc, chunk, store, &options);
-    reply_name(&reply.ok().expect(rt, "a reply"))
+// The reply, where there is no error.
+fn reply_in(rt: &impl Abort, reply: Result<Reply, SessionError>) -> Reply {
+    match reply {
+        Ok(reply) => reply,
+        Err(_) => panic!(rt; "an error"),
+    }
 }
 
-// Two elements in two chunks are written, read behind the fill value, and the last chunk is erased.
-fn is_served(rt: &impl Abort, alloc: Global, array: &OpenArray, store: &mut MemoryStore) {
+fn is_done(reply: &Reply) -> bool {
+    matches!(reply, Reply::Done)
+}
+
+// Whether a reply is these elements.
+fn has_elements(reply: &Reply, elements: &[u8]) -> bool {
+    match reply {
+        Reply::Elements(ArrayBytes::Fixed(fixed)) => bytes_in(fixed) == elements,
+        _ => false,
+    }
+}
+
+// Whether a write of two elements in two chunks is done.
+fn is_written(rt: &impl Abort, alloc: Global, array: &OpenArray, store: &mut MemoryStore) -> bool {
+    let subset = region(rt, alloc, &[3..5]);
     let elements = ArrayBytes::from([7, 0, 42, 1].as_slice());
     let options = CodecOptions::default().with_store_empty_chunks(true);
-    let written = write(rt, alloc, array, &[3..5], &elements, store, &options);
-    assert_eq!(rt; written, "done");
-    let reply = read(rt, alloc, array, &[2..5], store);
-    assert_eq!(rt; elements_in(&reply), Some([7, 0, 7, 0, 42, 1].as_slice()));
-    assert_eq!(rt; erase(rt, alloc, array, &[2], store), "done");
+    let reply = array.write(alloc, &subset, &elements, store, &options);
+    is_done(&reply_in(rt, reply))
+}
+
+// Whether they are read behind the fill value.
+fn is_read(rt: &impl Abort, alloc: Global, array: &OpenArray, store: &mut MemoryStore) -> bool {
+    let subset = region(rt, alloc, &[2..5]);
+    let reply = array.read(alloc, &subset, store, &CodecOptions::default());
+    has_elements(&reply_in(rt, reply), &[7, 0, 7, 0, 42, 1])
+}
+
+// Whether an erase of the last chunk is done.
+fn is_erased(rt: &impl Abort, alloc: Global, array: &OpenArray, store: &mut MemoryStore) -> bool {
+    let mut options = CodecOptions::default();
+    options.set_store_empty_chunks(true);
+    let reply = array.erase(alloc, &[2], store, &options);
+    is_done(&reply_in(rt, reply))
+}
+
+// Whether an array is a line of five elements of two bytes.
+fn is_line(array: &OpenArray) -> bool {
+    array.shape() == [5].as_slice() && array.data_type().fixed_size() == Some(2)
+}
+
+// It is; it takes the calls, and keeps one chunk.
+fn is_served(rt: &impl Abort, alloc: Global, array: &OpenArray, store: &mut MemoryStore) {
+    assert!(rt; is_line(array));
+    assert!(rt; is_written(rt, alloc, array, store));
+    assert!(rt; is_read(rt, alloc, array, store));
+    assert!(rt; is_erased(rt, alloc, array, store));
+    assert!(rt; number_of_keys(rt, alloc, store) == 1);
 }
 
 #[test]
@@ -38,8 +72,5 @@ fn an_array_is_written_read_and_erased(rt: HostRuntime) {
     let alloc = rt.alloc();
     let array = opened(&rt, alloc, LINE);
     let mut store = MemoryStore::new(alloc);
-    assert_eq!(rt; array.shape(), [5].as_slice());
-    assert_eq!(rt; array.data_type().fixed_size(), Some(2));
     is_served(&rt, alloc, &array, &mut store);
-    assert_eq!(rt; store.keys(alloc).expect(&rt, "memory").len(), 1);
 }

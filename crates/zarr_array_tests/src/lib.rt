@@ -4,10 +4,6 @@
 #[cfg(test)]
 mod calls;
 #[cfg(test)]
-mod chains;
-#[cfg(test)]
-mod kinds;
-#[cfg(test)]
 mod made;
 #[cfg(test)]
 mod registries;

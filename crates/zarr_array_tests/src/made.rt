@@ -1,14 +1,11 @@
-//! Documents, arrays, regions and keys, and what calls on an array reply.
+//! Documents, arrays, regions and keys.
 
 use std::alloc::Global;
 use std::ops::Range;
 use std::process::Abort;
+use zarr_array::builtin_registries;
 use zarr_array::open::OpenArray;
-use zarr_array::{CodecOptions, Reply, SessionErrorKind, builtin_registries};
 use zarrs_array_subset::ArraySubset;
-use zarrs_codec_array_bytes::ArrayBytes;
-use zarrs_codec_array_bytes::array_bytes::bytes_in;
-use zarrs_codec_error::CodecError;
 use zarrs_storage::memory_store::MemoryStore;
 use zarrs_storage::store::Store;
 use zarrs_storage::store_key::StoreKey;
@@ -35,69 +32,7 @@ pub fn key_of(rt: &impl Abort, alloc: Global, key: &str) -> StoreKey {
     StoreKey::new(text).ok().expect(rt, key)
 }
 
-/// Sets the value under a key.
-pub fn put(rt: &impl Abort, alloc: Global, store: &mut MemoryStore, key: &str, value: &[u8]) {
-    let key = key_of(rt, alloc, key);
-    store.set(alloc, &key, value).ok().expect(rt, "a value");
-}
-
-/// What a write of elements to these ranges replies.
-pub fn write(
-    rt: &impl Abort,
-    alloc: Global,
-    array: &OpenArray,
-    ranges: &[Range<u64>],
-    elements: &ArrayBytes<'_>,
-    store: &mut MemoryStore,
-    options: &CodecOptions,
-) -> &'static str {
-    let subset = region(rt, alloc, ranges);
-    let reply = array.write(alloc, &subset, elements, store, options);
-    reply_name(&reply.ok().expect(rt, "a reply"))
-}
-
-/// The reply to a read of these ranges.
-pub fn read(
-    rt: &impl Abort,
-    alloc: Global,
-    array: &OpenArray,
-    ranges: &[Range<u64>],
-    store: &mut MemoryStore,
-) -> Reply {
-    let subset = region(rt, alloc, ranges);
-    let reply = array.read(alloc, &subset, store, &CodecOptions::default());
-    reply.ok().expect(rt, "a reply")
-}
-
-/// The name of a refusal, or what else a reply is.
-pub fn reply_name(reply: &Reply) -> &'static str {
-    match reply {
-        Reply::Elements(_) => "elements",
-        Reply::Done => "done",
-        Reply::Refused(why) => why.name(),
-    }
-}
-
-/// The elements in a reply, if it has any of one size.
-pub fn elements_in(reply: &Reply) -> Option<&[u8]> {
-    match reply {
-        Reply::Elements(ArrayBytes::Fixed(elements)) => Some(bytes_in(elements)),
-        _ => None,
-    }
-}
-
-/// The key of a chunk that does not decode, and the name of the error.
-pub fn chunk_error(kind: &SessionErrorKind) -> Option<(&str, &'static str)> {
-    match kind {
-        SessionErrorKind::ChunkDecode { key, error } => Some((key.as_str(), codec_error(error))),
-        _ => None,
-    }
-}
-
-fn codec_error(error: &CodecError) -> &'static str {
-    match error {
-        CodecError::InvalidChecksum => "InvalidChecksum",
-        CodecError::UnexpectedChunkDecodedSize(_) => "UnexpectedChunkDecodedSize",
-        _ => "another error",
-    }
+/// How many keys a store has.
+pub fn number_of_keys(rt: &impl Abort, alloc: Global, store: &MemoryStore) -> usize {
+    store.keys(alloc).expect(rt, "memory").len()
 }

@@ -23,8 +23,7 @@ fn with_grid_name(alloc: Global, name: String) -> Result<Registries, AllocError>
         ≡ with_entry (exact (string_bytes name) ∷ []) GridKind.Regular builtin_names.grids) }
 {
     let mut registries = builtin_registries(alloc)?;
-    let mut names = Vec::with_capacity(alloc, 1)?;
-    names.push(NamePattern::Exact(name))?;
+    let names = vec![in alloc; NamePattern::Exact(name)]?;
     registries.grids.register(names, GridKind::Regular)?;
     Ok(registries)
 }
@@ -56,17 +55,26 @@ fn answer(
     }
 }
 
+// What a row has before and behind its first space.
+fn cut(row: &str) -> (&str, &str) {
+    row.split_once(' ').unwrap_or((row, ""))
+}
+
 // A row of the table is so.
 fn is_so(rt: &impl Abort, alloc: Global, row: &str, registries: &Registries) {
-    let (old, rest) = row.split_once(' ').expect(rt, row);
-    let (new, want) = rest.split_once(' ').expect(rt, row);
-    assert_eq!(rt; answer(rt, alloc, old, new, registries), want, "{row}");
+    let (old, rest) = cut(row);
+    let (new, want) = cut(rest);
+    assert!(rt; answer(rt, alloc, old, new, registries) == want, "{row}");
+}
+
+fn are_so(rt: &impl Abort, alloc: Global, registries: &Registries) {
+    for row in TABLE.lines() {
+        is_so(rt, alloc, row, registries);
+    }
 }
 
 #[test]
 fn registered_names_are_known(rt: HostRuntime) {
     let registries = with_other_names(&rt, rt.alloc());
-    for row in TABLE.lines() {
-        is_so(&rt, rt.alloc(), row, &registries);
-    }
+    are_so(&rt, rt.alloc(), &registries);
 }
