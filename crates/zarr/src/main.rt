@@ -9,9 +9,7 @@ use std::process::ExitCode;
 use std::rt::Env;
 use zarr_cli::Status;
 use zarr_cli::program::run_program;
-use zarrs_storage::memory_store::MemoryStore;
-use zarrs_storage::sink::WriteSink;
-use zarrs_storage::source::ReadSource;
+use zarrs_storage::{MemoryStore, ReadSource, WriteSink};
 
 // A word as text, or the empty word.
 fn word_of(alloc: Global, bytes: &[u8]) -> Result<String, AllocError> {

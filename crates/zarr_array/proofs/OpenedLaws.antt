@@ -6,15 +6,10 @@ use Rattle.zarr_array_regions.specs.parts.OpenError.{open_refusal_of, IsRefusedB
 use Rattle.zarr_array.specs.OpenError.{ended_for, ended_by}
 use Rattle.zarr_array.specs.Session.{IsNotOpenedBy}
 use Rattle.zarr_array_regions.specs.parts.declared.open_error.OpenError.{OpenError}
-
-same_opened : (a b : ArrayDocument) → opened a ≡ opened b → a ≡ b
-same_opened a b e = cc
+use Rattle.zarr_array_regions.proofs.DocumentLaws.{same_opened, same_refusal}
 
 pub one_document : (a b : ArrayDocument) (answer : OpenAnswer) → answer ≡ opened a → answer ≡ opened b → a ≡ b
 one_document a b answer first second = same_opened a b (sym first ∙ second)
-
-same_refusal : (v w : OpenRefusal) → not_opened v ≡ not_opened w → v ≡ w
-same_refusal v w e = cc
 
 -- a refused text ends a session by its refusal
 pub ends_not_opened : (error : OpenError) (answer : OpenAnswer) → IsRefusedBy (open_refusal_of error) answer → (why : OpenRefusal) → answer ≡ not_opened why → IsNotOpenedBy (ended_by error) why

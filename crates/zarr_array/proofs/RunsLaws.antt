@@ -1,5 +1,5 @@
 -- Commands that run one after another.
-use Rattle.std.proofs.Common.{◌≡◌, ℕ, zero, suc, ◌+◌, ◌-◌, ◌^◌, ◌<◌, ◌≤◌, ◌&&◌, List, [], ◌∷◌, ◌++◌, length, take, drop, map, get_or, slice_get, Option, Some, Result, Ok, Err, IfErr, Vec, None, IsSome, add-one, is_some, refl, sym, ap, ap₂, ◌∙◌, subst, arith, le_trans, inl}
+use Rattle.std.proofs.Common.{◌≡◌, ℕ, zero, suc, ◌+◌, ◌-◌, ◌^◌, ◌<◌, ◌≤◌, ◌&&◌, true, List, [], ◌∷◌, ◌++◌, length, take, drop, map, get_or, slice_get, Option, Some, Result, Ok, Err, IfErr, Vec, None, IsSome, add-one, is_some, refl, sym, ap, ap₂, ◌∙◌, subst, arith, le_trans, inl}
 use Rattle.std.specs.List.{list_all}
 use Rattle.std.proofs.lemmas.Bool.{and_parts}
 use Rattle.std.proofs.lemmas.List.{take-append-drop, map-append, take_all, length-map}
@@ -9,6 +9,7 @@ use Rattle.zarr_model.proofs.StoreLaws.{stored_array-meant, Means-from_whole}
 use Rattle.zarr_model.proofs.SessionLaws.{serves_from_whole, ServesWhole-append, LeavesKeys-none, LeavesKeys-append, LeavesKeys-more}
 use Rattle.zarr_model.proofs.StepLaws.{KeepsDamage-none, KeepsDamage-append, place-lifts, asks-lift, undecoded-lifts, stopped-lifts, starved-lifts}
 use Rattle.zarr_model.proofs.DamageLaws.{MeetsNoDamage-none, MeetsNoDamage-append}
+use Rattle.zarr_array.specs.Command.{is_read, AreReads}
 use Rattle.zarr_array.specs.Session.{HasSessionCause, FailsAt}
 use Rattle.zarr_array.proofs.HasRun.{HasRun}
 use Rattle.zarr_array.proofs.StoredLaws.{stores-none, stores-append, stays-append, stays-changed, stands-append}
@@ -112,6 +113,18 @@ pub command_here : {A B : Type 0} (f : A → B) (xs : List A) (i : ℕ) (x : A) 
 command_here f [] i x within is = absurd (omega arith)
 command_here f (y ∷ ys) zero x within is = ap (λ z. Some (f z)) (sym is)
 command_here f (y ∷ ys) (suc i) x within is = command_here f ys i x (omega arith) is
+
+-- a command of a list of reads is one
+pub read_here : (commands : List Command) (i : ℕ) (command : Command) → slice_get commands i ≡ Some command →
+    AreReads commands → AreReads (command ∷ [])
+read_here [] zero command e all = cc
+read_here [] (suc i) command e all = cc
+read_here (first ∷ commands) zero command e all =
+    let parts = and_parts (is_read first) (list_all is_read commands) all in
+    let same : first ≡ command = cc in
+    subst (λ c. AreReads (c ∷ [])) same (ap (λ b. b && true) parts.0)
+read_here (first ∷ commands) (suc i) command e all =
+    read_here commands i command e (and_parts (is_read first) (list_all is_read commands) all).1
 
 wholly_honest : (array : Description) (options : Options) (store : Content) (meant : Array Element) → WhollyMeans (layout array options) store meant → IsHonest (layout array options) store
 wholly_honest array options store meant means chunk is_chunk = subst IsSome (sym (means.each_chunk chunk is_chunk)) refl

@@ -1,18 +1,14 @@
 -- What is stored decodes under all options.
-use Rattle.std.proofs.Common.{◌≡◌, ℕ, Bool, true, false, ◌||◌, List, [], ◌∷◌, ◌++◌, IsSome, refl, sym, ap, ◌∙◌, subst, ◌⊎◌, inl, inr, ⊎_elim}
+use Rattle.std.proofs.Common.{◌≡◌, ℕ, Bool, true, false, ◌||◌, List, [], ◌∷◌, ◌++◌, IsSome, refl, sym, ◌∙◌, subst, ◌⊎◌, inl, inr, ⊎_elim}
 use Rattle.std.specs.List.{list_any}
 use Rattle.std.proofs.lemmas.Bool.{true≢false, cases_Bool, or_cases}
 use Rattle.std.proofs.lemmas.List.Folds.{list_any-append}
 use Rattle.std.proofs.lemmas.Option.{same_Some}
-use Rattle.zarr_model.specs.Prelude.{Element, Array, IsChunk, elements_in, Options, Content, Layout, WhollyMeans, box_content, chunk_content, Command, Description, layout, array_after, changes_chunk, ChunkHas, LeavesKeys}
+use Rattle.zarr_model.specs.Prelude.{Element, Array, IsChunk, elements_in, Options, Content, WhollyMeans, Command, Description, layout, array_after, changes_chunk, ChunkHas, LeavesKeys}
 use Rattle.zarr_model.proofs.RunLaws.{array_after-append}
 use Rattle.zarr_model.proofs.StepLaws.{both_none}
+use Rattle.zarr_array_regions.proofs.PartWayLaws.{content-same}
 use Rattle.zarr_array.specs.Stored.{DecodesForAll, IsChanged, StoresForAll, StaysOrDecodes, DamageStands}
-
--- a chunk whose key holds the same has the same content
-same_content : {E : Type 0} (place : Layout E) (old new : Content) (chunk : List ℕ) → new (place.key chunk) ≡ old (place.key chunk) →
-    chunk_content place new chunk ≡ chunk_content place old chunk
-same_content place old new chunk same = ap (box_content place (place.grid.chunk_box chunk)) same
 
 -- commands of which none changes a chunk
 pub stores-none : (array : Description) (options : Options) (commands : List Command) (old new : Content) →
@@ -45,7 +41,7 @@ module _ (array : Description) (options : Options) (commands more : List Command
       decodes = λ chunk is. changed_by chunk is (DecodesForAll array new chunk)
           (λ later. second.decodes chunk later)
           (λ earlier apart under. subst IsSome
-          (sym (same_content (layout array under) mid new chunk (keys.same_chunks chunk is.is_chunk apart))) (first.decodes chunk earlier under));
+          (sym (content-same (layout array under) mid new chunk (keys.same_chunks chunk is.is_chunk apart))) (first.decodes chunk earlier under));
       left = λ meant chunk under means is.
           let then = first_whole meant means in
           let after = array_after array more (array_after array commands meant) in
@@ -54,10 +50,10 @@ module _ (array : Description) (options : Options) (commands more : List Command
           (λ later. second.left (array_after array commands meant) chunk under then later)
           (λ earlier apart.
           let same = keys.same_chunks chunk is.is_chunk apart in
-          same_content (layout array under) mid new chunk same
+          content-same (layout array under) mid new chunk same
           ∙ (first.left meant chunk under means earlier
           ∙ (sym (then.each_chunk chunk is.is_chunk)
-          ∙ (sym (same_content (layout array options) mid new chunk same)
+          ∙ (sym (content-same (layout array options) mid new chunk same)
           ∙ (second_whole (array_after array commands meant) then).each_chunk chunk is.is_chunk)))));
     }
 
@@ -67,7 +63,7 @@ stays-append array old mid new first second chunk is_chunk = ⊎_elim
     (λ (same : new (array.key chunk) ≡ mid (array.key chunk)). ⊎_elim
     (λ (before : mid (array.key chunk) ≡ old (array.key chunk)). inl (same ∙ before))
     (λ (decodes : DecodesForAll array mid chunk). inr (λ under.
-    subst IsSome (sym (same_content (layout array under) mid new chunk same)) (decodes under)))
+    subst IsSome (sym (content-same (layout array under) mid new chunk same)) (decodes under)))
     (first chunk is_chunk))
     (λ (decodes : DecodesForAll array new chunk). inr decodes)
     (second chunk is_chunk)
@@ -86,4 +82,4 @@ pub stands-append : (array : Description) (options : Options) (commands more : L
 stands-append array options commands more old mid new first second chunk is_chunk damaged none =
     let parts = both_none array commands more chunk none in
     let before : mid (array.key chunk) ≡ old (array.key chunk) = first chunk is_chunk damaged parts.0 in
-    second chunk is_chunk (same_content (layout array options) old mid chunk before ∙ damaged) parts.1 ∙ before
+    second chunk is_chunk (content-same (layout array options) old mid chunk before ∙ damaged) parts.1 ∙ before

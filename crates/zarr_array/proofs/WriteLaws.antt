@@ -6,6 +6,7 @@ use Rattle.std.proofs.lemmas.Option.{slice_get_within, slice_get-get_or, get_or_
 use Rattle.zarr_model.specs.Prelude.{Region, Element, ArrayBytes, Array, written, IsChunk, chunks_meeting, CoversShape, Options, Content, IsSound, IsHonest, WhollyMeans, stored_array, box_content, chunk_content, Shown, Command, write, Description, kind, layout, refusal, written_elements, reply_of, array_of, after, answered_done, Matches, chunks_under, command_chunks, is_among, is_blank, counted, present_in, present_under, ChunkHas, IsPartWay, IsCutShort, IsDamageMet, MeetsNoDamage, KeepsDamage, IsLeftAt, LeavesKeys, ServesWhole}
 use Rattle.zarr_model.proofs.StoreLaws.{stored_array-meant}
 use Rattle.zarr_model.proofs.FailureLaws.{same_bytes, bytes_eq-refl, listed_is_chunk, chunks_under-once, part_way-end, part_way-fails}
+use Rattle.zarr_model.proofs.Choices.{alone}
 use Rattle.zarr_array_regions.specs.declared.error.SessionErrorKind.{SessionErrorKind}
 use Rattle.zarr_array_regions.specs.declared.error.SessionErrorKind.TheVariants.{NotOpened, ChunkDecode, Store, OutOfMemory}
 use Rattle.zarr_array_regions.specs.Write.{HoldsChunk, StopsChunk}
@@ -46,11 +47,6 @@ part_way-stays description covers options command k by_store before now old new 
   others = λ chunk is_chunk apart. content-same (layout description options) old new chunk (same (description.key chunk))
       ∙ part.others chunk is_chunk (λ place h. apart place (omega (arith, h)));
 }
-
--- a test of one command alone
-alone : (b : Bool) → (b || false) ≡ true → b ≡ true
-alone true e = refl
-alone false e = cc
 
 -- a write all of whose chunks decode meets no damage
 pub MeetsNoDamage-write : (description : Description) (options : Options) (region : Region) (value : ArrayBytes) (store : Content) →

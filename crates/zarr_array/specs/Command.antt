@@ -1,4 +1,6 @@
 -- What commands, replies and refusals stand for in the model of an array.
+use Rattle.std.specs.Prelude.{◌≡◌, Bool, true, false, List}
+use Rattle.std.specs.List.{list_all}
 use Rattle.zarr_model.specs.Command as Model
 use Rattle.zarrs_codec_array_bytes.specs.Raw.{raw_of}
 use Rattle.zarrs_array_subset.specs.ArraySubset.{region}
@@ -13,6 +15,16 @@ abbrev pub command_of : Command → Model.Command
 command_of (Read subset) = Model.read (region subset)
 command_of (Write subset bytes) = Model.write (region subset) (raw_of bytes)
 command_of (Erase chunk) = Model.erase chunk.items
+
+-- whether a command reads
+abbrev pub is_read : Model.Command → Bool
+is_read (Model.read region) = true
+is_read (Model.write region bytes) = false
+is_read (Model.erase chunk) = false
+
+-- each command of a list reads
+abbrev pub AreReads : List Model.Command → Type 0
+AreReads commands = list_all is_read commands ≡ true
 
 abbrev pub refusal_of : Refusal → Model.Refusal
 refusal_of IncompatibleDimensionality = Model.incompatible_dimensionality

@@ -19,7 +19,11 @@ abbrev pub ended_one : Result Reply SessionError → Ended
 ended_one (Ok reply) = Ok (answer_of reply ∷ [])
 ended_one (Err error) = Err error
 
+-- the error of a command that stands alone, which is number 0
+abbrev pub ended_alone : CommandError → SessionError
+ended_alone error = record { at = Some (0, error.chunks_done); kind = error.kind }
+
 -- one command, whose error says how many of its chunks were finished
 abbrev pub ended_step : Result Reply CommandError → Ended
 ended_step (Ok reply) = Ok (answer_of reply ∷ [])
-ended_step (Err error) = Err (record { at = Some (0, error.chunks_done); kind = error.kind })
+ended_step (Err error) = Err (ended_alone error)

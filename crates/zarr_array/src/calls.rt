@@ -16,7 +16,7 @@ use std::alloc::Global;
 use zarrs_array_subset::ArraySubset;
 use zarrs_codec_array_bytes::ArrayBytes;
 use zarrs_codec_options::CodecOptions;
-use zarrs_storage::store::Store;
+use zarrs_storage::Store;
 
 impl OpenArray {
     ghost use Rattle.zarr_array.specs.OpenArray.{documented, described};
@@ -45,16 +45,11 @@ impl OpenArray {
         ensures begun { IfErr result (λ error. (k : ℕ) × (error.at ≡ Some (0, k))) }
         ensures same { (key : List ℕ) →
             (S.shown store.new).content key ≡ (S.shown store.old).content key }
+        ensures kept { S.kept store.old store.new }
         ensures told { IfErr result (λ error. TellsWhy (documented self.now)
             (options_of options.now) (S.shown store.new) error.kind) }
     {
-        match self.run_read(alloc, region, store, options) {
-            Ok(reply) => Ok(reply),
-            Err(error) => Err(SessionError {
-                at: Some((0, error.chunks_done)),
-                kind: error.kind,
-            }),
-        }
+        Ok(self.run_read(alloc, region, store, options)?)
     }
 
     /// Writes elements to a region of the array, in its row-major order: done, or why it is refused. The bytes are of the
@@ -86,13 +81,7 @@ impl OpenArray {
         ensures told { IfErr result (λ error. TellsWhy (documented self.now)
             (options_of options.now) (S.shown store.new) error.kind) }
     {
-        match self.run_write(alloc, region, bytes, store, options) {
-            Ok(reply) => Ok(reply),
-            Err(error) => Err(SessionError {
-                at: Some((0, error.chunks_done)),
-                kind: error.kind,
-            }),
-        }
+        Ok(self.run_write(alloc, region, bytes, store, options)?)
     }
 
     /// Erases the chunk of these indices, so that all its elements are the fill value: done, or why it is refused.
@@ -118,12 +107,6 @@ impl OpenArray {
         ensures told { IfErr result (λ error. TellsWhy (documented self.now)
             (options_of options.now) (S.shown store.new) error.kind) }
     {
-        match self.run_erase(alloc, chunk, store, options) {
-            Ok(reply) => Ok(reply),
-            Err(error) => Err(SessionError {
-                at: Some((0, error.chunks_done)),
-                kind: error.kind,
-            }),
-        }
+        Ok(self.run_erase(alloc, chunk, store, options)?)
     }
 }

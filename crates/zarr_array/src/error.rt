@@ -2,10 +2,13 @@
 
 ghost use Rattle.std.specs.Prelude.{◌≡◌, None};
 
+use thiserror::Error;
+use zarr_array_regions::CommandError;
 pub use zarr_array_regions::SessionErrorKind;
 
 /// An error of a session.
-#[derive(Debug, Drop)]
+#[derive(Debug, Drop, Error)]
+#[error("{kind} (the command, and how many of its chunks were finished: {at:?})")]
 pub struct SessionError {
     /// The number of the command that failed, from 0, and how many of its chunks were finished, in row-major order.
     /// None where no command had begun.
@@ -20,5 +23,19 @@ impl SessionError {
         ensures { result ≡ record { at = None; kind = kind } }
     {
         SessionError { at: None, kind }
+    }
+}
+
+// The error of a command that stands alone, which is number 0.
+impl From<CommandError> for SessionError {
+    ghost use Rattle.zarr_array.specs.Ended.{ended_alone};
+
+    ghost from_gives = { λ step error. error ≡ ended_alone step };
+
+    fn from(step: CommandError) -> SessionError {
+        SessionError {
+            at: Some((0, step.chunks_done)),
+            kind: step.kind,
+        }
     }
 }

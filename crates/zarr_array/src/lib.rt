@@ -2,11 +2,11 @@
 #![tactic(auto)]
 
 mod calls;
-pub mod command;
-pub mod error;
-pub mod open;
-pub mod refusal;
-pub mod session;
+mod command;
+mod error;
+mod open;
+mod refusal;
+mod session;
 mod step;
 
 pub use command::{Command, Reply};
@@ -18,5 +18,10 @@ pub use zarr_array_regions::{
     BasicChain, ChainHandle, ChunkKeyKind, CodecKind, DataTypeKind, GridKind, OpenError,
     Registries, builtin_registries,
 };
+pub use zarrs_array_subset::ArraySubset;
+pub use zarrs_codec_array_bytes::{ArrayBytes, ArrayBytesOffsets};
+pub use zarrs_codec_error::CodecError;
 pub use zarrs_codec_options::CodecOptions;
+pub use zarrs_data_type::DataType;
 pub use zarrs_plugin::NamePattern;
+pub use zarrs_storage::{MemoryStore, Store, StoreKey};

@@ -5,7 +5,7 @@ ghost use Rattle.zarr_array_regions.specs.parts.Document.{ArrayDocument, describ
 ghost use Rattle.zarr_array_regions.specs.parts.Opening.{OpenRefusal, opened, not_opened, open_document};
 ghost use Rattle.zarr_array_regions.specs.parts.basics.Registries.{names_of};
 ghost use Rattle.zarr_array.specs.OpenError.{ended_by};
-ghost use Rattle.zarr_array.specs.Command.{command_of};
+ghost use Rattle.zarr_array.specs.Command.{command_of, AreReads};
 ghost use Rattle.zarrs_codec_traits.specs.Views.{options_of};
 ghost use Rattle.zarr_array.specs.Session.{EndsUnopened};
 ghost use Rattle.zarr_array_regions.specs.Told.{TellsWhy};
@@ -18,7 +18,7 @@ use crate::open::OpenArray;
 use std::alloc::Global;
 use zarr_array_regions::{OpenError, Registries};
 use zarrs_codec_options::CodecOptions;
-use zarrs_storage::store::Store;
+use zarrs_storage::Store;
 
 impl OpenArray {
     ghost use Rattle.zarr_array.specs.OpenArray.{documented, described};
@@ -43,6 +43,8 @@ impl OpenArray {
             (map command_of commands.now) (S.shown store.old) (S.shown store.new) (ended result) }
         ensures told { IfErr result (λ error. TellsWhy (documented self.now)
             (options_of options.now) (S.shown store.new) error.kind) }
+        // Reads keep what a store says that its reading calls keep.
+        ensures kept { AreReads (map command_of commands.now) → S.kept store.old store.new }
     {
         let mut replies = match Vec::with_capacity(alloc, commands.len()) {
             Ok(replies) => replies,
@@ -91,6 +93,8 @@ pub fn run_session<S: Store>(
         open_document (names_of registries.now) metadata.now ≡ opened document →
         IfErr result (λ error. TellsWhy document (options_of options.now) (S.shown store.new)
         error.kind) }
+    // Reads keep what a store says that its reading calls keep.
+    ensures kept { AreReads (map command_of commands.now) → S.kept store.old store.new }
 {
     match OpenArray::open(alloc, metadata, registries) {
         Ok(array) => array.run_commands(alloc, commands, store, options),

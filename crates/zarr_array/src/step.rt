@@ -4,7 +4,7 @@ ghost use Rattle.std.specs.Prelude.{IfErr, ◌≡◌, ℕ, List, [], ◌∷◌, 
 ghost use Rattle.zarrs_codec_array_bytes.specs.Raw.{raw_of};
 ghost use Rattle.zarr_model.specs.Prelude.{read, write, erase, AreRefused};
 ghost use Rattle.zarrs_array_subset.specs.ArraySubset.{region};
-ghost use Rattle.zarr_array.specs.Command.{command_of};
+ghost use Rattle.zarr_array.specs.Command.{command_of, AreReads};
 ghost use Rattle.zarrs_codec_traits.specs.Views.{options_of};
 ghost use Rattle.zarr_array_regions.specs.Told.{TellsWhy};
 ghost use Rattle.zarr_array.specs.Ended.{ended_step};
@@ -18,7 +18,7 @@ use zarr_array_regions::{CommandError, chunk_key, read_elements, write_elements}
 use zarrs_array_subset::ArraySubset;
 use zarrs_codec_array_bytes::ArrayBytes;
 use zarrs_codec_options::CodecOptions;
-use zarrs_storage::store::{StorageError, Store};
+use zarrs_storage::{StorageError, Store};
 
 impl OpenArray {
     ghost use Rattle.zarr_array.specs.OpenArray.{documented, described};
@@ -38,6 +38,7 @@ impl OpenArray {
             (read (region subset.now) ∷ []) → IsOk result }
         ensures same { (key : List ℕ) →
             (S.shown store.new).content key ≡ (S.shown store.old).content key }
+        ensures kept { S.kept store.old store.new }
         ensures told { IfErr result (λ error. TellsWhy (documented self.now)
             (options_of options.now) (S.shown store.new) error.kind) }
     {
@@ -115,6 +116,7 @@ impl OpenArray {
             (S.shown store.old) (S.shown store.new) (ended_step result) }
         ensures answered { AreRefused (described self.now)
             (command_of command.now ∷ []) → IsOk result }
+        ensures kept { AreReads (command_of command.now ∷ []) → S.kept store.old store.new }
         ensures told { IfErr result (λ error. TellsWhy (documented self.now)
             (options_of options.now) (S.shown store.new) error.kind) }
     {

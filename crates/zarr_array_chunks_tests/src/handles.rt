@@ -7,15 +7,12 @@ use crate::made::{key_of, opened, put, region};
 use std::alloc::{AllocError, Global};
 use std::num::NonZeroU64;
 use std::process::Abort;
-use zarr_array::open::OpenArray;
-use zarr_array::{ChainHandle, CodecOptions};
+use zarr_array::{ChainHandle, CodecOptions, OpenArray};
 use zarrs_array_subset::ArraySubset;
 use zarrs_codec_array_bytes::ArrayBytes;
 use zarrs_codec_array_bytes::array_bytes::bytes_in;
 use zarrs_codec_error::CodecError;
-use zarrs_storage::memory_store::MemoryStore;
-use zarrs_storage::store::Store;
-use zarrs_storage::store_key::StoreKey;
+use zarrs_storage::{MemoryStore, Store, StoreKey};
 
 // Two rows of three numbers of two bytes in a chunk, 7 where nothing is written. One is put on each, the greater byte
 // comes first, and a digest is last.

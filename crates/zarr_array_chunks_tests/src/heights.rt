@@ -3,14 +3,11 @@
 use crate::made::{opened, region};
 use std::alloc::Global;
 use std::process::Abort;
-use zarr_array::open::OpenArray;
-use zarr_array::{CodecOptions, Reply};
+use zarr_array::{CodecOptions, OpenArray, Reply};
 use zarr_test_parts::HEIGHTS;
 use zarrs_codec_array_bytes::ArrayBytes;
 use zarrs_codec_array_bytes::array_bytes::bytes_in;
-use zarrs_storage::memory_store::MemoryStore;
-use zarrs_storage::store::Store;
-use zarrs_storage::store_key::StoreKey;
+use zarrs_storage::{MemoryStore, Store, StoreKey};
 
 // Appends the elements of 300 columns of a row: the number of each in rows of 700.
 fn push_row(rt: &impl Abort, elements: &mut Vec<u8>, row: u32) {

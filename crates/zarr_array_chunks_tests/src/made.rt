@@ -3,12 +3,9 @@
 use std::alloc::Global;
 use std::ops::Range;
 use std::process::Abort;
-use zarr_array::builtin_registries;
-use zarr_array::open::OpenArray;
+use zarr_array::{OpenArray, builtin_registries};
 use zarrs_array_subset::ArraySubset;
-use zarrs_storage::memory_store::MemoryStore;
-use zarrs_storage::store::Store;
-use zarrs_storage::store_key::StoreKey;
+use zarrs_storage::{MemoryStore, Store, StoreKey};
 
 /// The array of a document.
 pub fn opened(rt: &impl Abort, alloc: Global, document: &str) -> OpenArray {

@@ -5,7 +5,7 @@ use std::alloc::Global;
 use std::process::Abort;
 use zarr_array::{CodecOptions, SessionErrorKind};
 use zarrs_codec_error::CodecError;
-use zarrs_storage::memory_store::MemoryStore;
+use zarrs_storage::MemoryStore;
 
 // Three bytes in a chunk, with a digest.
 const DIGESTS: &str =

@@ -9,9 +9,10 @@ use Rattle.zarrs_codec_bytes.specs.Picking.{AllBelow, gathered, replaced, size_i
 use Rattle.zarrs_codec_bytes.proofs.GatherLaws.{over_one_means, extract_means}
 use Rattle.zarrs_codec_bytes.proofs.ReplaceLaws.{over_one_below, zeros_below, zeros_pick}
 use Rattle.zarrs_codec_array_bytes.specs.Refusals.{lengths_refusal}
+use Rattle.zarrs_codec_array_bytes.proofs.ExtractLaws.{lengths_kept}
 use Rattle.zarrs_codec_array_bytes_update.specs.Pairs.{are_alike}
 use Rattle.zarr_array_elements.specs.Elements.{blanks}
-use Rattle.zarr_array_elements.proofs.MeansLaws.{some_list, alike_means, lengths_mean}
+use Rattle.zarr_array_elements.proofs.MeansLaws.{some_list, alike_means}
 
 -- a list of one element has its first
 one_alone : (list : List Element) → length list ≡ 1 → list ≡ get_or list 0 null ∷ []
@@ -30,7 +31,7 @@ module _ (kind : Kind) (blank : ArrayBytes) (blank_means : IsSome (meaning kind 
   blank_is = before_is ∙ ap Some (one_alone before (length-meaning kind 1 blank before before_is))
 
   pub blank_long : (size : ℕ) → size ≡ size_in (fixed_size kind) → lengths_refusal size 1 blank ≡ None
-  blank_long size size_is = ap (λ s. lengths_refusal s 1 blank) size_is ∙ lengths_mean kind 1 blank before before_is
+  blank_long size size_is = ap (λ s. lengths_refusal s 1 blank) size_is ∙ lengths_kept kind 1 blank before before_is
 
 module _ (kind : Kind) (count size number : ℕ) (indices lent picks : List ℕ) (blank grown new : ArrayBytes) (blank_means : IsSome (meaning kind 1 blank)) (given_means : IsSome (meaning kind (length indices) grown))
     (new_is : new ≡ grown) (size_is : size ≡ size_in (fixed_size kind)) (lent_is : lent ≡ indices) (number_is : number ≡ length indices)
@@ -51,7 +52,7 @@ module _ (kind : Kind) (count size number : ℕ) (indices lent picks : List ℕ)
   both_alike = alike_means kind 1 (length indices) blank new _ after (blank_is kind blank blank_means) new_given
 
   pub new_long : lengths_refusal size number new ≡ None
-  new_long = ap₂ (λ s n. lengths_refusal s n new) size_is number_is ∙ lengths_mean kind (length indices) new after new_given
+  new_long = ap₂ (λ s n. lengths_refusal s n new) size_is number_is ∙ lengths_kept kind (length indices) new after new_given
 
   pub gathered_given : (bytes : ArrayBytes) → bytes ≡ gathered size 1 picks blank new →
       meaning kind count bytes ≡ Some (replaced indices after (blanks kind count blank))

@@ -1,12 +1,15 @@
 -- Array bytes that are joined mean both lists, one behind the other.
-use Rattle.std.proofs.Common.{◌≡◌, ℕ, zero, suc, ◌+◌, ◌-◌, ◌*◌, ◌≤◌, ◌==◌, ◌&&◌, Bool, true, false, nat_le, if◌then◌else◌, List, [], ◌∷◌, ◌++◌, length, map, take, drop, Some, None, option_map, arith, ap, ap₂, sym, refl, ◌∙◌, subst, eqb-true, eq-eqb}
+use Rattle.std.proofs.Common.{◌≡◌, ℕ, zero, suc, ◌+◌, ◌-◌, ◌*◌, ◌≤◌, ◌==◌, ◌&&◌, Bool, true, false, nat_le, if◌then◌else◌, List, [], ◌∷◌, ◌++◌, length, map, take, drop, Some, option_map, arith, ap, ap₂, sym, refl, ◌∙◌, subst, eqb-true, eq-eqb}
 use Rattle.std.specs.List.{list_all}
 use Rattle.std.proofs.lemmas.Bool.{cond-true, and_parts, and_from, leb-true, le-leb}
 use Rattle.std.proofs.lemmas.List.{length-map, length-append, length-drop, take-append-le, drop-append-le, map-append}
 use Rattle.std.proofs.Math.Nat.{suc-mul, add-mul}
 use Rattle.zarr_model.specs.Element.{Element, of_bytes, Kind, fixed, variable, optional}
-use Rattle.zarr_model.specs.ArrayBytes.{ArrayBytes, fixed_bytes, variable_bytes, optional_bytes, pieces, between_offsets, offsets_rise_to, are_offsets, is_mask, masked, mask_over, meaning}
-use Rattle.zarr_model.proofs.BytesLaws.{when_some, mapped_some, length-meaning, mask_length}
+use Rattle.zarr_model.specs.ArrayBytes.{ArrayBytes, fixed_bytes, variable_bytes, optional_bytes, pieces, between_offsets, offsets_rise_to, are_offsets, is_mask, mask_over, meaning}
+use Rattle.zarr_model.proofs.BytesLaws.{when_some, length-meaning, mask_length}
+use Rattle.zarr_model.proofs.ListLaws.{list_all_joined, mask_over-append}
+use Rattle.zarr_model.proofs.RefusalLaws.{rise_within}
+use Rattle.zarrs_codec_bytes.proofs.MaskLaws.{masked_parts}
 use Rattle.zarr_array_elements.specs.Joined.{joined, joined_offsets}
 
 -- elements of one size
@@ -26,13 +29,6 @@ rise-shift place end from (to ∷ offsets) e =
     let parts = and_parts (nat_le from to) (offsets_rise_to end to offsets) e in
     let rises : from ≤ to = leb-true _ _ parts.0 in
     and_from (nat_le (place + from) (place + to)) (offsets_rise_to (place + end) (place + to) (map (λ offset. place + offset) offsets)) (le-leb (place + from) (place + to) (omega arith)) (rise-shift place end to offsets parts.1)
-
-rise-within : (end from : ℕ) (offsets : List ℕ) → offsets_rise_to end from offsets ≡ true → from ≤ end
-rise-within end from [] e = let same : from ≡ end = eqb-true from end e in omega arith
-rise-within end from (to ∷ offsets) e =
-    let parts = and_parts (nat_le from to) (offsets_rise_to end to offsets) e in
-    let rises : from ≤ to = leb-true _ _ parts.0 in
-    let rest : to ≤ end = rise-within end to offsets parts.1 in omega arith
 
 rise-append : (place end first : ℕ) (from to : List ℕ) → offsets_rise_to place first from ≡ true → offsets_rise_to end 0 to ≡ true → offsets_rise_to (place + end) first (from ++ map (λ offset. place + offset) to) ≡ true
 rise-append place end first [] to e f =
@@ -63,41 +59,17 @@ between-append value more first [] to e =
 between-append value more first (next ∷ from) to e =
     let parts = and_parts (nat_le first next) (offsets_rise_to (length value) next from) e in
     let rises : first ≤ next = leb-true _ _ parts.0 in
-    let within : next ≤ length value = rise-within (length value) next from parts.1 in
+    let within : next ≤ length value = rise_within (length value) next from parts.1 in
     ap₂ (λ a b. a ∷ b)
     (ap (take (next - first)) (drop-append-le first value more (omega arith)) ∙ take-append-le (next - first) (drop first value) more (omega (arith, length-drop first value)))
     (between-append value more next from to parts.1)
-
-list_all-append : (f : ℕ → Bool) (xs ys : List ℕ) → list_all f xs ≡ true → list_all f ys ≡ true → list_all f (xs ++ ys) ≡ true
-list_all-append f [] ys a b = b
-list_all-append f (x ∷ xs) ys a b = let parts = and_parts (f x) (list_all f xs) a in and_from (f x) (list_all f (xs ++ ys)) parts.0 (list_all-append f xs ys parts.1 b)
-
-mask_over-append : (mask over : List ℕ) (xs ys : List Element) → length mask ≡ length xs → mask_over (mask ++ over) (xs ++ ys) ≡ mask_over mask xs ++ mask_over over ys
-mask_over-append [] over [] ys e = refl
-mask_over-append [] over (x ∷ xs) ys e = absurd (omega (arith, e))
-mask_over-append (b ∷ mask) over [] ys e = absurd (omega (arith, e))
-mask_over-append (b ∷ mask) over (x ∷ xs) ys e = ap (λ rest. masked b x ∷ rest) (mask_over-append mask over xs ys (omega (arith, e)))
-
--- the parts of optional elements that mean a list
-pub record IsMasked (kind : Kind) (number : ℕ) (under : ArrayBytes) (mask : List ℕ) (all : List Element) : Type 0 where
-  pub list : List Element
-  pub is_flags : is_mask number mask ≡ true
-  pub means : meaning kind number under ≡ Some list
-  pub is : mask_over mask list ≡ all
-
-pub masked_parts : (kind : Kind) (number : ℕ) (under : ArrayBytes) (mask : List ℕ) (all : List Element) → meaning (optional kind) number (optional_bytes under mask) ≡ Some all → IsMasked kind number under mask all
-masked_parts kind number under mask all e = go (is_mask number mask) refl e
-  where
-    go : (t : Bool) → is_mask number mask ≡ t → (if t then option_map (mask_over mask) (meaning kind number under) else None) ≡ Some all → IsMasked kind number under mask all
-    go false t e = cc
-    go true t e = let parts = mapped_some (mask_over mask) (meaning kind number under) all e in record { list = parts.0; is_flags = t; means = parts.1; is = parts.2 }
 
 both_masks : (n m : ℕ) (mask over : List ℕ) → is_mask n mask ≡ true → is_mask m over ≡ true → is_mask (n + m) (mask ++ over) ≡ true
 both_masks n m mask over e f =
     let flags = λ (k : ℕ) (l : List ℕ) (h : is_mask k l ≡ true). (and_parts (length l == k) (list_all (λ b. nat_le b 1) l) h).1 in
     and_from (length (mask ++ over) == n + m) (list_all (λ b. nat_le b 1) (mask ++ over))
     (eq-eqb _ _ (length-append mask over ∙ ap₂ (λ p q. p + q) (mask_length n mask e) (mask_length m over f)))
-    (list_all-append (λ b. nat_le b 1) mask over (flags n mask e) (flags m over f))
+    (list_all_joined (λ b. nat_le b 1) mask over (flags n mask e) (flags m over f))
 
 both_offsets : (n m : ℕ) (value more from to : List ℕ) → are_offsets n (length value) from ≡ true → are_offsets m (length more) to ≡ true →
     (are_offsets (n + m) (length (value ++ more)) (joined_offsets (length value) from to) ≡ true)
@@ -145,11 +117,11 @@ joined_means variable n m (variable_bytes value from) (optional_bytes more over)
 joined_means variable n m (fixed_bytes value) second xs ys e f = cc
 joined_means variable n m (optional_bytes under mask) second xs ys e f = cc
 joined_means (optional kind) n m (optional_bytes under mask) (optional_bytes more over) xs ys e f =
-    let a = masked_parts kind n under mask xs e in
-    let b = masked_parts kind m more over ys f in
-    cond-true (is_mask (n + m) (mask ++ over)) _ _ (both_masks n m mask over a.is_flags b.is_flags)
-    ∙ (ap (option_map (mask_over (mask ++ over))) (joined_means kind n m under more a.list b.list a.means b.means)
-    ∙ ap Some (mask_over-append mask over a.list b.list (mask_length n mask a.is_flags ∙ sym (length-meaning kind n under a.list a.means)) ∙ ap₂ (λ p q. p ++ q) a.is b.is))
+    let a = masked_parts kind n mask under xs e in
+    let b = masked_parts kind m over more ys f in
+    cond-true (is_mask (n + m) (mask ++ over)) _ _ (both_masks n m mask over a.mask_is b.mask_is)
+    ∙ (ap (option_map (mask_over (mask ++ over))) (joined_means kind n m under more a.list b.list a.inner b.inner)
+    ∙ ap Some (mask_over-append mask over a.list b.list (mask_length n mask a.mask_is ∙ sym (length-meaning kind n under a.list a.inner)) ∙ ap₂ (λ p q. p ++ q) a.over b.over))
 joined_means (optional kind) n m (optional_bytes under mask) (fixed_bytes more) xs ys e f = cc
 joined_means (optional kind) n m (optional_bytes under mask) (variable_bytes more to) xs ys e f = cc
 joined_means (optional kind) n m (fixed_bytes value) second xs ys e f = cc

@@ -1,15 +1,14 @@
 -- What array bytes that mean a list are: of one kind, as long as the list, and sound.
-use Rattle.std.proofs.Common.{◌≡◌, ℕ, suc, ◌+◌, ◌==◌, ◌&&◌, Bool, true, false, nat_le, nat_lt, not, List, [], ◌∷◌, length, Option, Some, None, IsSome, unwrap_or, arith, ap₂, refl, eqb-true, eq-eqb}
-use Rattle.std.proofs.lemmas.Bool.{and_parts, and_from, le-leb, lt-ltb}
-use Rattle.zarr_model.specs.Element.{Element, Kind, fixed, variable, optional, fixed_size}
+use Rattle.std.proofs.Common.{◌≡◌, ℕ, suc, ◌+◌, ◌==◌, ◌&&◌, Bool, true, false, nat_lt, List, [], ◌∷◌, length, Option, Some, None, IsSome, unwrap_or, arith, refl}
+use Rattle.std.proofs.lemmas.Bool.{and_parts, and_from, lt-ltb}
+use Rattle.zarr_model.specs.Element.{Element, Kind, fixed, variable, optional}
 use Rattle.zarr_model.specs.ArrayBytes.{ArrayBytes, fixed_bytes, variable_bytes, optional_bytes, offsets_rise_to, are_offsets, meaning}
-use Rattle.zarr_model.specs.Command.{Refusal, refused_if, or_then, invalid_mask}
-use Rattle.zarr_model.proofs.BytesLaws.{when_some, mask_length}
-use Rattle.zarrs_codec_bytes.specs.Picking.{size_in, stay_within}
-use Rattle.zarrs_codec_array_bytes.specs.Refusals.{lengths_refusal}
+use Rattle.zarr_model.proofs.BytesLaws.{when_some}
+use Rattle.zarrs_codec_bytes.specs.Picking.{stay_within}
+use Rattle.zarrs_codec_bytes.proofs.ValueLaws.{rising_within}
+use Rattle.zarrs_codec_bytes.proofs.MaskLaws.{masked_parts}
 use Rattle.zarrs_codec_array_bytes_update.specs.Pairs.{are_alike}
 use Rattle.zarr_array_elements.specs.Grown.{are_sound}
-use Rattle.zarr_array_elements.proofs.JoinLaws.{masked_parts}
 
 -- the list that is meant
 pub some_list : {A : Type 0} (o : Option (List A)) → IsSome o → o ≡ Some (unwrap_or o [])
@@ -28,43 +27,13 @@ alike_means variable n m (variable_bytes value from) (optional_bytes more over) 
 alike_means variable n m (fixed_bytes value) second xs ys e f = cc
 alike_means variable n m (optional_bytes under mask) second xs ys e f = cc
 alike_means (optional kind) n m (optional_bytes under mask) (optional_bytes more over) xs ys e f =
-    let a = masked_parts kind n under mask xs e in
-    let b = masked_parts kind m more over ys f in
-    alike_means kind n m under more a.list b.list a.means b.means
+    let a = masked_parts kind n mask under xs e in
+    let b = masked_parts kind m over more ys f in
+    alike_means kind n m under more a.list b.list a.inner b.inner
 alike_means (optional kind) n m (optional_bytes under mask) (fixed_bytes more) xs ys e f = cc
 alike_means (optional kind) n m (optional_bytes under mask) (variable_bytes more to) xs ys e f = cc
 alike_means (optional kind) n m (fixed_bytes value) second xs ys e f = cc
 alike_means (optional kind) n m (variable_bytes value from) second xs ys e f = cc
-
-kept : (b : Bool) (why : Refusal) → b ≡ true → refused_if (not b) why ≡ None
-kept true why e = refl
-kept false why e = cc
-
-offsets_long : (number end : ℕ) (offsets : List ℕ) → are_offsets number end offsets ≡ true → (length offsets == number + 1) ≡ true
-offsets_long number end [] e = cc
-offsets_long number end (first ∷ offsets) e =
-    let long : length offsets ≡ number = eqb-true _ _ (and_parts _ _ e).0 in
-    eq-eqb _ _ (let all : suc (length offsets) ≡ number + 1 = omega (arith, long) in all)
-
-pub lengths_mean : (kind : Kind) (number : ℕ) (raw : ArrayBytes) (xs : List Element) → meaning kind number raw ≡ Some xs → lengths_refusal (size_in (fixed_size kind)) number raw ≡ None
-lengths_mean (fixed n) number (fixed_bytes value) xs e = kept _ _ (when_some _ _ _ e).0
-lengths_mean (fixed n) number (variable_bytes value offsets) xs e = cc
-lengths_mean (fixed n) number (optional_bytes under mask) xs e = cc
-lengths_mean variable number (fixed_bytes value) xs e = cc
-lengths_mean variable number (variable_bytes value offsets) xs e = kept _ _ (offsets_long number (length value) offsets (when_some _ _ _ e).0)
-lengths_mean variable number (optional_bytes under mask) xs e = cc
-lengths_mean (optional kind) number (fixed_bytes value) xs e = cc
-lengths_mean (optional kind) number (variable_bytes value offsets) xs e = cc
-lengths_mean (optional kind) number (optional_bytes under mask) xs e =
-    let inner = masked_parts kind number under mask xs e in
-    ap₂ or_then (kept _ invalid_mask (eq-eqb _ _ (mask_length number mask inner.is_flags))) (lengths_mean kind number under inner.list inner.means)
-
--- offsets that rise to the end of their bytes
-rising_within : (end from : ℕ) (offsets : List ℕ) → offsets_rise_to end from offsets ≡ true → stay_within end (from ∷ offsets) ≡ true
-rising_within end from [] rises = let same : from ≡ end = eqb-true from end rises in le-leb from end (omega (arith, same))
-rising_within end from (to ∷ offsets) rises =
-    let parts = and_parts (nat_le from to) (offsets_rise_to end to offsets) rises in
-    and_from (nat_le from to) (stay_within end (to ∷ offsets)) parts.0 (rising_within end to offsets parts.1)
 
 sound_offsets : (number : ℕ) (value offsets : List ℕ) → are_offsets number (length value) offsets ≡ true → (nat_lt 0 (length offsets) && stay_within (length value) offsets) ≡ true
 sound_offsets number value [] e = cc
@@ -83,4 +52,4 @@ sound_means variable number (optional_bytes under mask) xs e = cc
 sound_means (optional kind) number (fixed_bytes value) xs e = cc
 sound_means (optional kind) number (variable_bytes value offsets) xs e = cc
 sound_means (optional kind) number (optional_bytes under mask) xs e =
-    let inner = masked_parts kind number under mask xs e in sound_means kind number under inner.list inner.means
+    let parts = masked_parts kind number mask under xs e in sound_means kind number under parts.list parts.inner

@@ -9,6 +9,7 @@ use Rattle.zarr_model.specs.ArrayBytes.{ArrayBytes, fixed_bytes, variable_bytes,
 use Rattle.zarr_model.specs.Command.{has_long_element}
 use Rattle.zarr_model.proofs.BytesLaws.{length-meaning, length-mask_over, mask_length}
 use Rattle.zarr_model.proofs.RegionLaws.{place_below}
+use Rattle.zarr_model.proofs.ListLaws.{list_all-at}
 use Rattle.zarrs_codec_bytes.specs.Elements.{fixed_elements}
 use Rattle.zarrs_codec_bytes.specs.Overlap.{Copied}
 use Rattle.zarrs_codec_bytes.specs.Picking.{piece_of, size_in}
@@ -75,11 +76,6 @@ byte_at bytes i h =
 list_all-from : (f : ℕ → Bool) (xs : List ℕ) → ((i : ℕ) → i < length xs → f (get_or xs i 0) ≡ true) → list_all f xs ≡ true
 list_all-from f [] each = refl
 list_all-from f (x ∷ xs) each = and_from (f x) (list_all f xs) (each 0 (omega arith)) (list_all-from f xs (λ i h. each (suc i) (omega (arith, h))))
-
-list_all-at : (f : ℕ → Bool) (xs : List ℕ) (i : ℕ) → list_all f xs ≡ true → i < length xs → f (get_or xs i 0) ≡ true
-list_all-at f [] i a h = absurd (omega arith)
-list_all-at f (x ∷ xs) zero a h = (and_parts (f x) (list_all f xs) a).0
-list_all-at f (x ∷ xs) (suc i) a h = list_all-at f xs i (and_parts (f x) (list_all f xs) a).1 (omega arith)
 
 -- masks and what stands under them, of two boxes
 module _ (target source : Region) (mask was_mask new_mask : List ℕ) (is_mask_source : is_mask (count source) mask ≡ true) (is_mask_target : is_mask (count target) was_mask ≡ true)

@@ -5,14 +5,14 @@ use Rattle.std.proofs.lemmas.Bool.Decides.{nat_tests}
 use Rattle.std.proofs.lemmas.List.{length-map, get_or-map, same_lists, get_or_default}
 use Rattle.std.proofs.lemmas.Simd.{map-map}
 use Rattle.zarr_model.specs.Region.{Region, starts, sizes, count, count_of, whole, contains, place, tuple_at, tuples, linear_index, ends_within}
-use Rattle.zarr_model.proofs.RegionLaws.{place_below, contains-tuple_at, get_or-tuples, length-tuples, tuple_at-place, place-tuple_at}
+use Rattle.zarr_model.proofs.RegionLaws.{place_below, contains-tuple_at, get_or-tuples, length-tuples, tuple_at-place, place-tuple_at, count_whole}
 use Rattle.zarrs_array_subset.specs.Boxes.{overlap_of, moved_back, starts_past}
 use Rattle.zarrs_array_subset.proofs.MoveLaws.{overlap_is_both}
 use Rattle.zarr_array_elements.specs.Shared.{shared_in}
 use Rattle.zarrs_codec_bytes.specs.Overlap.{Copied}
 use Rattle.zarrs_codec_bytes.specs.Picking.{AllBelow, picked, replaced, last_given}
 use Rattle.zarrs_codec_bytes.proofs.ReplaceLaws.{get_or-replaced, length-replaced}
-use Rattle.zarrs_codec_bytes.proofs.RowLaws.{count-whole, indices_below}
+use Rattle.zarrs_codec_bytes.proofs.RowLaws.{indices_below}
 use Rattle.zarrs_chunk_grid_iterators.proofs.BoxFacts.{box_inside}
 
 -- the last element that is given to a place, where each that is given to it is one and the same
@@ -51,7 +51,7 @@ place-moved (first ∷ box) (span ∷ part) k h =
     let parts = and_parts (nat_le first.start span.start) (starts_past part (starts box)) h in
     let low : first.start ≤ span.start = leb-true _ _ parts.0 in
     let same : count (moved_back part (starts box)) ≡ count part = count-moved part (starts box) parts.1 in
-    let count_box : count (whole (sizes box)) ≡ count box = count-whole (sizes box) in
+    let count_box : count (whole (sizes box)) ≡ count box = count_whole (sizes box) in
     let first_same : span.start - first.start + k / count (moved_back part (starts box)) - 0 ≡ span.start + k / count part - first.start =
     ap (λ n. span.start - first.start + k / n - 0) same ∙ omega (arith, low) in
     ap₂ (λ a b. a * b + place (whole (sizes box)) (tuple_at (moved_back part (starts box)) (k % count (moved_back part (starts box))))) first_same count_box

@@ -2,13 +2,12 @@
 
 ghost use Rattle.std.specs.Prelude.{◌≡◌, ◌+◌, ◌*◌, ◌<◌, ◌^◌, false, Some, IsSome, length, IfOk};
 ghost use Rattle.zarr_model.specs.Region.{count};
-ghost use Rattle.zarr_model.specs.Element.{fixed_size};
 ghost use Rattle.zarr_model.specs.ArrayBytes.{meaning};
 ghost use Rattle.zarr_model.specs.Command.{has_long_element};
 ghost use Rattle.zarrs_array_subset.specs.ArraySubset.{region};
 ghost use Rattle.zarrs_codec_bytes.specs.Overlap.{Copied};
 ghost use Rattle.zarrs_codec_array_bytes.specs.Raw.{raw_of};
-ghost use Rattle.zarrs_codec_array_bytes.specs.Steps.{kind_seen, bytes_seen, size_seen};
+ghost use Rattle.zarrs_codec_array_bytes.specs.Steps.{kind_seen, bytes_seen};
 ghost use Rattle.zarr_array_elements.specs.Elements.{list_in, PutsOverlap};
 
 use crate::fixed::put_fixed;
@@ -18,18 +17,7 @@ use zarrs_array_subset::ArraySubset;
 use zarrs_codec_array_bytes::ArrayBytes;
 use zarrs_codec_array_bytes::array_bytes::step::element_size;
 use zarrs_codec_array_bytes_update::update_array_bytes;
-use zarrs_data_type_names::DataType;
-use zarrs_metadata_parts::DataTypeSize;
-
-// The size of a data type's elements.
-fn size_of_type(data_type: &DataType) -> DataTypeSize
-    ensures { fixed_size (kind_seen data_type.now) ≡ size_seen result }
-{
-    match data_type.fixed_size() {
-        Some(size) => DataTypeSize::Fixed(size),
-        None => DataTypeSize::Variable,
-    }
-}
+use zarrs_data_type_names::{DataType, type_size};
 
 // A chunk of elements of any kind, with those that a box shares with it replaced.
 fn put_listed(
@@ -59,7 +47,7 @@ fn put_listed(
     let part = shared_part(alloc, chunk_subset, subset)?;
     let piece = piece_in(alloc, data_type, bytes, subset, &part)?;
     let at = part_in(alloc, &part, chunk_subset)?;
-    let size = size_of_type(data_type);
+    let size = type_size(data_type);
     match update_array_bytes(alloc, chunk, chunk_subset.shape(), &at, &piece, size) {
         Ok(bytes) => Ok(bytes),
         Err(_) => Err(AllocError),

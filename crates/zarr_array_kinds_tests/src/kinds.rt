@@ -4,8 +4,7 @@ use crate::made::{is_told, masked, region, replies};
 use std::alloc::Global;
 use std::borrow::CowSlice;
 use std::process::Abort;
-use zarr_array::Reply;
-use zarr_array::command::Command;
+use zarr_array::{Command, Reply};
 use zarrs_codec_array_bytes::{ArrayBytes, ArrayBytesOffsets};
 
 // Two texts, each in a chunk.

@@ -4,12 +4,10 @@ use std::alloc::Global;
 use std::borrow::CowSlice;
 use std::ops::Range;
 use std::process::Abort;
-use zarr_array::command::Command;
-use zarr_array::session::run_session;
-use zarr_array::{CodecOptions, Reply, builtin_registries};
+use zarr_array::{CodecOptions, Command, Reply, builtin_registries, run_session};
 use zarrs_array_subset::ArraySubset;
 use zarrs_codec_array_bytes::ArrayBytes;
-use zarrs_storage::memory_store::MemoryStore;
+use zarrs_storage::MemoryStore;
 
 /// The region of these ranges.
 pub fn region(rt: &impl Abort, alloc: Global, ranges: &[Range<u64>]) -> ArraySubset {

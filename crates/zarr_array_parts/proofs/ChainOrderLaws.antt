@@ -2,8 +2,8 @@
 use Rattle.std.proofs.Common.{◌≡◌, ℕ, ◌+◌, ◌<◌, ◌≤◌, List, [], ◌∷◌, ◌++◌, length, map, drop, get_or, Option, Some, None, option_map, Ok, Err, refl, sym, ap, ◌∙◌, arith}
 use Rattle.std.proofs.lemmas.List.{map-append, at_drop_more, append_assoc, append-nil, length-append}
 use Rattle.std.proofs.Math.Seq.{drop-length}
-use Rattle.zarrs_codec_metadata.specs.declared.codec.Codec.{Codec}
-use Rattle.zarrs_codec_metadata.specs.declared.codec.Codec.TheVariants as code
+use Rattle.zarrs_codec_traits.specs.declared.codec.Codec.{Codec}
+use Rattle.zarrs_codec_traits.specs.declared.codec.Codec.TheVariants as code
 use Rattle.zarr_basics.specs.kinds.CodecForm.{CodecForm, sha256, form_of}
 use Rattle.zarr_basics.specs.kinds.declared.array_to_array.BasicArrayToArray.{BasicArrayToArray}
 use Rattle.zarr_codecs_array_to_bytes.specs.declared.codecs.BasicArrayToBytes.{BasicArrayToBytes}

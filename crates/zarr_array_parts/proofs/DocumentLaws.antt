@@ -8,6 +8,7 @@ use Rattle.zarr_basics.specs.Keys.{IsCountable}
 use Rattle.zarr_codecs_array_to_bytes.specs.Plain.{codec_of}
 use Rattle.zarr_array_parts.specs.Sizes.{are_countable}
 use Rattle.zarr_array_parts.specs.Document.{ArrayDocument, ArrayToArray, offset, transpose, array_codec_of, describe}
+use Rattle.zarr_array_parts.specs.Opening.{opened, not_opened, OpenRefusal}
 
 -- each number of chunks has a u64's range
 pub countable_is : (grid_shape : List ℕ) → are_countable grid_shape ≡ true → IsCountable grid_shape
@@ -31,3 +32,11 @@ describe-sound document options apart = record {
       _ value elements e;
   keys_apart = apart;
 }
+
+-- a text is opened as one document
+pub same_opened : (a b : ArrayDocument) → opened a ≡ opened b → a ≡ b
+same_opened a b e = cc
+
+-- and refused as one refusal says
+pub same_refusal : (v w : OpenRefusal) → not_opened v ≡ not_opened w → v ≡ w
+same_refusal v w e = cc

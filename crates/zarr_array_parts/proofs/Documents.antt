@@ -17,8 +17,8 @@ use Rattle.zarr_basics_grids.specs.GridForms.{regular}
 use Rattle.zarr_basics.specs.Configurations.{given_separator}
 use Rattle.zarr_basics.specs.kinds.codecs.BytesCodec.{given_order}
 use Rattle.zarr_basics.specs.kinds.offset.Offset.{offset_in}
-use Rattle.zarrs_metadata_parts.specs.declared.array.endianness.Endianness.{Endianness}
-use Rattle.zarrs_metadata_parts.specs.declared.array.endianness.Endianness.TheVariants.{Little, Big}
+use Rattle.zarr_model.specs.declared.endianness.Endianness.{Endianness}
+use Rattle.zarr_model.specs.declared.endianness.Endianness.TheVariants.{Little, Big}
 use Rattle.zarr_codecs_array_to_bytes.specs.Plain.{Plain, plain_bytes, plain_vlen, plain_optional}
 use Rattle.zarr_codecs_array_to_bytes.specs.Inner.{inner_in}
 use Rattle.zarr_array_parts.specs.Document.{ArrayDocument, ArrayToArray, offset, BytesToBytes, checksum, ChainForm, document_with}

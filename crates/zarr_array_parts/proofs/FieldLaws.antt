@@ -6,7 +6,7 @@ use Rattle.zarrs_metadata_values.specs.Reading.{FailsBy, from_json, or_invalid}
 use Rattle.zarrs_metadata_values.specs.declared.error.MetadataError.{MetadataError}
 use Rattle.zarrs_metadata_values.specs.declared.error.MetadataError.TheVariants.{InvalidJson, FloatNumber, InvalidMetadata, OutOfMemory}
 use Rattle.zarrs_metadata.specs.ArrayMetadata.{ArrayFields}
-use Rattle.zarrs_metadata_nodes.specs.AnyArray.{AnyArray, array_3, any_array_of}
+use Rattle.zarrs_metadata.specs.AnyArray.{AnyArray, array_3, any_array_of}
 use Rattle.zarr_array_parts.specs.Opening.{unsupported_version, expect_version_3, fields_if, fields_read}
 use Rattle.zarr_array_parts.specs.OpenError.{open_refusal_of, unread_as}
 use Rattle.zarr_array_parts.specs.Parts.{StopsBy}

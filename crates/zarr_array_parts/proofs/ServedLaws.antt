@@ -1,5 +1,6 @@
 -- What the parts of an array say of the array that its document describes.
 use Rattle.std.proofs.Common.{◌≡◌, ℕ, ◌+◌, ◌*◌, ◌^◌, ◌<◌, ◌||◌, ◌&&◌, not, nat_le, Bool, true, false, List, length, Option, Some, None, refl, sym, ap, ◌∙◌, arith, ◌==◌}
+use Rattle.std.proofs.lemmas.Bool.{or_parts}
 use Rattle.zarr_model.specs.Prelude.{Region, count, starts, sizes, ends_within, IsChunk, CoversShape, Options, IsSound, layout, kind, fixed_size, is_too_large, region_refusal, refused_if, or_then, incompatible_dimensionality, subset_out_of_bounds, region_too_large}
 use Rattle.zarrs_array_subset.specs.Boxes.{is_box}
 use Rattle.zarrs_data_type_elements.specs.FillValue.{fill_bytes}
@@ -27,20 +28,15 @@ described_sound array options = describe-sound (documented array) options
     (λ chunk other. keys_differ array.keys (described array).grid chunk other (countable_is (described array).grid.grid_shape array.countable))
 
 -- a number of elements that is not too large, and neither are its bytes
-either_true : (a b : Bool) → (a || b) ≡ false → (a ≡ false) × (b ≡ false)
-either_true false false e = (refl, refl)
-either_true true b e = cc
-either_true false true e = cc
-
 pub counts_of : (size : Option ℕ) (number : ℕ) → is_too_large size number ≡ false → (number + 1 < 2 ^ 64) × (number * size_in size < 2 ^ 64)
 counts_of None number h = (not_above (2 ^ 64) (number + 1) h, omega arith)
 counts_of (Some size) number h =
-    let parts = either_true (nat_le (2 ^ 64) (number + 1)) (nat_le (2 ^ 64) (number * size)) h in
+    let parts = or_parts (nat_le (2 ^ 64) (number + 1)) (nat_le (2 ^ 64) (number * size)) h in
     (not_above (2 ^ 64) (number + 1) parts.0, not_above (2 ^ 64) (number * size) parts.1)
 
 -- no chunk is too large
 pub not_large : (array : ArrayParts) → has_large_chunk (described array).grid (fixed_size (kind (described array))) ≡ false
-not_large array = (either_true (has_large_chunk (described array).grid (fixed_size (kind (described array)))) _ array.fits).0
+not_large array = (or_parts (has_large_chunk (described array).grid (fixed_size (kind (described array)))) _ array.fits).0
 
 -- each chunk's box ends within 64 bits, has elements, and has room
 pub chunk_fits : (array : ArrayParts) (chunk : List ℕ) → IsChunk (described array).grid chunk →
@@ -65,13 +61,13 @@ long_parts : (array : ArrayParts) → stores_lengths (plain_of array.to_bytes) �
     has_long_chunk (described array).grid (innermost_fill (kind (described array)) (fill_bytes array.fill)) ≡ false
 long_parts array stores =
     ap (λ b. b && has_long_chunk (described array).grid (innermost_fill (kind (described array)) (fill_bytes array.fill))) (sym stores)
-    ∙ (either_true (has_large_chunk (described array).grid (fixed_size (kind (described array)))) _ array.fits).1
+    ∙ (or_parts (has_large_chunk (described array).grid (fixed_size (kind (described array)))) _ array.fits).1
 
 pub chunk_short : (array : ArrayParts) (chunk : List ℕ) → IsChunk (described array).grid chunk → stores_lengths (plain_of array.to_bytes) ≡ true →
     (count ((described array).grid.chunk_box chunk) < 2 ^ 32) × (length (innermost_fill (kind (described array)) (fill_bytes array.fill)) < 2 ^ 32)
 chunk_short array chunk is_chunk stores =
     let filler = innermost_fill (kind (described array)) (fill_bytes array.fill) in
-    let parts = either_true (nat_le (2 ^ 32) (count ((described array).grid.chunk_box chunk))) (nat_le (2 ^ 32) (length filler)) (short_chunk (described array).grid filler chunk (long_parts array stores) is_chunk) in
+    let parts = or_parts (nat_le (2 ^ 32) (count ((described array).grid.chunk_box chunk))) (nat_le (2 ^ 32) (length filler)) (short_chunk (described array).grid filler chunk (long_parts array stores) is_chunk) in
     (not_above (2 ^ 32) (count ((described array).grid.chunk_box chunk)) parts.0, not_above (2 ^ 32) (length filler) parts.1)
 
 -- a region that is not refused lies inside, and has room

@@ -2,7 +2,7 @@
 use Rattle.std.proofs.Common.{◌≡◌, ℕ, zero, suc, ◌^◌, ◌<◌, ◌≤◌, Bool, true, false, List, length, Option, Some, None, refl, sym, ap, ◌∙◌, arith}
 use Rattle.std.proofs.lemmas.Bool.{leb-true}
 use Rattle.zarr_model.specs.Prelude.{DataType, bool_type, int_type, uint_type, raw_type, string_type, bytes_type, optional_type, Kind, fixed, variable, optional, kind_of, fixed_size, has_long_element}
-use Rattle.zarrs_metadata_parts.specs.declared.array.endianness.Endianness.{Endianness}
+use Rattle.zarr_model.specs.declared.endianness.Endianness.{Endianness}
 use Rattle.zarrs_data_type_elements.specs.CodecSupport.{at_least_one, bytes_table}
 use Rattle.zarrs_data_type_names.specs.DataType.{is_type, inner_of}
 use Rattle.zarrs_codec_bytes.specs.Filling.{inner_fill, innermost_fill, filled_with}

@@ -1,7 +1,7 @@
 -- What an array document says, by the names of this project's grids, keys and codecs, and the array
 -- that it describes.
 use Rattle.std.specs.Prelude.{ℕ, ℤ, List, map, Option, unwrap_or}
-use Rattle.zarr_model.specs.Prelude.{Element, null, DataType, kind_of, fill_element, KeyEncoding, chunk_key, Options, ArrayCodec, decode_array_to_bytes, offset_codec, transpose_codec, checksum_codec, Description}
+use Rattle.zarr_model.specs.Prelude.{Element, null, DataType, kind_of, fill_element, KeyEncoding, chunk_key, Options, ArrayCodec, decode_array_to_bytes, offset_codec, transpose_codec, checksum_codec, Description, finds_part}
 use Rattle.zarr_codecs_array_to_bytes.specs.Plain.{Plain, codec_of}
 use Rattle.zarr_basics_grids.specs.GridForms.{ChunkGrid, grid_of}
 
@@ -52,6 +52,7 @@ describe document = record {
     to_elements = decode_array_to_bytes options (codec_of document.to_bytes);
     byte_codecs = map (byte_codec_of options) document.byte_codecs;
   };
+  finds = λ options. finds_part (codec_of document.to_bytes);
 }
 
 -- the element that the bytes of a fill value denote, where they denote one

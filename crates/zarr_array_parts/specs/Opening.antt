@@ -9,7 +9,7 @@ use Rattle.zarrs_plugin.specs.Registry.{Names, find}
 use Rattle.zarrs_metadata_parts.specs.AdditionalField.{AdditionalField}
 use Rattle.zarrs_metadata_parts.specs.MetadataV3.{Extension}
 use Rattle.zarrs_metadata.specs.ArrayMetadata.{ArrayFields}
-use Rattle.zarrs_metadata_nodes.specs.AnyArray.{AnyArray, array_3, array_2, any_array_of}
+use Rattle.zarrs_metadata.specs.AnyArray.{AnyArray, array_3, array_2, any_array_of}
 use Rattle.zarrs_data_type.specs.FillMetadata.{fill_of}
 use Rattle.zarrs_plugin.specs.Making.{Unmade, unsupported, config, other}
 use Rattle.zarrs_data_type.specs.Making.{type_by}

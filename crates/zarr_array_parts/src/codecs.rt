@@ -9,7 +9,7 @@ ghost use Rattle.zarr_array_parts.specs.Parts.{Opens};
 use crate::open_error::OpenError;
 use std::alloc::{AllocError, Global};
 use zarr_basics::{BasicArrayToArray, BasicArrayToBytes, BasicBytesToBytes, BasicCodec};
-use zarrs_codec_metadata::Codec;
+use zarrs_codec_traits::Codec;
 
 // The codecs of a chain.
 #[derive(Drop)]

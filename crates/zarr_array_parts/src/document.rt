@@ -7,8 +7,7 @@ ghost use Rattle.zarr_array_parts.specs.Parts.{Opens};
 
 use crate::open_error::OpenError;
 use std::alloc::Global;
-use zarrs_metadata::ArrayMetadataV3;
-use zarrs_metadata_nodes::ArrayMetadata;
+use zarrs_metadata::{ArrayMetadata, ArrayMetadataV3};
 
 // The version 3 document that a text is.
 #[tactic(auto, using(crate::proofs::FieldLaws::read_3, crate::proofs::FieldLaws::read_2, crate::proofs::FieldLaws::not_read))]

@@ -20,7 +20,7 @@ use crate::open_error::OpenError;
 use std::alloc::Global;
 use zarr_basics::{BasicCodec, BasicGrid, ChunkKeyEncoding, ChunkKeyKind, CodecKind, GridKind};
 use zarrs_chunk_grid_traits::GridMaker;
-use zarrs_codec_metadata::{CodecMaker, CodecMetadata};
+use zarrs_codec_traits::{CodecMaker, CodecMetadata};
 use zarrs_data_type::{
     DataType, DataTypeKind, DataTypeMetadata, DataTypeTraits, FillMetadataFault, FillValue,
 };

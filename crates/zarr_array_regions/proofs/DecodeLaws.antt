@@ -1,7 +1,7 @@
 -- The chunks that a read met decode.
 use Rattle.std.proofs.Common.{◌≡◌, ℕ, ◌+◌, ◌<◌, ◌≤◌, List, length, slice_get, Some, IsSome, sym, ap, ◌∙◌, subst, arith, ⊎_elim}
 use Rattle.std.proofs.Math.Nat.{eq-or-lt_of_le}
-use Rattle.std.proofs.lemmas.Option.{slice_get_within}
+use Rattle.std.proofs.lemmas.Option.{slice_get_within, same_Some}
 use Rattle.zarr_model.specs.Prelude.{Element, Content, Layout, box_content, chunk_content}
 
 -- the chunks of a list below a place, and the one there
@@ -12,13 +12,10 @@ decode-step place chunks old mid n here is same before now k chunk within e =
     let little : k ≤ n = omega (arith, within) in
     ⊎_elim
     (λ (last : k ≡ n).
-    let own : here ≡ chunk = some_one here chunk (sym is ∙ (ap (slice_get chunks) (sym last) ∙ e)) in
+    let own : here ≡ chunk = same_Some here chunk (sym is ∙ (ap (slice_get chunks) (sym last) ∙ e)) in
     subst IsSome (ap (box_content place (place.grid.chunk_box chunk)) (same (place.key chunk))) (subst (λ c. IsSome (chunk_content place mid c)) own now))
     (λ (below : k < n). before k chunk below e)
     (eq-or-lt_of_le little)
-  where
-    some_one : (a b : List ℕ) → Some a ≡ Some b → a ≡ b
-    some_one a b e = cc
 
 -- all chunks of a list
 pub decode-all : (place : Layout Element) (chunks : List (List ℕ)) (old : Content) (n : ℕ) → length chunks ≤ n →

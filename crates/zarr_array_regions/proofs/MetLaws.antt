@@ -1,9 +1,9 @@
 -- The chunks that a region meets, by their numbers.
-use Rattle.std.proofs.Common.{◌≡◌, ℕ, zero, suc, ◌+◌, ◌<◌, true, List, [], ◌∷◌, length, get_or, slice_get, Some, nat_le, refl, sym, ap, ◌∙◌, subst, arith}
-use Rattle.std.proofs.lemmas.Bool.{and_parts}
+use Rattle.std.proofs.Common.{◌≡◌, ℕ, zero, suc, ◌+◌, ◌<◌, true, List, [], ◌∷◌, length, get_or, slice_get, Some, refl, sym, ap, ◌∙◌, subst, arith}
+use Rattle.std.proofs.lemmas.List.{nil_from_length}
 use Rattle.zarr_model.specs.Prelude.{Region, count, tuples, tuple_at, ends_within, Grid, IsChunk, chunks_meeting, CoversShape}
 use Rattle.zarr_model.specs.Region.{share_tuple}
-use Rattle.zarr_model.proofs.RegionLaws.{length-tuples, get_or-tuples}
+use Rattle.zarr_model.proofs.RegionLaws.{length-tuples, get_or-tuples, rank_within}
 use Rattle.zarr_model.proofs.FailureLaws.{meeting_is}
 use Rattle.zarrs_array_subset.specs.ArraySubset.{region as region_of_subset}
 use Rattle.zarr_array_parts.specs.Parts.{described}
@@ -28,12 +28,6 @@ met_at grid region chunks number listed below =
     let met : slice_get (chunks_meeting grid region) number ≡ Some (tuple_at chunks number) = ap (λ l. slice_get l number) (sym listed) ∙ here in
     (met, (meeting_is grid region number (tuple_at chunks number) met).0)
 
-rank_within : (region : Region) (shape : List ℕ) → ends_within region shape ≡ true → length region ≡ length shape
-rank_within [] [] e = refl
-rank_within [] (n ∷ shape) e = cc
-rank_within (span ∷ region) [] e = cc
-rank_within (span ∷ region) (n ∷ shape) e = ap suc (rank_within region shape (and_parts (nat_le (span.start + span.size) n) (ends_within region shape) e).1)
-
 pub met_rank : (shape : List ℕ) (grid : Grid) (region : Region) (chunk : List ℕ) → CoversShape shape grid → ends_within region shape ≡ true → IsChunk grid chunk →
     length region ≡ length (grid.chunk_box chunk)
 met_rank shape grid region chunk covers inside is_chunk = rank_within region shape inside ∙ sym (covers.box_rank chunk is_chunk)
@@ -42,13 +36,9 @@ pub count_met : (grid : Grid) (region chunks : Region) → tuples chunks ≡ chu
 count_met grid region chunks listed = sym (length-tuples chunks) ∙ ap length listed
 
 -- no chunk is met, or there is one
-no_items : {A : Type 0} (xs : List A) → length xs ≡ 0 → xs ≡ []
-no_items [] e = refl
-no_items (x ∷ xs) e = cc
-
 module _ (grid : Grid) (region chunks : Region) (listed : tuples chunks ≡ chunks_meeting grid region) where
   pub none_met : count chunks ≡ 0 → chunks_meeting grid region ≡ []
-  none_met none = no_items (chunks_meeting grid region) (sym (count_met grid region chunks listed) ∙ none)
+  none_met none = nil_from_length (chunks_meeting grid region) (sym (count_met grid region chunks listed) ∙ none)
 
   pub some_met : (count chunks ≡ 0 → ⊥) → have_chunks grid.grid_shape ≡ true
   some_met some = some_chunk grid.grid_shape (tuple_at chunks 0) (met_at grid region chunks 0 listed (omega (arith, some))).1

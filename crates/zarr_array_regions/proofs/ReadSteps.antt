@@ -1,13 +1,14 @@
 -- The steps of reading a region.
 use Rattle.std.proofs.Common.{◌≡◌, ℕ, ◌+◌, ◌-◌, ◌^◌, ◌<◌, ◌≤◌, ◌⊎◌, true, List, [], length, slice_get, Some, IsSome, unwrap_or, refl, sym, ap, ◌∙◌, subst, subst₂, arith, le_trans, inl, inr, ⊎_elim}
 use Rattle.std.proofs.lemmas.Option.{slice_get_within}
-use Rattle.zarr_model.specs.Prelude.{Region, count, ends_within, Element, Kind, kind, ArrayBytes, meaning, Array, IsChunk, chunks_meeting, WhollyMeans, Options, box_content, chunk_content, Shown, Description, layout, counted, Rose}
+use Rattle.zarr_model.specs.Prelude.{Region, count, ends_within, Element, Kind, kind, ArrayBytes, meaning, Array, IsChunk, chunks_meeting, WhollyMeans, Options, box_content, chunk_content, Shown, Description, layout, counted}
 use Rattle.zarrs_storage.specs.Store.{SameContent}
 use Rattle.zarrs_codec_bytes.specs.Overlap.{Copied}
 use Rattle.zarr_array_elements.specs.Elements.{list_in}
 use Rattle.zarr_array_parts.specs.Parts.{described}
 use Rattle.zarr_array_parts.specs.declared.parts.ArrayParts.{ArrayParts}
 use Rattle.zarr_array_parts.proofs.ServedLaws.{described_covers}
+use Rattle.zarrs_codec_held.proofs.EditLaws.{rose_later}
 use Rattle.zarr_array_regions.specs.declared.error.SessionErrorKind.{SessionErrorKind}
 use Rattle.zarr_array_regions.specs.declared.error.SessionErrorKind.TheVariants.{NotOpened, ChunkDecode, Store, OutOfMemory}
 use Rattle.zarr_array_regions.specs.Chunk.{FailsToFetch}
@@ -22,9 +23,6 @@ use Rattle.zarr_array_regions.proofs.DecodeLaws.{decode-step, decode-all}
 -- counts that stop at the greatest number
 pub counted_more : (before mid now k more : ℕ) → mid ≡ counted before k → now ≡ counted mid more → now ≡ counted before (k + more)
 counted_more before mid now k more first second = omega (arith, first, second)
-
-pub rose_later : (before mid now : ℕ) → before ≤ mid → Rose mid now → Rose before now
-rose_later before mid now later rose = omega (arith, rose)
 
 -- a chunk that could not be fetched stops the reading of its region
 pub stops_reading : (description : Description) (options : Options) (region : Region) (k : ℕ) (old mid new : Shown) (chunk : List ℕ) (kind : SessionErrorKind) →

@@ -5,10 +5,9 @@ use Rattle.std.proofs.lemmas.List.{length-replicate, get_or-map, get_or_default}
 use Rattle.std.proofs.lemmas.Simd.{map-map}
 use Rattle.zarr_model.specs.Prelude.{Region, starts, sizes, count, contains, place, tuple_at, tuples, linear_index, ends_within, Element, null, IsChunk, Layout, IsSound, box_content, chunk_content}
 use Rattle.zarr_model.specs.Region.{share_tuple}
-use Rattle.zarr_model.proofs.RegionLaws.{place_below, contains-tuple_at, get_or-tuples, length-tuples, tuple_at-place}
+use Rattle.zarr_model.proofs.RegionLaws.{place_below, contains-tuple_at, get_or-tuples, length-tuples, tuple_at-place, count_within}
 use Rattle.zarrs_array_subset.specs.Boxes.{overlap_of, moved_back}
 use Rattle.zarrs_array_subset.proofs.MoveLaws.{overlap_is_both}
-use Rattle.zarrs_chunk_grid_iterators.proofs.Linears.{count_within}
 use Rattle.zarrs_codec_bytes.specs.Overlap.{Copied}
 use Rattle.zarrs_codec_traits.specs.Words.{select}
 use Rattle.zarr_array_elements.proofs.ShareLaws.{count-moved, places-moved, shares_second}

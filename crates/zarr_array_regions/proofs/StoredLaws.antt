@@ -1,11 +1,11 @@
 -- What is stored of a chunk's elements, and what it stands for.
 use Rattle.std.proofs.Common.{◌≡◌, ℕ, ◌<◌, ◌≤◌, ◌||◌, ◌&&◌, not, Bool, true, false, if◌then◌else◌, List, [], ◌∷◌, length, replicate, Option, Some, None, IsSome, is_some, get_or, refl, sym, ap, ap₂, ◌∙◌, subst, arith, ◌⊎◌, inl, inr, ⊎_elim}
 use Rattle.std.specs.List.{list_all}
-use Rattle.std.proofs.lemmas.Bool.{and_parts}
-use Rattle.std.proofs.lemmas.Slice.Eq.{bytes_eq-Decides}
 use Rattle.std.proofs.lemmas.List.{length-map, get_or-map, get_or_default, same_lists}
-use Rattle.zarr_model.specs.Prelude.{Region, count, contains, tuples, place, tuple_at, Element, of_bytes, null, some, same_element, Array, elements_in, written, Options, Content, Layout, box_content, chunk_content, Shown, Description, layout, ChunkHas, Rose}
+use Rattle.std.proofs.lemmas.Option.{same_Some}
+use Rattle.zarr_model.specs.Prelude.{Region, count, contains, tuples, place, tuple_at, Element, same_element, Array, elements_in, written, Options, Content, Layout, box_content, chunk_content, Shown, Description, layout, ChunkHas, Rose}
 use Rattle.zarr_model.proofs.RegionLaws.{length-tuples, get_or-tuples}
+use Rattle.zarr_model.proofs.ElementLaws.{each_same}
 use Rattle.zarrs_storage.specs.Store.{IsFault, IsPlain}
 use Rattle.zarrs_storage.specs.declared.store.StorageError.{StorageError}
 use Rattle.zarrs_storage.specs.declared.store.StorageError.TheVariants as Storage
@@ -13,24 +13,6 @@ use Rattle.zarrs_codec_bytes.specs.Overlap.{Copied}
 use Rattle.zarr_chain_stored.specs.Put.{Decoding, IsPut, PutsChunk, MayPutChunk}
 use Rattle.zarr_array_regions.specs.Chunk.{is_dropped, decode_at, storage_kind}
 use Rattle.zarr_array_regions.specs.Write.{HoldsChunk, ChangesChunk, FailsToChange}
-
--- elements that are all the same
-same_is : (x y : Element) → same_element x y ≡ true → x ≡ y
-same_is (of_bytes value) (of_bytes other) e = ap of_bytes ((bytes_eq-Decides value other).0 e)
-same_is (of_bytes value) null e = cc
-same_is (of_bytes value) (some other) e = cc
-same_is null (of_bytes other) e = cc
-same_is null null e = refl
-same_is null (some other) e = cc
-same_is (some x) (of_bytes other) e = cc
-same_is (some x) null e = cc
-same_is (some x) (some y) e = ap some (same_is x y e)
-
-all_same : (fill : Element) (list : List Element) → list_all (same_element fill) list ≡ true → list ≡ replicate (length list) fill
-all_same fill [] e = refl
-all_same fill (x ∷ list) e =
-    let parts = and_parts (same_element fill x) (list_all (same_element fill) list) e in
-    ap₂ (λ a b. a ∷ b) (sym (same_is fill x parts.0)) (all_same fill list parts.1)
 
 -- the list that replaces a box's elements at a region's tuples is the box's part of the written array
 pub updated_box : {E : Type 0} (box region : Region) (list old new : List E) (array : Array E) → old ≡ elements_in box array → length new ≡ count box →
@@ -57,9 +39,6 @@ put-elements region box elements old list array long was copied =
     ∙ (copied.each k array.fill below
     ∙ ap (λ e. if contains region (tuple_at box k) then get_or elements (place region (tuple_at box k)) array.fill else e)
     (get_or_default old k array.fill d (subst (λ m. k < m) (sym long) below))))
-
-some_one : {A : Type 0} {a b : A} → Some a ≡ Some b → a ≡ b
-some_one e = cc
 
 -- what was put stands for the elements, and is there exactly where it was not dropped
 put-content : (description : Description) (chunk : List ℕ) (under : Options) (drops : Bool) (list : List Element) (value : Option (List ℕ)) →
@@ -101,14 +80,14 @@ module _ (description : Description) (options : Options) (region : Region) (chun
   drops = is_dropped description options list
 
   was : (plain : Array Element) → ChunkHas place_of before.content plain chunk → old ≡ elements_in box plain
-  was plain has = some_one (sym fetched ∙ has)
+  was plain has = same_Some _ _ (sym fetched ∙ has)
 
   now_is : (plain : Array Element) → ChunkHas place_of before.content plain chunk → list ≡ elements_in box (change plain)
   now_is plain has = put-elements region box elements old list plain long (was plain has) copied
 
   all_fill : drops ≡ true → list ≡ replicate (count box) description.fill
   all_fill dropped =
-      all_same description.fill list (dropped_blank options.store_empty_chunks (list_all (same_element description.fill) list) dropped)
+      each_same description.fill list (dropped_blank options.store_empty_chunks (list_all (same_element description.fill) list) dropped)
       ∙ ap (λ n. replicate n description.fill) (copied.as_long ∙ long)
 
   content_is : (after : Content) (under : Options) → IsPut (decode_at description chunk) drops list (after key) → chunk_content (layout description under) after chunk ≡ Some list

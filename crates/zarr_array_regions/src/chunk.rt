@@ -18,8 +18,7 @@ use zarr_chain_stored::{fetch, put};
 use zarrs_codec_array_bytes::ArrayBytes;
 use zarrs_codec_error::CodecError;
 use zarrs_codec_options::CodecOptions;
-use zarrs_storage::store::{StorageError, Store};
-use zarrs_storage::store_key::StoreKey;
+use zarrs_storage::{StorageError, Store, StoreKey};
 
 /// A chunk with its elements.
 #[derive(Drop)]
@@ -44,13 +43,14 @@ impl RegionChunks<'_> {
         requires met { AreMet self.now }
         requires below { number < count (region self.now.chunks) }
         requires key { key.now ≡ (described self.now.array.now).key (chunk_at self.now number) }
-        ensures { MatchResult result
+        ensures fetched { MatchResult result
             (λ v. HasAsked (S.shown store.old) (S.shown store.new)
             × HasElements self.now.array.now (options_of options.now) (chunk_at self.now number)
             (S.shown store.old) (raw_of v))
             (λ error. NotFetched self.now.array.now (options_of options.now)
             (chunk_at self.now number) (S.shown store.old) (S.shown store.new)
             (chunk_kind key.now error)) }
+        ensures kept { S.kept store.old store.new }
     {
         let bytes = fetch(&self.chain, alloc, key, store, options)?;
         Ok(bytes)

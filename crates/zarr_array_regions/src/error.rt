@@ -7,8 +7,7 @@ use std::alloc::{AllocError, AllocFailed};
 use thiserror::Error;
 use zarr_array_parts::OpenError;
 use zarrs_codec_error::CodecError;
-use zarrs_storage::store::StorageError;
-use zarrs_storage::store_key::StoreKey;
+use zarrs_storage::{StorageError, StoreKey};
 
 /// Why a session ends with an error.
 #[derive(Debug, Drop, Error)]

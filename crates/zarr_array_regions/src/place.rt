@@ -11,7 +11,7 @@ use std::alloc::{AllocError, Global};
 use zarr_array_parts::ArrayParts;
 use zarrs_array_subset::{ArrayIndicesTinyVec, ArraySubset, push_tuple};
 use zarrs_chunk_grid_traits::ChunkGridTraits;
-use zarrs_storage::store_key::StoreKey;
+use zarrs_storage::StoreKey;
 
 // The indices at a place of a subset's row-major list.
 #[tactic(auto, using(crate::proofs::PlaceLaws::of_subsets))]

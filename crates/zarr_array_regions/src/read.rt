@@ -19,7 +19,7 @@ use zarr_array_parts::ArrayParts;
 use zarrs_array_subset::ArraySubset;
 use zarrs_codec_array_bytes::ArrayBytes;
 use zarrs_codec_options::CodecOptions;
-use zarrs_storage::store::Store;
+use zarrs_storage::Store;
 
 impl RegionChunks<'_> {
     // Takes the elements of the chunk of a number, which stands at this place.
@@ -39,6 +39,7 @@ impl RegionChunks<'_> {
         ensures read { ReadsChunk self.now number (options_of options.now) elements.old
             elements.new (S.shown store.old) (S.shown store.new) result }
         ensures holds { HoldsRegion self.now.array.now (region self.now.subset.now) elements.new }
+        ensures kept { S.kept store.old store.new }
     {
         match self.fetch_elements(alloc, number, &place.key, store, options) {
             Ok(chunk) => {
@@ -66,6 +67,7 @@ impl RegionChunks<'_> {
         ensures read { ReadsChunk self.now number (options_of options.now) elements.old
             elements.new (S.shown store.old) (S.shown store.new) result }
         ensures holds { HoldsRegion self.now.array.now (region self.now.subset.now) elements.new }
+        ensures kept { S.kept store.old store.new }
     {
         let chunk = self.fetch_shared(alloc, number, place, store, options)?;
         self.put_shared(alloc, number, &chunk, elements)?;
@@ -87,6 +89,7 @@ impl RegionChunks<'_> {
         ensures read { ReadsChunk self.now number (options_of options.now) elements.old
             elements.new (S.shown store.old) (S.shown store.new) result }
         ensures holds { HoldsRegion self.now.array.now (region self.now.subset.now) elements.new }
+        ensures kept { S.kept store.old store.new }
     {
         let place = self.place(alloc, number)?;
         if place.subset.inbounds(self.subset) {
@@ -114,6 +117,7 @@ impl RegionChunks<'_> {
             (NotReadRegion self.now.array.now (options_of options.now)
             (region self.now.subset.now) (S.shown store.old) (S.shown store.new)) }
         ensures holds { HoldsRegion self.now.array.now (region self.now.subset.now) elements.new }
+        ensures kept { S.kept store.old store.new }
     {
         for number in 0..self.num_chunks() {
             if let Err(kind) = self.read_chunk(alloc, number, elements, store, options) {
@@ -137,11 +141,12 @@ impl RegionChunks<'_> {
         requires met { AreMet self.now }
         requires holds { HoldsRegion self.now.array.now (region self.now.subset.now) elements }
         requires as_long { length (list_held elements) ≡ count (region self.now.subset.now) }
-        ensures { MatchResult result
+        ensures read { MatchResult result
             (λ v. HasReadRegion self.now.array.now (options_of options.now)
             (region self.now.subset.now) (S.shown store.old) (S.shown store.new) (raw_of v))
             (NotReadRegion self.now.array.now (options_of options.now)
             (region self.now.subset.now) (S.shown store.old) (S.shown store.new)) }
+        ensures kept { S.kept store.old store.new }
     {
         let mut elements = elements;
         match self.read_chunks(alloc, &mut elements, store, options) {
@@ -173,11 +178,12 @@ pub fn read_elements<S: Store>(
     requires few { count (region subset.now) + 1 < 2 ^ 64 }
     requires room { count (region subset.now) * size_in (fixed_size (kind (described array.now)))
         < 2 ^ 64 }
-    ensures { MatchResult result
+    ensures read { MatchResult result
         (λ v. HasReadRegion array.now (options_of options.now) (region subset.now)
         (S.shown store.old) (S.shown store.new) (raw_of v))
         (NotReadRegion array.now (options_of options.now) (region subset.now)
         (S.shown store.old) (S.shown store.new)) }
+    ensures kept { S.kept store.old store.new }
 {
     let elements = BoxElements::filled(alloc, array.data_type(), array.fill_value(), subset)?;
     match RegionChunks::meeting(array, alloc, subset)? {

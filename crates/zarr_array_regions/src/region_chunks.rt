@@ -10,7 +10,7 @@ use std::alloc::{AllocError, Global};
 use zarr_array_parts::{ArrayParts, LentChain};
 use zarrs_array_subset::ArraySubset;
 use zarrs_chunk_grid_traits::ChunkGridTraits;
-use zarrs_storage::store_key::StoreKey;
+use zarrs_storage::StoreKey;
 
 /// The chunks that a region of an array meets, by their numbers in row-major order, with the chain of the array's
 /// codecs, which is one for all chunks.

@@ -20,8 +20,7 @@ use zarr_chain_stored::{Fetched, fetch_region};
 use zarrs_array_subset::ArraySubset;
 use zarrs_codec_error::CodecError;
 use zarrs_codec_options::CodecOptions;
-use zarrs_storage::store::Store;
-use zarrs_storage::store_key::StoreKey;
+use zarrs_storage::{Store, StoreKey};
 
 /// A chunk with its elements for what it shares with a region.
 #[derive(Drop)]
@@ -51,13 +50,14 @@ impl RegionChunks<'_> {
         requires inside { ends_within (region within.now)
             (sizes ((described self.now.array.now).grid.chunk_box (chunk_at self.now number)))
             ≡ true }
-        ensures { MatchResult result
+        ensures fetched { MatchResult result
             (λ v. HasAsked (S.shown store.old) (S.shown store.new)
             × IsPartOf self.now.array.now (options_of options.now) (chunk_at self.now number)
             (region within.now) (S.shown store.old) v)
             (λ error. NotFetched self.now.array.now (options_of options.now)
             (chunk_at self.now number) (S.shown store.old) (S.shown store.new)
             (chunk_kind key.now error)) }
+        ensures kept { S.kept store.old store.new }
     {
         let fetched = fetch_region(&self.chain, alloc, key, within, store, options)?;
         Ok(fetched)
@@ -76,12 +76,13 @@ impl RegionChunks<'_> {
         requires met { AreMet self.now }
         requires below { number < count (region self.now.chunks) }
         requires place { IsPlaceOf (described self.now.array.now) (chunk_at self.now number) place }
-        ensures { MatchResult result
+        ensures fetched { MatchResult result
             (λ held. HasAsked (S.shown store.old) (S.shown store.new)
             × IsHeldShared self.now.array.now (options_of options.now)
             (region self.now.subset.now) (chunk_at self.now number) (S.shown store.old) held)
             (NotFetched self.now.array.now (options_of options.now) (chunk_at self.now number)
             (S.shown store.old) (S.shown store.new)) }
+        ensures kept { S.kept store.old store.new }
     {
         let shared = SharedBox::of(alloc, self.subset, &place.subset)?;
         match self.fetch_part(alloc, number, &place.key, &shared.within, store, options) {

@@ -19,7 +19,7 @@ use zarr_array_parts::ArrayParts;
 use zarrs_array_subset::ArraySubset;
 use zarrs_codec_array_bytes::ArrayBytes;
 use zarrs_codec_options::CodecOptions;
-use zarrs_storage::store::Store;
+use zarrs_storage::Store;
 
 impl RegionChunks<'_> {
     // Puts the elements that the region shares with the chunk of a number into the chunk, and stores it anew: the old

@@ -1,13 +1,11 @@
 //! Each call on an open array once.
 
-use crate::made::{LINE, number_of_keys, opened, region};
+use crate::made::{LINE, has_elements, number_of_keys, opened, region};
 use std::alloc::Global;
 use std::process::Abort;
-use zarr_array::open::OpenArray;
-use zarr_array::{CodecOptions, Reply, SessionError};
+use zarr_array::{CodecOptions, OpenArray, Reply, SessionError};
 use zarrs_codec_array_bytes::ArrayBytes;
-use zarrs_codec_array_bytes::array_bytes::bytes_in;
-use zarrs_storage::memory_store::MemoryStore;
+use zarrs_storage::MemoryStore;
 
 // The reply, where there is no error.
 fn reply_in(rt: &impl Abort, reply: Result<Reply, SessionError>) -> Reply {
@@ -19,14 +17,6 @@ fn reply_in(rt: &impl Abort, reply: Result<Reply, SessionError>) -> Reply {
 
 fn is_done(reply: &Reply) -> bool {
     matches!(reply, Reply::Done)
-}
-
-// Whether a reply is these elements.
-fn has_elements(reply: &Reply, elements: &[u8]) -> bool {
-    match reply {
-        Reply::Elements(ArrayBytes::Fixed(fixed)) => bytes_in(fixed) == elements,
-        _ => false,
-    }
 }
 
 // Whether a write of two elements in two chunks is done.

@@ -1,14 +1,13 @@
-//! Documents, arrays, regions and keys.
+//! Documents, arrays, regions, replies and keys.
 
 use std::alloc::Global;
 use std::ops::Range;
 use std::process::Abort;
-use zarr_array::builtin_registries;
-use zarr_array::open::OpenArray;
+use zarr_array::{OpenArray, Reply, builtin_registries};
 use zarrs_array_subset::ArraySubset;
-use zarrs_storage::memory_store::MemoryStore;
-use zarrs_storage::store::Store;
-use zarrs_storage::store_key::StoreKey;
+use zarrs_codec_array_bytes::ArrayBytes;
+use zarrs_codec_array_bytes::array_bytes::bytes_in;
+use zarrs_storage::{MemoryStore, Store, StoreKey};
 
 /// A document of a line of two-byte numbers, stored the greater byte first, in three chunks, the last of which goes past
 /// it.
@@ -24,6 +23,14 @@ pub fn opened(rt: &impl Abort, alloc: Global, document: &str) -> OpenArray {
 /// The region of these ranges.
 pub fn region(rt: &impl Abort, alloc: Global, ranges: &[Range<u64>]) -> ArraySubset {
     ArraySubset::new_with_ranges(alloc, ranges).expect(rt, "memory")
+}
+
+/// Whether a reply is these elements.
+pub fn has_elements(reply: &Reply, elements: &[u8]) -> bool {
+    match reply {
+        Reply::Elements(ArrayBytes::Fixed(fixed)) => bytes_in(fixed) == elements,
+        _ => false,
+    }
 }
 
 /// A key that is in form.

@@ -7,8 +7,7 @@ ghost use Rattle.zarr_basics.specs.Registries.{names_of, builtin_names};
 
 use std::alloc::{AllocError, Global};
 use std::process::Abort;
-use zarr_array::open::OpenArray;
-use zarr_array::{CodecKind, GridKind, NamePattern, Registries, builtin_registries};
+use zarr_array::{CodecKind, GridKind, NamePattern, OpenArray, Registries, builtin_registries};
 use zarr_test_parts::SQUARE;
 
 // A text of the document, what stands in its place, and whether it is opened.

@@ -1,17 +1,15 @@
-//! Where a session's error says that it came.
+//! Where a session's error says that it came, and what it leaves.
 
-use crate::made::{LINE, key_of, number_of_keys, opened, region};
+use crate::made::{LINE, has_elements, key_of, number_of_keys, opened, region};
 use std::alloc::Global;
 use std::process::Abort;
-use zarr_array::command::Command;
-use zarr_array::error::{SessionError, SessionErrorKind};
-use zarr_array::session::run_session;
-use zarr_array::{CodecOptions, Reply, builtin_registries};
-use zarr_test_parts::{FailingStore, SQUARE};
+use zarr_array::{
+    CodecOptions, Command, Reply, SessionError, SessionErrorKind, builtin_registries, run_session,
+};
+use zarr_test_parts::SQUARE;
 use zarrs_codec_array_bytes::ArrayBytes;
 use zarrs_codec_error::CodecError;
-use zarrs_storage::memory_store::MemoryStore;
-use zarrs_storage::store::Store;
+use zarrs_storage::{FailingStore, MemoryStore, Store};
 
 // A write of one element, and one of four elements in four chunks.
 fn two_writes(rt: &impl Abort, alloc: Global) -> Vec<Command> {
@@ -25,11 +23,11 @@ fn two_writes(rt: &impl Abort, alloc: Global) -> Vec<Command> {
 // What a session ends with.
 type Replies = Result<Vec<Reply>, SessionError>;
 
-// What a session of these two writes ends with.
-fn written(rt: &impl Abort, alloc: Global, store: &mut FailingStore) -> Replies {
+// What a session of commands on the square ends with.
+fn ended<S: Store>(rt: &impl Abort, alloc: Global, commands: &[Command], store: &mut S) -> Replies {
     let registries = builtin_registries(alloc).expect(rt, "memory");
-    let (commands, options) = (two_writes(rt, alloc), CodecOptions::default());
-    run_session(alloc, SQUARE, &registries, &commands, store, &options)
+    let options = CodecOptions::default();
+    run_session(alloc, SQUARE, &registries, commands, store, &options)
 }
 
 // Whether a session ended at a place: as the store failed, or at the chunk of a key, whose value is too short.
@@ -51,33 +49,108 @@ fn is_by(kind: &SessionErrorKind, key: Option<&str>) -> bool {
     }
 }
 
-// Whether the value of the first chunk is these elements.
-fn has_first_chunk(
-    rt: &impl Abort,
-    alloc: Global,
-    store: &mut MemoryStore,
-    elements: &[u8],
-) -> bool {
-    match store.get(alloc, &key_of(rt, alloc, "c/0/0")) {
-        Ok(Some(value)) => value.as_slice() == elements,
-        _ => false,
+// Whether a session over what is left reads these elements of the square.
+fn has_square(rt: &impl Abort, alloc: Global, store: &mut MemoryStore, elements: &[u8]) -> bool {
+    let whole = Command::Read(region(rt, alloc, &[0..4, 0..4]));
+    let commands = vec![in alloc; whole].expect(rt, "memory");
+    match &ended(rt, alloc, &commands, store) {
+        Ok(replies) => replies
+            .first()
+            .is_some_and(|reply| has_elements(reply, elements)),
+        Err(_) => false,
     }
 }
 
-// One of three asks was a fault, and the only chunk that is stored is the first, with these elements.
-fn is_left(rt: &impl Abort, alloc: Global, store: &mut FailingStore, elements: &[u8]) {
-    assert!(rt; store.faults() == 1);
-    assert!(rt; store.asks() == 3);
-    assert!(rt; has_first_chunk(rt, alloc, &mut store.store, elements));
-    assert!(rt; number_of_keys(rt, alloc, &store.store) == 1);
+// How the two writes end whose store fails at one of these calls: the place, if there is one, the faults, the reading
+// calls, the keys that are left, and the elements.
+struct End {
+    calls: &'static [u64],
+    at: Option<(usize, u64)>,
+    faults: u64,
+    asks: u64,
+    keys: usize,
+    elements: [u8; 16],
+}
+
+const ENDS: [End; 6] = [
+    End {
+        calls: &[0, 1],
+        at: Some((0, 0)),
+        faults: 1,
+        asks: 1,
+        keys: 0,
+        elements: [0, 0, 0, 0, 0, 0, 0, 0, 0, 0, 0, 0, 0, 0, 0, 0],
+    },
+    End {
+        calls: &[2, 3],
+        at: Some((1, 0)),
+        faults: 1,
+        asks: 2,
+        keys: 1,
+        elements: [1, 0, 0, 0, 0, 0, 0, 0, 0, 0, 0, 0, 0, 0, 0, 0],
+    },
+    End {
+        calls: &[4, 5],
+        at: Some((1, 1)),
+        faults: 1,
+        asks: 3,
+        keys: 1,
+        elements: [1, 0, 0, 0, 0, 11, 0, 0, 0, 0, 0, 0, 0, 0, 0, 0],
+    },
+    End {
+        calls: &[6, 7],
+        at: Some((1, 2)),
+        faults: 1,
+        asks: 4,
+        keys: 2,
+        elements: [1, 0, 0, 0, 0, 11, 12, 0, 0, 0, 0, 0, 0, 0, 0, 0],
+    },
+    End {
+        calls: &[8, 9],
+        at: Some((1, 3)),
+        faults: 1,
+        asks: 5,
+        keys: 3,
+        elements: [1, 0, 0, 0, 0, 11, 12, 0, 0, 14, 0, 0, 0, 0, 0, 0],
+    },
+    End {
+        calls: &[10],
+        at: None,
+        faults: 0,
+        asks: 5,
+        keys: 4,
+        elements: [1, 0, 0, 0, 0, 11, 12, 0, 0, 14, 15, 0, 0, 0, 0, 0],
+    },
+];
+
+// The two writes end so where this call fails.
+fn is_end(rt: &impl Abort, alloc: Global, call: u64, end: &End) {
+    let failing = vec![in alloc; call].expect(rt, "memory");
+    let mut store = FailingStore::new(MemoryStore::new(alloc), failing);
+    let replies = ended(rt, alloc, &two_writes(rt, alloc), &mut store);
+    assert!(rt;
+        match end.at {
+            Some(at) => is_ended(replies, at, None),
+            None => replies.is_ok(),
+        }
+    );
+    assert!(rt; (store.faults(), store.asks()) == (end.faults, end.asks));
+    assert!(rt; number_of_keys(rt, alloc, store.memory()) == end.keys);
+    let mut memory = store.into_memory();
+    assert!(rt; has_square(rt, alloc, &mut memory, &end.elements));
+}
+
+fn are_ends(rt: &impl Abort, alloc: Global, end: &End) {
+    for call in end.calls {
+        is_end(rt, alloc, *call, end);
+    }
 }
 
 #[test]
 fn a_failing_store_leaves_the_chunks_before(rt: HostRuntime) {
-    let alloc = rt.alloc();
-    let mut store = FailingStore::new(alloc, 5);
-    assert!(rt; is_ended(written(&rt, alloc, &mut store), (1, 1), None));
-    is_left(&rt, alloc, &mut store, &[1, 0, 0, 11]);
+    for end in &ENDS {
+        are_ends(&rt, rt.alloc(), end);
+    }
 }
 
 // Two reads, the second of which meets all chunks of the line.

@@ -3,16 +3,13 @@ use Rattle.std.proofs.Common.{◌≡◌, ℕ, suc, ◌-◌, ◌<◌, ◌≤◌, 
 use Rattle.std.specs.List.{AllByRecursion}
 use Rattle.std.proofs.lemmas.Bool.{ne_eqb}
 use Rattle.std.proofs.lemmas.Fmt.{decimal_nonempty}
+use Rattle.std.proofs.lemmas.List.{append-nil}
 use Rattle.zarr_model.specs.Key.{is_store_key, v2_key}
 use Rattle.zarr_model.proofs.KeyLaws.{IsDigit, AreIndices, decimal_digits}
 use Rattle.zarr_basics.proofs.ChunkKeyLaws.{EndsWell, after_digits, ends_well}
 
-append_none : (l : List ℕ) → l ++ [] ≡ l
-append_none [] = refl
-append_none (x ∷ l) = ap (λ r. x ∷ r) (append_none l)
-
 pub joined_is : (separator first : ℕ) (rest : List ℕ) → v2_key separator (first ∷ rest) ≡ decimal first ++ flat_map (λ index. separator ∷ decimal index) rest
-joined_is separator first [] = sym (append_none (decimal first))
+joined_is separator first [] = sym (append-nil (decimal first))
 joined_is separator first (index ∷ rest) = ap (λ l. decimal first ++ (separator ∷ l)) (joined_is separator index rest)
 
 -- the same of a slice by its first index and the others

@@ -4,7 +4,6 @@ pub use Rattle.zarr_basics_grids.specs.GridForms
 pub use Rattle.zarr_basics_grids.specs.GridOf
 pub use Rattle.zarr_basics_grids.specs.BasicGrid
 pub use Rattle.zarr_basics_grids.specs.Limits
-pub use Rattle.zarr_basics_grids.specs.Unmade
 pub mod Keys
 pub mod Configurations
 pub mod Making

@@ -9,7 +9,7 @@ ghost use Rattle.zarrs_metadata_parts.specs.Names.{separator_code};
 use std::alloc::{AllocError, Global};
 use std::fmt::Write;
 use zarrs_metadata_parts::ChunkKeySeparator;
-use zarrs_storage::store_key::StoreKey;
+use zarrs_storage::StoreKey;
 
 /// How the indices of a chunk become the key that it is stored under.
 #[derive(Clone, Copy, Debug, PartialEq, Eq)]

@@ -7,9 +7,10 @@ ghost use Rattle.zarrs_metadata_parts.specs.Names.{separator_code};
 ghost use Rattle.zarrs_metadata_parts.specs.Reading.{Reads};
 ghost use Rattle.zarr_basics.specs.Configurations.{separator_named, given_separator, separator_in};
 
-use zarr_basics_grids::configuration::{configured, only_member};
 use zarrs_metadata_parts::json::read_text;
+use zarrs_metadata_parts::making::configured;
 use zarrs_metadata_parts::{ChunkKeySeparator, MetadataError, MetadataV3};
+use zarrs_metadata_values::configuration::only_member;
 
 fn separator_named(text: &str) -> Result<ChunkKeySeparator, MetadataError>
     ensures { Reads separator_code result (separator_named text.now) }

@@ -8,7 +8,7 @@ use crate::chunk_key_encoding::ChunkKeyEncoding;
 use crate::configuration::read_separator;
 use crate::registries::ChunkKeyKind;
 use std::alloc::Global;
-use zarr_basics_grids::unmade;
+use zarrs_metadata_parts::making::unmade;
 use zarrs_metadata_parts::{ChunkKeySeparator, MetadataV3};
 use zarrs_plugin::PluginCreateError;
 
@@ -17,7 +17,7 @@ impl ChunkKeyKind {
     ///
     /// # Errors
     /// `Config` exactly where the configuration is not of the kind's form.
-    #[tactic(auto, using(zarr_basics_grids::proofs::MakingLaws::of_configurations))]
+    #[tactic(auto, using(zarrs_metadata_parts::proofs::MakingLaws::of_configurations))]
     pub fn make(
         &self,
         _alloc: Global,

@@ -1,29 +1,11 @@
--- Errors of configurations, and grids over a shape.
-use Rattle.std.proofs.Common.{◌≡◌, ℕ, List, Option, option_map, Result, Ok, Err, IfOk, sym, ap, ◌∙◌, subst}
-use Rattle.zarrs_metadata_values.specs.Reading.{Fails}
-use Rattle.zarrs_metadata_values.specs.declared.error.MetadataError.{MetadataError}
-use Rattle.zarrs_metadata_values.specs.declared.error.MetadataError.TheVariants as Read
+-- Grids over a shape.
+use Rattle.std.proofs.Common.{◌≡◌, ℕ, List, Result, Ok, Err, IfOk, sym, ap, ◌∙◌}
 use Rattle.zarrs_plugin.specs.Making.{Unmade, unsupported, config, other, IsUnmade, Makes}
 use Rattle.zarrs_plugin.specs.declared.error.PluginCreateError.{PluginCreateError}
 use Rattle.zarrs_plugin.specs.declared.error.PluginCreateError.TheVariants.{Unsupported, Config, Other, OutOfMemory}
 use Rattle.zarrs_plugin.specs.declared.error.PluginKind.{PluginKind}
 use Rattle.zarr_basics_grids.specs.GridForms.{ChunkGrid, grid_of}
-use Rattle.zarr_basics_grids.specs.Making.{or_config, over_shape}
-use Rattle.zarr_basics_grids.specs.Unmade.{unmade_as}
-
-pub fails : {Y : Type 0} (kind : PluginKind) (error : MetadataError) (read : Option Y) → Fails error read → IsUnmade kind (unmade_as error) (or_config read)
-fails kind Read.OutOfMemory read e = tt
-fails kind Read.InvalidMetadata read e = subst (λ r. IsUnmade kind Config (or_config r)) (sym e) tt
-fails kind Read.InvalidJson read e = absurd e
-fails kind Read.FloatNumber read e = absurd e
-
-pub fails_mapped : {Y Z : Type 0} (kind : PluginKind) (error : MetadataError) (read : Option Y) (f : Y → Z) → Fails error read → IsUnmade kind (unmade_as error) (or_config (option_map f read))
-fails_mapped kind Read.OutOfMemory read f e = tt
-fails_mapped kind Read.InvalidMetadata read f e = subst (λ r. IsUnmade kind Config (or_config (option_map f r))) (sym e) tt
-fails_mapped kind Read.InvalidJson read f e = absurd e
-fails_mapped kind Read.FloatNumber read f e = absurd e
-
-pub ruleset of_configurations = (fails, fails_mapped)
+use Rattle.zarr_basics_grids.specs.Making.{over_shape}
 
 -- what was made over a shape is the grid over it
 refused_over : (kind : PluginKind) (error : PluginCreateError) (shape : List ℕ) (expected : Result ChunkGrid Unmade) → IsUnmade kind error expected → IsUnmade kind error (over_shape shape expected)

@@ -1,12 +1,12 @@
 -- Which chunk of a regular grid holds an index, and where it is.
-use Rattle.std.proofs.Common.{◌≡◌, ℕ, suc, ◌+◌, ◌-◌, ◌*◌, ◌/◌, ◌^◌, min, ◌<◌, ◌≤◌, true, nat_le, nat_lt, List, [], ◌∷◌, length, get_or, refl, ap, ap₂, arith}
+use Rattle.std.proofs.Common.{◌≡◌, ℕ, suc, ◌+◌, ◌-◌, ◌*◌, ◌/◌, ◌^◌, min, ◌<◌, ◌≤◌, true, List, [], ◌∷◌, length, get_or, refl, ap, ap₂, arith}
 use Rattle.std.specs.declared.num.NonZeroU64.{NonZeroU64}
-use Rattle.std.proofs.lemmas.Bool.{and_parts, and_from, ltb-true}
+use Rattle.std.proofs.lemmas.Bool.{and_parts, and_from}
 use Rattle.std.proofs.lemmas.Nat.{le-div}
 use Rattle.std.proofs.Math.Nat.{suc-mul, mul-le-mul_right, div-add-mod', mod-lt}
 use Rattle.zarr_model.specs.Region.{starts, sizes, whole, contains, is_in}
 use Rattle.zarr_model.specs.Grid.{box_of_axes, regular_axes, regular_grid}
-use Rattle.zarr_model.proofs.RegionLaws.{span_in}
+use Rattle.zarr_model.proofs.RegionLaws.{span_in, first_is}
 use Rattle.zarr_basics_grids.specs.RegularGrid.{nonzeros, quotients, products}
 
 row_holds : (i p : ℕ) → 0 < p → (i / p * p ≤ i) × (i < i / p * p + p)
@@ -14,9 +14,6 @@ row_holds i p some = (omega (arith, div-add-mod' i p), omega (arith, div-add-mod
 
 below_count : (c p n : ℕ) → 0 < p → c * p < n → c < (n + (p - 1)) / p
 below_count c p n some less = let h : suc c ≤ (n + (p - 1)) / p = le-div (suc c) (n + (p - 1)) p some (omega (arith, suc-mul c p)) in omega arith
-
-first_is : (i n : ℕ) → is_in i (record { start = 0; size = n }) ≡ true → i < n
-first_is i n h = let parts = and_parts (nat_le 0 i) (nat_lt i (0 + n)) h in let e : i < 0 + n = ltb-true _ _ parts.1 in omega arith
 
 pub quotients_hold : (shape : List ℕ) (lengths : List NonZeroU64) (indices : List ℕ) → length shape ≡ length lengths → contains (whole shape) indices ≡ true →
     (contains (whole (regular_grid shape (nonzeros lengths)).grid_shape) (quotients indices lengths) ≡ true)

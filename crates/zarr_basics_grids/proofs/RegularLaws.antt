@@ -4,28 +4,13 @@ use Rattle.std.specs.declared.num.NonZeroU64.{NonZeroU64}
 use Rattle.std.specs.Int.NonZero.{non_zero_u64_get}
 use Rattle.std.proofs.lemmas.Bool.{and_parts, and_from, leb-true, ltb-true, le-leb, lt-ltb, true≢false}
 use Rattle.std.proofs.lemmas.Nat.{le-div, div_below, mul-le, div-mul-add}
-use Rattle.std.proofs.Math.Nat.{suc-mul, div-add-mod', mod-lt, mul-le-mul_right, mul_comm, zero-mul, add-mul}
+use Rattle.std.proofs.Math.Nat.{suc-mul, div-add-mod', mod-lt, mul-le-mul_right, add-mul}
 use Rattle.zarr_model.specs.Prelude.{Span, Region, count, whole, contains, is_in, ends_within, share_tuple, tuples, regular_grid, chunks_meeting}
-use Rattle.zarr_model.proofs.RegionLaws.{span_in}
-use Rattle.zarr_model.proofs.MeetingLaws.{AreMeeting, tuples-meeting, chunks_meeting-empty, tuples-empty}
+use Rattle.zarr_model.proofs.RegionLaws.{span_in, tuples-empty, positive_parts, ends_of_span}
+use Rattle.zarr_model.proofs.MeetingLaws.{AreMeeting, tuples-meeting, chunks_meeting-empty}
+use Rattle.zarr_model.proofs.Choices.{same_test, swap_tests}
 use Rattle.zarrs_array_subset.specs.Boxes.{region_of, is_box, ends}
 use Rattle.zarr_basics_grids.specs.RegularGrid.{nonzeros, quotients_up, quotients, lasts, counts_between, chunk_span, chunk_region}
-
-same_test : (a b : Bool) → (a ≡ true → b ≡ true) → (b ≡ true → a ≡ true) → a ≡ b
-same_test true b f g = sym (f refl)
-same_test false true f g = g refl
-same_test false false f g = refl
-
-ends_of_span : (i : ℕ) (span : Span) → is_in i span ≡ true → (span.start ≤ i) × (i < span.start + span.size)
-ends_of_span i span h = let parts = and_parts (nat_le span.start i) (nat_lt i (span.start + span.size)) h in (leb-true _ _ parts.0, ltb-true _ _ parts.1)
-
-positive_parts : (span : Span) (region : Region) → 0 < count (span ∷ region) → (0 < span.size) × (0 < count region)
-positive_parts span region h = go span.size (count region) h
-  where
-    go : (a b : ℕ) → 0 < a * b → (0 < a) × (0 < b)
-    go zero b h = absurd (omega (arith, zero-mul b))
-    go (suc a) zero h = absurd (omega (arith, mul_comm (suc a) 0, zero-mul (suc a)))
-    go (suc a) (suc b) h = (omega arith, omega arith)
 
 -- the two ways to round a quotient up
 rounded_up : (n p : ℕ) → 0 < p → n / p + min 1 (n % p) ≡ (n + (p - 1)) / p
@@ -73,12 +58,6 @@ span_meets c n p span some end = same_test _ _
     let low : span.start / p.value < suc c = div_below span.start p.value (suc c) p.ok (omega (arith, suc-mul c p.value)) in
     let high : c ≤ (span.start + span.size - 1) / p.value = le-div c (span.start + span.size - 1) p.value p.ok (omega arith) in
     span_in c (chunk_span p span) (omega arith) (omega arith))
-
-swap_tests : (a b c d : Bool) → ((a && b) && (c && d)) ≡ ((a && c) && (b && d))
-swap_tests true true c d = refl
-swap_tests true false true d = refl
-swap_tests true false false d = refl
-swap_tests false b c d = refl
 
 pub region_meets : (shape : List ℕ) (lengths : List NonZeroU64) (region : Region) → length shape ≡ length lengths → 0 < count region → ends_within region shape ≡ true →
     AreMeeting (regular_grid shape (nonzeros lengths)) region (chunk_region lengths region)
@@ -164,11 +143,5 @@ none_listed shape lengths region box none is = (
   ap tuples is ∙ (tuples-empty region none ∙ sym (chunks_meeting-empty (regular_grid shape (nonzeros lengths)) region none)),
   subst (λ b. count b ≤ count region) (sym is) (omega arith),
 )
-
-pub rank_within : (region : Region) (shape : List ℕ) → ends_within region shape ≡ true → length region ≡ length shape
-rank_within [] [] e = refl
-rank_within [] (n ∷ shape) e = cc
-rank_within (span ∷ region) [] e = cc
-rank_within (span ∷ region) (n ∷ shape) e = ap suc (rank_within region shape (and_parts _ _ e).1)
 
 pub ruleset of_meeting = (chunks_listed, none_listed)

@@ -1,15 +1,10 @@
--- The forms of the configurations of grids, and of those with one member.
-use Rattle.std.specs.Prelude.{ℕ, Bool, ◌==◌, ◌&&◌, nat_le, if◌then◌else◌, List, length, codes, bytes_eq, Option, Some, None}
+-- The form of the configuration of the grid `regular`.
+use Rattle.std.specs.Prelude.{ℕ, Bool, ◌==◌, ◌&&◌, nat_le, if◌then◌else◌, List, length, codes, Option, Some, None}
 use Rattle.std.specs.List.{list_all}
-use Rattle.serde_json.specs.Data.{Data, Members, no_members, member}
+use Rattle.serde_json.specs.Data.{Members, no_members, member}
+use Rattle.zarrs_metadata_values.specs.Configuration.{only_member}
 use Rattle.zarrs_metadata_parts.specs.Reading.{◌>>=◌, whole_numbers}
 use Rattle.zarrs_metadata_parts.specs.Writing.{numbers_data}
-
--- the value of the only member, which has this name
-abbrev pub only_member : List ℕ → Members → Option Data
-only_member name no_members = None
-only_member name (member key value no_members) = if bytes_eq key name then Some value else None
-only_member name (member key value (member other next ms)) = None
 
 -- a positive length for each dimension of a shape
 abbrev pub are_chunk_lengths : List ℕ → List ℕ → Bool

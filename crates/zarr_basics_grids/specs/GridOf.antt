@@ -6,7 +6,8 @@ use Rattle.zarrs_chunk_grid_traits.proofs.KnownNames.{refuses_names}
 use Rattle.zarrs_chunk_grid_traits.proofs.RegularCovers.{regular_covers}
 use Rattle.zarrs_chunk_grid_traits.specs.Making.{RefusesNames}
 use Rattle.zarr_basics_grids.specs.GridForms.{ChunkGrid, regular, grid_of}
-use Rattle.zarr_basics_grids.specs.Making.{grid_form, is_regular, or_config, over_shape, regular_created}
+use Rattle.zarr_basics_grids.specs.Making.{grid_form, is_regular, over_shape, regular_created}
+use Rattle.zarrs_metadata_parts.specs.Making.{or_config}
 use Rattle.zarr_basics_grids.specs.RegularGrid.{nonzeros}
 use Rattle.zarr_basics_grids.specs.declared.grid_kind.GridKind.TheVariants.{Regular}
 use Rattle.zarr_basics_grids.specs.declared.regular_grid.RegularGrid.{RegularGrid}

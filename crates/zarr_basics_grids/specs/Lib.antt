@@ -6,4 +6,3 @@ pub mod Limits
 pub mod LimitTests
 pub mod Configurations
 pub mod Making
-pub mod Unmade

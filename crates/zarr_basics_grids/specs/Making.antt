@@ -1,18 +1,14 @@
 -- What grids are made of metadata.
-use Rattle.std.specs.Prelude.{ℕ, Bool, if◌then◌else◌, List, codes, bytes_eq, Option, Some, None, option_map, Result, Ok, Err}
+use Rattle.std.specs.Prelude.{ℕ, Bool, if◌then◌else◌, List, codes, bytes_eq, Option, option_map, Result, Ok, Err}
 use Rattle.serde_json.specs.Data.{Members}
 use Rattle.zarr_model.specs.Prelude.{Grid}
+use Rattle.zarrs_metadata_parts.specs.Making.{or_config}
 use Rattle.zarrs_metadata_parts.specs.MetadataV3.{Extension}
-use Rattle.zarrs_plugin.specs.Making.{Unmade, unsupported, config}
+use Rattle.zarrs_plugin.specs.Making.{Unmade, unsupported}
 use Rattle.zarr_basics_grids.specs.Configurations.{chunk_shape_in}
 use Rattle.zarr_basics_grids.specs.GridForms.{ChunkGrid, regular, grid_of}
 use Rattle.zarr_basics_grids.specs.declared.grid_kind.GridKind.{GridKind}
 use Rattle.zarr_basics_grids.specs.declared.grid_kind.GridKind.TheVariants.{Regular}
-
--- a configuration that is not of the form is refused as one
-abbrev pub or_config : {Y : Type 0} → Option Y → Result Y Unmade
-or_config None = Err config
-or_config (Some y) = Ok y
 
 -- the configurations of each kind, with the grids that they say over a shape
 abbrev pub grid_form : List ℕ → GridKind → Option Members → Option ChunkGrid

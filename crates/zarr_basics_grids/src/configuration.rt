@@ -1,61 +1,19 @@
-//! Readers of configurations. Each refuses, as `InvalidMetadata`, exactly a configuration that is not of its form.
+//! The configuration of the grid `regular`, read.
 
-ghost use Rattle.std.specs.Prelude.{◌≡◌, IsTrue, IfOk, IfErr, IfSome, IfNone, false, nat_le};
+ghost use Rattle.std.specs.Prelude.{◌≡◌, IsTrue, IfOk, IfSome, IfNone, false, nat_le};
 ghost use Rattle.std.specs.List.{list_all};
-ghost use Rattle.serde_json.specs.View.{view};
-ghost use Rattle.zarrs_metadata_values.specs.declared.error.MetadataError.TheVariants as fault;
-ghost use Rattle.zarrs_metadata_parts.specs.Configuration.{configuration_seen};
 ghost use Rattle.zarrs_metadata_parts.specs.MetadataV3.{extension_seen};
 ghost use Rattle.zarrs_metadata_parts.specs.Reading.{Reads};
 ghost use Rattle.zarr_basics_grids.specs.RegularGrid.{nonzeros};
-ghost use Rattle.zarr_basics_grids.specs.Configurations.{only_member, are_chunk_lengths, if_chunk_lengths, chunk_shape_in};
+ghost use Rattle.zarr_basics_grids.specs.Configurations.{are_chunk_lengths, if_chunk_lengths, chunk_shape_in};
 
-use serde_json::Value;
 use std::alloc::{AllocError, Global};
 use std::num::NonZeroU64;
 use zarrs_array_subset::ChunkShape;
 use zarrs_metadata_parts::json::read_whole_numbers;
-use zarrs_metadata_parts::{Configuration, MetadataError, MetadataV3};
-
-/// The configuration of an extension that must have one.
-///
-/// # Errors
-/// `InvalidMetadata` exactly where there is none.
-pub fn configured(metadata: &MetadataV3) -> Result<&Configuration, MetadataError>
-    ensures { Reads (λ c. configuration_seen c.now) result
-        (extension_seen metadata.now).configuration }
-{
-    match metadata.configuration() {
-        Some(configuration) => Ok(configuration),
-        None => Err(MetadataError::InvalidMetadata),
-    }
-}
-
-/// The value of the only member, which must have this name.
-///
-/// # Errors
-/// `InvalidMetadata` exactly where there are other members, or none.
-pub fn only_member<'a>(
-    configuration: &'a Configuration,
-    name: &str,
-) -> Result<&'a Value, MetadataError>
-    ensures value { Reads (λ v. view v.now) result
-        (only_member name.now (configuration_seen configuration.now)) }
-    ensures form { IfErr result (λ e. e ≡ fault.InvalidMetadata) }
-{
-    let mut members = configuration.as_map().iter();
-    let Some((key, value)) = members.next() else {
-        return Err(MetadataError::InvalidMetadata);
-    };
-    if members.next().is_some() {
-        return Err(MetadataError::InvalidMetadata);
-    }
-    if key.as_str() == name {
-        Ok(value)
-    } else {
-        Err(MetadataError::InvalidMetadata)
-    }
-}
+use zarrs_metadata_parts::making::configured;
+use zarrs_metadata_parts::{MetadataError, MetadataV3};
+use zarrs_metadata_values::configuration::only_member;
 
 fn are_positive(lengths: &[u64]) -> bool
     ensures { result ≡ list_all (λ p. nat_le 1 p) lengths.now }

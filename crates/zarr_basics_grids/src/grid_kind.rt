@@ -4,15 +4,15 @@ ghost use Rattle.std.specs.Prelude.{◌≡◌, IfOk, Err};
 ghost use Rattle.zarr_model.specs.Prelude.{Grid};
 ghost use Rattle.zarrs_chunk_grid_traits.specs.Making.{MakesGrid};
 ghost use Rattle.zarrs_metadata_parts.specs.Configuration.{configuration_seen};
+ghost use Rattle.zarrs_metadata_parts.specs.Making.{or_config};
 ghost use Rattle.zarrs_metadata_parts.specs.MetadataV3.{extension_seen};
 ghost use Rattle.zarrs_plugin.specs.Making.{IsUnmade, unsupported};
 ghost use Rattle.zarrs_plugin.specs.declared.error.PluginKind.TheVariants as kinds;
 ghost use Rattle.zarr_basics_grids.specs.BasicGrid.{basic_form, basic_shape};
 ghost use Rattle.zarr_basics_grids.specs.Configurations.{chunk_shape_members};
 ghost use Rattle.zarr_basics_grids.specs.GridOf.{form_of_regular, shape_of_regular};
-ghost use Rattle.zarr_basics_grids.specs.Making.{grid_form, or_config};
+ghost use Rattle.zarr_basics_grids.specs.Making.{grid_form};
 ghost use Rattle.zarr_basics_grids.specs.RegularGrid.{nonzeros};
-ghost use Rattle.zarr_basics_grids.specs.Unmade.{unmade_as};
 ghost use Rattle.zarr_basics_grids.specs.declared.grid_kind.GridKind.TheVariants.{Regular};
 
 use crate::basic_grid::BasicGrid;
@@ -23,8 +23,9 @@ use serde_json::Map;
 use std::alloc::{AllocError, Global};
 use std::num::NonZeroU64;
 use zarrs_chunk_grid_traits::GridMaker;
+use zarrs_metadata_parts::making::unmade;
 use zarrs_metadata_parts::writing::numbers_value;
-use zarrs_metadata_parts::{Configuration, MetadataError, MetadataV3};
+use zarrs_metadata_parts::{Configuration, MetadataV3};
 use zarrs_plugin::{PluginCreateError, PluginKind, PluginUnsupportedError};
 
 /// The kinds of chunk grids.
@@ -34,18 +35,8 @@ pub enum GridKind {
     Regular,
 }
 
-/// The error of a configuration that is not read.
-pub fn unmade(error: MetadataError) -> PluginCreateError
-    ensures { result ≡ unmade_as error }
-{
-    match error {
-        MetadataError::OutOfMemory => PluginCreateError::OutOfMemory,
-        _ => PluginCreateError::Config,
-    }
-}
-
 // The error of a grid whose name is not known.
-pub fn unsupported_grid(alloc: Global, name: &str) -> PluginCreateError
+pub(crate) fn unsupported_grid(alloc: Global, name: &str) -> PluginCreateError
     ensures { IsUnmade {Y = Grid} kinds.ChunkGrid result (Err (unsupported name.now)) }
 {
     match String::from_str(alloc, name) {
@@ -58,7 +49,7 @@ pub fn unsupported_grid(alloc: Global, name: &str) -> PluginCreateError
 }
 
 // The configuration of a grid with chunks of this shape.
-pub fn chunk_shape_configuration(
+pub(crate) fn chunk_shape_configuration(
     alloc: Global,
     chunk_shape: &[NonZeroU64],
 ) -> Result<Configuration, AllocError>
@@ -73,8 +64,8 @@ pub fn chunk_shape_configuration(
 }
 
 // The regular grid over an array's shape that a configuration says.
-#[tactic(auto, using(crate::proofs::MakingLaws::of_configurations))]
-pub fn regular_by(
+#[tactic(auto, using(zarrs_metadata_parts::proofs::MakingLaws::of_configurations))]
+pub(crate) fn regular_by(
     alloc: Global,
     metadata: &MetadataV3,
     array_shape: &[u64],

@@ -4,12 +4,12 @@
 #![tactic(auto)]
 
 mod basic_grid;
-pub mod configuration;
+mod configuration;
 mod grid_kind;
 mod laws;
 mod regular_grid;
 
 pub use basic_grid::BasicGrid;
-pub use grid_kind::{GridKind, unmade};
+pub use grid_kind::GridKind;
 pub use laws::{chunks_are_small, configuration_reads_back};
 pub use regular_grid::RegularGrid;

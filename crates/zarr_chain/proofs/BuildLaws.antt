@@ -1,25 +1,15 @@
 -- Levels that are put below others, and why one is not.
-use Rattle.std.proofs.Common.{◌≡◌, ⊎_elim, inl, ℕ, List, [], ◌∷◌, ◌++◌, map, Option, Some, None, IsSome, unwrap_or, refl, sym, ap, ap₂, ◌∙◌, subst, subst₂, Ok}
-use Rattle.zarr_model.specs.Element.{Element, null}
+use Rattle.std.proofs.Common.{◌≡◌, ⊎_elim, inl, ℕ, List, [], ◌∷◌, ◌++◌, map, Option, Some, None, refl, sym, ap, ap₂, ◌∙◌, subst, subst₂}
+use Rattle.zarr_model.specs.Element.{Element}
 use Rattle.zarr_model.specs.Codec.{Level, ArrayCodec, Chain}
 use Rattle.zarrs_codec_error.specs.declared.error.CodecError.{CodecError}
 use Rattle.zarrs_codec_error.specs.declared.error.CodecError.TheVariants as codec
-use Rattle.zarrs_codec_traits.specs.Errors.{Unserved, unserved_at, RefusesBy}
+use Rattle.zarrs_codec_traits.specs.Errors.{Unserved, unserved_at}
 use Rattle.zarrs_codec_traits.specs.Words.{IsFit}
 use Rattle.zarr_chain.specs.declared.level.CodecLevel.{CodecLevel}
 use Rattle.zarr_chain.specs.Levels.{above, top, top_fill, Serving, AreFit, IsLink, AreLinked}
 use Rattle.zarr_chain.specs.Building.{Filling, IsReady, first_reason, levels_unserved, FailsToBuild}
 use Rattle.zarrs_data_type_elements.specs.FillValue.{fill_bytes}
-
--- what is there is what it is unwrapped to
-pub denoted : (o : Option Element) → IsSome o → o ≡ Some (unwrap_or o null)
-denoted None there = cc
-denoted (Some x) there = refl
-
--- a call that was not refused
-pub served_ok : {T : Type 0} (reason : Option Unserved) (v : T) → RefusesBy reason (Ok v) → reason ≡ None
-served_ok None v answer = refl
-served_ok (Some why) v answer = absurd answer
 
 -- levels that are equal
 pub ready_as : (level next : Level) (fill below : List ℕ) → level ≡ next → fill ≡ below → IsReady next below → IsReady level fill

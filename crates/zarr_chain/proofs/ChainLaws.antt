@@ -4,21 +4,23 @@ use Rattle.zarr_model.specs.Element.{Element, kind_of}
 use Rattle.zarr_model.specs.Region.{count_of}
 use Rattle.zarr_model.specs.ArrayBytes.{ArrayBytes}
 use Rattle.zarr_model.specs.Codec.{Level, ArrayCodec, Options, decode_bytes}
-use Rattle.zarr_model.proofs.ChainLaws.{then_some}
+use Rattle.zarr_model.proofs.Choices.{then_some}
 use Rattle.zarrs_codec_array_bytes.specs.declared.array_bytes.ArrayBytes as code
 use Rattle.zarrs_codec_array_bytes.specs.Raw.{raw_of}
 use Rattle.zarrs_codec_array_bytes.specs.Refusals.{Told, fine, refused, wrong_length, unfit, other_fill, no_memory, odd, told_by, then_answer, validity}
+use Rattle.zarrs_codec_array_bytes.proofs.ToldLaws.{says_some}
 use Rattle.zarrs_codec_error.specs.declared.error.CodecError.{CodecError}
 use Rattle.zarrs_codec_error.specs.declared.error.CodecError.TheVariants as codec
 use Rattle.zarrs_codec_traits.specs.Errors.{IsDecodeError}
 use Rattle.zarrs_codec_traits.specs.Words.{list_at, Gives}
+use Rattle.zarrs_codec_traits.proofs.LevelLaws.{valid_some}
 use Rattle.zarr_chain.specs.declared.chain.CodecChain.{CodecChain}
 use Rattle.zarr_chain.specs.declared.level.CodecLevel.{CodecLevel}
 use Rattle.zarr_chain.specs.Levels.{above, Serving, AreLinked, elements_above, top, SaysInvalid}
 use Rattle.zarr_chain.specs.Values.{byte_codecs, bytes_says, said_at}
 use Rattle.zarr_chain.specs.Chain.{Listing, Opening, decoded, chain_says}
 use Rattle.zarr_chain.specs.Encoding.{StandFor, AnswersBelow}
-use Rattle.zarr_chain.proofs.LevelLaws.{valid_some, says_some, chain-value, chain-none, chain-back, none_invalid}
+use Rattle.zarr_chain.proofs.LevelLaws.{chain-value, chain-none, chain-back, none_invalid}
 
 -- what an answer or an error says, weakened
 pub ok_of : {T E : Type 0} (P R : T → Type 0) (Q : E → Type 0) (result : Result T E) → ((v : T) → P v → R v) → MatchResult result P Q → IfOk result R

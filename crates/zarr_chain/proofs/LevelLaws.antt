@@ -1,53 +1,21 @@
 -- What levels give over what lies below them.
-use Rattle.std.proofs.Common.{◌≡◌, true, false, ℕ, zero, suc, List, [], ◌∷◌, drop, take, ◌++◌, Option, Some, None, IsSome, option_and_then, refl, sym, ap, ◌∙◌, ◌*◌, ◌⊎◌, ◌≤◌, arith, ⊎_elim, is_some, subst}
+use Rattle.std.proofs.Common.{◌≡◌, true, false, ℕ, zero, suc, List, [], ◌∷◌, drop, take, ◌++◌, Option, Some, None, IsSome, option_and_then, refl, sym, ap, ◌∙◌, ◌*◌, ◌⊎◌, ◌≤◌, arith, is_some, subst}
 use Rattle.zarrs_data_type_elements.specs.FillValue.{fill_bytes}
 use Rattle.zarr_model.specs.Element.{Element}
 use Rattle.zarr_model.specs.Codec.{Level, ArrayCodec, decode_bytes, decode_levels, decode_chain}
 use Rattle.zarr_model.specs.ArrayBytes.{ArrayBytes}
 use Rattle.zarrs_codec_traits.specs.Errors.{unserved_at}
 use Rattle.zarrs_codec_traits.specs.Words.{list_at, Gives, IsFit}
-use Rattle.zarr_model.specs.Element.{kind_of, fixed_size}
+use Rattle.zarrs_codec_traits.proofs.LevelLaws.{valid_memory}
+use Rattle.zarr_model.specs.Element.{kind_of}
 use Rattle.zarr_model.specs.Region.{count_of}
-use Rattle.zarr_model.specs.Command.{bytes_refusal}
 use Rattle.zarr_model.proofs.BytesLaws.{refusal-meaning}
-use Rattle.zarrs_codec_bytes.specs.Picking.{size_in}
 use Rattle.zarrs_codec_array_bytes.proofs.CheckLaws.{sized_fine}
-use Rattle.zarrs_codec_array_bytes.specs.Levels.{inner_length}
-use Rattle.zarrs_codec_array_bytes.specs.Refusals.{fine, told_by, sized_answer, validity}
+use Rattle.zarrs_codec_array_bytes.specs.Refusals.{fine, told_by, validity}
 use Rattle.zarrs_codec_error.specs.declared.error.CodecError.{CodecError}
 use Rattle.zarrs_codec_error.specs.declared.error.CodecError.TheVariants as codec
 use Rattle.zarr_chain.specs.declared.level.CodecLevel.{CodecLevel}
 use Rattle.zarr_chain.specs.Levels.{above, top, Serving, AreFit, AreLinked, array_codecs, elements_above}
-
--- an error says something
-pub says_some : (e : CodecError) → told_by e ≡ fine → ⊥
-says_some (codec.IncompatibleDimensionalityError x) same = cc
-says_some (codec.InvalidByteRangeError x) same = cc
-says_some (codec.IncompatibleIndexer x) same = cc
-says_some (codec.UnexpectedChunkDecodedSize x) same = cc
-says_some codec.InvalidChecksum same = cc
-says_some (codec.StorageError x) same = cc
-says_some (codec.UnsupportedDataTypeCodec x) same = cc
-says_some codec.EndiannessMissing same = cc
-says_some codec.InvalidVariableSizedArrayOffsets same = cc
-says_some codec.InvalidMask same = cc
-says_some (codec.ExpectedFixedLengthBytes x) same = cc
-says_some (codec.ExpectedVariableLengthBytes x) same = cc
-says_some (codec.ExpectedOptionalBytes x) same = cc
-says_some (codec.InvalidNumberOfElements x) same = cc
-says_some (codec.SubsetOutOfBounds x) same = cc
-says_some (codec.RawBytesOffsetsCreate x) same = cc
-says_some (codec.RawBytesOffsetsOutOfBounds x) same = cc
-says_some (codec.DataTypeFillValueError x) same = cc
-says_some (codec.ArraySubsetError x) same = cc
-says_some codec.OutOfMemory same = cc
-
--- array bytes that mean a list are valid
-pub valid_some : (level : Level) (raw : ArrayBytes) → IsSome (list_at level raw) → validity (kind_of level.data_type) (count_of level.shape) raw ≡ fine
-valid_some level raw there =
-    let kind = kind_of level.data_type in
-    let valid : bytes_refusal kind (count_of level.shape) raw ≡ None = (refusal-meaning kind (count_of level.shape) raw).1 there in
-    ap (sized_answer (inner_length raw) (count_of level.shape * size_in (fixed_size kind))) valid
 
 -- and others are not
 pub none_invalid : (level : Level) (raw : ArrayBytes) → list_at level raw ≡ None → validity (kind_of level.data_type) (count_of level.shape) raw ≡ fine → ⊥
@@ -57,16 +25,9 @@ none_invalid level raw none valid =
     let no : is_some (list_at level raw) ≡ false = ap is_some none in
     cc
 
--- so they are refused for want of memory alone
-pub memory_some : (level : Level) (raw : ArrayBytes) (e : CodecError) → IsSome (list_at level raw) →
-    (e ≡ codec.OutOfMemory) ⊎ (told_by e ≡ validity (kind_of level.data_type) (count_of level.shape) raw) → e ≡ codec.OutOfMemory
-memory_some level raw e there answer =
-    ⊎_elim (λ (memory : e ≡ codec.OutOfMemory). memory)
-    (λ (told : told_by e ≡ validity (kind_of level.data_type) (count_of level.shape) raw). absurd (says_some e (told ∙ valid_some level raw there))) answer
-
 pub memory_alone : (level : Level) (raw : ArrayBytes) (list : List Element) (e : CodecError) → list_at level raw ≡ Some list →
     (e ≡ codec.OutOfMemory) ⊎ (told_by e ≡ validity (kind_of level.data_type) (count_of level.shape) raw) → e ≡ codec.OutOfMemory
-memory_alone level raw list e means answer = memory_some level raw e (ap is_some means) answer
+memory_alone level raw list e means answer = valid_memory level raw e (ap is_some means) answer
 
 -- each of the levels from one on
 pub fit-drop : {A : Type 0} (n : ℕ) (steps rest : List (CodecLevel A)) (step : CodecLevel A) → AreFit steps → drop n steps ≡ step ∷ rest → IsFit (above step).shape (above step).data_type

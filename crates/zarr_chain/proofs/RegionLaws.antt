@@ -5,7 +5,6 @@ use Rattle.std.proofs.lemmas.Option.{same_Some}
 use Rattle.zarr_model.specs.Region.{Region, count_of, ends_within}
 use Rattle.zarr_model.specs.Element.{Element}
 use Rattle.zarr_model.specs.Codec.{Level, ArrayCodec}
-use Rattle.zarr_model.proofs.ChainLaws.{then_some}
 use Rattle.zarr_chain.proofs.ListSteps.{at-front}
 use Rattle.zarr_chain.specs.declared.level.CodecLevel.{CodecLevel}
 use Rattle.zarr_chain.specs.Levels.{above, top, Serving, IsLink, AreLinked, elements_above}
@@ -13,6 +12,7 @@ use Rattle.zarr_chain.specs.Regions.{Boxing, boxes_below, last_item, HoldsBox, I
 use Rattle.zarrs_data_type_elements.specs.FillValue.{fill_bytes}
 use Rattle.zarrs_codec_traits.specs.Errors.{unserved_at}
 use Rattle.zarr_model.specs.ArrayBytes.{ArrayBytes}
+use Rattle.zarr_model.proofs.Choices.{then_some}
 use Rattle.zarrs_codec_traits.specs.Words.{list_at, at_box, select}
 
 pub last-append : (boxes : List Region) (box region : Region) → last_item (boxes ++ (box ∷ [])) region ≡ box

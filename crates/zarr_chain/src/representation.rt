@@ -9,7 +9,7 @@ use std::alloc::{AllocError, Global};
 use std::num::NonZeroU64;
 use zarrs_array_subset::ChunkShape;
 use zarrs_codec_traits::same_shape;
-use zarrs_data_type_elements::FillValue;
+use zarrs_data_type_elements::{FillValue, are_bytes};
 use zarrs_data_type_names::DataType;
 
 /// The shape, the data type and the fill value of a chunk at one level.
@@ -22,11 +22,6 @@ pub struct ChunkRepresentation {
     /// The fill value.
     pub fill_value: FillValue,
 }
-
-// The numbers in a slice are bytes, as these are held.
-fn are_bytes(_bytes: &[u8])
-    ensures { AllByRecursion (λ b. b < 256) _bytes.now }
-{}
 
 impl ChunkRepresentation {
     ghost use Rattle.zarr_chain.specs.Building.{level_at, fill_at};

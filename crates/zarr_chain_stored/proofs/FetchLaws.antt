@@ -1,8 +1,8 @@
 -- The chunk that has the fill value everywhere.
-use Rattle.std.proofs.Common.{◌≡◌, ◌⊎◌, ⊎_elim, ℕ, Bool, true, false, List, replicate, Option, Some, None, IsSome, unwrap_or, Result, Ok, Err, IfOk, MatchResult, refl, subst, length, subst₂, sym, ◌<◌, ◌^◌}
+use Rattle.std.proofs.Common.{◌≡◌, ◌⊎◌, ℕ, Bool, true, false, List, replicate, Some, IsSome, Result, Ok, Err, IfOk, MatchResult, refl, subst, length, subst₂, sym, ◌<◌, ◌^◌}
 use Rattle.std.specs.declared.num.NonZeroU64.{NonZeroU64}
 use Rattle.zarr_model.specs.Region.{count_of}
-use Rattle.zarr_model.specs.Element.{Element, Kind, fixed, variable, optional, null, kind_of, fill_element, fixed_size}
+use Rattle.zarr_model.specs.Element.{Element, Kind, fixed, variable, optional, kind_of, fill_element, fixed_size}
 use Rattle.zarr_model.specs.ArrayBytes.{meaning}
 use Rattle.zarr_model.specs.Codec.{Level}
 use Rattle.zarrs_data_type_elements.specs.FillValue.{fill_bytes}
@@ -15,23 +15,15 @@ use Rattle.zarrs_codec_error.specs.declared.error.CodecError.{CodecError}
 use Rattle.zarrs_codec_error.specs.declared.error.CodecError.TheVariants as codec
 use Rattle.zarrs_codec_array_bytes.specs.declared.array_bytes.ArrayBytes as code
 use Rattle.zarrs_codec_array_bytes.specs.Raw.{raw_of}
-use Rattle.zarrs_codec_array_bytes.specs.Refusals.{Answers, fill_answer, fine, told_by}
+use Rattle.zarrs_codec_array_bytes.specs.Refusals.{Answers, fill_answer}
+use Rattle.zarrs_codec_array_bytes.proofs.ToldLaws.{fill_memory}
 use Rattle.zarrs_codec_traits.specs.Views.{lengths, level_of}
 use Rattle.zarrs_codec_traits.specs.Words.{list_at}
-use Rattle.zarr_chain.proofs.LevelLaws.{says_some}
 use Rattle.zarr_model.specs.Command.{has_long_element}
+use Rattle.zarr_model.proofs.ElementLaws.{denoted}
 use Rattle.zarr_chain.specs.declared.chain.CodecChain.{CodecChain}
 use Rattle.zarr_chain.specs.Chain.{first_level, first_fill}
 use Rattle.zarr_chain_stored.specs.Fetch.{blank_chunk, HasFill}
-
--- a fill value that denotes an element is refused for want of memory alone
-fill_memory : (b : Bool) (e : CodecError) → b ≡ true → (e ≡ codec.OutOfMemory) ⊎ (told_by e ≡ fill_answer b) → e ≡ codec.OutOfMemory
-fill_memory true e fits answer = ⊎_elim (λ (memory : e ≡ codec.OutOfMemory). memory) (λ (told : told_by e ≡ fine). absurd (says_some e told)) answer
-fill_memory false e fits answer = cc
-
-pub denoted : (o : Option Element) → IsSome o → o ≡ Some (unwrap_or o null)
-denoted None there = cc
-denoted (Some x) there = refl
 
 pub filled_gives : (level : Level) (number : ℕ) (fill : List ℕ) (r : Result code.ArrayBytes CodecError) → number ≡ count_of level.shape → fill_element (kind_of level.data_type) fill ≡ Some level.fill →
     Answers (fill_answer (has_size (kind_of level.data_type) fill)) r →

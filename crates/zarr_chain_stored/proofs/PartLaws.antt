@@ -1,11 +1,12 @@
 -- Regions of a chunk by the ranges that its array-to-bytes codec asks for.
-use Rattle.std.proofs.Common.{◌≡◌, ◌⊎◌, ⊎_elim, inl, inr, ℕ, ◌≤◌, Bool, true, false, if◌then◌else◌, List, [], ◌∷◌, length, Option, Some, None, option_map, option_and_then, Result, Ok, Err, IfOk, IfErr, OnOk, MatchResult, Vec, Global, refl, sym, ap, ◌∙◌, subst}
+use Rattle.std.proofs.Common.{◌≡◌, ◌⊎◌, ⊎_elim, inl, inr, ℕ, ◌≤◌, Bool, true, false, if◌then◌else◌, List, [], ◌∷◌, length, Option, Some, None, option_map, option_and_then, Result, Ok, Err, IfOk, IfErr, MatchResult, Vec, Global, refl, sym, ap, ◌∙◌, subst}
 use Rattle.std.proofs.lemmas.List.{length-map}
 use Rattle.zarr_model.specs.Element.{Element}
 use Rattle.zarr_model.specs.Region.{Region}
 use Rattle.zarr_model.specs.Codec.{Level, ArrayCodec, Options, decode_bytes, decode_levels}
 use Rattle.zarr_model.specs.Shown.{Shown}
 use Rattle.zarr_model.specs.Cost.{counted}
+use Rattle.zarr_model.proofs.Choices.{always_ok}
 use Rattle.zarrs_storage.specs.declared.byte_range.ByteRange.{ByteRange}
 use Rattle.zarrs_storage.specs.ByteRange.{is_valid, first_invalid, slice_of, slices_of, parts_of}
 use Rattle.zarrs_storage.specs.Store.{SameContent, invalid_range}
@@ -18,13 +19,13 @@ use Rattle.zarrs_codec_held.specs.Held.{Held, value_part}
 use Rattle.zarrs_codec_held.specs.Reads.{AreParts, IsHandleError, TellsRangeOf}
 use Rattle.zarrs_codec_held.specs.Through.{through}
 use Rattle.zarrs_codec_held.proofs.PartLaws.{slices_given}
-use Rattle.zarrs_codec_partial.proofs.HeldLaws.{parts_sliced}
 use Rattle.zarrs_codec_partial_bytes.specs.Stored.{taken_of}
 use Rattle.zarr_chain.specs.declared.chain.CodecChain.{CodecChain}
 use Rattle.zarr_chain.specs.Levels.{above, Serving, AreLinked, array_codecs}
 use Rattle.zarr_chain.specs.Values.{byte_codecs, bytes_says, said_at}
 use Rattle.zarr_chain.specs.Chain.{Listing, Opening, first_level, decoded, chain_says}
 use Rattle.zarr_chain.proofs.LevelLaws.{chain-none}
+use Rattle.zarrs_codec_partial_traits.proofs.SliceLaws.{parts_sliced}
 use Rattle.zarr_chain_stored.specs.Fetch.{chunk_says}
 use Rattle.zarr_chain_stored.specs.Regions.{stored_request, given_bytes, first_outside, IsGiven, AreGivenParts, IsAlike, GivesAlike, parts_say, range_says, AsksOnce, RegionFails, ReadsRegion, FetchesRegion}
 
@@ -85,10 +86,6 @@ answered_parts request ranges bytes items asked slices valid = subst (λ (r : Op
 pub asks_any : {T : Type 0} (before now : ℕ) (r : Result T CodecError) → now ≡ counted before 1 → AsksOnce before now r
 asks_any before now (Ok v) once = once
 asks_any before now (Err e) once = inl once
-
-pub on_any : {T E P : Type 0} (r : Result T E) → P → OnOk r P
-on_any (Ok v) p = p
-on_any (Err e) p = tt
 
 module _ {A B C : Type 0} (array : A → ArrayCodec) (unserved : Serving A) (to_list : Listing B)
     (list_says : B → Options → Level → List ℕ → CodecError → Type 0) (opens : Opening C) (says : C → Options → List ℕ → CodecError → Type 0) (chain : CodecChain A B C) (under : Options) where
@@ -166,12 +163,12 @@ module _ {A B C : Type 0} (array : A → ArrayCodec) (unserved : Serving A) (to_
       ReadsRegion array to_list list_says opens says chain under (Some ranges) key before now r
   parts_read {T} ranges key before now items r are fails same later once took = record {
     decodes = λ none. absurd (never none);
-    given = on_any r (subst (IsGiven (Some ranges)) (sym given_is) (record { there = refl; within = are.valid }));
+    given = always_ok r (subst (IsGiven (Some ranges)) (sym given_is) (record { there = refl; within = are.valid }));
     failed = go r fails;
     same = same;
     later = later;
     asks = asks_any before.asks now.asks r once;
-    taken = on_any r took;
+    taken = always_ok r took;
   }
     where
       never : Some ranges ≡ None → ⊥
@@ -198,13 +195,13 @@ module _ {A B C : Type 0} (array : A → ArrayCodec) (unserved : Serving A) (to_
   pub cut_reads : {T X : Type 0} (asked : Option (List ByteRange)) (key : List ℕ) (before now : Shown) (fetched : X) (P : T → Type 0) (r : Result T CodecError) → MatchResult r P (λ e. e ≡ codec.OutOfMemory) →
       ReadsRegion array to_list list_says opens says {T = X} chain under asked key before now (Ok fetched) → ReadsRegion array to_list list_says opens says chain under asked key before now r
   cut_reads {T} asked key before now fetched P r cut read = record {
-    decodes = λ none. on_any r (read.decodes none);
-    given = on_any r read.given;
+    decodes = λ none. always_ok r (read.decodes none);
+    given = always_ok r read.given;
     failed = go r cut;
     same = read.same;
     later = read.later;
     asks = asks_any before.asks now.asks r read.asks;
-    taken = on_any r read.taken;
+    taken = always_ok r read.taken;
   }
     where
       go : (r : Result T CodecError) → MatchResult r P (λ e. e ≡ codec.OutOfMemory) → IfErr r (RegionFails array to_list list_says opens says chain under asked (before.content key) before.faults now.faults)

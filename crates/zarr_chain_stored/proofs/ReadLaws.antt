@@ -1,30 +1,18 @@
--- A box of array bytes that are valid is refused for want of memory alone.
-use Rattle.std.proofs.Common.{◌≡◌, ℕ, Bool, true, List, [], length, get_or, Option, Some, None, IsSome, Result, Ok, Err, IfOk, IfErr, MatchResult, refl, sym, ap, ◌∙◌, subst}
-use Rattle.std.proofs.lemmas.Simd.{map-map}
+-- The box of a list at the bottom, and results.
+use Rattle.std.proofs.Common.{◌≡◌, ℕ, Bool, true, List, [], Option, Some, IsSome, Result, Ok, Err, IfOk, IfErr, MatchResult, refl, sym, ap, ◌∙◌, subst}
 use Rattle.std.proofs.lemmas.Option.{same_Some}
-use Rattle.zarr_model.specs.Element.{Element, Kind, null}
-use Rattle.zarr_model.specs.ArrayBytes.{ArrayBytes, meaning}
-use Rattle.zarr_model.specs.Region.{Region, count, tuples, linear_index}
-use Rattle.zarr_model.proofs.RegionLaws.{length-tuples}
-use Rattle.zarrs_codec_bytes.specs.Picking.{picked}
+use Rattle.zarr_model.specs.Element.{Element}
+use Rattle.zarr_model.specs.ArrayBytes.{ArrayBytes}
+use Rattle.zarr_model.specs.Region.{Region}
 use Rattle.zarrs_codec_error.specs.declared.error.CodecError.{CodecError}
 use Rattle.zarrs_codec_error.specs.declared.error.CodecError.TheVariants as codec
 use Rattle.zarrs_codec_array_bytes.specs.declared.array_bytes.ArrayBytes as code
 use Rattle.zarrs_codec_array_bytes.specs.Raw.{raw_of}
-use Rattle.zarrs_codec_array_bytes.specs.Selection.{linear}
-use Rattle.zarrs_codec_array_bytes.specs.Refusals.{extract_answer, Answers}
 use Rattle.zarr_model.specs.Codec.{Level, ArrayCodec}
 use Rattle.zarrs_codec_traits.specs.Words.{list_at, at_box, select}
 use Rattle.zarr_chain.specs.declared.level.CodecLevel.{CodecLevel}
 use Rattle.zarr_chain.specs.Levels.{top, elements_above}
 use Rattle.zarr_chain.specs.Regions.{HoldsBox}
-use Rattle.zarrs_codec_partial.proofs.ExtractLaws.{extract_told}
-
--- what is taken out of valid array bytes is refused for want of memory alone
-pub extract_gives : (kind : Kind) (fits : Bool) (n : ℕ) (raw : ArrayBytes) (xs : List Element) (Wanted : code.ArrayBytes → Type 0) (r : Result code.ArrayBytes CodecError) → fits ≡ true → meaning kind n raw ≡ Some xs →
-    Answers (extract_answer kind fits n raw) r → IfOk r Wanted → MatchResult r Wanted (λ e. e ≡ codec.OutOfMemory)
-extract_gives kind fits n raw xs Wanted (Ok v) inside was answers gives = gives
-extract_gives kind fits n raw xs Wanted (Err e) inside was answers gives = extract_told kind fits n raw xs e inside was answers
 
 -- a fact that stands without a result
 pub ok_all : {T E : Type 0} (P : Type 0) (r : Result T E) → P → IfOk r (λ v. P)
@@ -43,13 +31,6 @@ pub held_of : {A : Type 0} (array : A → ArrayCodec) (steps : List (CodecLevel 
 held_of array steps bottom xs list box (Ok v) is holds = holds list is
 held_of array steps bottom xs list box (Err e) is holds = tt
 
--- what was picked is the selection
-pub picked_selects : {E : Type 0} (kind : Kind) (shape : List ℕ) (box : Region) (xs : List Element) (r : Result code.ArrayBytes E) →
-    IfOk r (λ v. meaning kind (length (tuples box)) (raw_of v) ≡ Some (picked null (linear shape (tuples box)) xs)) → IfOk r (λ v. meaning kind (count box) (raw_of v) ≡ Some (select shape box xs))
-picked_selects kind shape box xs (Ok v) is =
-    ap (λ n. meaning kind n (raw_of v)) (sym (length-tuples box)) ∙ (is ∙ ap Some (map-map (λ (k : ℕ). get_or xs k null) (linear_index shape) (tuples box)))
-picked_selects kind shape box xs (Err e) is = tt
-
 -- a step that only want of memory ends
 pub ok_half : {T E : Type 0} (P : T → Type 0) (Q : E → Type 0) (r : Result T E) → MatchResult r P Q → IfOk r P
 ok_half P Q (Ok v) is = is
@@ -62,7 +43,3 @@ ok_there f x Q (Err e) is = tt
 pub starves : {T : Type 0} (P : T → Type 0) (fails : CodecError → Type 0) (r : Result T CodecError) → MatchResult r P (λ e. e ≡ codec.OutOfMemory) → fails codec.OutOfMemory → IfErr r fails
 starves P fails (Ok v) is memory = tt
 starves P fails (Err e) is memory = subst fails (sym is) memory
-
-pub some_of : {A : Type 0} (o : Option A) → IsSome o → (x : A) × (o ≡ Some x)
-some_of (Some x) h = (x, refl)
-some_of None h = cc

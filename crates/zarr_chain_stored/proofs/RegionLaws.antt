@@ -7,7 +7,7 @@ use Rattle.zarr_model.specs.Element.{Element, Kind, DataType, fixed, variable, o
 use Rattle.zarr_model.specs.ArrayBytes.{ends_from}
 use Rattle.zarr_model.specs.Region.{Region, count, count_of, ends_within}
 use Rattle.zarr_model.specs.Codec.{Level}
-use Rattle.zarrs_chunk_grid_iterators.proofs.Linears.{count_within}
+use Rattle.zarr_model.proofs.RegionLaws.{count_within}
 use Rattle.zarrs_codec_bytes.specs.Filling.{inner_fill, filled_with}
 use Rattle.zarrs_codec_error.specs.declared.error.CodecError.{CodecError}
 use Rattle.zarrs_codec_error.specs.declared.error.CodecError.TheVariants as codec
@@ -19,7 +19,7 @@ use Rattle.zarrs_data_type_names.specs.DataType.{type_of}
 use Rattle.zarrs_data_type_names.specs.declared.data_type.DataType as names
 use Rattle.zarrs_codec_traits.specs.Views.{lengths, level_of}
 use Rattle.zarrs_codec_traits.specs.Words.{list_at, at_box, select}
-use Rattle.zarrs_codec_partial.proofs.SelectLaws.{select-replicate}
+use Rattle.zarrs_codec_traits.proofs.SelectLaws.{select-replicate}
 use Rattle.zarr_chain_stored.specs.Fetch.{blank_chunk}
 
 -- fewer elements of a fill value that is not long are not long

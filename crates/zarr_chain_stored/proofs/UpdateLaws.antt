@@ -1,18 +1,20 @@
 -- An update of array bytes that are valid is refused for want of memory alone.
-use Rattle.std.proofs.Common.{◌≡◌, ⊎_elim, ℕ, ◌+◌, ◌*◌, ◌==◌, Bool, true, false, not, List, [], ◌∷◌, length, Option, Some, None, is_some, Result, Ok, Err, IfOk, MatchResult, refl, sym, ap, ap₂, ◌∙◌, arith, eqb-true, eq-eqb}
+use Rattle.std.proofs.Common.{◌≡◌, ⊎_elim, ℕ, ◌+◌, ◌*◌, ◌==◌, Bool, true, false, List, [], ◌∷◌, length, Option, Some, None, is_some, Result, Ok, Err, IfOk, MatchResult, refl, sym, ap, ap₂, ◌∙◌}
 use Rattle.std.proofs.lemmas.Bool.{and_parts}
 use Rattle.zarr_model.specs.Element.{Element, Kind, fixed, variable, optional, fixed_size}
 use Rattle.zarr_model.specs.ArrayBytes.{ArrayBytes, fixed_bytes, variable_bytes, optional_bytes, meaning, is_mask, are_offsets}
-use Rattle.zarr_model.specs.Command.{Refusal, bytes_refusal, refused_if, or_then, invalid_mask, invalid_variable_sized_array_offsets}
+use Rattle.zarr_model.specs.Command.{Refusal, bytes_refusal, or_then, invalid_mask, invalid_variable_sized_array_offsets}
 use Rattle.zarr_model.proofs.BytesLaws.{refusal-meaning}
+use Rattle.zarr_model.proofs.RefusalLaws.{kept, not_refused, offsets_long}
 use Rattle.zarrs_codec_error.specs.declared.error.CodecError.{CodecError}
 use Rattle.zarrs_codec_error.specs.declared.error.CodecError.TheVariants as codec
 use Rattle.zarrs_codec_array_bytes.specs.declared.array_bytes.ArrayBytes as code
 use Rattle.zarrs_codec_bytes.specs.Picking.{size_in}
 use Rattle.zarrs_codec_array_bytes.specs.Levels.{inner_length}
 use Rattle.zarrs_codec_array_bytes.specs.Refusals.{fine, lengths_refusal, first_answer, then_answer, sized_answer, told_by, Answers}
+use Rattle.zarrs_codec_array_bytes.proofs.ToldLaws.{says_some}
+use Rattle.zarrs_codec_array_bytes.proofs.CheckLaws.{first_none}
 use Rattle.zarrs_codec_array_bytes_update.specs.Pairs.{pair_refusal, both_answer, update_answer}
-use Rattle.zarr_chain.proofs.LevelLaws.{says_some}
 
 -- two valid array bytes of one kind are a pair
 pair_none : (kind : Kind) (n m : ℕ) (old new : ArrayBytes) → bytes_refusal kind n old ≡ None → bytes_refusal kind m new ≡ None → pair_refusal (fixed_size kind) old new ≡ None
@@ -36,39 +38,20 @@ pair_none (optional kind) n m (optional_bytes a mask) (variable_bytes b to) firs
 pair_none (optional kind) n m (fixed_bytes a) new first next = cc
 pair_none (optional kind) n m (variable_bytes a from) new first next = cc
 
--- and as long as they must be
-not_refused : (b : Bool) (why : Refusal) → refused_if (not b) why ≡ None → b ≡ true
-not_refused true why e = refl
-not_refused false why e = cc
-
-not_refused_if : (b : Bool) (why : Refusal) → b ≡ true → refused_if (not b) why ≡ None
-not_refused_if true why e = refl
-not_refused_if false why e = cc
-
-pub both_none : (o p : Option Refusal) → or_then o p ≡ None → (o ≡ None) × (p ≡ None)
-both_none None p e = (refl, e)
-both_none (Some why) p e = cc
-
-offsets_long : (n end : ℕ) (offsets : List ℕ) → are_offsets n end offsets ≡ true → (length offsets == n + 1) ≡ true
-offsets_long n end [] are = cc
-offsets_long n end (first ∷ offsets) are =
-    let long : length offsets ≡ n = eqb-true _ _ (and_parts (length offsets == n) _ are).0 in
-    eq-eqb _ _ (omega (arith, long))
-
 pub lengths_none : (kind : Kind) (n : ℕ) (raw : ArrayBytes) → bytes_refusal kind n raw ≡ None → lengths_refusal (size_in (fixed_size kind)) n raw ≡ None
 lengths_none (fixed k) n (fixed_bytes a) valid = valid
 lengths_none (fixed k) n (variable_bytes a from) valid = cc
 lengths_none (fixed k) n (optional_bytes a mask) valid = cc
 lengths_none variable n (fixed_bytes a) valid = cc
 lengths_none variable n (variable_bytes a from) valid =
-    not_refused_if (length from == n + 1) invalid_variable_sized_array_offsets (offsets_long n (length a) from (not_refused (are_offsets n (length a) from) _ valid))
+    kept (length from == n + 1) invalid_variable_sized_array_offsets (offsets_long n (length a) from (not_refused (are_offsets n (length a) from) _ valid))
 lengths_none variable n (optional_bytes a mask) valid = cc
 lengths_none (optional kind) n (fixed_bytes a) valid = cc
 lengths_none (optional kind) n (variable_bytes a from) valid = cc
 lengths_none (optional kind) n (optional_bytes a mask) valid =
-    let parts = both_none _ _ valid in
+    let parts = first_none _ _ valid in
     let long = (and_parts (length mask == n) _ (not_refused (is_mask n mask) _ parts.0)).0 in
-    ap₂ or_then (not_refused_if (length mask == n) invalid_mask long) (lengths_none kind n a parts.1)
+    ap₂ or_then (kept (length mask == n) invalid_mask long) (lengths_none kind n a parts.1)
 
 pub valid_of : (kind : Kind) (n : ℕ) (raw : ArrayBytes) (xs : List Element) → meaning kind n raw ≡ Some xs → bytes_refusal kind n raw ≡ None
 valid_of kind n raw xs means = (refusal-meaning kind n raw).1 (ap is_some means)

@@ -121,6 +121,7 @@ pub fn fetch<
     ensures taken { OnOk result ((S.shown store.new).taken ≡ counted (S.shown store.old).taken
         (taken_of None ((S.shown store.old).content key.now))) }
     ensures later { (S.shown store.old).faults ≤ (S.shown store.new).faults }
+    ensures kept { S.kept store.old store.new }
 {
     let value = store.get(alloc, key)?;
     elements_of(chain, alloc, value, options)

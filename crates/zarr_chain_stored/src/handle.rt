@@ -99,6 +99,7 @@ impl<
         ensures whole { is_whole_chunk (first_level self.old.chain) (box_of region.now) ≡ true
             → (S.shown self.new.storage.now).asks
             ≡ counted (S.shown self.old.storage.now).asks 1 }
+        ensures kept { S.kept self.old.storage.now self.new.storage.now }
         ensures chain { self.new.chain ≡ self.old.chain }
         ensures key { self.new.key ≡ self.old.key }
         ensures same_reference { self.new.storage.ghost_name ≡ self.old.storage.ghost_name }

@@ -123,6 +123,7 @@ fn fetch_parts<
         (taken_of (stored_request chain.now (Some ranges.now))
         ((S.shown store.old).content key.now))) }
     ensures later { (S.shown store.old).faults ≤ (S.shown store.new).faults }
+    ensures kept { S.kept store.old store.new }
 {
     if chain.codecs.is_empty() {
         let parts = store.get_partial_many(alloc, key, ranges)?;
@@ -271,6 +272,7 @@ pub(crate) fn fetch_by_parts<
     ensures read { ReadsRegion A.meaning B.meaning B.says C.meaning C.says chain.now
         (options_of options.now) (Some ranges.now) key.now (S.shown store.old)
         (S.shown store.new) result }
+    ensures kept { S.kept store.old store.new }
 {
     match fetch_parts(chain, alloc, key, ranges, store, options)? {
         Some(parts) => region_of_parts(chain, alloc, parts, boxes, region, options),

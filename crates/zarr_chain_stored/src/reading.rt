@@ -61,6 +61,7 @@ fn fetch_part<
         (options_of options.now) (box_of region.now)
         (bottom_request B.request A.region_below chain.now (box_of region.now)) key.now
         (S.shown store.old) (S.shown store.new) result }
+    ensures kept { S.kept store.old store.new }
 {
     let boxes = chain.boxes_down(alloc, region)?;
     match byte_request(chain, alloc, &boxes, region)? {
@@ -107,6 +108,7 @@ pub fn fetch_region<
         (S.shown store.old) (S.shown store.new) result }
     ensures whole { is_whole_chunk (first_level chain.now) (box_of region.now) ≡ true
         → (S.shown store.new).asks ≡ counted (S.shown store.old).asks 1 }
+    ensures kept { S.kept store.old store.new }
 {
     if is_whole(region, chain.shape()) {
         let chunk = fetch(chain, alloc, key, store, options)?;
@@ -156,6 +158,7 @@ pub fn read<
         (S.shown store.old) (S.shown store.new) result }
     ensures whole { is_whole_chunk (first_level chain.now) (box_of region.now) ≡ true
         → (S.shown store.new).asks ≡ counted (S.shown store.old).asks 1 }
+    ensures kept { S.kept store.old store.new }
 {
     match fetch_region(chain, alloc, key, region, store, options) {
         Ok(Fetched::Chunk(whole)) => part_of(chain, alloc, &whole, region),

@@ -2,7 +2,6 @@
 
 ghost use Rattle.std.specs.Prelude.{◌≡◌, true, false, List, replicate, map, Some, IsSome, IfOk, MatchResult};
 ghost use Rattle.zarr_model.specs.Command.{has_long_element};
-ghost use Rattle.zarr_model.specs.ArrayBytes.{meaning};
 ghost use Rattle.zarr_model.specs.Element.{Element, fill_element, kind_of};
 ghost use Rattle.zarr_model.specs.Region.{count, count_of, ends_within};
 ghost use Rattle.zarrs_array_subset.specs.ArraySubset.{region as box_of};
@@ -25,33 +24,11 @@ use zarrs_array_subset::ArraySubset;
 use zarrs_codec_array_bytes::ArrayBytes;
 use zarrs_codec_error::CodecError;
 use zarrs_codec_traits::{
-    ArrayToArrayCodecTraits, ArrayToBytesCodecTraits, BytesToBytesCodecTraits, num_elements,
-    shape_numbers,
+    ArrayToArrayCodecTraits, ArrayToBytesCodecTraits, BytesToBytesCodecTraits, extracted,
+    num_elements, shape_numbers,
 };
 use zarrs_data_type_elements::FillValue;
 use zarrs_data_type_names::DataType;
-
-// The elements of a box inside a shape.
-fn region_of(
-    alloc: Global,
-    whole: &ArrayBytes<'_>,
-    shape: &[NonZeroU64],
-    data_type: &DataType,
-    region: &ArraySubset,
-) -> Result<ArrayBytes<'static>, CodecError>
-    requires fits { IsFit (lengths shape.now) (type_of data_type.now) }
-    requires inside { ends_within (box_of region.now) (lengths shape.now) ≡ true }
-    ensures value { let kind = kind_of (type_of data_type.now) in (list : List Element)
-        → meaning kind (count_of (lengths shape.now)) (raw_of whole.now) ≡ Some list
-        → MatchResult result (λ v. meaning kind (count (box_of region.now)) (raw_of v)
-        ≡ Some (select (lengths shape.now) (box_of region.now) list))
-        (λ e. e ≡ codec.OutOfMemory) }
-    ensures short { has_long_element (raw_of whole.now) ≡ false
-        → IfOk result (λ v. has_long_element (raw_of v) ≡ false) }
-{
-    let numbers = shape_numbers(alloc, shape)?;
-    whole.extract_array_subset(alloc, region, &numbers, data_type)
-}
 
 // The elements of a region of a chunk.
 pub(crate) fn part_of<
@@ -73,7 +50,7 @@ pub(crate) fn part_of<
     ensures short { has_long_element (raw_of whole.now) ≡ false
         → IfOk result (λ v. has_long_element (raw_of v) ≡ false) }
 {
-    region_of(alloc, whole, chain.shape(), chain.data_type(), region)
+    extracted(alloc, whole, region, chain.shape(), chain.data_type())
 }
 
 // The elements of the box at the bottom that a region of a chunk needs, out of all that stand there.
@@ -101,12 +78,12 @@ pub(crate) fn bottom_part<
         → IfOk result (λ v. has_long_element (raw_of v) ≡ false) }
 {
     let bottom = &chain.bottom;
-    region_of(
+    extracted(
         alloc,
         below,
+        last_or(boxes, region),
         &bottom.shape,
         &bottom.data_type,
-        last_or(boxes, region),
     )
 }
 

@@ -4,14 +4,13 @@ ghost use Rattle.std.specs.Prelude.{◌≡◌, ◌≤◌, true, false, List, Som
 ghost use Rattle.zarr_model.specs.Command.{has_long_element};
 ghost use Rattle.zarr_model.specs.Cost.{counted};
 ghost use Rattle.zarr_model.specs.ArrayBytes.{meaning};
-ghost use Rattle.zarr_model.specs.Element.{Element, fixed_size, kind_of};
+ghost use Rattle.zarr_model.specs.Element.{Element, kind_of};
 ghost use Rattle.zarr_model.specs.Region.{count, count_of, ends_within};
 ghost use Rattle.zarrs_array_subset.specs.ArraySubset.{region as box_of};
 ghost use Rattle.zarrs_storage.specs.Store.{SameContent};
 ghost use Rattle.zarrs_data_type_names.specs.DataType.{type_of};
 ghost use Rattle.zarrs_codec_error.specs.declared.error.CodecError.TheVariants as codec;
 ghost use Rattle.zarrs_codec_array_bytes.specs.Raw.{raw_of};
-ghost use Rattle.zarrs_codec_array_bytes.specs.Steps.{size_seen};
 ghost use Rattle.zarrs_codec_traits.specs.Views.{lengths, options_of};
 ghost use Rattle.zarrs_codec_traits.specs.Words.{list_at, at_box, IsFit};
 ghost use Rattle.zarrs_codec_held.specs.Writes.{UnlessFault};
@@ -35,19 +34,8 @@ use zarrs_codec_options::CodecOptions;
 use zarrs_codec_traits::{
     ArrayToArrayCodecTraits, ArrayToBytesCodecTraits, BytesToBytesCodecTraits, shape_numbers,
 };
-use zarrs_data_type_names::DataType;
-use zarrs_metadata_parts::DataTypeSize;
+use zarrs_data_type_names::{DataType, type_size};
 use zarrs_storage::{Store, StoreKey};
-
-// The size of a data type's elements.
-fn size_of_type(data_type: &DataType) -> DataTypeSize
-    ensures { fixed_size (kind_of (type_of data_type.now)) ≡ size_seen result }
-{
-    match data_type.fixed_size() {
-        Some(size) => DataTypeSize::Fixed(size),
-        None => DataTypeSize::Variable,
-    }
-}
 
 // The elements of a shape with those of a box inside it replaced.
 fn with_region(
@@ -71,14 +59,7 @@ fn with_region(
         → IfOk result (λ v. has_long_element (raw_of v) ≡ false) }
 {
     let numbers = shape_numbers(alloc, shape)?;
-    update_array_bytes(
-        alloc,
-        whole,
-        &numbers,
-        region,
-        bytes,
-        size_of_type(data_type),
-    )
+    update_array_bytes(alloc, whole, &numbers, region, bytes, type_size(data_type))
 }
 
 // A chunk with the elements of a region replaced.

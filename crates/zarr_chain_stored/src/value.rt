@@ -164,6 +164,7 @@ pub(crate) fn fetch_by_value<
     ensures fetched { FetchesRegion A.meaning B.meaning B.says C.meaning C.says chain.now
         (options_of options.now) (box_of region.now) None key.now (S.shown store.old)
         (S.shown store.new) result }
+    ensures kept { S.kept store.old store.new }
 {
     let value = store.get(alloc, key)?;
     fetched_of(chain, alloc, value, boxes, region, options)

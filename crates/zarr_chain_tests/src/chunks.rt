@@ -16,6 +16,7 @@ use zarr_chain::CodecChain;
 use zarr_chain_stored::ChainHandle;
 use zarr_codecs::{BytesCodec, Sha256Codec};
 use zarr_codecs_offset::OffsetCodec;
+use zarr_model::Endianness;
 use zarrs_array_subset::ArraySubset;
 use zarrs_codec_array_bytes::ArrayBytes;
 use zarrs_codec_error::CodecError;
@@ -23,7 +24,6 @@ use zarrs_codec_options::CodecOptions;
 use zarrs_codec_traits::{ArrayCodecTraits, ArrayToArrayCodecTraits};
 use zarrs_data_type_elements::FillValue;
 use zarrs_data_type_names::DataType;
-use zarrs_metadata_parts::Endianness;
 use zarrs_storage::{MemoryStore, Store, StoreKey};
 
 type Numbers = CodecChain<OffsetCodec, BytesCodec, Sha256Codec>;

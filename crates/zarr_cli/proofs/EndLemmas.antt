@@ -3,7 +3,7 @@ use Rattle.std.proofs.Common.{◌≡◌, ℕ, ◌<◌, ◌≤◌, false, List, l
 use Rattle.std.specs.declared.alloc.Global.{Global}
 use Rattle.zarr_model.specs.Prelude.{Shown, Told, AreRefused, IsUntouched, all_asks, Rose}
 use Rattle.zarr_cli_runs.specs.array.parts.Document.{describe}
-use Rattle.zarr_cli_runs.specs.array.parts.Opening.{OpenRefusal, not_opened}
+use Rattle.zarr_cli_runs.specs.array.parts.Opening.{OpenRefusal}
 use Rattle.zarr_cli_runs.specs.array.OpenArray.{described}
 use Rattle.zarr_cli_runs.specs.array.parts.OpenError.{open_refusal_of}
 use Rattle.zarr_cli_runs.specs.array.Command.{command_of}
@@ -21,6 +21,7 @@ use Rattle.zarr_cli.proofs.OutcomeLemmas.{did_run, run_told, run_not_bad, run_no
 use Rattle.zarr_cli.specs.declared.input.ParsedInput.{ParsedInput}
 use Rattle.zarr_cli_runs.specs.declared.status.Status.{Status}
 use Rattle.zarr_cli_runs.specs.declared.status.Status.TheVariants.{Done, BadWords, BadInput, Document, Chunk, Store, Read, Write, TooLong, OutOfMemory}
+use Rattle.zarr_cli_runs.proofs.DescribedLaws.{same_refusal}
 
 -- what a parsed input came to, whatever the result
 pub bytes_told : (words : List (List ℕ)) (settings : Settings) (input : List ℕ) (parsed : ParsedInput) (before now : Shown) (result : Result (Vec ℕ Global) Status) →
@@ -210,9 +211,6 @@ pub told_input : (words : List (List ℕ)) (input : List ℕ) (rose : Type 0) (b
     IsToldFault words input rose before now status → ¬ rose → HasBadLine words input line → IsOrMemory (ending_of end) (bad_input line)
 told_input words input rose before now status end line which told calm bad =
     or_memory status end (bad_input line) which (told_bad words input rose before now status line told calm bad)
-
-same_refusal : (a b : OpenRefusal) → not_opened a ≡ not_opened b → a ≡ b
-same_refusal a b e = cc
 
 one_refusal : (words : List (List ℕ)) (input : List ℕ) (other : Option OpenRefusal) (why : OpenRefusal) → RefusesInput words input other → HasRefusedDocument words input why → IsOrMemory (refused_by other) (refused_document why)
 one_refusal words input None why told refused = absurd told

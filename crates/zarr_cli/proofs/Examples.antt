@@ -11,7 +11,7 @@ use Rattle.zarr_cli_runs.specs.Ending.{bad_input, refused_document, damaged_chun
 use Rattle.zarr_cli_runs.specs.lines.Text.{input_lines, first_entries, line_command, replies_text, good_lines}
 use Rattle.zarr_basics_grids.specs.GridForms.{boundaries}
 use Rattle.zarr_cli_runs.specs.array.parts.Document.{offset, transpose, checksum, describe}
-use Rattle.zarrs_metadata_parts.specs.declared.array.endianness.Endianness.TheVariants.{Little, Big}
+use Rattle.zarr_model.specs.declared.endianness.Endianness.TheVariants.{Little, Big}
 use Rattle.zarr_cli_runs.specs.array.parts.kinds.array_to_bytes.Plain.{plain_bytes, plain_vlen, plain_optional}
 use Rattle.zarr_cli_runs.proofs.Documents.{plain_document}
 use Rattle.zarr_cli.proofs.Worked.{reply_lines, left_in_chunks, kept_in_chunks, left_chunks, kept_chunks, its_commands, first_array, empty_store, store_of, holding}
@@ -344,7 +344,9 @@ codec_order : (decode_bytes ((λ v. Some (take 2 v)) ∷ (λ v. Some (drop 1 v))
 codec_order = refl
 
 level_order : decode_levels
-    (record { level_below = λ level. level; decode_list = λ level l. Some (take 1 l) } ∷ record { level_below = λ level. level; decode_list = λ level l. Some (drop 1 l) } ∷ [])
+    (record { level_below = λ level. level; decode_list = λ level l. Some (take 1 l); box_below = λ shape box. box }
+    ∷ record { level_below = λ level. level; decode_list = λ level l. Some (drop 1 l); box_below = λ shape box. box }
+    ∷ [])
     (λ level value. Some (of_bytes value ∷ null ∷ some null ∷ [])) (record { shape = []; data_type = raw_type 3; fill = null }) [] ≡ Some (null ∷ [])
 level_order = refl
 

@@ -3,7 +3,7 @@ use Rattle.std.proofs.Common.{◌≡◌, ℕ, ◌+◌, ◌<◌, ◌≤◌, false
 use Rattle.std.specs.Str.{IsValidUpTo}
 use Rattle.std.proofs.lemmas.Str.{utf8_valid_len-IsUtf8, utf8_valid_len-IsValidUpTo}
 use Rattle.zarr_model.specs.Prelude.{Content, IsHonest, with_keys, Shown, layout, AreRefused, IsUntouched}
-use Rattle.zarr_cli_runs.specs.array.parts.Document.{ArrayDocument, describe}
+use Rattle.zarr_cli_runs.specs.array.parts.Document.{describe}
 use Rattle.zarr_cli_runs.specs.array.parts.Opening.{OpenRefusal, opened, not_opened, open_builtin}
 use Rattle.zarr_cli_runs.specs.array.OpenArray.{documented, described}
 use Rattle.zarr_cli_runs.specs.array.parts.OpenError.{open_refusal_of}
@@ -21,6 +21,7 @@ use Rattle.zarr_cli.proofs.ProgramLaws.{one_run}
 use Rattle.zarr_cli.specs.declared.input.ParsedInput.{ParsedInput}
 use Rattle.zarr_cli_runs.specs.declared.status.Status.{Status}
 use Rattle.zarr_cli_runs.specs.declared.status.Status.TheVariants.{Done, BadWords, BadInput, Document, Chunk, Store, Read, Write, TooLong, OutOfMemory}
+use Rattle.zarr_cli_runs.proofs.DescribedLaws.{same_opened}
 
 -- the run of an input in form under words in form
 abbrev pub its_run : (words : List (List ℕ)) (settings : Settings) (input : List ℕ) (parsed : ParsedInput) → ReadsBy words settings → length input ≤ input_limit → SaysInput input parsed →
@@ -81,14 +82,11 @@ valid_up_to-not input n utf8 upto =
     let short : n < length input = upto.short in
     omega (arith, utf8_valid_len-IsUtf8 input utf8, utf8_valid_len-IsValidUpTo input n upto)
 
-one_opened : (a b : ArrayDocument) → opened a ≡ opened b → a ≡ b
-one_opened a b e = cc
-
 -- a run in form has no line out of form
 pub run_not_bad : (words : List (List ℕ)) (input : List ℕ) (line : ℕ) → Run words input → IsBadLine input line → ⊥
 run_not_bad words input line run (inl (n, upto, e)) = valid_up_to-not input n run.is_text upto
 run_not_bad words input line run (inr (utf8, document, opens, below, e)) =
-    let same : document ≡ run.document = one_opened document run.document (sym opens ∙ run.is_opened) in
+    let same : document ≡ run.document = same_opened document run.document (sym opens ∙ run.is_opened) in
     let full : good_lines (command_grammar run.document) (lines_after_document input) ≡ length (lines_after_document input) =
     (good_lines_all (command_grammar run.document) (lines_after_document input)).0 (ap is_some run.are_commands) in
     let few : good_lines (command_grammar run.document) (lines_after_document input) < length (lines_after_document input) =
@@ -111,7 +109,7 @@ one_bad_line input a b (inl (n, first, e)) (inl (m, second, k)) =
 one_bad_line input a b (inl (n, first, e)) (inr (utf8, document, opens, below, k)) = absurd (valid_up_to-not input n utf8 first)
 one_bad_line input a b (inr (utf8, document, opens, below, e)) (inl (m, second, k)) = absurd (valid_up_to-not input m utf8 second)
 one_bad_line input a b (inr (utf8, document, opens, below, e)) (inr (again, other, opens_other, below_other, k)) =
-    let same : document ≡ other = one_opened document other (sym opens ∙ opens_other) in
+    let same : document ≡ other = same_opened document other (sym opens ∙ opens_other) in
     e ∙ (ap (λ d. good_lines (command_grammar d) (lines_after_document input) + 2) same ∙ sym k)
 
 -- an input out of form: its cause, and that it cannot be run

@@ -3,6 +3,7 @@ use Rattle.std.proofs.Common.{◌≡◌, ℕ, List, Some, sym, ◌∙◌, subst,
 use Rattle.std.specs.FinMap.Entries.{same_entries}
 use Rattle.std.specs.Cmp.Lexicographic.{slice_cmp, nat_list_cmp_total}
 use Rattle.std.specs.FinMap.{slice_cmp-IsAntisymmetric, nat_cmp-IsAntisymmetric}
+use Rattle.std.proofs.lemmas.Option.{same_Some}
 use Rattle.zarr_model.specs.Prelude.{Content, Command}
 use Rattle.zarr_cli_runs.specs.array.parts.Document.{ArrayDocument, describe}
 use Rattle.zarr_cli_runs.specs.array.parts.Opening.{opened, open_builtin}
@@ -10,13 +11,8 @@ use Rattle.zarr_cli_runs.specs.lines.Text.{commands_of}
 use Rattle.zarr_cli.specs.Words.{Settings, settings_of}
 use Rattle.zarr_cli.specs.Run.{Run, Prints, WentThrough}
 use Rattle.zarr_cli_runs.specs.Keys.{ListsStore}
+use Rattle.zarr_cli_runs.proofs.DescribedLaws.{same_opened}
 use Rattle.zarr_cli.specs.Input.{store_after_keys, command_grammar, document_line, lines_after_document}
-
-one_document : (a b : ArrayDocument) → opened a ≡ opened b → a ≡ b
-one_document a b e = cc
-
-one_value : {A : Type 0} (a b : A) → Some a ≡ Some b → a ≡ b
-one_value a b e = cc
 
 -- a run has the settings, the document and the commands that its words and its input say
 pub one_run : (words : List (List ℕ)) (input : List ℕ) (settings : Settings) (document : ArrayDocument) (commands : List Command) →
@@ -24,10 +20,10 @@ pub one_run : (words : List (List ℕ)) (input : List ℕ) (settings : Settings)
     commands_of (command_grammar document) (lines_after_document input) ≡ Some commands →
     (run : Run words input) → (run.settings ≡ settings) × (run.document ≡ document) × (run.commands ≡ commands)
 one_run words input settings document commands set opens told run =
-    let which : run.document ≡ document = one_document run.document document (sym run.is_opened ∙ opens) in (
-      one_value run.settings settings (sym run.are_words.0 ∙ set),
+    let which : run.document ≡ document = same_opened run.document document (sym run.is_opened ∙ opens) in (
+      same_Some run.settings settings (sym run.are_words.0 ∙ set),
       which,
-      one_value run.commands commands (sym (subst (λ d. commands_of (command_grammar d) (lines_after_document input) ≡ Some run.commands) which run.are_commands) ∙ told),
+      same_Some run.commands commands (sym (subst (λ d. commands_of (command_grammar d) (lines_after_document input) ≡ Some run.commands) which run.are_commands) ∙ told),
     )
 
 -- so what went through is that run

@@ -7,6 +7,7 @@ use Rattle.std.specs.Str.{IsValidUpTo, is_utf8, chars}
 use lib.Utf8.{encode}
 use Rattle.std.specs.Str.Lossy.{utf8_valid_len}
 use Rattle.std.proofs.lemmas.Str.{utf8_valid_len-IsValidUpTo, is_utf8-from_IsUtf8, IsUtf8-from_is_utf8}
+use Rattle.std.proofs.lemmas.Option.{same_Some}
 use Rattle.hex.specs.Hex.{encode_with, decode_pairs}
 use Rattle.zarr_model.specs.Prelude.{of_bytes, fixed_bytes, regular_grid, Options, Content, with_key, WhollyMeans, stored_array, Command, elements, read, write, erase, Description, layout, LeavesArray, command_chunks, asks_store, counted, Rose, Shown, Given, IsPlace, AsksUpTo, IsUndecoded, IsStopped, erases_chunk, IsDamageMet}
 use Rattle.zarr_cli_runs.specs.array.parts.Document.{ArrayDocument, describe}
@@ -31,9 +32,6 @@ use Rattle.zarr_cli_runs.proofs.Documents.{document_text, plain_document, square
 
 abbrev nothing : Content
 nothing = λ key. None
-
-one_value : {A : Type 0} {a b : A} → Some a ≡ Some b → a ≡ b
-one_value e = cc
 
 abbrev options_with : Bool → Options
 options_with keep = record { store_empty_chunks = keep; validate_checksums = true }
@@ -92,7 +90,7 @@ damaged = λ key. Some (1 ∷ [])
 
 erase_stops : (new : Content) (key : List ℕ) → ¬ IsUndecoded small_array (options_with false) (erase (0 ∷ []) ∷ []) damaged new key (Some (0, 0))
 erase_stops new key (command, which, asks, chunk, here, its_key, same_value, unerased, damage) =
-    let same : erase (0 ∷ []) ≡ command = one_value which in
+    let same : erase (0 ∷ []) ≡ command = same_Some _ _ which in
     let e : false ≡ true = subst (λ c. asks_store c ≡ true) (sym same) asks in cc
 
 -- a read meets that value, but not behind an erase of its chunk
@@ -107,10 +105,10 @@ erased_first : (m : ℕ) (command : Command) (chunk : List ℕ) (k : ℕ) → sl
     k < length (command_chunks small_array command) → get_or (command_chunks small_array command) k chunk ≡ chunk →
     list_any (erases_chunk small_array chunk) (take m (erase (0 ∷ []) ∷ small_read ∷ [])) ≡ false → ⊥
 erased_first zero command chunk k which asks below here unerased =
-    let same : erase (0 ∷ []) ≡ command = one_value which in
+    let same : erase (0 ∷ []) ≡ command = same_Some _ _ which in
     let e : false ≡ true = subst (λ c. asks_store c ≡ true) (sym same) asks in cc
 erased_first (suc zero) command chunk k which asks below here unerased =
-    let same : small_read ≡ command = one_value which in
+    let same : small_read ≡ command = same_Some _ _ which in
     let first : k ≡ 0 = let n : k < 1 = subst (λ c. k < length (command_chunks small_array c)) (sym same) below in omega arith in
     let it : 0 ∷ [] ≡ chunk = subst (λ i. get_or ((0 ∷ []) ∷ []) i chunk ≡ chunk) first (subst (λ c. get_or (command_chunks small_array c) k chunk ≡ chunk) (sym same) here) in
     let e : true ≡ false = subst (λ c. list_any (erases_chunk small_array c) (erase (0 ∷ []) ∷ []) ≡ false) (sym it) unerased in cc
@@ -268,7 +266,7 @@ lines_given = (inl refl, inr (lit≤ tt, (3, refl)), ([], record { in_order = re
 
 front_unexplained : ¬ IsGivenLine (ending_line bad_words) (shows 0 (codes "x")) (shows 0 (codes "xwor"))
 front_unexplained given = ⊎_elim
-    (λ (all : Some (codes "xwor") ≡ Some (codes "xwords\n")). let e : ◌≡◌ {A = ℕ} 4 7 = ap length (one_value all) in omega arith)
+    (λ (all : Some (codes "xwor") ≡ Some (codes "xwords\n")). let e : ◌≡◌ {A = ℕ} 4 7 = ap length (same_Some _ _ all) in omega arith)
     (λ (front : Rose 0 0 × IsGivenFront (codes "words\n") (Some (codes "x")) (Some (codes "xwor"))). let e : 1 ≤ 0 = front.0 in omega arith)
     given
 

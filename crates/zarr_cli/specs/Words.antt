@@ -1,7 +1,7 @@
 -- The words of the command line.
 use Rattle.std.specs.Prelude.{◌≡◌, ◌⊎◌, ℕ, Bool, true, false, if◌then◌else◌, List, [], ◌∷◌, codes, bytes_eq, Option, Some, None, option_and_then}
 use Rattle.zarr_model.specs.Prelude.{Options}
-use Rattle.zarrs_data_type_names.specs.Number.{number_of}
+use Rattle.zarrs_plugin.specs.Number.{number_of}
 
 -- what the words set; with a number to make from, the input is not read
 pub record Settings : Type 0 where

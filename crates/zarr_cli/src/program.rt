@@ -22,9 +22,7 @@ use crate::write::{end_with, write_text};
 use std::alloc::Global;
 use zarr_cli_runs::made::run_made;
 use zarr_cli_runs::{OpenError, Status};
-use zarrs_storage::sink::Sink;
-use zarrs_storage::source::Source;
-use zarrs_storage::store::Store;
+use zarrs_storage::{Sink, Source, Store};
 
 // Runs an input that is read, and gives the text of its replies and of the keys that are asked for.
 fn run_bytes<S: Store>(

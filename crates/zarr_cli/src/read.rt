@@ -7,7 +7,7 @@ ghost use Rattle.zarr_cli.specs.Steps.{IsPieceFault, IsReadFault};
 
 use std::alloc::Global;
 use zarr_cli_runs::Status;
-use zarrs_storage::source::{IoFailed, Source};
+use zarrs_storage::{IoFailed, Source};
 
 /// The greatest number of bytes that an input may have.
 pub const INPUT_LIMIT: usize = 67_108_864;

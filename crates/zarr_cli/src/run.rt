@@ -18,7 +18,7 @@ use std::alloc::Global;
 use zarr_cli_runs::commands::{replies_of, text_of_replies};
 use zarr_cli_runs::keys::push_dump;
 use zarr_cli_runs::{CodecOptions, Command, Entry, OpenArray, Status};
-use zarrs_storage::store::{StorageError, Store};
+use zarrs_storage::{StorageError, Store};
 
 // Sets the key lines, the first one first.
 fn set_entries<S: Store>(

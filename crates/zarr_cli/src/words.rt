@@ -5,7 +5,7 @@ ghost use Rattle.zarr_cli.specs.Words.{is_known, with_word, with_words, settings
 ghost use Rattle.zarr_cli.specs.Status.{words_of, settings_view};
 
 use zarr_cli_runs::CodecOptions;
-use zarrs_data_type_names::parse_number;
+use zarrs_plugin::parse_number;
 
 /// What the words set.
 #[derive(Clone, Copy)]

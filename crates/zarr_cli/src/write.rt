@@ -7,7 +7,7 @@ ghost use Rattle.zarr_cli_runs.specs.Status.{ending_of};
 
 use std::alloc::{AllocError, Global};
 use zarr_cli_runs::{OpenError, Status};
-use zarrs_storage::sink::Sink;
+use zarrs_storage::Sink;
 
 /// Writes a text piece by piece. False says that the sink failed.
 pub(crate) fn write_text<W: Sink>(sink: &mut W, text: &[u8]) -> bool

@@ -6,39 +6,17 @@ use Rattle.zarr_model.specs.Element.{Element, null, Kind, fixed, variable, optio
 use Rattle.zarr_model.specs.ArrayBytes.{ArrayBytes, fixed_bytes, variable_bytes, optional_bytes, meaning, are_offsets, is_mask}
 use Rattle.zarr_model.specs.Command.{bytes_refusal}
 use Rattle.zarr_model.proofs.BytesLaws.{length-meaning, mask_length, refusal-meaning}
-use Rattle.zarrs_codec_array_bytes.specs.Refusals.{fine, told, validity}
+use Rattle.zarrs_codec_array_bytes.specs.Refusals.{told, validity}
 use Rattle.zarrs_codec_array_bytes.proofs.CheckLaws.{sized_fine}
 use Rattle.zarr_cli_elements.specs.Text.{element_text, elements_text}
 use Rattle.zarr_cli_elements.specs.Place.{list_in, element_at, text_at, count_in}
 use Rattle.zarrs_codec_error.specs.declared.error.CodecError.{CodecError}
 use Rattle.zarrs_codec_error.specs.declared.error.CodecError.TheVariants as codec
-use Rattle.zarrs_codec_array_bytes.specs.Refusals.{told_by, sized_answer}
+use Rattle.zarrs_codec_array_bytes.specs.Refusals.{sized_answer}
 use Rattle.zarrs_codec_array_bytes.specs.Levels.{inner_length}
+use Rattle.zarrs_codec_array_bytes.proofs.ToldLaws.{says_some}
 use Rattle.zarrs_codec_bytes.specs.Picking.{size_in}
 use Rattle.zarr_model.specs.Element.{fixed_size}
-
--- no error says that all is fine
-never_fine : (e : CodecError) → told_by e ≡ fine → ⊥
-never_fine (codec.IncompatibleDimensionalityError x) h = cc
-never_fine (codec.IncompatibleIndexer x) h = cc
-never_fine (codec.InvalidByteRangeError x) h = cc
-never_fine (codec.UnexpectedChunkDecodedSize x) h = cc
-never_fine (codec.StorageError x) h = cc
-never_fine (codec.UnsupportedDataTypeCodec x) h = cc
-never_fine (codec.ExpectedFixedLengthBytes x) h = cc
-never_fine (codec.ExpectedVariableLengthBytes x) h = cc
-never_fine (codec.ExpectedOptionalBytes x) h = cc
-never_fine (codec.InvalidNumberOfElements x) h = cc
-never_fine (codec.SubsetOutOfBounds x) h = cc
-never_fine (codec.RawBytesOffsetsCreate x) h = cc
-never_fine (codec.RawBytesOffsetsOutOfBounds x) h = cc
-never_fine (codec.DataTypeFillValueError x) h = cc
-never_fine (codec.ArraySubsetError x) h = cc
-never_fine codec.InvalidChecksum h = cc
-never_fine codec.EndiannessMissing h = cc
-never_fine codec.InvalidVariableSizedArrayOffsets h = cc
-never_fine codec.InvalidMask h = cc
-never_fine codec.OutOfMemory h = cc
 
 -- an answer says whether the bytes mean elements
 pub answered : {T : Type 0} (kind : Kind) (n : ℕ) (value : ArrayBytes) (r : Result T CodecError) → told r ≡ validity kind n value → is_ok r ≡ is_some (meaning kind n value)
@@ -48,7 +26,7 @@ answered kind n value (Err error) e = none (is_some (meaning kind n value)) refl
   where
     none : (b : Bool) → is_some (meaning kind n value) ≡ b → false ≡ b
     none false is = refl
-    none true is = absurd (never_fine error (e ∙ ap (sized_answer (inner_length value) (n * size_in (fixed_size kind))) ((refusal-meaning kind n value).1 is)))
+    none true is = absurd (says_some error (e ∙ ap (sized_answer (inner_length value) (n * size_in (fixed_size kind))) ((refusal-meaning kind n value).1 is)))
 
 -- bytes of another kind mean nothing
 some_none : {A : Type 0} (a : A) → None ≡ Some a → ⊥

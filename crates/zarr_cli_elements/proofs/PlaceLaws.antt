@@ -6,6 +6,7 @@ use Rattle.std.proofs.lemmas.List.{drop-drop}
 use Rattle.zarr_model.specs.Element.{Element, of_bytes, null, Kind, fixed, variable, optional}
 use Rattle.zarr_model.specs.ArrayBytes.{ArrayBytes, fixed_bytes, variable_bytes, optional_bytes, pieces, between_offsets, offsets_rise_to, are_offsets, is_mask, mask_over, masked, meaning}
 use Rattle.zarr_model.proofs.BytesLaws.{length-meaning, mask_length}
+use Rattle.zarr_model.proofs.RefusalLaws.{rise_within}
 use Rattle.zarr_cli_elements.specs.Text.{hex_text, element_text}
 use Rattle.zarr_cli_elements.specs.Place.{IsPlace, element_at, text_at}
 
@@ -34,12 +35,6 @@ fixed_within size elements index value is =
     omega (arith, all, more)
 
 -- what is between two offsets
-within : (end from : ℕ) (offsets : List ℕ) → offsets_rise_to end from offsets ≡ true → from ≤ end
-within end from [] rises = omega (arith, eqb-true from end rises)
-within end from (to ∷ offsets) rises =
-    let parts = and_parts (nat_le from to) (offsets_rise_to end to offsets) rises in
-    omega (arith, leb-true from to parts.0, within end to offsets parts.1)
-
 between_at : (first i : ℕ) (offsets value : List ℕ) → i < length offsets →
     get_or (map of_bytes (between_offsets (first ∷ offsets) value)) i null ≡ of_bytes (take (get_or offsets i 0 - get_or (first ∷ offsets) i 0) (drop (get_or (first ∷ offsets) i 0) value))
 between_at first i [] value inside = absurd (omega (arith, inside))
@@ -50,7 +45,7 @@ ends_at : (end first i : ℕ) (offsets : List ℕ) → i < length offsets → of
 ends_at end first i [] inside rises = absurd (omega (arith, inside))
 ends_at end first zero (to ∷ offsets) inside rises =
     let parts = and_parts (nat_le first to) (offsets_rise_to end to offsets) rises in
-    (leb-true first to parts.0, within end to offsets parts.1)
+    (leb-true first to parts.0, rise_within end to offsets parts.1)
 ends_at end first (suc i) (to ∷ offsets) inside rises =
     let parts = and_parts (nat_le first to) (offsets_rise_to end to offsets) rises in
     ends_at end to i offsets (omega (arith, inside)) parts.1

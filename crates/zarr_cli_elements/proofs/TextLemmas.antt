@@ -1,11 +1,13 @@
 -- The text of elements of one size.
-use Rattle.std.proofs.Common.{◌≡◌, ℕ, zero, suc, ◌+◌, ◌*◌, ◌<◌, ◌≤◌, List, [], ◌∷◌, ◌++◌, length, map, take, drop, flat_map, Option, Some, None, IsSome, Result, Ok, Err, OnOk, refl, sym, ap, ◌∙◌, append_assoc, rules, arith}
+use Rattle.std.proofs.Common.{◌≡◌, ℕ, zero, suc, ◌+◌, ◌*◌, ◌<◌, ◌≤◌, List, [], ◌∷◌, ◌++◌, length, map, take, drop, flat_map, Some, None, Result, Ok, Err, OnOk, refl, sym, ap, ◌∙◌, append_assoc, rules, arith}
 use Rattle.std.proofs.lemmas.List.{drop-drop}
 use Rattle.std.proofs.lemmas.Slice.{take-put_mid}
 use Rattle.std.proofs.Math.Nat.{suc-mul}
+use Rattle.std.proofs.lemmas.Option.{same_Some}
 use borrow.Rule.Slice.PartMut.{put_mid}
 use Rattle.hex.specs.Hex.{encode_lower}
 use Rattle.zarr_model.specs.Prelude.{Element, of_bytes, Kind, fixed, ArrayBytes, fixed_bytes, variable_bytes, optional_bytes, meaning, pieces}
+use Rattle.zarr_model.proofs.Choices.{some_now}
 use Rattle.zarrs_codec_bytes.specs.Elements.{elements_of, fixed_elements}
 use Rattle.zarrs_codec_bytes.proofs.FixedLaws.{meaning_is, meaning_long}
 use Rattle.zarr_cli_elements.specs.Text.{element_text, elements_text, hex_text}
@@ -47,16 +49,9 @@ fixed_texts n value = texts_of (elements_of n value)
 -- so it is with the list that bytes mean
 pub means_text : (n : ℕ) (value : List ℕ) (list : List Element) → 0 < n → meaning (fixed n) (length list) (fixed_bytes value) ≡ Some list → elements_text list ≡ bytes_text n value
 means_text n value list some h =
-    let long : length value ≡ length list * n = meaning_long n some (length list) value (some_is list (meaning (fixed n) (length list) (fixed_bytes value)) h) in
-    let same : list ≡ fixed_elements n value = one list (fixed_elements n value) (sym h ∙ meaning_is n some (length list) value long) in
+    let long : length value ≡ length list * n = meaning_long n some (length list) value (some_now (meaning (fixed n) (length list) (fixed_bytes value)) list h) in
+    let same : list ≡ fixed_elements n value = same_Some list (fixed_elements n value) (sym h ∙ meaning_is n some (length list) value long) in
     ap elements_text same ∙ fixed_texts n value
-  where
-    some_is : (l : List Element) (o : Option (List Element)) → o ≡ Some l → IsSome o
-    some_is l None e = cc
-    some_is l (Some k) e = search rules
-
-    one : (a b : List Element) → Some a ≡ Some b → a ≡ b
-    one a b e = cc
 
 -- and the text of bytes of that kind, for each list that they mean
 pub fixed_put : {T E : Type 0} (result : Result T E) (kind : Kind) (size : ℕ) (raw : ArrayBytes) (value text now : List ℕ) → fixed size ≡ kind → value ≡ fixed_part raw → 0 < size →

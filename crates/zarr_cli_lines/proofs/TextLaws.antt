@@ -1,13 +1,9 @@
 -- Lines are all good exactly where their commands are there.
-use Rattle.std.proofs.Common.{◌≡◌, ℕ, suc, ◌+◌, ◌≤◌, true, List, [], ◌∷◌, length, map, Option, Some, None, option_map, is_some, ◌↔◌, refl, sym, ◌∙◌, arith, cond, ◌-◌, length-drop}
+use Rattle.std.proofs.Common.{◌≡◌, ℕ, suc, ◌+◌, ◌≤◌, true, List, [], ◌∷◌, length, map, Option, Some, None, is_some, ◌↔◌, refl, sym, ◌∙◌, arith, cond, ◌-◌, length-drop}
 use Rattle.std.specs.List.{prefix_len}
 use Rattle.zarr_model.specs.Prelude.{Command}
+use Rattle.zarr_model.proofs.Choices.{is_some-option_map}
 use Rattle.zarr_cli_lines.specs.Text.{all_some, first_entries, lines_after_entries, commands_of, good_lines, entry_of_line, entries_onto}
-
--- an option keeps its case under a map
-is_some-option_map : {A B : Type 0} (f : A → B) (o : Option A) → is_some (option_map f o) ≡ is_some o
-is_some-option_map f None = refl
-is_some-option_map f (Some x) = refl
 
 -- values that are all there
 all_some_is : {A B : Type 0} (f : A → Option B) (xs : List A) → (is_some (all_some (map f xs)) ≡ true) ↔ (prefix_len (λ x. is_some (f x)) xs ≡ length xs)

@@ -1,7 +1,7 @@
 -- The program's lines: the grammar of its input, and the text of its replies.
 use Rattle.std.specs.Prelude.{ℕ, ◌+◌, ◌-◌, ◌==◌, if◌then◌else◌, List, [], ◌∷◌, ◌++◌, length, map, flat_map, take, drop, codes, bytes_eq, count_by, Option, Some, None, is_some, option_map, option_and_then}
 use Rattle.std.specs.List.{prefix_len}
-use Rattle.zarrs_data_type_names.specs.Number.{number_of}
+use Rattle.zarrs_plugin.specs.Number.{number_of}
 pub use Rattle.zarr_cli_elements.specs.Text.{split_at, words_left, all_some, hex_of, element_of, hex_text, element_text, elements_text}
 use Rattle.zarr_model.specs.Prelude.{Region, Span, Element, Kind, array_bytes, is_store_key, Command, read, write, erase, Reply, elements, done, refused, refusal_name}
 

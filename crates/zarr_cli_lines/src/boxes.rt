@@ -11,7 +11,7 @@ use std::alloc::{AllocError, Global};
 use std::ops::Range;
 use zarr_cli_elements::parts::cut;
 use zarrs_array_subset::ArraySubset;
-use zarrs_data_type_names::parse_number;
+use zarrs_plugin::parse_number;
 
 // A range `a..b`. One whose end is below its start stands for no index.
 fn parse_range(text: &str) -> Option<Range<u64>>

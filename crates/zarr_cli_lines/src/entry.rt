@@ -7,7 +7,7 @@ ghost use Rattle.zarr_cli_lines.specs.Parts.{entry_view};
 use crate::parts::three_parts;
 use std::alloc::{AllocError, Global};
 use zarr_cli_elements::digits::{parse_hex, push_hex};
-use zarrs_storage::store_key::StoreKey;
+use zarrs_storage::StoreKey;
 
 /// A key of a store, and the value to be put under it.
 #[derive(Debug, Drop)]

@@ -2,12 +2,12 @@
 
 ghost use Rattle.std.specs.Prelude.{◌≡◌, map, IfOk, option_map};
 ghost use Rattle.zarr_cli_lines.specs.Text.{split_at, all_some, indices_of};
-ghost use Rattle.zarrs_data_type_names.specs.Number.{number_of};
+ghost use Rattle.zarrs_plugin.specs.Number.{number_of};
 
 use std::alloc::{AllocError, Global};
 use zarr_cli_elements::parts::cut;
 use zarrs_array_subset::ArrayIndices;
-use zarrs_data_type_names::parse_number;
+use zarrs_plugin::parse_number;
 
 // Numbers joined by commas.
 fn parse_numbers(alloc: Global, text: &str) -> Result<Option<Vec<u64>>, AllocError>

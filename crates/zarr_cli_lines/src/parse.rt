@@ -13,7 +13,7 @@ use crate::indices::parse_indices;
 use crate::lines::Lines;
 use std::alloc::{AllocError, AllocFailed, Global};
 use thiserror::Error;
-use zarr_array::command::Command;
+use zarr_array::Command;
 use zarr_cli_elements::parse_elements;
 use zarr_cli_elements::parts::cut;
 use zarrs_data_type_names::DataType;

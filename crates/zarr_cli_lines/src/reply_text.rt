@@ -9,8 +9,7 @@ ghost use Rattle.zarr_cli_lines.specs.Text.{reply_text};
 ghost use Rattle.zarr_cli_lines.specs.Parts.{AppendsReply};
 
 use std::alloc::AllocError;
-use zarr_array::command::Reply;
-use zarr_array::refusal::Refusal;
+use zarr_array::{Refusal, Reply};
 use zarr_cli_elements::push_elements;
 use zarrs_data_type_names::DataType;
 

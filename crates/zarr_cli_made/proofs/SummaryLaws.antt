@@ -1,10 +1,11 @@
 -- The summary of replies is that of the model's replies that they match.
-use Rattle.std.proofs.Common.{◌≡◌, ℕ, ◌+◌, ◌*◌, ◌/◌, ◌<◌, List, [], ◌∷◌, ◌++◌, length, map, Option, Some, None, IsSome, refl, sym, ap, ap₂, ◌∙◌, rules}
+use Rattle.std.proofs.Common.{◌≡◌, ℕ, ◌+◌, ◌*◌, ◌/◌, ◌<◌, List, [], ◌∷◌, ◌++◌, length, map, Some, None, refl, sym, ap, ap₂, ◌∙◌}
 use Rattle.std.proofs.Math.Nat.{mul-div_cancel}
 use Rattle.std.proofs.lemmas.List.Sums.{sum_by-cons}
 use Rattle.std.specs.List.{AllZip, sum_by}
 use Rattle.zarr_model.specs.Prelude.{Element, fixed, ArrayBytes, fixed_bytes, variable_bytes, optional_bytes, meaning, Matches}
 use Rattle.zarr_model.specs.Command as Model
+use Rattle.zarr_model.proofs.Choices.{some_now}
 use Rattle.zarrs_codec_bytes.proofs.FixedLaws.{meaning_long}
 use Rattle.zarrs_codec_array_bytes.specs.Raw.{raw_of}
 use Rattle.zarr_cli_lines.specs.array.Command.{answer_of}
@@ -16,14 +17,10 @@ use Rattle.zarr_cli_lines.specs.Parts.{IsTextOf}
 use Rattle.zarr_cli_made.specs.Summary.{ok_count, done_count, refused_count, element_count, summary_lines, summary_text}
 use Rattle.zarr_cli_made.specs.Tally.{ok_held, done_held, refused_held, elements_held, summary_held}
 
-some_is : (l : List Element) (o : Option (List Element)) → o ≡ Some l → IsSome o
-some_is l None e = cc
-some_is l (Some k) e = search rules
-
 -- the elements that bytes mean are as many as their pieces
 as_many : (n : ℕ) (bytes : ArrayBytes) (list : List Element) → 0 < n → meaning (fixed n) (length list) bytes ≡ Some list → length (fixed_part bytes) / n ≡ length list
 as_many n (fixed_bytes value) list some h =
-    let long : length value ≡ length list * n = meaning_long n some (length list) value (some_is list (meaning (fixed n) (length list) (fixed_bytes value)) h) in
+    let long : length value ≡ length list * n = meaning_long n some (length list) value (some_now (meaning (fixed n) (length list) (fixed_bytes value)) list h) in
     ap (λ m. m / n) long ∙ mul-div_cancel (length list) some
 as_many n (variable_bytes value offsets) list some h = absurd (none h)
   where

@@ -1,7 +1,7 @@
 -- The document of the array that the commands are for.
 use Rattle.std.specs.Prelude.{List, ℕ, [], ◌∷◌, ◌++◌, codes, Some}
 use Rattle.zarr_model.specs.Prelude.{default_keys, uint_type}
-use Rattle.zarrs_metadata_parts.specs.declared.array.endianness.Endianness.TheVariants.{Big}
+use Rattle.zarr_model.specs.declared.endianness.Endianness.TheVariants.{Big}
 use Rattle.zarr_basics_grids.specs.GridForms.{regular}
 use Rattle.zarr_cli_lines.specs.array.parts.kinds.array_to_bytes.Plain.{plain_bytes}
 use Rattle.zarr_cli_lines.specs.array.parts.Document.{ArrayDocument, checksum, document_with}

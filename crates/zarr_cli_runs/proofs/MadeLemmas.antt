@@ -18,6 +18,7 @@ use Rattle.zarr_cli_runs.specs.Opening.{IsRefusal, OpensLine}
 use Rattle.zarr_cli_runs.specs.Made.{made_array, SumsAll}
 use Rattle.zarr_cli_runs.specs.Commands.{RepliedBy}
 use Rattle.zarr_cli_made.specs.Tally.{summary_held}
+use Rattle.zarr_cli_made.proofs.DescribedLaws.{same_opened}
 use Rattle.zarr_cli_runs.proofs.KeyLemmas.{counted_more}
 use Rattle.zarr_cli_runs.proofs.CountLemmas.{counts}
 use Rattle.zarr_cli_runs.specs.declared.status.Status.{Status}
@@ -25,9 +26,6 @@ use Rattle.zarr_cli_runs.specs.declared.status.Status.TheVariants.{Done, BadWord
 use Rattle.zarr_model.specs.Command as Model
 
 -- the made document is opened as its array, but for want of memory
-one_document : (a b : ArrayDocument) → opened a ≡ opened b → a ≡ b
-one_document a b e = cc
-
 described_as : (array : OpenArray) → documented array ≡ made_document → described array ≡ made_array
 unfolding made_array
 described_as array same = ap describe same
@@ -42,7 +40,7 @@ made_sized (Ok array) is = ap kind is ∙ made_kind
 made_sized (Err status) is = tt
 
 pub made_opened : (answer : OpenAnswer) (result : Result OpenArray Status) → answer ≡ opened made_document → OpensLine result answer → IfOk result (λ array. described array ≡ made_array)
-made_opened answer (Ok array) opens is = described_as array (one_document (documented array) made_document (sym is ∙ opens))
+made_opened answer (Ok array) opens is = described_as array (same_opened (documented array) made_document (sym is ∙ opens))
 made_opened answer (Err status) opens is = tt
 
 not_refused : (answer : OpenAnswer) (document : ArrayDocument) (why : Option OpenRefusal) → answer ≡ opened document → IsRefusal why answer → ⊥

@@ -3,7 +3,7 @@
 ghost use Rattle.std.specs.Prelude.{◌≡◌, ◌<◌, ◌≤◌, map, List, ℕ, IfOk, IfErr};
 ghost use Rattle.zarr_model.specs.Prelude.{fixed, Rose, IsHonest, layout, AreRefused, IsUntouched};
 ghost use Rattle.zarr_cli_made.specs.array.OpenArray.{described};
-ghost use Rattle.zarr_cli_made.specs.array.Command.{command_of};
+ghost use Rattle.zarr_cli_made.specs.array.Command.{command_of, AreReads};
 ghost use Rattle.zarrs_codec_traits.specs.Views.{options_of};
 ghost use Rattle.zarrs_codec_array_bytes.specs.Steps.{kind_seen};
 ghost use Rattle.zarr_cli_made.specs.lines.Parts.{IsTextOf};
@@ -13,7 +13,7 @@ use crate::status::Status;
 use std::alloc::{AllocError, Global};
 use zarr_cli_made::{CodecOptions, Command, OpenArray, Reply, SessionErrorKind, push_reply};
 use zarrs_data_type_names::DataType;
-use zarrs_storage::store::Store;
+use zarrs_storage::Store;
 
 /// The lines of replies, whose elements are of a data type.
 ///
@@ -72,6 +72,7 @@ pub fn replies_of<S: Store>(
         (S.shown store.old).content →
         ¬ Rose (S.shown store.old).faults (S.shown store.new).faults →
         IfErr result (λ status. status ≡ Status.OutOfMemory) }
+    ensures kept { AreReads (map command_of commands.now) → S.kept store.old store.new }
 {
     match array.run_commands(alloc, commands, store, options) {
         Ok(replies) => Ok(replies),

@@ -9,8 +9,7 @@ ghost use Rattle.zarr_cli_runs.specs.Keys.{Dumps, IsDumpFault, entries_at, stora
 use crate::status::Status;
 use std::alloc::Global;
 use zarr_cli_made::push_entry;
-use zarrs_storage::store::{StorageError, Store};
-use zarrs_storage::store_key::StoreKey;
+use zarrs_storage::{StorageError, Store, StoreKey};
 
 /// The status of a call of the store that gave no answer.
 pub fn storage_status(error: StorageError) -> Status

@@ -23,7 +23,7 @@ use zarr_cli_made::{
     CodecOptions, Command, OpenArray, Reply, made_commands, made_document, push_summary,
 };
 use zarrs_data_type_names::DataType;
-use zarrs_storage::store::Store;
+use zarrs_storage::Store;
 
 // The size of an element of the array that the commands are for, in bytes.
 const ELEMENT_SIZE: usize = 2;

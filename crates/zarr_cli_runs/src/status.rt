@@ -6,7 +6,7 @@ ghost use Rattle.zarr_cli_runs.specs.Status.{ending_of};
 
 use std::alloc::AllocError;
 use zarr_cli_made::OpenError;
-use zarrs_storage::store_key::StoreKey;
+use zarrs_storage::StoreKey;
 
 /// How the program ends.
 #[derive(Debug, Drop)]

@@ -1,3 +1,2 @@
 pub mod DigestLaws
 pub mod OrderLaws
-pub mod ExtractLaws

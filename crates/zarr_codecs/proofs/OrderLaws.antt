@@ -5,22 +5,24 @@ use Rattle.std.proofs.lemmas.Bool.{cond-true, cond-false, ne_eqb}
 use Rattle.std.proofs.Math.Nat.{mul-div_left}
 use Rattle.zarr_model.specs.Region.{count_of}
 use Rattle.zarr_model.specs.Element.{Element, of_bytes, kind_of, Kind, fixed, DataType, bool_type, int_type, uint_type, raw_type, string_type, bytes_type, optional_type}
-use Rattle.zarr_model.specs.ArrayBytes.{ArrayBytes, fixed_bytes, variable_bytes, optional_bytes, pieces, meaning}
+use Rattle.zarr_model.specs.ArrayBytes.{ArrayBytes, fixed_bytes, pieces, meaning}
 use Rattle.zarr_model.specs.Codec.{ByteOrder, little, big, from_order, component_size, decode_fixed, Level, Options, bytes_codec, decode_array_to_bytes}
-use Rattle.zarrs_metadata_parts.specs.declared.array.endianness.Endianness.{Endianness}
-use Rattle.zarrs_metadata_parts.specs.declared.array.endianness.Endianness.TheVariants.{Little, Big}
+use Rattle.zarr_model.specs.declared.endianness.Endianness.{Endianness}
+use Rattle.zarr_model.specs.declared.endianness.Endianness.TheVariants.{Little, Big}
 use Rattle.zarrs_data_type_elements.specs.Pieces.{components_reversed}
 use Rattle.zarrs_data_type_elements.specs.ByteOrder.{ordered, in_order}
 use Rattle.zarrs_data_type_elements.specs.CodecSupport.{bytes_table, at_least_one}
 use Rattle.zarrs_data_type_elements.proofs.OrderLaws.{decodes}
-use Rattle.zarr_model.specs.Command.{bytes_refusal, refused_if, unexpected_chunk_decoded_size}
+use Rattle.zarr_model.specs.Command.{bytes_refusal, unexpected_chunk_decoded_size}
+use Rattle.zarr_model.proofs.RefusalLaws.{not_refused}
 use Rattle.zarrs_codec_error.specs.declared.error.CodecError.{CodecError}
 use Rattle.zarrs_codec_array_bytes.specs.Levels.{is_fixed}
 use Rattle.zarrs_codec_array_bytes.specs.Refusals.{Told, fine, refused, wrong_length, unfit, other_fill, no_memory, odd, told_by, validity, then_answer}
-use Rattle.zarrs_codec_array_bytes.proofs.CheckLaws.{sized_fine}
+use Rattle.zarrs_codec_array_bytes.proofs.CheckLaws.{sized_fine, fixed_kind}
 use Rattle.zarrs_codec_traits.specs.Errors.{endianness_missing, IsDecodeError}
 use Rattle.zarrs_codec_traits.specs.Words.{list_at, Gives}
-use Rattle.zarr_codecs.specs.BytesCodec.{stored_order, component_unserved, element_bytes, bytes_size, IsLaid, nothing_asked}
+use Rattle.zarrs_codec_traits.proofs.TakenLaws.{nothing_asked}
+use Rattle.zarr_codecs.specs.BytesCodec.{stored_order, component_unserved, element_bytes, bytes_size, IsLaid}
 
 -- the first m components, each reversed
 orders : ℕ → ℕ → List ℕ → List ℕ
@@ -247,16 +249,7 @@ length_error order under level n value e served other tells = inr (undecoded ord
 
 -- array bytes of a fixed kind that are valid
 valid_value : (n number : ℕ) (raw : ArrayBytes) → bytes_refusal (fixed n) number raw ≡ None → (value : List ℕ) → raw ≡ fixed_bytes value → length value ≡ number * n
-valid_value n number raw valid value is = eqb-true _ _ (kept (length value == number * n) (ap (bytes_refusal (fixed n) number) (sym is) ∙ valid))
-  where
-    kept : (b : Bool) → refused_if (not b) unexpected_chunk_decoded_size ≡ None → b ≡ true
-    kept true e = refl
-    kept false e = cc
-
-fixed_kind : (n number : ℕ) (raw : ArrayBytes) → bytes_refusal (fixed n) number raw ≡ None → is_fixed raw ≡ true
-fixed_kind n number (fixed_bytes value) valid = refl
-fixed_kind n number (variable_bytes value offsets) valid = cc
-fixed_kind n number (optional_bytes under mask) valid = cc
+valid_value n number raw valid value is = eqb-true _ _ (not_refused (length value == number * n) unexpected_chunk_decoded_size (ap (bytes_refusal (fixed n) number) (sym is) ∙ valid))
 
 pub valid_fixed : (t : DataType) (n number : ℕ) (raw : ArrayBytes) → bytes_table t ≡ Some n → validity (kind_of t) number raw ≡ fine → is_fixed raw ≡ true
 valid_fixed t n number raw served valid =

@@ -4,15 +4,14 @@ use Rattle.serde_json.specs.Data.{Data, null, boolean, number, string, array, ob
 use Rattle.zarr_model.specs.Region.{count_of}
 use Rattle.zarr_model.specs.Element.{DataType, kind_of, fixed_size, fixed}
 use Rattle.zarr_model.specs.Codec.{ByteOrder, little, big, component_size, Level}
-use Rattle.zarrs_metadata_values.specs.Configuration.{is_empty}
+use Rattle.zarrs_metadata_values.specs.Configuration.{is_empty, only_member}
 use Rattle.zarrs_metadata_parts.specs.MetadataV3.{Extension}
 use Rattle.zarrs_metadata_parts.specs.Reading.{◌>>=◌}
 use Rattle.zarrs_plugin.specs.Making.{Unmade}
 use Rattle.zarrs_plugin.specs.Making as making
-use Rattle.zarr_basics_grids.specs.Configurations.{only_member}
-use Rattle.zarr_basics_grids.specs.Making.{or_config}
-use Rattle.zarrs_metadata_parts.specs.declared.array.endianness.Endianness.{Endianness}
-use Rattle.zarrs_metadata_parts.specs.declared.array.endianness.Endianness.TheVariants.{Little, Big}
+use Rattle.zarrs_metadata_parts.specs.Making.{or_config}
+use Rattle.zarr_model.specs.declared.endianness.Endianness.{Endianness}
+use Rattle.zarr_model.specs.declared.endianness.Endianness.TheVariants.{Little, Big}
 use Rattle.zarrs_data_type_elements.specs.CodecSupport.{bytes_table}
 use Rattle.zarrs_data_type_elements.specs.declared.codec_support.CodecName.TheVariants as names
 use Rattle.zarrs_codec_bytes.specs.Picking.{size_in}
@@ -68,10 +67,6 @@ order_text Big = codes "big"
 abbrev pub order_members : Option Endianness → Members
 order_members None = no_members
 order_members (Some order) = member (codes "endian") (string (order_text order)) no_members
-
--- nothing is asked for
-pub nothing_asked : {A : Type 0} {x : A} → None ≡ Some x → ⊥
-nothing_asked e = cc
 
 -- a byte order by its text, or null
 abbrev pub order_named : List ℕ → Option (Option Endianness)

@@ -14,10 +14,6 @@ use Rattle.zarrs_codec_array_bytes.specs.Refusals.{told_by, wrong_length}
 use Rattle.zarrs_codec_traits.specs.Errors.{IsNoFault}
 use Rattle.zarrs_codec_traits.proofs.FaultLaws.{told_no_fault}
 
--- no configuration, or an empty one
-abbrev pub none_form : Option Members → Result Members Unmade
-none_form configuration = if is_none_or_empty configuration then Ok no_members else Err config
-
 -- the codec of metadata, which has its name
 abbrev pub sha256_created : Extension → Result (Option Members) Unmade
 sha256_created e = if bytes_eq e.name (codes "zarr_basics.sha256")

@@ -9,27 +9,26 @@ ghost use Rattle.zarrs_data_type_names.specs.DataType.{type_of};
 ghost use Rattle.zarrs_codec_traits.specs.Errors.{unserved_error};
 
 use crate::configuration::{order_configuration, read_order};
-use crate::parts::{extracted, only_part};
 use std::alloc::{AllocError, Global};
 use std::borrow::CowSlice;
 use std::num::NonZeroU64;
-use zarr_basics_grids::unmade;
+use zarr_model::Endianness;
 use zarrs_array_subset::{ArraySubset, ChunkShape};
 use zarrs_codec_array_bytes::ArrayBytes;
 use zarrs_codec_array_bytes::array_bytes::step::element_size;
 use zarrs_codec_error::{CodecError, InvalidBytesLengthError};
-use zarrs_codec_metadata::unsupported_codec;
 use zarrs_codec_options::{
     BytesRepresentation, CodecMetadataOptions, CodecOptions, PartialDecoderCapability,
     PartialEncoderCapability, RecommendedConcurrency,
 };
 use zarrs_codec_traits::{
-    ArrayCodecTraits, ArrayToBytesCodecTraits, CodecTraits, CodecTraitsV3, fixed_value,
-    num_elements, same_shape,
+    ArrayCodecTraits, ArrayToBytesCodecTraits, CodecTraits, CodecTraitsV3, extracted, fixed_value,
+    num_elements, only_part, same_shape, unsupported_codec,
 };
 use zarrs_data_type_elements::{BytesSupport, FillValue};
 use zarrs_data_type_names::DataType;
-use zarrs_metadata_parts::{Configuration, Endianness, MetadataV3};
+use zarrs_metadata_parts::making::unmade;
+use zarrs_metadata_parts::{Configuration, MetadataV3};
 use zarrs_plugin::{ExtensionName, PluginCreateError, ZarrVersion};
 use zarrs_storage::ByteRange;
 
@@ -47,7 +46,7 @@ impl BytesCodec {
     ghost use Rattle.zarrs_plugin.specs.Making.{Makes};
     ghost use Rattle.zarrs_plugin.specs.declared.error.PluginKind.TheVariants as kinds;
     ghost use Rattle.zarrs_plugin.specs.declared.error.PluginCreateError.TheVariants as plugin;
-    ghost use Rattle.zarr_basics_grids.specs.Making.{or_config};
+    ghost use Rattle.zarrs_metadata_parts.specs.Making.{or_config};
     ghost use Rattle.zarr_codecs.specs.BytesCodec.{component_unserved, type_unserved, order_in};
 
     /// The codec with this order of the bytes of each component, if there is one.
@@ -61,7 +60,7 @@ impl BytesCodec {
     ///
     /// # Errors
     /// `Config` exactly where the configuration is another.
-    #[tactic(auto, using(zarr_basics_grids::proofs::MakingLaws::of_configurations))]
+    #[tactic(auto, using(zarrs_metadata_parts::proofs::MakingLaws::of_configurations))]
     pub fn from_configuration(
         configuration: Option<&Configuration>,
     ) -> Result<Self, PluginCreateError>
@@ -175,7 +174,7 @@ impl CodecTraitsV3 for BytesCodec {
 
     ghost created = { bytes_created };
 
-    #[tactic(auto, using(zarr_basics_grids::proofs::MakingLaws::of_configurations))]
+    #[tactic(auto, using(zarrs_metadata_parts::proofs::MakingLaws::of_configurations))]
     fn create(alloc: Global, metadata: &MetadataV3) -> Result<Self, PluginCreateError> {
         if metadata.name() != "bytes" {
             return Err(unsupported_codec(alloc, metadata.name()));
@@ -225,7 +224,8 @@ impl ArrayToBytesCodecTraits for BytesCodec {
     ghost use Rattle.zarrs_codec_array_bytes.specs.Refusals.{fine, told_by, wrong_length};
     ghost use Rattle.zarrs_codec_traits.proofs.FaultLaws.{told_no_fault};
     ghost use Rattle.zarrs_codec_options.specs.declared.bytes_representation.BytesRepresentation.TheVariants.{FixedSize};
-    ghost use Rattle.zarr_codecs.specs.BytesCodec.{stored_order, bytes_size, nothing_asked};
+    ghost use Rattle.zarrs_codec_traits.proofs.TakenLaws.{nothing_asked};
+    ghost use Rattle.zarr_codecs.specs.BytesCodec.{stored_order, bytes_size};
 
     ghost meaning = { λ c under level value.
         decode_array_to_bytes under (bytes_codec (stored_order c.endianness)) level value };

@@ -1,23 +1,17 @@
 //! The configurations of codecs, read and written.
 
 ghost use Rattle.std.specs.Prelude.{◌≡◌, IfOk, IfErr, option_map};
-ghost use Rattle.serde_json.specs.Data.{no_members};
 ghost use Rattle.serde_json.specs.View.{view};
 ghost use Rattle.zarrs_metadata_values.specs.Configuration.{configuration_seen};
 ghost use Rattle.zarrs_metadata_values.specs.Reading.{Reads};
 ghost use Rattle.zarrs_metadata_values.specs.declared.error.MetadataError.TheVariants as fault;
-ghost use Rattle.zarrs_plugin.specs.Making.{Makes};
-ghost use Rattle.zarrs_plugin.specs.declared.error.PluginCreateError.TheVariants as plugin;
-ghost use Rattle.zarrs_plugin.specs.declared.error.PluginKind.TheVariants as kinds;
 ghost use Rattle.zarr_codecs.specs.BytesCodec.{order_named, order_or_null, given_order, order_in, order_text, order_members};
-ghost use Rattle.zarr_codecs.specs.Sha256.{none_form};
 
 use serde_json::{Map, Value};
 use std::alloc::{AllocError, Global};
-use zarr_basics_grids::configuration::only_member;
-use zarrs_metadata_parts::{Configuration, Endianness, MetadataError};
-use zarrs_metadata_values::configuration::is_empty;
-use zarrs_plugin::PluginCreateError;
+use zarr_model::Endianness;
+use zarrs_metadata_parts::{Configuration, MetadataError};
+use zarrs_metadata_values::configuration::{is_empty, only_member};
 
 fn order_text(order: Endianness) -> &'static str
     ensures { result.now ≡ order_text order }
@@ -96,24 +90,5 @@ pub fn read_order(
         Ok(None)
     } else {
         given_order(configuration)
-    }
-}
-
-/// Tests that there is no configuration, or an empty one.
-///
-/// # Errors
-/// `Config` exactly where it has a member.
-pub fn expect_none(configuration: Option<&Configuration>) -> Result<(), PluginCreateError>
-    ensures made { Makes kinds.Codec (λ _. no_members) result
-        (none_form (option_map (λ c. configuration_seen c.now) configuration.entry)) }
-    ensures config { IfErr result (λ e. e ≡ plugin.Config) }
-{
-    let Some(configuration) = configuration else {
-        return Ok(());
-    };
-    if is_empty(configuration.as_map()) {
-        Ok(())
-    } else {
-        Err(PluginCreateError::Config)
     }
 }

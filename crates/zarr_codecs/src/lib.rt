@@ -1,13 +1,12 @@
 //! The codecs of this project, each with its laws: `bytes` and `zarr_basics.sha256`.
 //!
-//! The modules [`configuration`] and [`parts`] are public for the codecs that have crates of their own.
+//! The module [`configuration`] is public for the codecs that have crates of their own.
 //!
 //! See <https://zarr-specs.readthedocs.io/en/latest/v3/core/index.html#codecs>.
 #![tactic(auto)]
 
 mod bytes_codec;
 pub mod configuration;
-pub mod parts;
 mod sha256_codec;
 
 pub use bytes_codec::BytesCodec;

@@ -7,19 +7,20 @@ ghost use Rattle.zarrs_metadata_values.specs.Configuration.{configuration_seen};
 ghost use Rattle.zarrs_plugin.specs.Making.{Makes};
 ghost use Rattle.zarrs_plugin.specs.declared.error.PluginKind.TheVariants as kinds;
 ghost use Rattle.zarrs_plugin.specs.declared.error.PluginCreateError.TheVariants as plugin;
-ghost use Rattle.zarr_codecs.specs.Sha256.{ends_in_digest, with_digest_size, none_form};
+ghost use Rattle.zarrs_codec_traits.specs.Making.{none_form};
+ghost use Rattle.zarr_codecs.specs.Sha256.{ends_in_digest, with_digest_size};
 
-use crate::configuration::expect_none;
 use serde_json::Map;
 use sha2::{Digest, Sha256};
 use std::alloc::{AllocError, Global};
 use zarrs_codec_error::{CodecError, InvalidBytesLengthError};
-use zarrs_codec_metadata::unsupported_codec;
 use zarrs_codec_options::{
     BytesRepresentation, CodecMetadataOptions, CodecOptions, PartialDecoderCapability,
     PartialEncoderCapability, RecommendedConcurrency,
 };
-use zarrs_codec_traits::{BytesToBytesCodecTraits, CodecTraits, CodecTraitsV3};
+use zarrs_codec_traits::{
+    BytesToBytesCodecTraits, CodecTraits, CodecTraitsV3, expect_none, unsupported_codec,
+};
 use zarrs_metadata_parts::{Configuration, MetadataV3};
 use zarrs_plugin::{ExtensionName, PluginCreateError, ZarrVersion};
 

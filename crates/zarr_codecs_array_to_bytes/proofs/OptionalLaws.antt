@@ -13,6 +13,7 @@ use Rattle.zarrs_codec_array_bytes.specs.declared.array_bytes.ArrayBytes as code
 use Rattle.zarrs_codec_array_bytes.specs.Levels.{inner_length}
 use Rattle.zarrs_codec_array_bytes.specs.Raw.{raw_of}
 use Rattle.zarrs_codec_array_bytes.specs.Refusals.{Told, fine, refused, told_by, validity, sized_answer, then_answer, Answers}
+use Rattle.zarrs_codec_array_bytes.proofs.ToldLaws.{says_some}
 use Rattle.zarrs_codec_error.specs.declared.error.CodecError.{CodecError}
 use Rattle.zarrs_codec_error.specs.declared.error.CodecError.TheVariants as codec
 use Rattle.zarrs_data_type_elements.specs.declared.codec_support.CodecName.TheVariants as names
@@ -20,7 +21,6 @@ use Rattle.zarrs_data_type_names.specs.DataType.{inner_of}
 use Rattle.zarrs_codec_traits.specs.Errors.{Unserved, unsupported, unserved_error, IsNoFault, RefusesBy, Serves, IsDecodeError}
 use Rattle.zarrs_codec_traits.proofs.FaultLaws.{served_no_fault, decoded_no_fault}
 use Rattle.zarrs_codec_traits.specs.Words.{list_at, IsFit}
-use Rattle.zarr_codecs.proofs.ExtractLaws.{says_some}
 use Rattle.zarr_codecs_array_to_bytes.specs.Plain.{Plain, plain_optional, codec_of, unserved_by, beyond_by, says_by, says_optional, held_type, mask_answer}
 use Rattle.zarr_codecs_array_to_bytes.specs.Laws.{plain_no_fault}
 use Rattle.zarr_codecs_array_to_bytes.specs.Answers.{IsUnserved, Decodes, Encodes, IsSplit, IsUnsplit}

@@ -3,7 +3,7 @@ use Rattle.std.specs.Prelude.{◌≡◌, codes, true, Option, Some}
 use Rattle.serde_json.specs.Data.{Members}
 use Rattle.zarrs_metadata_values.specs.Reading.{◌>>=◌}
 use Rattle.zarrs_metadata_parts.specs.MetadataV3.{Extension, extension_of, normal_form}
-use Rattle.zarr_basics_grids.specs.Configurations.{only_member}
+use Rattle.zarrs_metadata_values.specs.Configuration.{only_member}
 use Rattle.zarr_codecs_array_to_bytes.specs.Plain.{Plain, plain_optional, name_by, members_by}
 
 -- exactly `inner`, a named extension

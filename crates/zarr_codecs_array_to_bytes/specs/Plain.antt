@@ -6,7 +6,7 @@ use Rattle.zarr_model.specs.ArrayBytes.{ArrayBytes, optional_bytes, is_mask}
 use Rattle.zarr_model.specs.Codec.{ArrayToBytes, bytes_codec, vlen_codec, optional_codec}
 use Rattle.zarr_model.specs.Command.{expected_optional_bytes, invalid_mask}
 use Rattle.zarrs_metadata_parts.specs.MetadataV3.{configured}
-use Rattle.zarrs_metadata_parts.specs.declared.array.endianness.Endianness.{Endianness}
+use Rattle.zarr_model.specs.declared.endianness.Endianness.{Endianness}
 use Rattle.zarrs_data_type_elements.specs.declared.codec_support.CodecName.TheVariants as names
 use Rattle.zarrs_codec_array_bytes.specs.Refusals.{Told, told_by, fine, refused, wrong_length}
 use Rattle.zarrs_codec_error.specs.declared.error.CodecError.{CodecError}

@@ -6,14 +6,14 @@ ghost use Rattle.zarrs_metadata_values.specs.Reading.{Reads};
 ghost use Rattle.zarrs_metadata_parts.specs.MetadataV3.{extension_seen};
 ghost use Rattle.zarrs_plugin.specs.Making.{Makes};
 ghost use Rattle.zarrs_plugin.specs.declared.error.PluginKind.TheVariants as kinds;
-ghost use Rattle.zarr_basics_grids.specs.Making.{or_config};
+ghost use Rattle.zarrs_metadata_parts.specs.Making.{or_config};
 ghost use Rattle.zarr_codecs_array_to_bytes.specs.Inner.{inner_in, InnerReadsBack};
 
 use std::alloc::Global;
-use zarr_basics_grids::configuration::only_member;
-use zarr_basics_grids::unmade;
+use zarrs_metadata_parts::making::unmade;
 use zarrs_metadata_parts::reading::read_extension;
 use zarrs_metadata_parts::{Configuration, MetadataError, MetadataV3};
+use zarrs_metadata_values::configuration::only_member;
 use zarrs_plugin::PluginCreateError;
 
 #[tactic(auto, unfolding(crate::specs::Inner::inner_in))]
@@ -35,7 +35,7 @@ fn read_inner(
 ///
 /// # Errors
 /// `Config` exactly where the configuration is another; or `OutOfMemory`.
-#[tactic(auto, using(zarr_basics_grids::proofs::MakingLaws::of_configurations))]
+#[tactic(auto, using(zarrs_metadata_parts::proofs::MakingLaws::of_configurations))]
 pub fn inner_metadata(
     alloc: Global,
     configuration: Option<&Configuration>,

@@ -10,7 +10,6 @@ use crate::naming::optional_configuration;
 use crate::serving::{optional_concurrency, optional_size};
 use std::alloc::{AllocError, Global};
 use std::num::NonZeroU64;
-use zarr_codecs::parts::{extracted, only_part};
 use zarrs_array_subset::{ArraySubset, ChunkShape};
 use zarrs_codec_array_bytes::ArrayBytes;
 use zarrs_codec_error::CodecError;
@@ -18,7 +17,9 @@ use zarrs_codec_options::{
     BytesRepresentation, CodecMetadataOptions, CodecOptions, PartialDecoderCapability,
     PartialEncoderCapability, RecommendedConcurrency,
 };
-use zarrs_codec_traits::{ArrayCodecTraits, ArrayToBytesCodecTraits, CodecTraits, same_shape};
+use zarrs_codec_traits::{
+    ArrayCodecTraits, ArrayToBytesCodecTraits, CodecTraits, extracted, only_part, same_shape,
+};
 use zarrs_data_type_elements::FillValue;
 use zarrs_data_type_names::DataType;
 use zarrs_metadata_parts::Configuration;
@@ -104,7 +105,7 @@ impl ArrayToBytesCodecTraits for OptionalCodec {
     ghost use Rattle.zarr_model.specs.Region.{count_of};
     ghost use Rattle.zarr_model.specs.Codec.{decode_array_to_bytes};
     ghost use Rattle.zarr_model.proofs.ChainLaws.{array_to_bytes-counted};
-    ghost use Rattle.zarr_codecs.specs.BytesCodec.{nothing_asked};
+    ghost use Rattle.zarrs_codec_traits.proofs.TakenLaws.{nothing_asked};
     ghost use Rattle.zarr_codecs_array_to_bytes.specs.Plain.{codec_of, takes_by, beyond_by, says_by, size_by};
     ghost use Rattle.zarr_codecs_array_to_bytes.specs.Laws.{plain_taken, plain_takes_few, plain_refuses_form, plain_no_fault};
 

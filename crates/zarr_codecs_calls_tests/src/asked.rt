@@ -13,12 +13,12 @@ use std::num::NonZeroU64;
 use zarr_codecs::BytesCodec;
 use zarr_codecs_array_to_bytes::BasicArrayToBytes;
 use zarr_codecs_vlen::VlenCodec;
+use zarr_model::Endianness;
 use zarrs_codec_error::CodecError;
 use zarrs_codec_options::CodecOptions;
 use zarrs_codec_traits::{ArrayCodecTraits, ArrayToBytesCodecTraits};
 use zarrs_data_type_elements::FillValue;
 use zarrs_data_type_names::DataType;
-use zarrs_metadata_parts::Endianness;
 
 // What is stored in place of a value.
 fn compacted<C: ArrayToBytesCodecTraits>(

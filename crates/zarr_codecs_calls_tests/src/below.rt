@@ -27,6 +27,20 @@ fn types<A: ArrayToArrayCodecTraits>(alloc: Global, codec: &A) -> Result<String,
     Ok(text)
 }
 
+// The shape, the type and the fill value below two such numbers.
+fn level_below<A: ArrayToArrayCodecTraits>(alloc: Global, codec: &A) -> Result<String, CodecError> {
+    let shape = line(alloc, 2)?;
+    let fill = FillValue::new([10].as_slice().to_vec(alloc)?);
+    let (shape, data_type, below) = codec.encoded_representation(
+        alloc,
+        &shape,
+        &DataType::UInt8,
+        &fill,
+    )?;
+    let text = format!(in alloc; "{shape:?} {data_type:?} {below}")?;
+    Ok(text)
+}
+
 // The shapes below and above a shape, and that of what is decoded at once.
 fn shapes<A: ArrayToArrayCodecTraits>(alloc: Global, codec: &A) -> Result<String, CodecError> {
     let shape = line(alloc, 2)?;
@@ -88,6 +102,7 @@ fn an_offset_is_put_on_below(rt: HostRuntime) {
     let alloc = rt.alloc();
     let codec = OffsetCodec::new(250);
     is_text(&rt, types(alloc, &codec), "UInt8 [4]");
+    is_text(&rt, level_below(alloc, &codec), "[2] UInt8 [4]");
     is_text(&rt, shapes(alloc, &codec), "[2] Some([2]) [2]");
     is_text(&rt, box_below(alloc, &codec), "[1..2]");
     is_text(&rt, number_above(alloc, &codec, &[5]), "[11]");
@@ -98,6 +113,7 @@ fn an_offset_of_any_kind_is_put_on_below(rt: HostRuntime) {
     let alloc = rt.alloc();
     let codec = BasicArrayToArray::Offset(OffsetCodec::new(250));
     is_text(&rt, types(alloc, &codec), "UInt8 [4]");
+    is_text(&rt, level_below(alloc, &codec), "[2] UInt8 [4]");
     is_text(&rt, shapes(alloc, &codec), "[2] Some([2]) [2]");
     is_text(&rt, box_below(alloc, &codec), "[1..2]");
     is_text(&rt, number_above(alloc, &codec, &[5]), "[11]");

@@ -9,10 +9,10 @@ use zarr_codecs::{BytesCodec, Sha256Codec};
 use zarr_codecs_kinds::{BasicArrayToArray, BasicArrayToBytes, BasicBytesToBytes, BasicCodec};
 use zarr_codecs_offset::OffsetCodec;
 use zarr_codecs_vlen::VlenCodec;
-use zarrs_codec_metadata::Codec;
+use zarr_model::Endianness;
 use zarrs_codec_options::CodecMetadataOptions;
-use zarrs_codec_traits::{CodecTraits, CodecTraitsV3};
-use zarrs_metadata_parts::{Configuration, Endianness, MetadataV3};
+use zarrs_codec_traits::{Codec, CodecTraits, CodecTraitsV3};
+use zarrs_metadata_parts::{Configuration, MetadataV3};
 use zarrs_plugin::{ExtensionName, ZarrVersion};
 
 const BYTES: &str = r#"

@@ -7,7 +7,7 @@ use Rattle.serde_json.specs.Find.{get_member, as_str}
 use Rattle.zarrs_metadata_values.specs.Reading.{◌>>=◌, boolean_or, optional_object}
 use Rattle.zarrs_metadata_parts.specs.MetadataV3.{Extension, extension_of, object_extension, has_only_extension_keys}
 use Rattle.zarrs_plugin.specs.Registry.{Names, find}
-use Rattle.zarr_basics_grids.specs.Making.{or_config}
+use Rattle.zarrs_metadata_parts.specs.Making.{or_config}
 use Rattle.zarr_codecs_array_to_bytes.specs.Inner.{inner_in}
 use Rattle.zarr_codecs_kinds.specs.CodecForm.{optional_over, optional_by, form_by, nesting, form_within, codec_named}
 use Rattle.zarr_codecs_kinds.specs.declared.codec_kind.CodecKind.{CodecKind}

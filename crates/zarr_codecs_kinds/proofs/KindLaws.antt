@@ -7,8 +7,8 @@ use Rattle.zarrs_plugin.specs.declared.error.PluginKind.{PluginKind}
 use Rattle.zarrs_plugin.specs.declared.error.PluginKind.TheVariants as kinds
 use Rattle.zarrs_plugin.specs.declared.error.PluginCreateError.{PluginCreateError}
 use Rattle.zarrs_plugin.specs.declared.error.PluginCreateError.TheVariants.{Unsupported, Config, Other, OutOfMemory}
-use Rattle.zarr_basics_grids.specs.Making.{or_config}
-use Rattle.zarr_codecs.specs.Sha256.{none_form}
+use Rattle.zarrs_metadata_parts.specs.Making.{or_config}
+use Rattle.zarrs_codec_traits.specs.Making.{none_form}
 use Rattle.zarr_codecs_kinds.specs.CodecForm.{CodecForm, if_none, optional_over}
 
 pub made_form : {X Y : Type 0} (f : X → Y) (o : Option X) (x : X) → or_config o ≡ Ok x → or_config (option_map f o) ≡ Ok (f x)

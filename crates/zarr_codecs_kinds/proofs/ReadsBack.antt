@@ -2,7 +2,7 @@
 use Rattle.std.proofs.Common.{◌≡◌, ℤ, pos, negsuc, true, false, codes, Option, Some, None, Ok, refl, ap, ◌∙◌}
 use Rattle.serde_json.specs.Data.{Members}
 use Rattle.zarrs_metadata_parts.specs.MetadataV3.{Extension, normal_form}
-use Rattle.zarrs_metadata_parts.specs.declared.array.endianness.Endianness.TheVariants.{Little, Big}
+use Rattle.zarr_model.specs.declared.endianness.Endianness.TheVariants.{Little, Big}
 use Rattle.zarrs_plugin.specs.Registry.{Names, find}
 use Rattle.zarr_codecs.specs.BytesCodec.{given_order}
 use Rattle.zarr_codecs_offset.specs.Offset.{offset_in, offset_members}

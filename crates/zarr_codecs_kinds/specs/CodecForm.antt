@@ -7,15 +7,15 @@ use Rattle.zarrs_plugin.specs.Making.{Unmade, unsupported, config, Makes}
 use Rattle.zarrs_plugin.specs.Registry.{Names, find}
 use Rattle.zarrs_plugin.specs.declared.error.PluginCreateError.{PluginCreateError}
 use Rattle.zarrs_plugin.specs.declared.error.PluginKind.TheVariants as kinds
-use Rattle.zarr_basics_grids.specs.Making.{or_config}
+use Rattle.zarrs_metadata_parts.specs.Making.{or_config}
 use Rattle.zarr_codecs.specs.BytesCodec.{order_in}
 use Rattle.zarr_codecs_offset.specs.Offset.{offset_in}
 use Rattle.zarr_codecs_array_to_bytes.specs.Plain.{Plain, plain_bytes, plain_vlen, plain_optional}
 use Rattle.zarr_codecs_array_to_bytes.specs.Inner.{inner_in}
 use Rattle.zarr_codecs_array_to_bytes.specs.Views.{plain_of}
 use Rattle.zarr_codecs_array_to_bytes.specs.declared.codecs.BasicArrayToBytes.{BasicArrayToBytes}
-use Rattle.zarrs_codec_metadata.specs.declared.codec.Codec.{Codec}
-use Rattle.zarrs_codec_metadata.specs.declared.codec.Codec.TheVariants as code
+use Rattle.zarrs_codec_traits.specs.declared.codec.Codec.{Codec}
+use Rattle.zarrs_codec_traits.specs.declared.codec.Codec.TheVariants as code
 use Rattle.zarr_codecs_kinds.specs.Basic.{basic_offset}
 use Rattle.zarr_codecs_kinds.specs.declared.array_to_array.BasicArrayToArray.{BasicArrayToArray}
 use Rattle.zarr_codecs_kinds.specs.declared.bytes_to_bytes.BasicBytesToBytes.{BasicBytesToBytes}

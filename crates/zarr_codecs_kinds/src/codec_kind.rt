@@ -8,7 +8,7 @@ ghost use Rattle.zarrs_plugin.specs.Making.{Unmade};
 ghost use Rattle.zarr_codecs_array_to_bytes.specs.Plain.{plain_vlen};
 ghost use Rattle.zarr_codecs_kinds.specs.CodecForm.{CodecForm, to_bytes, sha256, bytes_form, offset_form, if_none, optional_over, MakesForm, codec_form, codec_named};
 ghost use Rattle.zarr_codecs_kinds.specs.declared.codec_kind.CodecKind.TheVariants as named;
-ghost use Rattle.zarrs_codec_metadata.specs.CodecMetadata.{configuration_of};
+ghost use Rattle.zarrs_codec_traits.specs.CodecMetadata.{configuration_of};
 
 use crate::array_to_array::BasicArrayToArray;
 use crate::bytes_to_bytes::BasicBytesToBytes;
@@ -16,7 +16,7 @@ use std::alloc::Global;
 use zarr_codecs::{BytesCodec, Sha256Codec};
 use zarr_codecs_array_to_bytes::{BasicArrayToBytes, OptionalCodec, VlenCodec, inner_metadata};
 use zarr_codecs_offset::OffsetCodec;
-use zarrs_codec_metadata::{Codec, CodecMaker, CodecMetadata, unsupported_codec};
+use zarrs_codec_traits::{Codec, CodecMaker, CodecMetadata, unsupported_codec};
 use zarrs_metadata_parts::{Configuration, MetadataV3};
 use zarrs_plugin::{PluginCreateError, Registry};
 

@@ -7,11 +7,11 @@ use Rattle.zarr_model.specs.Region.{Region, tuples, place, whole, count_of}
 use Rattle.zarr_model.specs.Element.{Element, of_bytes, null, some, Kind, fixed, DataType, bool_type, int_type, uint_type, raw_type, string_type, bytes_type, optional_type, kind_of, fill_element}
 use Rattle.zarr_model.specs.Codec.{Level, less_offset, number_of_bytes, element_less, opposite, offset_codec}
 use Rattle.zarr_model.proofs.BytesLaws.{when_some}
+use Rattle.zarr_model.proofs.VlenLaws.{length-low_bytes}
 use Rattle.zarrs_codec_bytes.specs.Filling.{innermost_fill}
 use Rattle.zarrs_codec_traits.specs.Words.{AreBytes, select, taken}
 use Rattle.zarr_codecs_numbers.specs.Numbers.{bytes_less}
 use Rattle.zarr_codecs_numbers.specs.Offset.{type_unserved, offset_unserved}
-use Rattle.zarr_codecs_numbers.proofs.PieceLaws.{length-low}
 use Rattle.zarr_codecs_numbers.proofs.OffsetLaws.{bytes_back, low_proper}
 
 -- a type that is served is so by a call that takes only some of a level
@@ -37,7 +37,7 @@ fill_of_kind : (t : DataType) (n : ℕ) (fill : List ℕ) (x : Element) → kind
 fill_of_kind t n fill x kind denotes = fixed_fill n fill x (ap (λ (k : Kind). fill_element k fill) (sym kind) ∙ denotes)
 
 length-less : (z : ℤ) (fill : List ℕ) → length (bytes_less z fill) ≡ length fill
-length-less z fill = length-low (length fill) (less_offset (256 ^ length fill) z (number_of_bytes fill))
+length-less z fill = length-low_bytes (length fill) (less_offset (256 ^ length fill) z (number_of_bytes fill))
 
 pub below_denotes : (z : ℤ) (t : DataType) (fill : List ℕ) (x : Element) → type_unserved t ≡ None → fill_element (kind_of t) fill ≡ Some x → fill_element (kind_of t) (bytes_less z fill) ≡ Some (element_less z x)
 below_denotes z t fill x served denotes =

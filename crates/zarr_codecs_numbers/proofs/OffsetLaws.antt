@@ -8,9 +8,10 @@ use Rattle.zarr_model.specs.Element.{Element, of_bytes, fixed}
 use Rattle.zarr_model.specs.ArrayBytes.{fixed_bytes, meaning, pieces}
 use Rattle.zarr_model.specs.Codec.{number_of_bytes, low_bytes, less_offset, element_less, opposite}
 use Rattle.zarr_model.proofs.BytesLaws.{when_some}
-use Rattle.zarr_model.proofs.VlenLaws.{number_of_bytes-low_bytes, low_bytes-number_of_bytes}
+use Rattle.zarr_model.proofs.VlenLaws.{number_of_bytes-low_bytes, low_bytes-number_of_bytes, length-low_bytes}
+use Rattle.zarrs_data_type_elements.proofs.RoundLaws.{number_below}
 use Rattle.zarr_codecs_numbers.specs.Numbers.{bytes_less, raised, each_piece, TakesOff}
-use Rattle.zarr_codecs_numbers.proofs.PieceLaws.{length-low, number-below, low-mod, pieces-each, length-each}
+use Rattle.zarr_codecs_numbers.proofs.PieceLaws.{low-mod, pieces-each, length-each}
 
 -- a number, some more, and what is missing to a multiple of m
 round : (m d x : ℕ) → 0 < m → x < m → (x + d + (m - d % m)) % m ≡ x
@@ -43,11 +44,11 @@ bytes_back z p proper =
     let positive : 0 < m = one-le-pow n 256 (omega arith) in
     let x = number_of_bytes p in
     let y = less_offset m (opposite z) x in
-    let long : length (low_bytes n y) ≡ n = length-low n y in
+    let long : length (low_bytes n y) ≡ n = length-low_bytes n y in
     let number : number_of_bytes (low_bytes n y) ≡ y = number_of_bytes-low_bytes n y (less_below m (opposite z) x positive) in
     ap (λ (k : ℕ). low_bytes k (less_offset (256 ^ k) z (number_of_bytes (low_bytes n y)))) long
     ∙ (ap (λ (k : ℕ). low_bytes n (less_offset m z k)) number
-    ∙ (ap (λ (k : ℕ). low_bytes n k) (back_of m z x positive (number-below p proper)) ∙ low_bytes-number_of_bytes p proper))
+    ∙ (ap (λ (k : ℕ). low_bytes n k) (back_of m z x positive (number_below p proper)) ∙ low_bytes-number_of_bytes p proper))
 
 -- the lowest bytes of a number are bytes
 pub low_proper : (k n : ℕ) → AllByRecursion (λ b. b < 256) (low_bytes k n)

@@ -1,21 +1,17 @@
 -- Lists of bytes, changed piece by piece.
 use Rattle.std.proofs.Common.{◌≡◌, ℕ, zero, suc, ◌+◌, ◌-◌, ◌*◌, ◌/◌, ◌%◌, ◌^◌, ◌<◌, ◌≤◌, List, [], ◌∷◌, ◌++◌, length, take, drop, map, flat_map, refl, sym, ap, ap₂, ◌∙◌, subst, arith}
-use Rattle.std.specs.List.{AllByRecursion}
 use Rattle.std.proofs.lemmas.List.{length-append, append_assoc, append-nil, take_at, drop_at, length-take-le, length-drop}
 use Rattle.std.proofs.Math.Nat.{add-div_right, div-eq_of_lt, pow-suc, pow-le-pow_right, mod-lt, one-le-pow}
 use Rattle.std.proofs.Math.Arith.{mod-mul}
 use Rattle.std.proofs.lemmas.Nat.{div-mul-add, mod-mul-add}
 use Rattle.zarr_model.specs.ArrayBytes.{pieces}
 use Rattle.zarr_model.specs.Codec.{number_of_bytes, low_bytes}
+use Rattle.zarr_model.proofs.VlenLaws.{length-low_bytes}
 use Rattle.zarr_codecs_numbers.specs.Numbers.{each_piece, raised}
-
-pub length-low : (k n : ℕ) → length (low_bytes k n) ≡ k
-length-low zero n = refl
-length-low (suc k) n = ap suc (length-low k (n / 256))
 
 pub length-raised : (amount : ℕ) (piece : List ℕ) → length (raised amount piece) ≡ length piece
 unfolding raised
-length-raised amount piece = length-low (length piece) (number_of_bytes piece + amount)
+length-raised amount piece = length-low_bytes (length piece) (number_of_bytes piece + amount)
 
 -- one piece more, and no piece left
 each-front : (change : List ℕ → List ℕ) (n : ℕ) (rest : List ℕ) → 0 < n → n ≤ length rest → each_piece change n rest ≡ change (take n rest) ++ each_piece change n (drop n rest)
@@ -65,13 +61,6 @@ length-each amount (suc k) n value some long =
     let rest : length (drop n value) ≡ k * n = length-drop n value ∙ omega (arith, long) in
     let later = length-each amount k n (drop n value) some rest in
     ap length (each-front (raised amount) n value some fits) ∙ (length-append f o ∙ omega (arith, as_long, later))
-
--- a number in bytes is below as many digits
-pub number-below : (value : List ℕ) → AllByRecursion (λ b. b < 256) value → number_of_bytes value < 256 ^ length value
-number-below [] all = let one : 0 < 256 ^ 0 = omega arith in one
-number-below (b ∷ value) all =
-    let rest = number-below value all.1 in
-    subst (λ (m : ℕ). b + 256 * number_of_bytes value < m) (sym (pow-suc 256 (length value))) (omega (arith, rest, all.0))
 
 -- only what is below as many digits counts
 pub low-mod : (k n : ℕ) → low_bytes k (n % 256 ^ k) ≡ low_bytes k n

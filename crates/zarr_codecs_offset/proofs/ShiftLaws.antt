@@ -1,5 +1,5 @@
 -- Array bytes that an offset was put on or taken off.
-use Rattle.std.proofs.Common.{◌≡◌, ℕ, zero, suc, ◌*◌, ◌^◌, ◌<◌, ◌≤◌, ◌==◌, not, ℤ, Bool, true, false, List, [], ◌∷◌, length, take, drop, map, Option, Some, None, IsSome, option_and_then, Result, Ok, Err, IfOk, refl, sym, ap, ◌∙◌, subst, arith}
+use Rattle.std.proofs.Common.{◌≡◌, ℕ, zero, suc, ◌*◌, ◌^◌, ◌<◌, ◌≤◌, ◌==◌, ℤ, Bool, true, false, List, [], ◌∷◌, length, drop, map, Option, Some, None, IsSome, option_and_then, Result, Ok, Err, IfOk, refl, sym, ap, ◌∙◌, subst, arith}
 use Rattle.std.specs.List.{AllByRecursion}
 use Rattle.std.proofs.lemmas.Bool.{cond-true}
 use Rattle.std.proofs.Math.Nat.{mul-le-mul_right}
@@ -7,10 +7,12 @@ use Rattle.zarr_model.specs.Region.{Region}
 use Rattle.zarr_model.specs.Element.{Element, of_bytes, Kind, fixed}
 use Rattle.zarr_model.specs.ArrayBytes.{ArrayBytes, fixed_bytes, variable_bytes, optional_bytes, meaning, pieces}
 use Rattle.zarr_model.specs.Codec.{element_less, opposite}
-use Rattle.zarr_model.specs.Command.{bytes_refusal, has_long_element, refused_if, unexpected_chunk_decoded_size}
+use Rattle.zarr_model.specs.Command.{bytes_refusal, has_long_element, unexpected_chunk_decoded_size}
+use Rattle.zarr_model.proofs.ListLaws.{bytes-drop, bytes-take}
+use Rattle.zarr_model.proofs.RefusalLaws.{not_refused}
 use Rattle.zarrs_codec_array_bytes.specs.Levels.{is_fixed}
 use Rattle.zarrs_codec_array_bytes.specs.Refusals.{fine, validity}
-use Rattle.zarrs_codec_array_bytes.proofs.CheckLaws.{sized_fine}
+use Rattle.zarrs_codec_array_bytes.proofs.CheckLaws.{sized_fine, fixed_kind}
 use Rattle.zarrs_codec_traits.specs.Words.{AreBytes, Gives, select}
 use Rattle.zarr_codecs_numbers.specs.Numbers.{TakesOff, raised, each_piece}
 use Rattle.zarr_codecs_numbers.proofs.OffsetLaws.{raised-means}
@@ -20,21 +22,12 @@ use Rattle.zarr_codecs_offset.specs.Shifted.{raised_raw, AreProper, list_less, A
 refused : (kind : Kind) (n number : ℕ) (raw : ArrayBytes) → kind ≡ fixed n → validity kind number raw ≡ fine → bytes_refusal (fixed n) number raw ≡ None
 refused kind n number raw is valid = ap (λ (k : Kind). bytes_refusal k number raw) (sym is) ∙ sized_fine _ _ _ valid
 
-fixed_only : (n number : ℕ) (raw : ArrayBytes) → bytes_refusal (fixed n) number raw ≡ None → is_fixed raw ≡ true
-fixed_only n number (fixed_bytes value) valid = refl
-fixed_only n number (variable_bytes value offsets) valid = cc
-fixed_only n number (optional_bytes under mask) valid = cc
-
 pub valid_fixed : (kind : Kind) (n number : ℕ) (raw : ArrayBytes) → kind ≡ fixed n → validity kind number raw ≡ fine → is_fixed raw ≡ true
-valid_fixed kind n number raw is valid = fixed_only n number raw (refused kind n number raw is valid)
+valid_fixed kind n number raw is valid = fixed_kind n number raw (refused kind n number raw is valid)
 
 -- valid bytes of one size are as many as their elements have
 valid_long : (n number : ℕ) (value : List ℕ) → bytes_refusal (fixed n) number (fixed_bytes value) ≡ None → (length value == number * n) ≡ true
-valid_long n number value valid = kept (length value == number * n) valid
-  where
-    kept : (b : Bool) → refused_if (not b) unexpected_chunk_decoded_size ≡ None → b ≡ true
-    kept true e = refl
-    kept false e = cc
+valid_long n number value valid = not_refused (length value == number * n) unexpected_chunk_decoded_size valid
 
 means_pieces : (n number : ℕ) (value : List ℕ) → (length value == number * n) ≡ true → meaning (fixed n) number (fixed_bytes value) ≡ Some (map of_bytes (pieces number n value))
 means_pieces n number value long = cond-true (length value == number * n) _ _ long
@@ -56,19 +49,9 @@ shifted_means z amount n number modulus kind raw new kind_is some valid modulus_
     subst (λ (k : Kind). meaning k number new ≡ list_less z (meaning k number raw)) (sym kind_is)
     (means z amount n number raw new some (refused kind n number raw kind_is valid) (subst (λ (m : ℕ). TakesOff m z amount) modulus_is takes) is)
 
-all-take : (n : ℕ) (value : List ℕ) → AllByRecursion (λ b. b < 256) value → AllByRecursion (λ b. b < 256) (take n value)
-all-take zero value all = tt
-all-take (suc n) [] all = tt
-all-take (suc n) (b ∷ value) all = (all.0, all-take n value all.1)
-
-all-drop : (n : ℕ) (value : List ℕ) → AllByRecursion (λ b. b < 256) value → AllByRecursion (λ b. b < 256) (drop n value)
-all-drop zero value all = all
-all-drop (suc n) [] all = tt
-all-drop (suc n) (b ∷ value) all = all-drop n value all.1
-
 all-pieces : (k n : ℕ) (value : List ℕ) → AllByRecursion (λ b. b < 256) value → AllByRecursion AreBytes (map of_bytes (pieces k n value))
 all-pieces zero n value all = tt
-all-pieces (suc k) n value all = (all-take n value all, all-pieces k n (drop n value) (all-drop n value all))
+all-pieces (suc k) n value all = (bytes-take n value all, all-pieces k n (drop n value) (bytes-drop n value all))
 
 meant : (n number : ℕ) (raw : ArrayBytes) → bytes_refusal (fixed n) number raw ≡ None → AreProper raw → AreMeant (meaning (fixed n) number raw)
 meant n number (fixed_bytes value) valid proper =

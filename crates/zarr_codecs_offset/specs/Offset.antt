@@ -6,8 +6,8 @@ use Rattle.zarrs_metadata_values.specs.Reading.{◌>>=◌}
 use Rattle.zarrs_metadata_parts.specs.MetadataV3.{Extension}
 use Rattle.zarrs_plugin.specs.Making.{Unmade}
 use Rattle.zarrs_plugin.specs.Making as making
-use Rattle.zarr_basics_grids.specs.Configurations.{only_member}
-use Rattle.zarr_basics_grids.specs.Making.{or_config}
+use Rattle.zarrs_metadata_values.specs.Configuration.{only_member}
+use Rattle.zarrs_metadata_parts.specs.Making.{or_config}
 use Rattle.zarr_codecs_offset.specs.declared.configuration.Integer.{Integer}
 use Rattle.zarr_codecs_offset.specs.declared.configuration.Integer.TheVariants as code
 

@@ -9,8 +9,8 @@ ghost use Rattle.zarr_codecs_offset.specs.Offset.{integer_in, whole_offset, offs
 
 use serde_json::{Map, Value};
 use std::alloc::{AllocError, Global};
-use zarr_basics_grids::configuration::only_member;
 use zarrs_metadata_parts::{Configuration, MetadataError};
+use zarrs_metadata_values::configuration::only_member;
 
 /// A whole number that JSON has.
 #[derive(Clone, Copy, Debug)]

@@ -9,8 +9,7 @@ ghost use Rattle.zarr_codecs_numbers.specs.Numbers.{bytes_less, TakesOff};
 use std::alloc::Global;
 use zarr_codecs_numbers::raise;
 use zarrs_codec_error::CodecError;
-use zarrs_data_type::DataTypeFillValueError;
-use zarrs_data_type_elements::FillValue;
+use zarrs_data_type_elements::{DataTypeFillValueError, FillValue};
 
 /// The number in a fill value of `size` bytes, and so much more.
 ///

@@ -7,7 +7,7 @@ ghost use Rattle.zarrs_metadata_values.specs.Configuration.{configuration_seen};
 ghost use Rattle.zarrs_plugin.specs.Making.{Makes};
 ghost use Rattle.zarrs_plugin.specs.declared.error.PluginKind.TheVariants as kinds;
 ghost use Rattle.zarrs_plugin.specs.declared.error.PluginCreateError.TheVariants as plugin;
-ghost use Rattle.zarr_basics_grids.specs.Making.{or_config};
+ghost use Rattle.zarrs_metadata_parts.specs.Making.{or_config};
 ghost use Rattle.zarrs_data_type_elements.specs.FillValue.{fill_bytes};
 ghost use Rattle.zarrs_data_type_names.specs.DataType.{type_of};
 ghost use Rattle.zarrs_codec_error.specs.declared.error.CodecError.TheVariants as codec;
@@ -26,21 +26,21 @@ use crate::fill::shifted_fill;
 use crate::shift::{shifted, sized};
 use std::alloc::{AllocError, Global};
 use std::num::NonZeroU64;
-use zarr_basics_grids::unmade;
 use zarr_codecs_numbers::amount_of;
 use zarrs_array_subset::{ArraySubset, ChunkShape};
 use zarrs_codec_array_bytes::ArrayBytes;
 use zarrs_codec_error::CodecError;
-use zarrs_codec_metadata::unsupported_codec;
 use zarrs_codec_options::{
     CodecMetadataOptions, CodecOptions, PartialDecoderCapability, PartialEncoderCapability,
     RecommendedConcurrency,
 };
 use zarrs_codec_traits::{
-    ArrayCodecTraits, ArrayToArrayCodecTraits, CodecTraits, CodecTraitsV3, num_elements, same_shape,
+    ArrayCodecTraits, ArrayToArrayCodecTraits, CodecTraits, CodecTraitsV3, num_elements,
+    same_shape, unsupported_codec,
 };
 use zarrs_data_type_elements::FillValue;
 use zarrs_data_type_names::DataType;
+use zarrs_metadata_parts::making::unmade;
 use zarrs_metadata_parts::{Configuration, MetadataV3};
 use zarrs_plugin::{ExtensionName, PluginCreateError, ZarrVersion};
 
@@ -82,7 +82,7 @@ impl OffsetCodec {
     ///
     /// # Errors
     /// `Config` exactly where the configuration is none.
-    #[tactic(auto, using(zarr_basics_grids::proofs::MakingLaws::of_configurations))]
+    #[tactic(auto, using(zarrs_metadata_parts::proofs::MakingLaws::of_configurations))]
     pub fn from_configuration(
         configuration: Option<&Configuration>,
     ) -> Result<Self, PluginCreateError>
@@ -201,7 +201,7 @@ impl CodecTraitsV3 for OffsetCodec {
 
     ghost created = { offset_created };
 
-    #[tactic(auto, using(zarr_basics_grids::proofs::MakingLaws::of_configurations))]
+    #[tactic(auto, using(zarrs_metadata_parts::proofs::MakingLaws::of_configurations))]
     fn create(alloc: Global, metadata: &MetadataV3) -> Result<Self, PluginCreateError> {
         if metadata.name() != "zarr_basics.offset" {
             return Err(unsupported_codec(alloc, metadata.name()));

@@ -7,6 +7,7 @@ use std::num::NonZeroU64;
 use std::process::Abort;
 use zarr_codecs::{BytesCodec, Sha256Codec};
 use zarr_codecs_offset::OffsetCodec;
+use zarr_model::Endianness;
 use zarrs_array_subset::ArraySubset;
 use zarrs_codec_array_bytes::ArrayBytes;
 use zarrs_codec_error::CodecError;
@@ -17,7 +18,6 @@ use zarrs_codec_traits::{
 use zarrs_codec_view::{ArrayBytesDecodeIntoTarget, ArrayBytesFixedDisjointView};
 use zarrs_data_type_elements::FillValue;
 use zarrs_data_type_names::DataType;
-use zarrs_metadata_parts::Endianness;
 
 // The shape of a chunk of one element.
 const ONE: [NonZeroU64; 1] = [NonZeroU64::MIN];

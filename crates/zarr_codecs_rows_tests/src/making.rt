@@ -4,8 +4,8 @@ use crate::texts::{cut, error_text, is_text, written};
 use std::alloc::{AllocError, Global};
 use std::process::Abort;
 use zarr_codecs_kinds::{BasicCodec, CodecKind};
-use zarrs_codec_metadata::CodecMetadata;
 use zarrs_codec_options::CodecMetadataOptions;
+use zarrs_codec_traits::CodecMetadata;
 use zarrs_metadata_parts::{MetadataV2, MetadataV3};
 use zarrs_plugin::{NamePattern, Registry, ZarrVersion};
 

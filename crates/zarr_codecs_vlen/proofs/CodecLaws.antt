@@ -1,11 +1,13 @@
 -- Elements of any length as array bytes: their values, and what values decode to.
-use Rattle.std.proofs.Common.{◌≡◌, ℕ, ◌*◌, ◌-◌, ◌^◌, ◌<◌, ◌≤◌, Bool, true, false, not, ◌&&◌, ◌==◌, nat_le, nat_lt, List, [], ◌∷◌, length, map, Option, Some, None, IsSome, Result, Ok, Err, refl, sym, ap, ◌∙◌, subst, arith, eqb-true}
-use Rattle.std.proofs.lemmas.Bool.{and_parts, and_from, cond-true, le-leb, ltb-true}
+use Rattle.std.proofs.Common.{◌≡◌, ℕ, ◌*◌, ◌-◌, ◌^◌, ◌<◌, ◌≤◌, Bool, true, false, not, ◌&&◌, ◌==◌, nat_lt, List, [], ◌∷◌, length, map, Option, Some, None, IsSome, Result, Ok, Err, refl, sym, ap, ◌∙◌, subst, arith, eqb-true}
+use Rattle.std.proofs.lemmas.Bool.{and_parts, cond-true, ltb-true}
 use Rattle.zarr_model.specs.Element.{Element, of_bytes, DataType, bool_type, int_type, uint_type, raw_type, string_type, bytes_type, optional_type, kind_of, variable, fixed_size}
 use Rattle.zarr_model.specs.ArrayBytes.{ArrayBytes, fixed_bytes, variable_bytes, optional_bytes, between_offsets, are_offsets, offsets_rise_to, meaning}
 use Rattle.zarr_model.specs.Codec.{decode_vlen, vlen_value}
-use Rattle.zarr_model.specs.Command.{bytes_refusal, refused_if, has_long_step, invalid_variable_sized_array_offsets}
-use Rattle.zarrs_codec_bytes.specs.Picking.{size_in, stay_within, are_within}
+use Rattle.zarr_model.specs.Command.{bytes_refusal, has_long_step, invalid_variable_sized_array_offsets}
+use Rattle.zarr_model.proofs.RefusalLaws.{not_refused}
+use Rattle.zarrs_codec_bytes.specs.Picking.{size_in, are_within}
+use Rattle.zarrs_codec_bytes.proofs.ValueLaws.{rising_within}
 use Rattle.zarrs_codec_array_bytes.specs.Levels.{inner_length, is_variable}
 use Rattle.zarrs_codec_array_bytes.specs.Refusals.{fine, validity}
 use Rattle.zarrs_codec_array_bytes.proofs.CheckLaws.{sized_fine}
@@ -60,11 +62,8 @@ valid_variable number (variable_bytes value offsets) valid = refl
 valid_variable number (optional_bytes under mask) valid = let no = sound number (optional_bytes under mask) valid in cc
 
 pub valid_offsets : (number : ℕ) (value offsets : List ℕ) → validity variable number (variable_bytes value offsets) ≡ fine → are_offsets number (length value) offsets ≡ true
-valid_offsets number value offsets valid = kept (are_offsets number (length value) offsets) (sound number (variable_bytes value offsets) valid)
-  where
-    kept : (b : Bool) → refused_if (not b) invalid_variable_sized_array_offsets ≡ None → b ≡ true
-    kept true e = refl
-    kept false e = cc
+valid_offsets number value offsets valid =
+    not_refused (are_offsets number (length value) offsets) invalid_variable_sized_array_offsets (sound number (variable_bytes value offsets) valid)
 
 pub valid_meaning : (number : ℕ) (value offsets : List ℕ) → are_offsets number (length value) offsets ≡ true → meaning variable number (variable_bytes value offsets) ≡ Some (elements_between offsets value)
 valid_meaning number value offsets rise = cond-true (are_offsets number (length value) offsets) (Some (map of_bytes (between_offsets offsets value))) None rise
@@ -73,15 +72,6 @@ valid_meaning number value offsets rise = cond-true (are_offsets number (length 
 pub some_offsets : (number : ℕ) (value offsets : List ℕ) → AreValues number value offsets → 0 < length offsets
 some_offsets number value [] all = absurd (let no = all.rise in cc)
 some_offsets number value (first ∷ offsets) all = omega arith
-
-rising_within : (end from : ℕ) (offsets : List ℕ) → offsets_rise_to end from offsets ≡ true → stay_within end (from ∷ offsets) ≡ true
-rising_within end from [] rises = le_same from end (eqb-true from end rises)
-  where
-    le_same : (m n : ℕ) → m ≡ n → nat_le m n ≡ true
-    le_same m n e = le-leb m n (omega (arith, e))
-rising_within end from (to ∷ offsets) rises =
-    let parts = and_parts (nat_le from to) (offsets_rise_to end to offsets) rises in
-    and_from (nat_le from to) (stay_within end (to ∷ offsets)) parts.0 (rising_within end to offsets parts.1)
 
 pub all_within : (number : ℕ) (value offsets : List ℕ) → AreValues number value offsets → are_within value offsets ≡ true
 all_within number value [] all = refl

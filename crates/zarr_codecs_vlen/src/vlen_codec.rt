@@ -9,25 +9,23 @@ ghost use Rattle.zarrs_plugin.specs.declared.error.PluginKind.TheVariants as kin
 ghost use Rattle.zarrs_plugin.specs.declared.error.PluginCreateError.TheVariants as plugin;
 ghost use Rattle.zarrs_data_type_names.specs.DataType.{type_of};
 ghost use Rattle.zarrs_codec_traits.specs.Errors.{unserved_error};
-ghost use Rattle.zarr_codecs.specs.Sha256.{none_form};
+ghost use Rattle.zarrs_codec_traits.specs.Making.{none_form};
 ghost use Rattle.zarr_codecs_vlen.specs.Vlen.{text_named, text_in, error_name, serves, type_unserved};
 
 use crate::elements::{decode_elements, encode_elements};
 use serde_json::Map;
 use std::alloc::{AllocError, Global};
 use std::num::NonZeroU64;
-use zarr_codecs::configuration::expect_none;
-use zarr_codecs::parts::{extracted, only_part};
 use zarrs_array_subset::{ArraySubset, ChunkShape};
 use zarrs_codec_array_bytes::ArrayBytes;
 use zarrs_codec_error::CodecError;
-use zarrs_codec_metadata::unsupported_codec;
 use zarrs_codec_options::{
     BytesRepresentation, CodecMetadataOptions, CodecOptions, PartialDecoderCapability,
     PartialEncoderCapability, RecommendedConcurrency,
 };
 use zarrs_codec_traits::{
-    ArrayCodecTraits, ArrayToBytesCodecTraits, CodecTraits, CodecTraitsV3, num_elements, same_shape,
+    ArrayCodecTraits, ArrayToBytesCodecTraits, CodecTraits, CodecTraitsV3, expect_none, extracted,
+    num_elements, only_part, same_shape, unsupported_codec,
 };
 use zarrs_data_type_elements::{CodecName, DataTypeCodecError, FillValue};
 use zarrs_data_type_names::DataType;
@@ -252,7 +250,7 @@ impl ArrayToBytesCodecTraits for VlenCodec {
     ghost use Rattle.zarrs_codec_traits.proofs.FaultLaws.{told_no_fault};
     ghost use Rattle.zarrs_codec_error.specs.declared.error.CodecError.TheVariants as codec;
     ghost use Rattle.zarrs_codec_options.specs.declared.bytes_representation.BytesRepresentation.TheVariants.{UnboundedSize};
-    ghost use Rattle.zarr_codecs.specs.BytesCodec.{nothing_asked};
+    ghost use Rattle.zarrs_codec_traits.proofs.TakenLaws.{nothing_asked};
     ghost use Rattle.zarr_codecs_vlen.specs.Vlen.{vlen_beyond, few_taken, form_refused};
 
     ghost meaning = { λ _ under level value.

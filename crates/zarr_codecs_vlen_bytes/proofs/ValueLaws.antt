@@ -10,14 +10,9 @@ use Rattle.zarr_model.specs.Element.{Element, of_bytes}
 use Rattle.zarr_model.specs.ArrayBytes.{between_offsets, offsets_rise_to, bytes_of}
 use Rattle.zarr_model.specs.Codec.{low_bytes, decode_items, decode_vlen, vlen_value, number_of_bytes}
 use Rattle.zarr_model.specs.Command.{has_long_step}
+use Rattle.zarr_model.proofs.RefusalLaws.{rise_within}
+use Rattle.zarr_model.proofs.BytesLaws.{length-between_offsets}
 use Rattle.zarr_codecs_vlen_bytes.specs.Vlen.{items_of, AreValues, AreBetween, IsFirstItem, Holds, HoldsItems, elements_between}
-
--- offsets that rise to an end lie within it
-pub rise_within : (end from : ℕ) (offsets : List ℕ) → offsets_rise_to end from offsets ≡ true → from ≤ end
-rise_within end from [] rises = omega (arith, eqb-true from end rises)
-rise_within end from (to ∷ offsets) rises =
-    let parts = and_parts (nat_le from to) (offsets_rise_to end to offsets) rises in
-    omega (arith, leb-true from to parts.0, rise_within end to offsets parts.1)
 
 no_long : (from to : ℕ) (offsets : List ℕ) → has_long_step (from ∷ to ∷ offsets) ≡ false → (to < from + 2 ^ 32) × (has_long_step (to ∷ offsets) ≡ false)
 no_long from to offsets short = go (nat_le (from + 2 ^ 32) to) refl short
@@ -198,10 +193,6 @@ values_of : (list : List (List ℕ)) → flat_map (λ element. low_bytes 4 (leng
 values_of [] = refl
 values_of (value ∷ list) = ap (λ rest. (low_bytes 4 (length value) ++ value) ++ rest) (values_of list)
 
-length-between : (first : ℕ) (offsets value : List ℕ) → length (between_offsets (first ∷ offsets) value) ≡ length offsets
-length-between first [] value = refl
-length-between first (to ∷ offsets) value = ap suc (length-between to offsets value)
-
 short_values : (value : List ℕ) (first : ℕ) (offsets : List ℕ) → AreBetween value first offsets → AllByRecursion (λ element. (element ≡ of_bytes (bytes_of element)) × (length (bytes_of element) < 2 ^ 32)) (elements_between (first ∷ offsets) value)
 short_values value first [] all = tt
 short_values value first (to ∷ offsets) all =
@@ -212,7 +203,7 @@ short_values value first (to ∷ offsets) all =
 pub value_is : (number : ℕ) (bytes offsets value : List ℕ) → AreValues number bytes offsets → value ≡ low_bytes 4 (length offsets - 1) ++ items_of (between_offsets offsets bytes) → value ≡ vlen_value (elements_between offsets bytes)
 value_is number bytes [] value all made = absurd (let no = all.rise in cc)
 value_is number bytes (first ∷ offsets) value all made =
-    let count : length (first ∷ offsets) - 1 ≡ length (elements_between (first ∷ offsets) bytes) = omega (arith, length-map (between_offsets (first ∷ offsets) bytes) of_bytes, length-between first offsets bytes) in
+    let count : length (first ∷ offsets) - 1 ≡ length (elements_between (first ∷ offsets) bytes) = omega (arith, length-map (between_offsets (first ∷ offsets) bytes) of_bytes, length-between_offsets first offsets bytes) in
     made ∙ ap₂ (λ n items. low_bytes 4 n ++ items) count (sym (values_of (between_offsets (first ∷ offsets) bytes)))
 
 pub value_decodes : (number : ℕ) (bytes offsets : List ℕ) → AreValues number bytes offsets → number < 2 ^ 32 → decode_vlen number (vlen_value (elements_between offsets bytes)) ≡ Some (elements_between offsets bytes)
@@ -220,6 +211,6 @@ value_decodes number bytes [] all few = absurd (let no = all.rise in cc)
 value_decodes number bytes (first ∷ offsets) all few =
     let counted = and_parts (length offsets == number) ((first == 0) && offsets_rise_to (length bytes) first offsets) all.rise in
     let elements = elements_between (first ∷ offsets) bytes in
-    let count : length elements ≡ number = length-map (between_offsets (first ∷ offsets) bytes) of_bytes ∙ (length-between first offsets bytes ∙ eqb-true (length offsets) number counted.0) in
+    let count : length elements ≡ number = length-map (between_offsets (first ∷ offsets) bytes) of_bytes ∙ (length-between_offsets first offsets bytes ∙ eqb-true (length offsets) number counted.0) in
     subst (λ n. decode_vlen n (vlen_value elements) ≡ Some elements) count
     (decode_vlen-of elements (subst (λ n. n < 2 ^ 32) (sym count) few) (short_values bytes first offsets (between_first number first bytes offsets all)))

@@ -1,11 +1,12 @@
--- The chunks that a region meets, where they are a box of chunks.
+-- The chunks that a region meets, where they are a box of chunks, and what two regions share.
 use Rattle.std.proofs.Common.{◌≡◌, ℕ, zero, suc, max, min, ◌⊎◌, ⊎_elim, inl, inr, nat_lt, ◌*◌, ◌+◌, ◌-◌, ◌<◌, ◌≤◌, ◌&&◌, Bool, true, false, cond, nat_le, List, [], ◌∷◌, ◌++◌, length, map, filter, flat_map, get_or, refl, sym, ap, ap₂, ◌∙◌, subst, arith}
 use Rattle.std.specs.List.{range_with_len}
-use Rattle.std.proofs.lemmas.Bool.{and_parts, leb-true, ltb-true, cases_lt, false_from_ne_true}
+use Rattle.std.proofs.lemmas.Bool.{and_parts, leb-true, ltb-true, cases_lt, false_from_ne_true, and_right}
 use Rattle.std.proofs.lemmas.List.Elements.{filter-append}
-use Rattle.zarr_model.specs.Region.{Span, Region, count, whole, contains, is_in, ends_within, share_tuple, tuples}
+use Rattle.zarr_model.specs.Region.{Span, Region, count, whole, contains, is_in, ends_within, share_tuple, tuples, overlap_of}
 use Rattle.zarr_model.specs.Grid.{Grid, chunks, chunks_meeting}
 use Rattle.zarr_model.proofs.RegionLaws.{length-tuples, get_or-tuples, contains-tuple_at, in_span, span_in}
+use Rattle.zarr_model.proofs.ListLaws.{flat_map-same}
 
 -- a box of chunks has exactly those whose box shares a tuple with a region
 abbrev pub AreMeeting : Grid → Region → Region → Type 0
@@ -80,10 +81,6 @@ filter-flat_map : {A B : Type 0} (test : B → Bool) (f : A → List B) (xs : Li
 filter-flat_map test f [] = refl
 filter-flat_map test f (x ∷ xs) = filter-append test (f x) (flat_map f xs) ∙ ap (λ l. filter test (f x) ++ l) (filter-flat_map test f xs)
 
-flat_map-same : {A B : Type 0} (f g : A → List B) → ((x : A) → f x ≡ g x) → (xs : List A) → flat_map f xs ≡ flat_map g xs
-flat_map-same f g same [] = refl
-flat_map-same f g same (x ∷ xs) = ap₂ (λ a b. a ++ b) (same x) (flat_map-same f g same xs)
-
 -- a box within a shape has those of the shape's tuples that it contains
 pub filter-tuples : (box : Region) (shape : List ℕ) → ends_within box shape ≡ true → filter (contains box) (tuples (whole shape)) ≡ tuples box
 filter-tuples [] [] e = refl
@@ -126,12 +123,8 @@ nothing_shared (own ∷ box) (span ∷ region) e = ⊎_elim
     (λ (none : span.size ≡ 0). ap (λ b. b && share_tuple box region)
     (false_from_ne_true (nat_lt (max own.start span.start) (min (own.start + own.size) (span.start + span.size))) (λ h.
     let less : max own.start span.start < min (own.start + own.size) (span.start + span.size) = ltb-true _ _ h in absurd (omega arith))))
-    (λ (none : count region ≡ 0). ap (λ b. nat_lt (max own.start span.start) (min (own.start + own.size) (span.start + span.size)) && b) (nothing_shared box region none) ∙ and_false _)
+    (λ (none : count region ≡ 0). ap (λ b. nat_lt (max own.start span.start) (min (own.start + own.size) (span.start + span.size)) && b) (nothing_shared box region none) ∙ and_right _ false refl)
     (zero_factor span.size (count region) e)
-  where
-    and_false : (b : Bool) → (b && false) ≡ false
-    and_false true = refl
-    and_false false = refl
 
 pub chunks_meeting-empty : (grid : Grid) (region : Region) → count region ≡ 0 → chunks_meeting grid region ≡ []
 chunks_meeting-empty grid region e = none (chunks grid)
@@ -140,9 +133,24 @@ chunks_meeting-empty grid region e = none (chunks grid)
     none [] = refl
     none (chunk ∷ list) = ap (λ b. cond b (chunk ∷ filter (λ c. share_tuple (grid.chunk_box c) region) list) (filter (λ c. share_tuple (grid.chunk_box c) region) list)) (nothing_shared (grid.chunk_box chunk) region e) ∙ none list
 
-pub tuples-empty : (region : Region) → count region ≡ 0 → tuples region ≡ []
-tuples-empty region e = empty (tuples region) (length-tuples region ∙ e)
-  where
-    empty : (list : List (List ℕ)) → length list ≡ 0 → list ≡ []
-    empty [] h = refl
-    empty (x ∷ list) h = absurd (omega arith)
+-- the tuples of a region that a box contains are those of what they share
+pub filter-shared : (region box : Region) → length region ≡ length box → filter (contains box) (tuples region)
+    ≡ tuples (overlap_of region box)
+filter-shared [] [] e = refl
+filter-shared [] (span ∷ box) e = cc
+filter-shared (own ∷ region) [] e = cc
+filter-shared (own ∷ region) (span ∷ box) e =
+    let ranks : length region ≡ length box = omega (arith, e) in
+    let behind : ℕ → List (List ℕ) = λ index. map (λ tuple. index ∷ tuple) (tuples (overlap_of region box)) in
+    filter-flat_map (contains (span ∷ box)) (λ index. map (λ tuple. index ∷ tuple) (tuples region))
+    (range_with_len own.start own.size)
+    ∙ (flat_map-same (λ index. filter (contains (span ∷ box)) (map (λ tuple. index ∷ tuple) (tuples region)))
+    (λ index. cond (is_in index span) (behind index) [])
+    (λ index. filter-behind span box index (tuples region)
+    ∙ ap (λ l. cond (is_in index span) (map (λ tuple. index ∷ tuple) l) []) (filter-shared region box ranks))
+    (range_with_len own.start own.size)
+    ∙ picked_from behind span own.size own.start)
+
+pub shared_count : (region box : Region) → length region ≡ length box → length (filter (contains box) (tuples region))
+    ≡ count (overlap_of region box)
+shared_count region box e = ap length (filter-shared region box e) ∙ length-tuples (overlap_of region box)

@@ -108,6 +108,12 @@ KeepsDamage-append description options commands more old mid new first second = 
       second.stands chunk is_chunk (ap (box_content (layout description options) (description.grid.chunk_box chunk)) before ∙ damaged) parts.1 ∙ before;
 }
 
+-- the first places of a list, and one more
+pub take_one : {X : Type 0} (xs : List X) (i : ℕ) (x : X) → slice_get xs i ≡ Some x → take (suc i) xs ≡ take i xs ++ x ∷ []
+take_one [] i x e = cc
+take_one (y ∷ xs) zero x e = let same : y ≡ x = cc in ap (λ z. z ∷ []) same
+take_one (y ∷ xs) (suc i) x e = ap (λ l. y ∷ l) (take_one xs i x e)
+
 -- the failure of command number m, of which the single command tells, is one of the whole list
 module _ (description : Description) (options : Options) (commands : List Command) (m : ℕ) (command : Command) (here : slice_get commands m ≡ Some command) where
   pub place-lifts : (k : ℕ) → IsPlace description (command ∷ []) (Some (0, k)) → IsPlace description commands (Some (m, k))
@@ -151,13 +157,8 @@ module _ (description : Description) (options : Options) (commands : List Comman
       (keeps.each chunk is_chunk)
 
   -- the arrays before and after the command, from the one at the start
-  arrays_step : (array : Array Element) → array_after description (take (suc m) commands) array ≡ after description command (array_after description (take m commands) array)
+  pub arrays_step : (array : Array Element) → array_after description (take (suc m) commands) array ≡ after description command (array_after description (take m commands) array)
   arrays_step array = ap (λ cs. array_after description cs array) (take_one commands m command here) ∙ array_after-append description (take m commands) (command ∷ []) array
-    where
-      take_one : (cs : List Command) (i : ℕ) (c : Command) → slice_get cs i ≡ Some c → take (suc i) cs ≡ take i cs ++ c ∷ []
-      take_one [] i c e = cc
-      take_one (x ∷ cs) zero c e = let same : x ≡ c = cc in ap (λ y. y ∷ []) same
-      take_one (x ∷ cs) (suc i) c e = ap (λ l. x ∷ l) (take_one cs i c e)
 
   left-lifts : (old mid new : Content) (by_store : Bool) (k : ℕ) →
       ((array : Array Element) → WhollyMeans (layout description options) old array → WhollyMeans (layout description options) mid (array_after description (take m commands) array)) →

@@ -15,4 +15,15 @@ pub mod Session
 pub mod Causes
 pub mod Laws
 pub mod Shown
+pub mod Mended
+pub mod Leaves
+pub mod KeyLines
+pub mod LeavesLaws
+pub mod Parts
+pub mod Seen
+pub mod Needed
+pub mod Boundaries
+pub mod Largest
 pub mod Prelude
+pub mod Endianness
+pub mod DataTypeSize

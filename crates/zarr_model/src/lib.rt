@@ -2,9 +2,18 @@
 //! law of them: its contract is the law, and its body is empty.
 #![tactic(auto)]
 
+pub mod boundaries;
+pub mod damage;
+pub mod needed;
+
 ghost use Rattle.zarr_model.specs.Prelude.{Region, Kind, Description};
 ghost use Rattle.zarr_model.specs.Laws.{ListsRegion, ReadsWhatWasWritten, EachStoreMeansOne, RunsCompose, BytesMean, CutShortIsHonest, EachStoreMends};
 
+mod data_type_size;
+mod endianness;
+
+pub use data_type_size::DataTypeSize;
+pub use endianness::Endianness;
 use std::num::NonZeroU64;
 
 /// The length of each dimension of an array, which may be 0.

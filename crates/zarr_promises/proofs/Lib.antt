@@ -1,2 +1,4 @@
 mod WordLemmas
 mod ChunkLaws
+mod LevelLaws
+mod TargetLaws

@@ -12,7 +12,7 @@ use std::alloc::Global;
 use zarr_array::{CodecOptions, OpenArray, Reply, SessionError};
 use zarrs_array_subset::ArraySubset;
 use zarrs_codec_array_bytes::ArrayBytes;
-use zarrs_storage::store::Store;
+use zarrs_storage::Store;
 
 /// A write, as `OpenArray::write`.
 ///

@@ -9,9 +9,7 @@ ghost use Rattle.zarr_cli_runs.specs.Status.{ending_of};
 
 use std::alloc::Global;
 use zarr_cli::{Status, run_program};
-use zarrs_storage::sink::Sink;
-use zarrs_storage::source::Source;
-use zarrs_storage::store::Store;
+use zarrs_storage::{Sink, Source, Store};
 
 /// A run, as `run_program`: some of its endings with their causes.
 pub fn run<R: Source, W: Sink, S: Store>(

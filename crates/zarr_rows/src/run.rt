@@ -3,11 +3,7 @@
 use hex::encode;
 use std::alloc::{AllocError, Global};
 use zarr_cli::program::run_program;
-use zarrs_storage::memory_store::MemoryStore;
-use zarrs_storage::sink::MemorySink;
-use zarrs_storage::source::MemorySource;
-use zarrs_storage::store::{StorageError, Store};
-use zarrs_storage::store_key::StoreKey;
+use zarrs_storage::{MemorySink, MemorySource, MemoryStore, StorageError, Store, StoreKey};
 
 // The room of each sink.
 const ROOM: usize = 65_536;

@@ -1,9 +1,5 @@
-//! What tests share: a store one of whose calls fails, and documents.
+//! Documents that tests share.
 #![tactic(auto)]
-
-pub mod failing_store;
-
-pub use failing_store::FailingStore;
 
 /// A document of a square in four chunks.
 pub const SQUARE: &str =

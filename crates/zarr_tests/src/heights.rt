@@ -4,9 +4,7 @@ use std::alloc::{AllocError, Global};
 use std::test::Fail;
 use zarr_cli::program::run_program;
 use zarr_test_parts::HEIGHTS;
-use zarrs_storage::memory_store::MemoryStore;
-use zarrs_storage::sink::MemorySink;
-use zarrs_storage::source::MemorySource;
+use zarrs_storage::{MemorySink, MemorySource, MemoryStore};
 
 // Half a byte, as a digit.
 fn digit(half: u8) -> u8 {

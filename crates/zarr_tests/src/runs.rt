@@ -6,11 +6,10 @@ use std::alloc::{AllocError, Global};
 use std::test::Fail;
 use zarr_cli::Status;
 use zarr_cli::program::run_program;
-use zarr_test_parts::{FailingStore, SQUARE};
-use zarrs_storage::memory_store::MemoryStore;
-use zarrs_storage::sink::{MemorySink, Sink};
-use zarrs_storage::source::{IoFailed, MemorySource, Source};
-use zarrs_storage::store::Store;
+use zarr_test_parts::SQUARE;
+use zarrs_storage::{
+    FailingStore, IoFailed, MemorySink, MemorySource, MemoryStore, Sink, Source, Store,
+};
 
 // A run over an empty store in memory, which never fails.
 fn run_in_memory<R: Source, W: Sink>(
@@ -48,14 +47,16 @@ fn dump_word(alloc: Global) -> Result<Vec<String>, AllocError> {
 fn a_fault_of_the_store_leaves_no_reply(rt: HostRuntime) -> Result<(), Fail> {
     let alloc = rt.alloc();
     let words = dump_word(alloc)?;
-    // The call of the store that fails, and the reading calls until then.
-    for (failing, asks) in [(0, 0), (1, 1), (2, 2)] {
+    // The call of the store that fails, the reading calls until then, and the keys that are left.
+    for (failing, asks, keys) in [(0, 0, 0), (1, 1, 1), (2, 2, 1)] {
         let mut source = source_of(alloc, "key c/0/0 h00\nread 0..1")?;
         let mut sink = sink_with_room(alloc)?;
-        let mut store = FailingStore::new(alloc, failing);
+        let numbers = vec![in alloc; failing]?;
+        let mut store = FailingStore::new(MemoryStore::new(alloc), numbers);
         let status = run_program(alloc, &words, &mut source, &mut sink, &mut store);
         assert_eq!(rt; sink.written(), b"store\n".as_slice(), "at {failing}");
         assert_eq!(rt; (status.code(), store.asks()), (6, asks), "at {failing}");
+        assert_eq!(rt; store.memory().keys(alloc)?.len(), keys, "at {failing}");
     }
     Ok(())
 }

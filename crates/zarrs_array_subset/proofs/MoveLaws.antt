@@ -2,19 +2,10 @@
 use Rattle.std.proofs.Common.{◌≡◌, ℕ, ◌+◌, ◌-◌, ◌*◌, ◌<◌, ◌≤◌, ◌^◌, ◌&&◌, Bool, true, false, nat_le, nat_lt, min, max, List, [], ◌∷◌, length, Some, None, refl, sym, ap, ap₂, subst, ◌∙◌, arith}
 use Rattle.std.proofs.lemmas.Bool.{and_parts, and_from, leb-true, ltb-true, lt-ltb, cond-true}
 use Rattle.zarr_model.specs.Region.{Span, Region, count, count_of, whole, contains, is_in, linear_index, tuple_at, shared_span, sizes, starts}
-use Rattle.zarr_model.proofs.RegionLaws.{span_in, tuple_at-place, place-tuple_at, contains-tuple_at}
-use Rattle.zarr_model.proofs.ChainLaws.{sizes-whole}
+use Rattle.zarr_model.proofs.RegionLaws.{span_in, tuple_at-place, place-tuple_at, contains-tuple_at, sizes_whole, ends_of_span, first_is}
+use Rattle.zarr_model.proofs.Choices.{same_test, swap_tests}
 use Rattle.zarrs_array_subset.specs.Boxes.{contains_front, ends_fit, is_box, moved, moved_back, overlap_of, starts_past}
 use Rattle.zarrs_array_subset.specs.Ravel.{count_front, place_front, is_below, raveled}
-
--- two tests that hold for the same reasons are one
-same_test : (a b : Bool) → (a ≡ true → b ≡ true) → (b ≡ true → a ≡ true) → a ≡ b
-same_test true b f g = sym (f refl)
-same_test false true f g = g refl
-same_test false false f g = refl
-
-ends_of_span : (i : ℕ) (span : Span) → is_in i span ≡ true → (span.start ≤ i) × (i < span.start + span.size)
-ends_of_span i span h = let parts = and_parts (nat_le span.start i) (nat_lt i (span.start + span.size)) h in (leb-true _ _ parts.0, ltb-true _ _ parts.1)
 
 -- an index is in the shared span exactly where it is in both
 shared_is_both : (i : ℕ) (a b : Span) → is_in i (shared_span a b) ≡ (is_in i a && is_in i b)
@@ -25,12 +16,6 @@ shared_is_both i a b = same_test (is_in i (shared_span a b)) (is_in i a && is_in
     let x : (a.start ≤ i) × (i < a.start + a.size) = ends_of_span i a p.0 in
     let y : (b.start ≤ i) × (i < b.start + b.size) = ends_of_span i b p.1 in
     span_in i (shared_span a b) (omega arith) (omega arith))
-
-swap_tests : (a b c d : Bool) → ((a && b) && (c && d)) ≡ ((a && c) && (b && d))
-swap_tests true true c d = refl
-swap_tests true false true d = refl
-swap_tests true false false d = refl
-swap_tests false b c d = refl
 
 -- the overlap of two boxes of one rank contains a tuple of that rank exactly where both do
 pub overlap_is_both : (a b : Region) (tuple : List ℕ) → length a ≡ length b → contains (overlap_of a b) tuple ≡ (contains a tuple && contains b tuple)
@@ -50,9 +35,6 @@ front_is_both (x ∷ a) [] indices e = absurd (omega arith)
 front_is_both (x ∷ a) (y ∷ b) [] e = refl
 front_is_both (x ∷ a) (y ∷ b) (i ∷ indices) e =
     ap₂ (λ p q. p && q) (shared_is_both i x y) (front_is_both a b indices (omega arith)) ∙ swap_tests (is_in i x) (is_in i y) (contains_front a indices) (contains_front b indices)
-
-first_is : (i n : ℕ) → is_in i (record { start = 0; size = n }) ≡ true → i < n
-first_is i n h = let e : (0 ≤ i) × (i < 0 + n) = ends_of_span i (record { start = 0; size = n }) h in omega arith
 
 pub undoes : (box : Region) (offset : List ℕ) → starts_past box offset ≡ true → moved (moved_back box offset) offset ≡ box
 undoes [] [] h = refl
@@ -81,7 +63,7 @@ ravel_tuples shape tuple h =
 
 pub ravel_places : (shape : List ℕ) (k : ℕ) → k < count_of shape → raveled shape (tuple_at (whole shape) k) ≡ Some k
 ravel_places shape k h =
-    let below : k < count (whole shape) = subst (λ ns. k < count_of ns) (sym (sizes-whole shape)) h in
+    let below : k < count (whole shape) = subst (λ ns. k < count_of ns) (sym (sizes_whole shape)) h in
     (ravel_tuples shape (tuple_at (whole shape) k) (contains-tuple_at (whole shape) k below)).0 ∙ ap Some (place-tuple_at (whole shape) k below)
 
 -- an offset that was taken off may be added

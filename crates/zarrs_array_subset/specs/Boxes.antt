@@ -2,7 +2,8 @@
 use Rattle.std.specs.Prelude.{ℕ, ◌+◌, ◌-◌, ◌^◌, ◌&&◌, Bool, true, false, nat_le, nat_lt, min, max, List, [], ◌∷◌, map, zip}
 use Rattle.std.specs.List.{list_all}
 use Rattle.std.specs.declared.ops.Range.{Range}
-use Rattle.zarr_model.specs.Region.{Region, shared_span, is_in}
+use Rattle.zarr_model.specs.Region.{Region, is_in}
+pub use Rattle.zarr_model.specs.Region.{overlap_of, moved_back}
 
 -- the region with these starts and these lengths
 abbrev pub region_of : List ℕ → List ℕ → Region
@@ -51,11 +52,6 @@ lengths_to more _ _ = []
 abbrev pub ends : Region → List ℕ
 ends region = map (λ span. span.start + span.size) region
 
--- the part that two regions share, dimension by dimension
-abbrev pub overlap_of : Region → Region → Region
-overlap_of (a ∷ region) (b ∷ other) = shared_span a b ∷ overlap_of region other
-overlap_of _ _ = []
-
 -- a region cut at an end in each dimension
 abbrev pub cut_at : Region → List ℕ → Region
 cut_at (span ∷ region) (e ∷ end) =
@@ -63,16 +59,11 @@ cut_at (span ∷ region) (e ∷ end) =
     ∷ cut_at region end
 cut_at _ _ = []
 
--- a region with an offset added, or taken off
+-- a region with an offset added
 abbrev pub moved : Region → List ℕ → Region
 moved (span ∷ region) (o ∷ offset) =
     record { start = span.start + o; size = span.size } ∷ moved region offset
 moved _ _ = []
-
-abbrev pub moved_back : Region → List ℕ → Region
-moved_back (span ∷ region) (o ∷ offset) =
-    record { start = span.start - o; size = span.size } ∷ moved_back region offset
-moved_back _ _ = []
 
 -- an offset of the same rank that may be taken off
 abbrev pub starts_past : Region → List ℕ → Bool

@@ -85,7 +85,7 @@ impl<T: Drop> From<AllocFailed<T>> for ArraySubsetError {
 #[derive(Debug, Drop, Error)]
 pub enum IndexerError {
     /// Another number of dimensions than the array's.
-    #[error("{0}")]
+    #[error(transparent)]
     IncompatibleDimensionality(IncompatibleDimensionalityError),
     /// Indices that lead out of an array of this shape.
     #[error("indices {0:?} are out of bounds of array shape {1:?}")]

@@ -4,9 +4,10 @@ use Rattle.std.specs.List.{zip, list_all}
 use Rattle.std.specs.declared.ops.Range.{Range}
 use Rattle.std.proofs.lemmas.Bool.{and_parts, and_from, ltb-true, lt-ltb, leb-true, eqb-true, eq-eqb}
 use Rattle.zarr_model.specs.Region.{Span, Region, sizes, starts, ends_within, is_in}
+use Rattle.zarr_model.proofs.Choices.{same_test}
 use Rattle.zarrs_array_subset.specs.Boxes.{contains_front, is_box, is_within, region_of_ranges}
 use Rattle.zarrs_chunk_grid_indexer.specs.RangeTests.{are_box, are_in_box, are_in_ranges, end_in_shape}
-use Rattle.zarrs_chunk_grid_indexer.proofs.Ranges.{length_ranges, same_test}
+use Rattle.zarrs_chunk_grid_indexer.proofs.Ranges.{length_ranges}
 
 pub starts_are : (ranges : List (Range ℕ)) → map (λ range. range.start) ranges ≡ starts (region_of_ranges ranges)
 starts_are [] = refl

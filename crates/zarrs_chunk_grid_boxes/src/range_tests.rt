@@ -12,7 +12,7 @@ use zarrs_array_subset::ArraySubset;
 
 // The starts.
 #[tactic(auto, using(crate::proofs::Ranges::of_starts))]
-pub fn starts_of(alloc: Global, ranges: &[Range<u64>]) -> Result<Vec<u64>, AllocError>
+pub(crate) fn starts_of(alloc: Global, ranges: &[Range<u64>]) -> Result<Vec<u64>, AllocError>
     ensures { IfOk result (λ v. v.items ≡ starts (region_of_ranges ranges.now)) }
 {
     let starts = list_starts(alloc, ranges)?;
@@ -37,7 +37,7 @@ fn have_indices(ranges: &[Range<u64>], indices: &[u64]) -> bool
 
 // Whether each index is in its range, as far as both lists go.
 #[tactic(auto, using(crate::proofs::Ranges::of_tests))]
-pub fn contain(ranges: &[Range<u64>], indices: &[u64]) -> bool
+pub(crate) fn contain(ranges: &[Range<u64>], indices: &[u64]) -> bool
     ensures { result ≡ contains_front (region_of_ranges ranges.now) indices.now }
 {
     have_indices(ranges, indices)
@@ -55,7 +55,7 @@ fn end_within(ranges: &[Range<u64>], shape: &[u64]) -> bool
 
 // Whether the ranges end within a shape of their rank.
 #[tactic(auto, using(crate::proofs::Ranges::of_tests))]
-pub fn are_inbounds_shape(ranges: &[Range<u64>], shape: &[u64]) -> bool
+pub(crate) fn are_inbounds_shape(ranges: &[Range<u64>], shape: &[u64]) -> bool
     ensures { result ≡ ends_within (region_of_ranges ranges.now) shape.now }
 {
     ranges.len() == shape.len() && end_within(ranges, shape)
@@ -72,7 +72,7 @@ fn lie_in(ranges: &[Range<u64>], start: &[u64], shape: &[u64]) -> bool
 
 // Whether the ranges are within a subset of their rank.
 #[tactic(auto, using(crate::proofs::Ranges::of_boxes))]
-pub fn are_inbounds(ranges: &[Range<u64>], other: &ArraySubset) -> bool
+pub(crate) fn are_inbounds(ranges: &[Range<u64>], other: &ArraySubset) -> bool
     ensures { result ≡ is_within (region_of_ranges ranges.now) (region other.now) }
 {
     ranges.len() == other.dimensionality() && lie_in(ranges, other.start(), other.shape())
@@ -88,7 +88,7 @@ fn have_parts(ranges: &[Range<u64>], start: &[u64], shape: &[u64]) -> bool
 }
 
 // Whether the ranges are a subset.
-pub fn are_subset(ranges: &[Range<u64>], other: &ArraySubset) -> bool
+pub(crate) fn are_subset(ranges: &[Range<u64>], other: &ArraySubset) -> bool
     ensures { IsTrue result ↔ (region_of_ranges ranges.now ≡ region other.now) }
 {
     ranges.len() == other.dimensionality() && have_parts(ranges, other.start(), other.shape())

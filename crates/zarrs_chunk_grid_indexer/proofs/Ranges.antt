@@ -1,9 +1,10 @@
 -- Facts on ranges as regions.
-use Rattle.std.proofs.Common.{◌≡◌, ℕ, zero, suc, ◌-◌, ◌*◌, ◌≤◌, ◌||◌, Bool, true, false, nat_eq, nat_le, List, [], ◌∷◌, length, map, refl, sym, ap, ◌∙◌, arith}
+use Rattle.std.proofs.Common.{◌≡◌, ℕ, zero, suc, ◌-◌, ◌*◌, ◌≤◌, ◌||◌, Bool, true, false, nat_eq, nat_le, List, [], ◌∷◌, length, map, refl, ap, ◌∙◌, arith}
 use Rattle.std.specs.List.{list_any}
 use Rattle.std.specs.declared.ops.Range.{Range}
 use Rattle.std.proofs.lemmas.Bool.{leb-true, le-leb, eqb-true, eq-eqb}
 use Rattle.zarr_model.specs.Region.{count, sizes}
+use Rattle.zarr_model.proofs.Choices.{same_test}
 use Rattle.zarrs_array_subset.specs.Boxes.{region_of_ranges}
 use Rattle.zarrs_chunk_grid_indexer.specs.RangeTests.{some_is_empty}
 
@@ -12,12 +13,6 @@ lengths_are [] = refl
 lengths_are (r ∷ ranges) = ap (λ rest. (r.end - r.start) ∷ rest) (lengths_are ranges)
 
 pub ruleset of_lists = (lengths_are)
-
--- two tests are one where each follows from the other
-pub same_test : (a b : Bool) → (a ≡ true → b ≡ true) → (b ≡ true → a ≡ true) → a ≡ b
-same_test true b f g = sym (f refl)
-same_test false true f g = g refl
-same_test false false f g = refl
 
 le_zero : (s e : ℕ) → nat_le e s ≡ nat_eq (e - s) 0
 le_zero s e = same_test (nat_le e s) (nat_eq (e - s) 0)

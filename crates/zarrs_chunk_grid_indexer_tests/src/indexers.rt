@@ -1,5 +1,8 @@
 //! Each kind of indexer, through its bound.
 
+ghost use Rattle.std.specs.Prelude.{◌*◌, ◌<◌, ◌^◌};
+ghost use Rattle.zarrs_chunk_grid.specs.Region.{count_of};
+
 use crate::texts::{gives, is_text, says};
 use std::alloc::{AllocError, Global};
 use std::ops::Range;
@@ -152,13 +155,45 @@ fn refusals(rt: HostRuntime) -> Result<(), Fail> {
     Ok(())
 }
 
-#[test]
-fn byte_ranges(rt: HostRuntime) {
-    match [1..3, 1..3].iter_contiguous_byte_ranges(rt.alloc(), &[4, 4], 2) {
+// The number of runs of the inner box as ranges of bytes, the last one and the first, or why there are none.
+fn byte_runs(alloc: Global, shape: &[u64], size: usize) -> Result<String, AllocError>
+    requires elements { count_of shape.now < 2 ^ 64 }
+    requires bytes { count_of shape.now * size < 2 ^ 64 }
+{
+    match [1..3, 1..3].iter_contiguous_byte_ranges(alloc, shape, size) {
         Ok(mut runs) => {
             let seen = (runs.size_hint(), runs.next_back(), runs.next());
-            let want = "((2, Some(2)), Some(18..22), Some(10..14))";
-            says(&rt, rt.alloc(), &seen, want);
+            format!(in alloc; "{seen:?}")
+        }
+        Err(error) => format!(in alloc; "{error}"),
+    }
+}
+
+#[test]
+fn byte_ranges(rt: HostRuntime) {
+    let alloc = rt.alloc();
+    let two = "((2, Some(2)), Some(18..22), Some(10..14))";
+    is_text(&rt, byte_runs(alloc, &[4, 4], 2), two);
+    let one = "((2, Some(2)), Some(9..11), Some(5..7))";
+    is_text(&rt, byte_runs(alloc, &[4, 4], 1), one);
+    let refused = "indices [3, 3] are out of bounds of array shape [1, 1]";
+    is_text(&rt, byte_runs(alloc, &[1, 1], 1), refused);
+}
+
+#[test]
+fn indices_and_runs(rt: HostRuntime) {
+    let alloc = rt.alloc();
+    match [1..3, 1..3].iter_indices(alloc) {
+        Ok(mut indices) => {
+            let seen = (indices.next(), indices.next_back());
+            says(&rt, alloc, &seen, "(Some(Ok([1, 1])), Some(Ok([2, 2])))");
+        }
+        Err(_) => assert!(rt; false, "no indices"),
+    }
+    match [1..3, 1..3].iter_contiguous_linearised_indices(alloc, &[4, 4]) {
+        Ok(mut runs) => {
+            let seen = (runs.next(), runs.next_back());
+            says(&rt, alloc, &seen, "(Some((5, 2)), Some((9, 2)))");
         }
         Err(_) => assert!(rt; false, "no runs"),
     }

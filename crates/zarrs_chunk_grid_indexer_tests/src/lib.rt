@@ -8,5 +8,3 @@ mod indexers;
 mod lists;
 #[cfg(test)]
 mod texts;
-
-pub use callers::{last_of, last_of_subset, lent_indices, owned_indices};

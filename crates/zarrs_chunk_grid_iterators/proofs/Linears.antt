@@ -1,21 +1,16 @@
 -- The linear index of the tuple at a place.
-use Rattle.std.proofs.Common.{◌≡◌, ℕ, ◌+◌, ◌-◌, ◌*◌, ◌/◌, ◌%◌, ◌<◌, ◌≤◌, ◌^◌, true, nat_lt, nat_le, List, [], ◌∷◌, length, take, drop, get_or, map, refl, sym, ap, ap₂, ◌∙◌, subst, subst₂, arith}
-use Rattle.std.proofs.lemmas.Bool.{and_parts, leb-true}
-use Rattle.std.proofs.lemmas.Nat.{mul-le}
+use Rattle.std.proofs.Common.{◌≡◌, ℕ, ◌+◌, ◌-◌, ◌*◌, ◌/◌, ◌%◌, ◌<◌, ◌≤◌, ◌^◌, true, nat_lt, List, [], ◌∷◌, length, take, drop, get_or, map, refl, sym, ap, ap₂, ◌∙◌, subst, subst₂, arith}
+use Rattle.std.proofs.lemmas.Bool.{and_parts}
 use Rattle.zarr_model.specs.Region.{Region, count, count_of, whole, ends_within, tuple_at, linear_index}
 use Rattle.zarrs_array_subset.specs.Boxes.{region_of, is_box}
 use Rattle.zarrs_array_subset.proofs.Ravels.{rest_count, count_region, row_below, tail_is}
-use Rattle.zarr_model.proofs.RegionLaws.{place_below, contains-tuple_at, length-tuples, get_or-tuples}
+use Rattle.zarr_model.proofs.RegionLaws.{place_below, contains-tuple_at, length-tuples, get_or-tuples, count_within, count_whole}
 use Rattle.zarr_model.specs.Region.{tuples}
 use Rattle.zarr_model.specs.Cover.{linear_indices}
 use Rattle.zarrs_chunk_grid_iterators.specs.Places.{places, linear_at}
 use Rattle.std.proofs.lemmas.List.FromFn.{length-map-range_with_len, get_or-map-range_with_len}
 use Rattle.std.proofs.lemmas.List.{length-map, get_or-map, same_lists}
 use Rattle.zarr_model.proofs.ArrayLaws.{inside_shape}
-
-pub count_whole : (shape : List ℕ) → count (whole shape) ≡ count_of shape
-count_whole [] = refl
-count_whole (n ∷ shape) = ap (λ c. n * c) (count_whole shape)
 
 pub linear_below : (region : Region) (shape : List ℕ) (place : ℕ) → ends_within region shape ≡ true → place < count region → linear_index shape (tuple_at region place) < count_of shape
 linear_below region shape place e below =
@@ -50,15 +45,6 @@ linear_none [] [] [] place none box e = (refl, refl)
 linear_none [] [] (m ∷ arr) place none box e = cc
 linear_none (s ∷ start) [] arr place none box e = cc
 linear_none start (n ∷ shape) arr place none box e = absurd (omega arith)
-
-pub count_within : (region : Region) (shape : List ℕ) → ends_within region shape ≡ true → count region ≤ count_of shape
-count_within [] [] e = omega arith
-count_within [] (n ∷ shape) e = cc
-count_within (span ∷ region) [] e = cc
-count_within (span ∷ region) (n ∷ shape) e =
-    let ends = and_parts (nat_le (span.start + span.size) n) (ends_within region shape) e in
-    let end : span.start + span.size ≤ n = leb-true _ _ ends.0 in
-    mul-le span.size (count region) n (count_of shape) (omega arith) (count_within region shape ends.1)
 
 -- the linear indices of all places are the list
 pub all_places : (region : Region) (shape : List ℕ) → map (linear_at shape region) (places 0 (count region)) ≡ linear_indices shape region

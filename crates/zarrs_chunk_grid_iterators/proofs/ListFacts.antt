@@ -6,13 +6,13 @@ use Rattle.std.proofs.lemmas.Bool.{and_parts, lt-ltb, ltb-true}
 use Rattle.std.proofs.lemmas.Grind.{flat_map-append}
 use Rattle.std.specs.Bool.{MatchBool}
 use Rattle.zarr_model.specs.Region.{Span, count_of, whole, contains, is_in, linear_index}
-use Rattle.zarr_model.proofs.RegionLaws.{place_below, span_in}
+use Rattle.zarr_model.proofs.RegionLaws.{place_below, span_in, count_whole}
+use Rattle.zarr_model.proofs.Choices.{same_test}
 use Rattle.zarrs_array_subset.specs.Ravel.{count_front, place_front, is_below}
 use Rattle.zarrs_array_subset.specs.Errors.{no_memory}
 use Rattle.zarrs_array_subset.specs.declared.error.IndexerError.{IndexerError}
 use Rattle.zarrs_array_subset.specs.declared.error.IndexerError.TheVariants.{OutOfMemory, IncompatibleDimensionality, OutOfBounds, IncompatibleLength}
 use Rattle.zarrs_chunk_grid_iterators.specs.Lists.{is_list_inside, single_runs, RefusesItems, RefusesTuple, RefusesList}
-use Rattle.zarrs_chunk_grid_iterators.proofs.Linears.{count_whole}
 use Rattle.zarrs_chunk_grid_iterators.specs.Runs.{joined}
 
 pub all_append : {A : Type 0} (P : A → Type 0) (xs ys : List A) → AllByRecursion P xs → AllByRecursion P ys → AllByRecursion P (xs ++ ys)
@@ -109,11 +109,6 @@ pub list_outputs : (n : ℕ) → n * 1 ≡ n
 list_outputs n = omega arith
 
 -- linear indices as `ravel_indices` tells them
-same_test : (a b : Bool) → (a ≡ true → b ≡ true) → (b ≡ true → a ≡ true) → a ≡ b
-same_test true b f g = sym (f refl)
-same_test false true f g = g refl
-same_test false false f g = refl
-
 pub below_whole : (shape tuple : List ℕ) → length tuple ≡ length shape → is_below shape tuple ≡ contains (whole shape) tuple
 below_whole [] [] e = refl
 below_whole [] (i ∷ tuple) e = absurd (omega arith)

@@ -13,12 +13,14 @@ use Rattle.std.proofs.lemmas.List.Sums.{sum_by-cons, sum_by-append}
 use Rattle.std.proofs.lemmas.Map.Made.{length-le_from_is_member}
 use Rattle.std.proofs.lemmas.Map.Keys.{IsDistinct-from_apart, IsDistinct-head, IsDistinct-tail}
 use Rattle.std.proofs.lemmas.Bool.{and_parts, and_from, leb-true, ltb-true, le-leb, eqb-true, eq-eqb, ne_eqb, cases_lt, cases_eq}
-use Rattle.std.proofs.Math.Nat.{suc-mul, zero-mul, mul_comm, mul-le-mul_right}
+use Rattle.std.proofs.Math.Nat.{suc-mul, zero-mul, mul-le-mul_right}
 use Rattle.zarr_model.specs.Region.{Span, Region, count, whole, contains, is_in, ends_within, tuples, linear_index}
 use Rattle.zarr_model.specs.Cover.{IsCover, linear_indices}
-use Rattle.zarr_model.proofs.RegionLaws.{length-tuples, get_or-tuples, place_below, contains-tuple_at, span_in, in_span}
+use Rattle.zarr_model.proofs.RegionLaws.{length-tuples, get_or-tuples, place_below, contains-tuple_at, span_in, in_span, rank_within, positive_parts, tuples-empty}
 use Rattle.zarr_model.proofs.ArrayLaws.{linear_rises, tuples_are, inside_shape}
 use Rattle.zarr_model.specs.Region.{tuple_at}
+use Rattle.zarr_model.proofs.ListLaws.{flat_map-same}
+use Rattle.zarr_model.proofs.Choices.{alone}
 use Rattle.zarrs_chunk_grid_iterators.specs.Runs.{is_whole, first_of, run_box, run_length, runs, joined, is_linear_index, CoversLeast}
 
 -- ---- lists
@@ -29,10 +31,6 @@ map-flat_map g f (x ∷ xs) = map-append g (f x) (flat_map f xs) ∙ ap (λ ys. 
 flat_map-flat_map : {A B C : Type 0} (g : B → List C) (f : A → List B) (xs : List A) → flat_map g (flat_map f xs) ≡ flat_map (λ x. flat_map g (f x)) xs
 flat_map-flat_map g f [] = refl
 flat_map-flat_map g f (x ∷ xs) = flat_map-append g (f x) (flat_map f xs) ∙ ap (λ ys. flat_map g (f x) ++ ys) (flat_map-flat_map g f xs)
-
-flat_map_same : {A B : Type 0} (f g : A → List B) → ((x : A) → f x ≡ g x) → (xs : List A) → flat_map f xs ≡ flat_map g xs
-flat_map_same f g same [] = refl
-flat_map_same f g same (x ∷ xs) = ap₂ (λ a b. a ++ b) (same x) (flat_map_same f g same xs)
 
 map_same : {A B : Type 0} (f g : A → B) → ((x : A) → f x ≡ g x) → (xs : List A) → map f xs ≡ map g xs
 map_same f g same [] = refl
@@ -59,7 +57,7 @@ pub rows : (n : ℕ) (shape : List ℕ) (span : Span) (region : Region) →
     linear_indices (n ∷ shape) (span ∷ region) ≡ flat_map (λ i. map (λ m. i * count (whole shape) + m) (linear_indices shape region)) (range_with_len span.start span.size)
 rows n shape span region =
     map-flat_map (linear_index (n ∷ shape)) (λ index. map (λ tuple. index ∷ tuple) (tuples region)) (range_with_len span.start span.size)
-    ∙ flat_map_same _ _ (λ i. map-map (linear_index (n ∷ shape)) (λ tuple. i ∷ tuple) (tuples region)
+    ∙ flat_map-same _ _ (λ i. map-map (linear_index (n ∷ shape)) (λ tuple. i ∷ tuple) (tuples region)
     ∙ map_same _ _ (λ tuple. let e : i - 0 ≡ i = omega arith in ap (λ k. k * count (whole shape) + linear_index shape tuple) e) (tuples region)
     ∙ sym (map-map (λ m. i * count (whole shape) + m) (linear_index shape) (tuples region))) (range_with_len span.start span.size)
 
@@ -79,7 +77,7 @@ count_whole_region (n ∷ shape) (span ∷ region) h = let w = whole_parts n sha
 -- a row of runs of p numbers each
 row_of_ranges : (p start size : ℕ) (xs : List ℕ) → xs ≡ range_with_len 0 p → flat_map (λ i. map (λ m. i * p + m) xs) (range_with_len start size) ≡ range_with_len (start * p) (size * p)
 row_of_ranges p start size xs e =
-    flat_map_same _ _ (λ i. ap (map (λ m. i * p + m)) e ∙ shift-range (i * p) 0 p ∙ ap (λ a. range_with_len a p) (let z : i * p + 0 ≡ i * p = omega arith in z)) (range_with_len start size)
+    flat_map-same _ _ (λ i. ap (map (λ m. i * p + m)) e ∙ shift-range (i * p) 0 p ∙ ap (λ a. range_with_len a p) (let z : i * p + 0 ≡ i * p = omega arith in z)) (range_with_len start size)
     ∙ rows_join p start size
 
 whole_indices : (shape : List ℕ) (region : Region) → is_whole shape region ≡ true → linear_indices shape region ≡ range_with_len 0 (count (whole shape))
@@ -125,31 +123,18 @@ starts_in_order (n ∷ shape) (span ∷ region) rank = go (is_whole shape region
         let l : ℕ = run_length shape region in
         ap (flat_map (λ index. range_with_len index l)) (rows n shape span (run_box shape region))
         ∙ flat_map-flat_map (λ index. range_with_len index l) (λ i. map (λ m. i * p + m) (linear_indices shape (run_box shape region))) (range_with_len span.start span.size)
-        ∙ flat_map_same _ _ (λ i. flat_map-map (λ index. range_with_len index l) (λ m. i * p + m) (linear_indices shape (run_box shape region))
-        ∙ flat_map_same _ _ (λ m. sym (shift-range (i * p) m l)) (linear_indices shape (run_box shape region))
+        ∙ flat_map-same _ _ (λ i. flat_map-map (λ index. range_with_len index l) (λ m. i * p + m) (linear_indices shape (run_box shape region))
+        ∙ flat_map-same _ _ (λ m. sym (shift-range (i * p) m l)) (linear_indices shape (run_box shape region))
         ∙ sym (map-flat_map (λ m. i * p + m) (λ m. range_with_len m l) (linear_indices shape (run_box shape region)))
         ∙ ap (map (λ m. i * p + m)) ih) (range_with_len span.start span.size)
         ∙ sym (rows n shape span region)
-
-pub no_tuples : (region : Region) → count region ≡ 0 → tuples region ≡ []
-no_tuples region e = go (tuples region) (length-tuples region ∙ e)
-  where
-    go : (xs : List (List ℕ)) → length xs ≡ 0 → xs ≡ []
-    go [] h = refl
-    go (x ∷ xs) h = absurd (omega arith)
-
-pub rank_within : (region : Region) (shape : List ℕ) → ends_within region shape ≡ true → length region ≡ length shape
-rank_within [] [] e = refl
-rank_within [] (n ∷ shape) e = cc
-rank_within (span ∷ region) [] e = cc
-rank_within (span ∷ region) (n ∷ shape) e = ap suc (rank_within region shape (and_parts _ _ e).1)
 
 pub runs_in_order : (shape : List ℕ) (region : Region) → ends_within region shape ≡ true → joined (runs shape region) ≡ linear_indices shape region
 runs_in_order shape region e = go (nat_eq (count region) 0) refl
   where
     go : (b : Bool) → nat_eq (count region) 0 ≡ b →
         joined (cond b [] (map (λ index. record { start = index; size = run_length shape region }) (linear_indices shape (run_box shape region)))) ≡ linear_indices shape region
-    go true h = sym (ap (map (linear_index shape)) (no_tuples region (eqb-true _ _ h)))
+    go true h = sym (ap (map (linear_index shape)) (tuples-empty region (eqb-true _ _ h)))
     go false h = flat_map-map (λ interval. range_with_len interval.start interval.size) (λ index. record { start = index; size = run_length shape region }) (linear_indices shape (run_box shape region))
         ∙ starts_in_order shape region (rank_within region shape e)
 
@@ -298,14 +283,6 @@ abbrev Gap : List ℕ → Region → Type 0
 Gap shape region = (q : ℕ) → HasIndex shape (run_box shape region) (suc q) → HasIndex shape region q → ⊥
 
 -- ---- the region where runs begin
-pub positive_parts : (span : Span) (region : Region) → 0 < count (span ∷ region) → (0 < span.size) × (0 < count region)
-positive_parts span region h = go span.size (count region) h
-  where
-    go : (a b : ℕ) → 0 < a * b → (0 < a) × (0 < b)
-    go zero b h = absurd (omega (arith, zero-mul b))
-    go (suc a) zero h = absurd (omega (arith, mul_comm (suc a) 0, zero-mul (suc a)))
-    go (suc a) (suc b) h = (omega arith, omega arith)
-
 first_in : (region : Region) (t : List ℕ) → 0 < count region → contains (first_of region) t ≡ true → contains region t ≡ true
 first_in [] t pos h = h
 first_in (span ∷ region) [] pos h = cc
@@ -368,11 +345,7 @@ zero_of_first shape region t w h =
     go (subst (λ xs. list_any (nat_eq (linear_index shape t)) xs ≡ true) (first_indices shape region w) (index_of_tuple shape (first_of region) (linear_index shape t) (t, h, refl)))
   where
     go : (nat_eq (linear_index shape t) 0 || false) ≡ true → linear_index shape t ≡ 0
-    go k = eqb-true _ _ (flat (nat_eq (linear_index shape t) 0) k)
-      where
-        flat : (b : Bool) → (b || false) ≡ true → b ≡ true
-        flat true k = refl
-        flat false k = k
+    go k = eqb-true _ _ (alone (nat_eq (linear_index shape t) 0) k)
 
 pub gap : (shape : List ℕ) (region : Region) → ends_within region shape ≡ true → 0 < count region → Gap shape region
 gap [] [] e pos q (t, h, at) (u, k, below) = no_place t at

@@ -7,10 +7,10 @@ use Rattle.zarrs_array_subset.specs.Boxes.{region_of, is_box}
 use Rattle.zarrs_array_subset.proofs.BoxLaws.{region_parts, length_region, same_rank}
 use Rattle.zarrs_chunk_grid_iterators.specs.Runs.{is_whole, first_of, run_box, run_length, runs, tuple_runs}
 use Rattle.zarrs_chunk_grid_iterators.specs.RunTests.{whole_in}
-use Rattle.zarrs_chunk_grid_iterators.proofs.RunCover.{run_box_within, no_tuples}
+use Rattle.zarrs_chunk_grid_iterators.proofs.RunCover.{run_box_within}
 use Rattle.zarr_model.specs.Region.{linear_index, tuples}
 use Rattle.zarr_model.specs.Cover.{linear_indices}
-use Rattle.zarrs_chunk_grid_iterators.proofs.Linears.{count_within}
+use Rattle.zarr_model.proofs.RegionLaws.{count_within, tuples-empty}
 use Rattle.zarrs_array_subset.proofs.Ravels.{tail_is, count_region, factors}
 
 pub whole_by_zip : (start shape bounds : List ℕ) → is_box start shape ≡ true → length shape ≡ length bounds → whole_in start shape bounds ≡ is_whole bounds (region_of start shape)
@@ -112,7 +112,7 @@ runs_some arr region some = ap (λ b. cond b [] (map (λ index. record { start =
 pub runs_none : (arr : List ℕ) (region : Region) → count region ≡ 0 → (runs arr region ≡ []) × (linear_indices arr region ≡ [])
 runs_none arr region none = (
   ap (λ b. cond b [] (map (λ index. record { start = index; size = run_length arr region }) (linear_indices arr (run_box arr region)))) (eq-eqb _ _ none),
-  ap (map (linear_index arr)) (no_tuples region none),
+  ap (map (linear_index arr)) (tuples-empty region none),
 )
 
 pub ruleset of_starts = (run_region, run_fits, region_parts, length-map)
@@ -131,5 +131,5 @@ empty_runs arr region listed n none e =
 pub empty_tuple_runs : (arr : List ℕ) (region : Region) (listed : List (List ℕ)) (n : ℕ) → nat_eq (count region) 0 ≡ true → listed ≡ tuples region →
     map (λ tuple. (tuple, n)) listed ≡ tuple_runs arr region
 empty_tuple_runs arr region listed n none e =
-    ap (map (λ tuple. (tuple, n))) (e ∙ no_tuples region (eqb-true _ _ none))
+    ap (map (λ tuple. (tuple, n))) (e ∙ tuples-empty region (eqb-true _ _ none))
     ∙ sym (ap (λ b. cond b [] (map (λ tuple. (tuple, run_length arr region)) (tuples (run_box arr region)))) none)

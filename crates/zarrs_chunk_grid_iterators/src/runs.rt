@@ -83,7 +83,7 @@ fn push_run_shape(
 
 // The box of the indices at which runs begin, and how many indices each run has.
 #[tactic(auto, using(crate::proofs::RunShapes::of_starts))]
-pub fn run_starts(
+pub(crate) fn run_starts(
     alloc: Global,
     subset: &ArraySubset,
     array_shape: &[u64],

@@ -10,8 +10,12 @@ use zarrs_chunk_grid::{
 
 #[test]
 fn products(rt: HostRuntime) {
-    let products = (shape_product(&[3, 4]), ravel_indices(&[1, 2, 9], &[3, 4]));
-    assert_eq!(rt; products, (Some(12), Some(6)));
+    let products = (
+        shape_product(&[3, 4]),
+        ravel_indices(&[1, 2, 9], &[3, 4]),
+        ravel_indices(&[3, 0], &[3, 4]),
+    );
+    assert_eq!(rt; products, (Some(12), Some(6), None));
 }
 
 // Where a subset starts, or nothing for an array, a shape, a place of its list, and the tuple there.

@@ -1,15 +1,10 @@
 -- Indices below a shape, and the first and the last of some chunks.
-use Rattle.std.proofs.Common.{◌≡◌, ℕ, zero, suc, ◌+◌, ◌-◌, ◌*◌, ◌<◌, ◌≤◌, Bool, true, false, nat_le, nat_lt, List, [], ◌∷◌, length, map, zip, refl, sym, ap, arith}
+use Rattle.std.proofs.Common.{◌≡◌, ℕ, zero, suc, ◌+◌, ◌-◌, ◌*◌, ◌<◌, ◌≤◌, Bool, true, false, nat_le, nat_lt, List, [], ◌∷◌, length, map, zip, refl, ap, arith}
 use Rattle.std.proofs.lemmas.Bool.{and_parts, and_from, leb-true, lt-ltb, ltb-true}
-use Rattle.std.proofs.Math.Nat.{mul_comm, zero-mul}
-use Rattle.zarr_model.specs.Region.{Span, Region, count, starts, sizes, whole, contains, is_in, ends_within}
-use Rattle.zarr_model.proofs.RegionLaws.{span_in}
+use Rattle.zarr_model.specs.Region.{Span, Region, count, starts, whole, contains, is_in, ends_within}
+use Rattle.zarr_model.proofs.RegionLaws.{span_in, positive_parts}
+use Rattle.zarr_model.proofs.Choices.{same_test}
 use Rattle.zarrs_array_subset.specs.Boxes.{region_between, region_of_ranges, last_indices}
-
-same_test : (a b : Bool) → (a ≡ true → b ≡ true) → (b ≡ true → a ≡ true) → a ≡ b
-same_test true b f g = sym (f refl)
-same_test false true f g = g refl
-same_test false false f g = refl
 
 -- an index is below a length where it is in its span
 pub below_is : (i n : ℕ) → nat_lt i n ≡ is_in i (record { start = 0; size = n })
@@ -22,10 +17,6 @@ below_is i n = same_test (nat_lt i n) (is_in i span)
 
 pub ruleset of_indices = (below_is)
 
-pub sizes_whole : (shape : List ℕ) → sizes (whole shape) ≡ shape
-sizes_whole [] = refl
-sizes_whole (n ∷ shape) = ap (λ ns. n ∷ ns) (sizes_whole shape)
-
 pub inside_rank : (shape indices : List ℕ) → contains (whole shape) indices ≡ true → length indices ≡ length shape
 inside_rank [] [] h = refl
 inside_rank [] (i ∷ indices) h = cc
@@ -36,14 +27,6 @@ pub ranges_between : (start end : List ℕ) → region_of_ranges (map (λ p. rec
 ranges_between [] end = refl
 ranges_between (s ∷ start) [] = refl
 ranges_between (s ∷ start) (e ∷ end) = ap (λ r. record { start = s; size = e - s } ∷ r) (ranges_between start end)
-
-positive_parts : (span : Span) (region : Region) → 0 < count (span ∷ region) → (0 < span.size) × (0 < count region)
-positive_parts span region h = go span.size (count region) h
-  where
-    go : (a b : ℕ) → 0 < a * b → (0 < a) × (0 < b)
-    go zero b h = absurd (omega (arith, zero-mul b))
-    go (suc a) zero h = absurd (omega (arith, mul_comm (suc a) 0, zero-mul (suc a)))
-    go (suc a) (suc b) h = (omega arith, omega arith)
 
 pub first_chunk : (shape : List ℕ) (chunks : Region) → 0 < count chunks → ends_within chunks shape ≡ true → contains (whole shape) (starts chunks) ≡ true
 first_chunk [] [] some e = refl

@@ -11,7 +11,7 @@ use zarrs_array_subset::IncompatibleDimensionalityError;
 #[derive(Debug, Drop, Error)]
 pub enum ChunkGridError {
     /// The indices or the region have another number of dimensions than the grid.
-    #[error("{0}")]
+    #[error(transparent)]
     IncompatibleDimensionality(IncompatibleDimensionalityError),
     /// Memory ran out.
     #[error("out of memory")]

@@ -28,10 +28,11 @@ pub use Rattle.zarrs_codec_traits.specs.Views
 pub use Rattle.zarrs_codec_traits.specs.Errors
 pub use Rattle.zarrs_codec_traits.specs.Into
 pub use Rattle.zarrs_codec_traits.specs.Parts
-pub use Rattle.zarrs_codec_metadata.specs.CodecMetadata
-pub use Rattle.zarrs_codec_metadata.specs.CodecOf
-pub use Rattle.zarrs_codec_metadata.specs.Making
+pub use Rattle.zarrs_codec_traits.specs.CodecMetadata
+pub use Rattle.zarrs_codec_traits.specs.CodecOf
+pub use Rattle.zarrs_codec_traits.specs.Making
 pub use Rattle.zarrs_codec_partial_traits.specs.Lists
 pub use Rattle.zarrs_codec_partial_traits.specs.Selects
 pub use Rattle.zarrs_codec_partial_traits.specs.ListWrites
 pub use Rattle.zarrs_codec_partial_traits.specs.Updates
+pub use Rattle.zarrs_codec_error.specs as codec_error

@@ -2,8 +2,8 @@
 //! and of handles on values.
 //!
 //! All of it comes from the crates `zarrs_codec_array_bytes`, `zarrs_codec_array_bytes_update`, `zarrs_codec_view`,
-//! `zarrs_codec_options`, `zarrs_codec_error`, `zarrs_codec_traits`, `zarrs_codec_metadata` and
-//! `zarrs_codec_partial_traits`, and is passed on here.
+//! `zarrs_codec_options`, `zarrs_codec_error`, `zarrs_codec_traits` and `zarrs_codec_partial_traits`, and is passed on
+//! here.
 #![tactic(auto)]
 
 pub use zarrs_codec_array_bytes::{
@@ -19,7 +19,6 @@ pub use zarrs_codec_error::{
     ExpectedOptionalBytesError, ExpectedVariableLengthBytesError, InvalidArrayShapeError,
     InvalidBytesLengthError, InvalidNumberOfElementsError, SubsetOutOfBoundsError,
 };
-pub use zarrs_codec_metadata::{Codec, CodecMaker, CodecMetadata};
 pub use zarrs_codec_options::{
     BytesRepresentation, CodecMetadataOptions, CodecOptions, CodecSpecificOptions,
     PartialDecoderCapability, PartialEncoderCapability, RecommendedConcurrency,
@@ -30,7 +29,7 @@ pub use zarrs_codec_partial_traits::{
 };
 pub use zarrs_codec_traits::{
     ArrayCodecTraits, ArrayToArrayCodecTraits, ArrayToBytesCodecTraits, BytesToBytesCodecTraits,
-    CodecTraits, CodecTraitsV2, CodecTraitsV3,
+    Codec, CodecMaker, CodecMetadata, CodecTraits, CodecTraitsV2, CodecTraitsV3,
 };
 pub use zarrs_codec_view::laws::{
     target_holds_what_is_put, view_holds_what_is_written, views_side_by_side,

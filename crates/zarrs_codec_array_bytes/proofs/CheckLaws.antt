@@ -1,16 +1,16 @@
 -- Lengths that are not refused.
 use Rattle.std.proofs.Common.{◌≡◌, ℕ, ◌+◌, ◌*◌, ◌==◌, Bool, true, false, not, List, length, get_or, ◌<◌, Option, Some, None, arith, refl, eqb-true}
-use Rattle.zarr_model.specs.Command.{Refusal, incompatible_dimensionality, subset_out_of_bounds, region_too_large, expected_fixed_length_bytes, expected_variable_length_bytes, expected_optional_bytes, invalid_mask, unexpected_chunk_decoded_size, invalid_variable_sized_array_offsets, element_too_long, refused_if, or_then, has_long_element}
+use Rattle.zarr_model.specs.Command.{Refusal, incompatible_dimensionality, subset_out_of_bounds, region_too_large, expected_fixed_length_bytes, expected_variable_length_bytes, expected_optional_bytes, invalid_mask, unexpected_chunk_decoded_size, invalid_variable_sized_array_offsets, element_too_long, or_then, has_long_element, bytes_refusal}
 use Rattle.zarr_model.specs.ArrayBytes.{ArrayBytes, fixed_bytes, variable_bytes, optional_bytes}
+use Rattle.zarr_model.proofs.RefusalLaws.{not_refused}
+use Rattle.zarr_model.specs.Element.{fixed}
 use Rattle.zarrs_codec_array_bytes.specs.Refusals.{lengths_refusal, fine, sized_answer}
+use Rattle.zarrs_codec_array_bytes.specs.Levels.{is_fixed}
 use Rattle.zarrs_codec_bytes.specs.Picking.{AllBelow, gathered}
 use Rattle.zarrs_codec_bytes.proofs.ShortLaws.{gathered_short}
 
-not_refused : (b : Bool) (why : Refusal) → refused_if (not b) why ≡ None → b ≡ true
-not_refused true why e = refl
-not_refused false why e = cc
-
-first_none : (a b : Option Refusal) → or_then a b ≡ None → (a ≡ None) × (b ≡ None)
+-- where two steps refuse nothing, neither does
+pub first_none : (a b : Option Refusal) → or_then a b ≡ None → (a ≡ None) × (b ≡ None)
 first_none None b e = (refl, e)
 first_none (Some why) b e = cc
 
@@ -59,3 +59,9 @@ sized_fine len expected (Some expected_optional_bytes) e = cc
 sized_fine len expected (Some invalid_mask) e = cc
 sized_fine len expected (Some invalid_variable_sized_array_offsets) e = cc
 sized_fine len expected (Some element_too_long) e = cc
+
+-- array bytes of a fixed kind that are valid
+pub fixed_kind : (n number : ℕ) (raw : ArrayBytes) → bytes_refusal (fixed n) number raw ≡ None → is_fixed raw ≡ true
+fixed_kind n number (fixed_bytes value) valid = refl
+fixed_kind n number (variable_bytes value offsets) valid = cc
+fixed_kind n number (optional_bytes under mask) valid = cc

@@ -2,3 +2,5 @@ pub mod OffsetLaws
 pub mod CheckLaws
 pub mod RowLaws
 pub mod MeaningLaws
+pub mod ToldLaws
+pub mod ExtractLaws

@@ -3,9 +3,8 @@ use Rattle.std.proofs.Common.{◌≡◌, ℕ, ◌*◌, ◌^◌, ◌<◌, List, l
 use Rattle.std.specs.List.{AllByRecursion}
 use Rattle.zarr_model.specs.Region.{Region, count, count_of, whole, contains, place, tuples}
 use Rattle.zarr_model.specs.ArrayBytes.{ArrayBytes}
-use Rattle.zarr_model.proofs.RegionLaws.{length-tuples}
+use Rattle.zarr_model.proofs.RegionLaws.{length-tuples, count_whole}
 use Rattle.zarrs_codec_bytes.specs.Picking.{gathered}
-use Rattle.zarrs_codec_bytes.proofs.RowLaws.{count-whole}
 use Rattle.zarrs_codec_array_bytes.specs.Selection.{linear}
 use Rattle.zarrs_codec_array_bytes.specs.Refusals.{lengths_refusal}
 
@@ -19,7 +18,7 @@ in_outer shape outer box places is listed all =
     subst (λ l. AllByRecursion (λ tuple. contains outer tuple ≡ true) l) listed (subst (λ r. AllByRecursion (λ tuple. contains r tuple ≡ true) places) (sym is) all)
 
 pub outer_count : (shape : List ℕ) (outer : Region) → outer ≡ whole shape → count outer ≡ count_of shape
-outer_count shape outer is = ap count is ∙ count-whole shape
+outer_count shape outer is = ap count is ∙ count_whole shape
 
 pub outer_lengths : (shape : List ℕ) (outer : Region) (size : ℕ) (value : ArrayBytes) → outer ≡ whole shape →
     lengths_refusal size (count_of shape) value ≡ None → lengths_refusal size (count outer) value ≡ None

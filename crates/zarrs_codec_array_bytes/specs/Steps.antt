@@ -1,11 +1,9 @@
 -- What the elements of a data type are, level by level.
-use Rattle.std.specs.Prelude.{ℕ, suc, Option, Some, None}
+use Rattle.std.specs.Prelude.{ℕ, suc}
 use Rattle.zarr_model.specs.Element as model
 use Rattle.zarrs_data_type_names.specs.DataType.{type_of}
 use Rattle.zarrs_data_type_names.specs.declared.data_type.DataType as types
 use Rattle.zarrs_codec_bytes.specs.Picking.{size_in}
-use Rattle.zarrs_metadata_parts.specs.declared.array.DataTypeSize.{DataTypeSize}
-use Rattle.zarrs_metadata_parts.specs.declared.array.DataTypeSize.TheVariants as sizes
 use Rattle.zarrs_codec_array_bytes.specs.declared.array_bytes.step.Step.{Step}
 use Rattle.zarrs_codec_array_bytes.specs.declared.array_bytes.step.Step.TheVariants as steps
 
@@ -33,8 +31,3 @@ abbrev pub step_kind : Step → model.Kind
 step_kind (steps.Fixed n) = model.fixed n
 step_kind steps.Variable = model.variable
 step_kind (steps.Optional inner) = model.optional (kind_seen inner.now)
-
--- the size of the innermost elements, if all have the same
-abbrev pub size_seen : DataTypeSize → Option ℕ
-size_seen (sizes.Fixed n) = Some n
-size_seen sizes.Variable = None

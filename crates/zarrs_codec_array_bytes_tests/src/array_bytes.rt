@@ -8,6 +8,7 @@ use crate::texts::{cut, is_text};
 use std::alloc::{AllocError, Global};
 use std::borrow::CowSlice;
 use std::process::Abort;
+use zarr_model::DataTypeSize;
 use zarrs_array_subset::ArraySubset;
 use zarrs_chunk_grid_indexer::Indexer;
 use zarrs_codec_array_bytes::array_bytes::bytes_in;
@@ -16,7 +17,6 @@ use zarrs_codec_array_bytes_update::update_array_bytes;
 use zarrs_codec_error::CodecError;
 use zarrs_data_type_elements::FillValue;
 use zarrs_data_type_names::DataType;
-use zarrs_metadata_parts::DataTypeSize;
 
 // Numbers, and what they are as offsets of five bytes.
 const OFFSETS: &str = "| there are no offsets, where one is expected at least
@@ -26,25 +26,26 @@ const OFFSETS: &str = "| there are no offsets, where one is expected at least
 0 5 5 | [0, 5, 5] @ [7, 7, 7, 7, 7]
 0 5 6 | the offset 6 leads past 5 bytes";
 
-// Two elements of a kind, and what is said of them: a mask before `>`, offsets before `@`, and bytes.
-const VALUES: &str = "string 0 1 3 @ 97 98 99 | valid
-string 97 98 | elements of variable length are expected
-string 1 3 @ 97 98 99 | the offsets of variable-length elements are not of their form
-string 1 2 3 @ 97 98 99 | the offsets of variable-length elements are not of their form
-string 0 1 2 @ 97 98 99 | the offsets of variable-length elements are not of their form
-int16 1 2 3 4 | valid
-int16 1 2 3 | a chunk has another size than it must: 3 bytes, where 4 are expected
-int16 0 1 2 @ 1 2 | elements of one length are expected
-int16 1 1 > 1 2 3 4 | elements of one length are expected
-optional 1 0 > 0 2 3 @ 97 98 99 | valid
-optional 0 2 3 @ 97 98 99 | optional elements are expected
-optional 1 0 > 1 2 | elements of variable length are expected
-optional 1 > 1 2 | the mask of optional elements is not of its form
-optional 2 0 > 1 2 | the mask of optional elements is not of its form
-nested 1 0 > 0 1 > 0 2 3 @ 97 98 99 | valid
-nested 1 0 > 0 2 3 @ 97 98 99 | optional elements are expected
-nested 1 0 > 0 2 > 1 2 3 @ 97 98 99 | the mask of optional elements is not of its form
-nested 1 0 > 0 1 > 0 2 2 @ 97 98 99 | the offsets of variable-length elements are not of their form";
+// How many elements are meant, elements of a kind, and what is said of them: a mask before `>`, offsets before `@`, and bytes.
+const VALUES: &str = "2 string 0 1 3 @ 97 98 99 | valid
+2 string 97 98 | elements of variable length are expected
+2 string 1 3 @ 97 98 99 | the offsets of variable-length elements are not of their form
+1 string 1 3 @ 97 98 99 | the offsets of variable-length elements are not of their form
+2 string 1 2 3 @ 97 98 99 | the offsets of variable-length elements are not of their form
+2 string 0 1 2 @ 97 98 99 | the offsets of variable-length elements are not of their form
+2 int16 1 2 3 4 | valid
+2 int16 1 2 3 | a chunk has another size than it must: 3 bytes, where 4 are expected
+2 int16 0 1 2 @ 1 2 | elements of one length are expected
+2 int16 1 1 > 1 2 3 4 | elements of one length are expected
+2 optional 1 0 > 0 2 3 @ 97 98 99 | valid
+2 optional 0 2 3 @ 97 98 99 | optional elements are expected
+2 optional 1 0 > 1 2 | elements of variable length are expected
+2 optional 1 > 1 2 | the mask of optional elements is not of its form
+2 optional 2 0 > 1 2 | the mask of optional elements is not of its form
+2 nested 1 0 > 0 1 > 0 2 3 @ 97 98 99 | valid
+2 nested 1 0 > 0 2 3 @ 97 98 99 | optional elements are expected
+2 nested 1 0 > 0 2 > 1 2 3 @ 97 98 99 | the mask of optional elements is not of its form
+2 nested 1 0 > 0 1 > 0 2 2 @ 97 98 99 | the offsets of variable-length elements are not of their form";
 
 // The bytes of a fill value and elements, and whether all are that fill value.
 const FILLS: &str = "97 | 0 2 2 @ 97 97 | false
@@ -179,9 +180,11 @@ fn type_of(rt: &impl Abort, alloc: Global, word: &str) -> DataType
 }
 
 fn validity_row(rt: &impl Abort, alloc: Global, words: &str) -> Result<String, AllocError> {
+    let (count, words) = words.split_once(' ').expect(rt, words);
     let (word, text) = words.split_once(' ').expect(rt, words);
-    let said = value_of(rt, alloc, text).validate(2, &type_of(rt, alloc, word));
-    match said {
+    let count: u8 = count.parse().unwrap_or(0);
+    let value = value_of(rt, alloc, text);
+    match value.validate(count as u64, &type_of(rt, alloc, word)) {
         Ok(()) => String::from_str(alloc, "valid"),
         Err(error) => format!(in alloc; "{error}"),
     }

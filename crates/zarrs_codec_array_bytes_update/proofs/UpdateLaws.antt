@@ -12,10 +12,11 @@ use Rattle.zarrs_codec_bytes.specs.Picking.{AllBelow, gathered, replaced, size_i
 use Rattle.zarrs_codec_bytes.proofs.GatherLaws.{update_means}
 use Rattle.zarrs_codec_bytes.proofs.ReplaceLaws.{picks_below}
 use Rattle.zarrs_codec_array_bytes.specs.Selection.{linear}
-use Rattle.zarrs_codec_array_bytes.specs.Refusals.{Told, fine, refused, wrong_length, unfit, other_fill, no_memory, odd, told_by, then_answer, Answers, lengths_refusal, lengths_answer}
+use Rattle.zarrs_codec_array_bytes.specs.Refusals.{Told, fine, told_by, then_answer, Answers, lengths_refusal, lengths_answer}
 use Rattle.zarrs_codec_array_bytes.proofs.CheckLaws.{still_short, sized_fine}
 use Rattle.zarrs_codec_array_bytes.proofs.MeaningLaws.{is_fine}
 use Rattle.zarrs_codec_array_bytes.proofs.RowLaws.{outer_count}
+use Rattle.zarrs_codec_array_bytes.proofs.ToldLaws.{first_fine}
 use Rattle.zarrs_codec_array_bytes_update.specs.Pairs.{pair_refusal, are_alike, update_answer}
 use Rattle.zarrs_codec_array_bytes_update.specs.Picks.{update_picks}
 
@@ -56,15 +57,6 @@ then_first codec.EndiannessMissing first next h = ap (λ t. then_answer t next) 
 then_first codec.InvalidVariableSizedArrayOffsets first next h = ap (λ t. then_answer t next) h
 then_first codec.InvalidMask first next h = ap (λ t. then_answer t next) h
 then_first codec.OutOfMemory first next h = ap (λ t. then_answer t next) h
-
-first_fine : (first next : Told) → then_answer first next ≡ fine → first ≡ fine
-first_fine fine next e = refl
-first_fine (refused why) next e = cc
-first_fine (wrong_length len expected) next e = cc
-first_fine unfit next e = cc
-first_fine other_fill next e = cc
-first_fine no_memory next e = cc
-first_fine odd next e = cc
 
 both_fine : (first next : Told) → then_answer first next ≡ fine → (first ≡ fine) × (next ≡ fine)
 both_fine first next e = let is : first ≡ fine = first_fine first next e in (is, sym (ap (λ t. then_answer t next) is) ∙ e)

@@ -1,15 +1,15 @@
 //! Whether two array bytes are of one kind.
 
 ghost use Rattle.std.specs.Prelude.{◌≡◌, Some};
-ghost use Rattle.zarrs_codec_array_bytes.specs.Steps.{size_seen};
+ghost use Rattle.zarr_model.specs.DataTypeSize.{size_seen};
 ghost use Rattle.zarrs_codec_array_bytes.specs.Raw.{raw_of};
 ghost use Rattle.zarrs_codec_array_bytes.specs.Refusals.{told, answer_of};
 ghost use Rattle.zarrs_codec_array_bytes_update.specs.Pairs.{pair_refusal, mixture_refusal, fixed_pair_refusal, variable_pair_refusal};
 
+use zarr_model::DataTypeSize;
 use zarrs_codec_array_bytes::ArrayBytes;
 use zarrs_codec_array_bytes::array_bytes::checks::{not_fixed, not_variable};
 use zarrs_codec_error::CodecError;
-use zarrs_metadata_parts::DataTypeSize;
 
 // The refusal of two values of different kinds.
 fn mixture(size: DataTypeSize) -> Result<(), CodecError>

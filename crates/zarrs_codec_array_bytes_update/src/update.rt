@@ -6,7 +6,7 @@ ghost use Rattle.zarr_model.specs.Element.{Element, Kind, null, fixed_size};
 ghost use Rattle.zarr_model.specs.ArrayBytes.{meaning};
 ghost use Rattle.zarr_model.specs.Command.{has_long_element};
 ghost use Rattle.zarrs_codec_bytes.specs.Picking.{gathered, replaced, size_in};
-ghost use Rattle.zarrs_codec_array_bytes.specs.Steps.{size_seen};
+ghost use Rattle.zarr_model.specs.DataTypeSize.{size_seen};
 ghost use Rattle.zarrs_codec_array_bytes.specs.Raw.{raw_of};
 ghost use Rattle.zarrs_codec_array_bytes.specs.Selection.{linear};
 ghost use Rattle.zarrs_codec_array_bytes.specs.Rows.{outer_box, inner_box, element_bytes};
@@ -18,6 +18,7 @@ use crate::gathering::gather;
 use crate::pairs::expect_pair;
 use crate::rows::replace_rows;
 use std::alloc::Global;
+use zarr_model::DataTypeSize;
 use zarrs_array_subset::shape_product;
 use zarrs_chunk_grid_indexer::Indexer;
 use zarrs_codec_array_bytes::ArrayBytes;
@@ -27,7 +28,6 @@ use zarrs_codec_array_bytes::array_bytes::rows::Rows;
 use zarrs_codec_array_bytes::array_bytes::step::size_bytes;
 use zarrs_codec_bytes::picks::picks_of;
 use zarrs_codec_error::CodecError;
-use zarrs_metadata_parts::DataTypeSize;
 
 // Whether both are as long as so many elements are, the old bytes first.
 #[tactic(auto, using(crate::proofs::UpdateLaws::then_first))]

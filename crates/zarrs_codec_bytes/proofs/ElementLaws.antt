@@ -1,6 +1,6 @@
 -- Boxes of elements of n bytes as boxes of bytes, and back.
 use Rattle.std.proofs.Common.{rules, ◌≡◌, ℕ, zero, suc, ◌+◌, ◌-◌, ◌*◌, ◌/◌, ◌%◌, ◌<◌, ◌≤◌, nat_le, nat_lt, ◌&&◌, Bool, true, false, if◌then◌else◌, List, [], ◌∷◌, ◌++◌, length, get_or, take, drop, map, refl, sym, ap, ap₂, ◌∙◌, subst, subst₂, arith, ⊎_elim}
-use Rattle.std.proofs.lemmas.Bool.{and_parts, ltb-true, leb-true, false_from_ne_true, cases_lt, cond-true, cond-false}
+use Rattle.std.proofs.lemmas.Bool.{and_parts, ltb-true, leb-true, false_from_ne_true, cases_lt, cond-true, cond-false, and_right}
 use Rattle.std.proofs.lemmas.Bool.Decides.{nat_tests}
 use Rattle.std.proofs.lemmas.Nat.{div-mul-add, mod-mul-add, div_below, mod_below}
 use Rattle.std.proofs.lemmas.List.{length-map, get_or-map, get_or-drop, get_or-take, length-drop, length-take-le, same_lists}
@@ -50,18 +50,14 @@ none_left : (n : ℕ) (box : Region) → contains (in_bytes n box) [] ≡ false
 none_left n [] = refl
 none_left n (span ∷ box) = refl
 
-and_none : (b : Bool) → (b && false) ≡ false
-and_none true = refl
-and_none false = refl
-
 pub contains-in_bytes : (n j : ℕ) (box : Region) (tuple : List ℕ) → j < n → contains (in_bytes n box) (tuple ++ (j ∷ [])) ≡ contains box tuple
 contains-in_bytes n j [] [] below = inside j n below
   where
     inside : (j n : ℕ) → j < n → (is_in j (record { start = 0; size = n }) && true) ≡ true
     inside j n below = grind (arith, nat_tests)
-contains-in_bytes n j [] (x ∷ []) below = and_none (is_in x (record { start = 0; size = n }))
-contains-in_bytes n j [] (x ∷ y ∷ tuple) below = and_none (is_in x (record { start = 0; size = n }))
-contains-in_bytes n j (span ∷ box) [] below = ap (λ b. is_in j span && b) (none_left n box) ∙ and_none (is_in j span)
+contains-in_bytes n j [] (x ∷ []) below = and_right (is_in x (record { start = 0; size = n })) false refl
+contains-in_bytes n j [] (x ∷ y ∷ tuple) below = and_right (is_in x (record { start = 0; size = n })) false refl
+contains-in_bytes n j (span ∷ box) [] below = ap (λ b. is_in j span && b) (none_left n box) ∙ and_right (is_in j span) false refl
 contains-in_bytes n j (span ∷ box) (x ∷ tuple) below = ap (λ b. is_in x span && b) (contains-in_bytes n j box tuple below)
 
 pub place-in_bytes : (n j : ℕ) (box : Region) (tuple : List ℕ) → contains box tuple ≡ true → place (in_bytes n box) (tuple ++ (j ∷ [])) ≡ place box tuple * n + j

@@ -4,17 +4,12 @@ use Rattle.std.specs.Cmp.{IsPartialEquivalence}
 use Rattle.std.proofs.lemmas.Bool.{and_parts, and_from}
 use Rattle.std.proofs.lemmas.Slice.Eq.{bytes_eq-Decides}
 use Rattle.zarr_model.specs.ArrayBytes.{ArrayBytes, fixed_bytes, variable_bytes, optional_bytes}
+use Rattle.zarr_model.proofs.Choices.{same_test}
 use Rattle.zarrs_codec_bytes.specs.Same.{same_optional, same_array_bytes}
 use Rattle.zarrs_codec_bytes.proofs.SeenLaws.{optional_test, same-sym, same-trans}
 
--- two tests that give each other
-both_ways : (a b : Bool) → (a ≡ true → b ≡ true) → (b ≡ true → a ≡ true) → a ≡ b
-both_ways true b f g = sym (f refl)
-both_ways false true f g = g refl
-both_ways false false f g = refl
-
 bytes_back : (a b : List ℕ) → bytes_eq a b ≡ bytes_eq b a
-bytes_back a b = both_ways (bytes_eq a b) (bytes_eq b a)
+bytes_back a b = same_test (bytes_eq a b) (bytes_eq b a)
     (λ e. (bytes_eq-Decides b a).1 (sym ((bytes_eq-Decides a b).0 e))) (λ e. (bytes_eq-Decides a b).1 (sym ((bytes_eq-Decides b a).0 e)))
 
 bytes_on : (a b c : List ℕ) → bytes_eq a b ≡ true → bytes_eq b c ≡ true → bytes_eq a c ≡ true
@@ -35,7 +30,7 @@ same_back (variable_bytes a p) (variable_bytes b q) = ap (λ t. t && bytes_eq p 
 same_back (variable_bytes a p) (optional_bytes b k) = refl
 same_back (optional_bytes a m) (fixed_bytes b) = refl
 same_back (optional_bytes a m) (variable_bytes b q) = refl
-same_back (optional_bytes a m) (optional_bytes b k) = both_ways (same_optional m a k b) (same_optional k b m a) (optional_back m a k b) (optional_back k b m a)
+same_back (optional_bytes a m) (optional_bytes b k) = same_test (same_optional m a k b) (same_optional k b m a) (optional_back m a k b) (optional_back k b m a)
 
 same_on : (a b c : ArrayBytes) → same_array_bytes a b ≡ true → same_array_bytes b c ≡ true → same_array_bytes a c ≡ true
 same_on (fixed_bytes a) (fixed_bytes b) (fixed_bytes c) h k = bytes_on a b c h k

@@ -4,10 +4,12 @@ use Rattle.std.specs.List.{list_all}
 use Rattle.std.specs.Str.{bytes_eq}
 use Rattle.std.proofs.lemmas.Bool.{cond-true, and_parts, and_from}
 use Rattle.std.proofs.lemmas.Slice.Eq.{bytes_eq-Decides}
-use Rattle.std.proofs.lemmas.List.{length-map, length-take-le, length-drop, take-append-drop}
+use Rattle.std.proofs.lemmas.List.{length-map, length-take-le, length-drop, take-append-drop, nil_from_length, take_all, append-nil}
 use Rattle.std.proofs.Math.Seq.{take-append_seam, drop-append_seam}
 use Rattle.std.proofs.Math.Nat.{suc-mul, mul-div_cancel}
 use Rattle.zarr_model.specs.Prelude.{count_of, Element, of_bytes, fixed, same_element, fixed_bytes, pieces, meaning, Level, ByteOrder, little, big, component_size, from_order, decode_fixed}
+use Rattle.zarr_model.proofs.Choices.{same_test}
+use Rattle.zarr_model.proofs.BytesLaws.{length-pieces}
 use Rattle.zarrs_data_type_elements.specs.Pieces.{repeated, Repeats, in_pieces, components_reversed}
 use Rattle.zarrs_data_type_elements.proofs.PieceLaws.{length-repeated, length-in_pieces, reverse_keeps, whole_pieces, reversed_back}
 use Rattle.zarrs_codec_bytes.specs.Elements.{fixed_elements, is_all_fill, in_file}
@@ -54,10 +56,6 @@ module _ (n : ℕ) (some : 0 < n) where
   map-map f g (x ∷ l) = ap (λ r. f (g x) ∷ r) (map-map f g l)
 
   -- a component of one byte, and one of all bytes
-  append_none : (l : List ℕ) → l ++ [] ≡ l
-  append_none [] = refl
-  append_none (x ∷ l) = ap (λ r. x ∷ r) (append_none l)
-
   ones : (piece : List ℕ) → flat_map reverse (pieces (length piece) 1 piece) ≡ piece
   ones [] = refl
   ones (b ∷ piece) = ap (λ l. b ∷ l) (ones piece)
@@ -73,17 +71,13 @@ module _ (n : ℕ) (some : 0 < n) where
   all_one : (piece : List ℕ) → length piece ≡ n → from_order big n piece ≡ reverse piece
   all_one piece e =
       ap (λ m. flat_map reverse (pieces m n piece)) (ap (λ m. m / n) (e ∙ one_times) ∙ mul-div_cancel 1 some)
-      ∙ (append_none (reverse (take n piece)) ∙ ap reverse (whole piece e))
+      ∙ (append-nil (reverse (take n piece)) ∙ ap reverse (whole piece e))
     where
       one_times : n ≡ 1 * n
       one_times = omega arith
 
       whole : (piece : List ℕ) → length piece ≡ n → take n piece ≡ piece
-      whole piece e = subst (λ m. take m piece ≡ piece) e (take_length piece)
-        where
-          take_length : (l : List ℕ) → take (length l) l ≡ l
-          take_length [] = refl
-          take_length (x ∷ l) = ap (λ r. x ∷ r) (take_length l)
+      whole piece e = take_all n piece (omega (arith, e))
 
   -- the elements in an order are those of the bytes in that order
   pub ordered : (order : ByteOrder) (component k : ℕ) (value : List ℕ) → (component ≡ 1) ⊎ (component ≡ n) → length value ≡ k * n →
@@ -141,11 +135,7 @@ module _ (n : ℕ) (some : 0 < n) where
   each_same (suc k) fill = and_from (bytes_eq fill fill) (list_all (same_element (of_bytes fill)) (replicate k (of_bytes fill))) ((bytes_eq-Decides fill fill).1 refl) (each_same k fill)
 
   from_each : (k : ℕ) (fill value : List ℕ) → length value ≡ k * n → list_all (same_element (of_bytes fill)) (map of_bytes (pieces k n value)) ≡ true → value ≡ repeated k fill
-  from_each zero fill value e h = none value (e ∙ omega arith)
-    where
-      none : (l : List ℕ) → length l ≡ 0 → l ≡ []
-      none [] e = refl
-      none (x ∷ l) e = absurd (omega arith)
+  from_each zero fill value e h = nil_from_length value (e ∙ omega arith)
   from_each (suc k) fill value e h =
       let parts = and_parts (bytes_eq fill (take n value)) (list_all (same_element (of_bytes fill)) (map of_bytes (pieces k n (drop n value)))) h in
       let first : fill ≡ take n value = (bytes_eq-Decides fill (take n value)).0 parts.0 in
@@ -176,19 +166,10 @@ module _ (n : ℕ) (some : 0 < n) where
   fill_test k fill value test positive fill_long long decides =
       let same = filled k fill value positive fill_long long in
       same_test test (is_all_fill n fill value) (λ t. same.0 (decides.0 t)) (λ a. decides.1 (same.1 a))
-    where
-      same_test : (a b : Bool) → (a ≡ true → b ≡ true) → (b ≡ true → a ≡ true) → a ≡ b
-      same_test true b f g = sym (f refl)
-      same_test false true f g = g refl
-      same_test false false f g = refl
 
   -- there are as many elements as pieces
   pub length-elements : (k : ℕ) (value : List ℕ) → length value ≡ k * n → length (fixed_elements n value) ≡ k
-  length-elements k value long = ap length (elements_are k value long) ∙ (length-map (pieces k n value) of_bytes ∙ length-pieces k value)
-    where
-      length-pieces : (k : ℕ) (value : List ℕ) → length (pieces k n value) ≡ k
-      length-pieces zero value = refl
-      length-pieces (suc k) value = ap suc (length-pieces k (drop n value))
+  length-elements k value long = ap length (elements_are k value long) ∙ (length-map (pieces k n value) of_bytes ∙ length-pieces k n value)
 
 -- components of one byte have no order
 pub in_file-one : (order : ByteOrder) (component : ℕ) (value : List ℕ) → (component ≡ 1) → in_file order component value ≡ value

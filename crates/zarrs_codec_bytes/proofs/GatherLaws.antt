@@ -7,6 +7,7 @@ use Rattle.std.proofs.lemmas.List.{length-map, get_or_append_left, get_or-append
 use Rattle.zarr_model.specs.Element.{Element, of_bytes, null, Kind, fixed, variable, optional, fixed_size}
 use Rattle.zarr_model.specs.ArrayBytes.{ArrayBytes, fixed_bytes, variable_bytes, optional_bytes, is_mask, masked, mask_over, meaning}
 use Rattle.zarr_model.proofs.BytesLaws.{length-meaning, mask_length}
+use Rattle.zarr_model.proofs.ListLaws.{list_all-at, list_all_joined, mask_over-append}
 use Rattle.zarrs_codec_bytes.specs.Picking.{AllBelow, piece_of, value_of, picked, picked_piece, picked_value, gathered, size_in, replaced}
 use Rattle.zarrs_codec_bytes.proofs.PieceLaws.{piece_ends}
 use Rattle.zarrs_codec_bytes.proofs.LeafLaws.{below_rest, map_below, pick_of, fixed_at, fixed_long, variable_at, joined_fixed, joined_variable}
@@ -45,24 +46,9 @@ module _ (number m : ℕ) (xs ys : List Element) (f g : ℕ → List ℕ) (xs_lo
   chosen picks all = sym (map_below (λ w. get_or (xs ++ ys) w null) (λ w. of_bytes (if nat_lt w number then f w else g (w - number))) (number + m) picks chosen_at all)
 
 -- masks
-list_all-append : (f : ℕ → Bool) (xs ys : List ℕ) → list_all f xs ≡ true → list_all f ys ≡ true → list_all f (xs ++ ys) ≡ true
-list_all-append f [] ys a b = b
-list_all-append f (x ∷ xs) ys a b = let parts = and_parts (f x) (list_all f xs) a in and_from (f x) (list_all f (xs ++ ys)) parts.0 (list_all-append f xs ys parts.1 b)
-
-list_all-at : (f : ℕ → Bool) (xs : List ℕ) (i : ℕ) → list_all f xs ≡ true → i < length xs → f (get_or xs i 0) ≡ true
-list_all-at f [] i a h = absurd (omega arith)
-list_all-at f (x ∷ xs) zero a h = (and_parts (f x) (list_all f xs) a).0
-list_all-at f (x ∷ xs) (suc i) a h = list_all-at f xs i (and_parts (f x) (list_all f xs) a).1 (omega arith)
-
 picked-flags : (f : ℕ → Bool) (xs picks : List ℕ) → list_all f xs ≡ true → AllBelow (length xs) picks → list_all f (picked 0 picks xs) ≡ true
 picked-flags f xs [] a all = refl
 picked-flags f xs (p ∷ picks) a all = and_from (f (get_or xs p 0)) (list_all f (picked 0 picks xs)) (list_all-at f xs p a (all 0 (omega arith))) (picked-flags f xs picks a (below_rest (length xs) p picks all))
-
-mask_over-append : (mask over : List ℕ) (xs ys : List Element) → length mask ≡ length xs → mask_over (mask ++ over) (xs ++ ys) ≡ mask_over mask xs ++ mask_over over ys
-mask_over-append [] over [] ys e = refl
-mask_over-append [] over (x ∷ xs) ys e = absurd (omega (arith, e))
-mask_over-append (b ∷ mask) over [] ys e = absurd (omega (arith, e))
-mask_over-append (b ∷ mask) over (x ∷ xs) ys e = ap (λ rest. masked b x ∷ rest) (mask_over-append mask over xs ys (omega (arith, e)))
 
 pub get_or-mask_over : (mask : List ℕ) (xs : List Element) (i : ℕ) → length mask ≡ length xs → i < length mask → get_or (mask_over mask xs) i null ≡ masked (get_or mask i 0) (get_or xs i null)
 get_or-mask_over [] xs i e h = absurd (omega arith)
@@ -162,7 +148,7 @@ gathered_means (optional kind) number m picks (optional_bytes old mask) (optiona
         still_mask : is_mask (length picks) (picked 0 picks (mask ++ over)) ≡ true
         still_mask = and_from (length (picked 0 picks (mask ++ over)) == length picks) (list_all (λ b. nat_le b 1) (picked 0 picks (mask ++ over)))
             (eq-eqb _ _ (length-map picks (λ place. get_or (mask ++ over) place 0)))
-            (picked-flags (λ b. nat_le b 1) (mask ++ over) picks (list_all-append (λ b. nat_le b 1) mask over (flags number mask is_old) (flags m over is_new)) within)
+            (picked-flags (λ b. nat_le b 1) (mask ++ over) picks (list_all_joined (λ b. nat_le b 1) mask over (flags number mask is_old) (flags m over is_new)) within)
 
 -- an update means the replaced list
 pub update_means : (kind : Kind) (number : ℕ) (indices : List ℕ) (old new : ArrayBytes) (xs ys : List Element) →

@@ -8,7 +8,7 @@ use Rattle.std.proofs.Math.Nat.{suc-mul, mul-div_cancel}
 use Rattle.zarr_model.specs.Region.{Region, count, count_of, whole, contains, place, tuple_at, tuples, linear_index}
 use Rattle.zarr_model.specs.Element.{of_bytes, null}
 use Rattle.zarr_model.specs.ArrayBytes.{pieces, bytes_of}
-use Rattle.zarr_model.proofs.RegionLaws.{place_below, contains-tuple_at, get_or-tuples, length-tuples, tuple_at-place, place-tuple_at}
+use Rattle.zarr_model.proofs.RegionLaws.{place_below, contains-tuple_at, get_or-tuples, length-tuples, tuple_at-place, place-tuple_at, count_whole}
 use Rattle.zarr_model.proofs.BytesLaws.{length-pieces}
 use Rattle.zarrs_codec_bytes.specs.Elements.{fixed_elements}
 use Rattle.zarrs_codec_bytes.specs.Overlap.{Copied}
@@ -18,15 +18,10 @@ use Rattle.zarrs_codec_bytes.proofs.PickLaws.{length_of_places}
 use Rattle.zarrs_codec_bytes.proofs.ReplaceLaws.{get_or-replaced, length-replaced}
 use Rattle.zarrs_codec_bytes.proofs.ValueLaws.{joined_map}
 
--- the count of a whole shape
-pub count-whole : (shape : List ℕ) → count (whole shape) ≡ count_of shape
-count-whole [] = refl
-count-whole (n ∷ shape) = ap (λ m. n * m) (count-whole shape)
-
 -- linear indices of tuples in a shape are below its count
 pub indices_below : (shape : List ℕ) (tuples : List (List ℕ)) → AllByRecursion (λ tuple. contains (whole shape) tuple ≡ true) tuples → AllBelow (count_of shape) (map (linear_index shape) tuples)
 indices_below shape [] all k h = absurd (omega arith)
-indices_below shape (tuple ∷ tuples) all zero h = subst (λ n. place (whole shape) tuple < n) (count-whole shape) (place_below (whole shape) tuple all.0)
+indices_below shape (tuple ∷ tuples) all zero h = subst (λ n. place (whole shape) tuple < n) (count_whole shape) (place_below (whole shape) tuple all.0)
 indices_below shape (tuple ∷ tuples) all (suc k) h = indices_below shape tuples all.1 k (omega (arith, h))
 
 at_all : {A : Type 0} (P : A → Type 0) (xs : List A) (k : ℕ) (d : A) → AllByRecursion P xs → k < length xs → P (get_or xs k d)

@@ -1,16 +1,11 @@
 -- No element grows too long where elements are picked.
 use Rattle.std.proofs.Common.{◌≡◌, ℕ, zero, suc, ◌+◌, ◌-◌, ◌^◌, ◌<◌, ◌≤◌, ◌||◌, Bool, true, false, nat_lt, nat_le, List, [], ◌∷◌, length, take, drop, map, get_or, arith, ap, sym, refl, ◌∙◌, subst, ⊎_elim}
-use Rattle.std.proofs.lemmas.Bool.{cond-true, cond-false, cases_lt, lt-ltb}
+use Rattle.std.proofs.lemmas.Bool.{cond-true, cond-false, cases_lt, lt-ltb, or_parts}
 use Rattle.std.proofs.lemmas.Bool.Decides.{nat_tests}
 use Rattle.zarr_model.specs.ArrayBytes.{ends_from}
 use Rattle.zarr_model.specs.Command.{has_long_step}
 use Rattle.zarrs_codec_bytes.specs.Picking.{AllBelow, value_of, picked_value}
 use Rattle.zarrs_codec_bytes.proofs.LeafLaws.{below_rest}
-
--- neither part of a test that fails holds
-neither : (a b : Bool) → (a || b) ≡ false → (a ≡ false) × (b ≡ false)
-neither false b e = (refl, e)
-neither true b e = cc
 
 below_step : (from to : ℕ) → nat_le (from + 2 ^ 32) to ≡ false → to - from < 2 ^ 32
 below_step from to e = grind (arith, nat_tests)
@@ -21,11 +16,11 @@ not_step from size h = grind (arith, nat_tests)
 step_at : (offsets : List ℕ) (i : ℕ) → has_long_step offsets ≡ false → i + 1 < length offsets → get_or offsets (i + 1) 0 - get_or offsets i 0 < 2 ^ 32
 step_at [] i e h = absurd (omega arith)
 step_at (from ∷ []) i e h = absurd (omega arith)
-step_at (from ∷ to ∷ offsets) zero e h = below_step from to (neither (nat_le (from + 2 ^ 32) to) (has_long_step (to ∷ offsets)) e).0
+step_at (from ∷ to ∷ offsets) zero e h = below_step from to (or_parts (nat_le (from + 2 ^ 32) to) (has_long_step (to ∷ offsets)) e).0
 step_at (from ∷ to ∷ offsets) (suc i) e h =
     let more : suc i + 1 ≡ suc (i + 1) = omega arith in
     subst (λ m. get_or (from ∷ to ∷ offsets) m 0 - get_or (to ∷ offsets) i 0 < 2 ^ 32) (sym more)
-    (step_at (to ∷ offsets) i (neither (nat_le (from + 2 ^ 32) to) (has_long_step (to ∷ offsets)) e).1 (omega arith))
+    (step_at (to ∷ offsets) i (or_parts (nat_le (from + 2 ^ 32) to) (has_long_step (to ∷ offsets)) e).1 (omega arith))
 
 take_short : (n limit : ℕ) (xs : List ℕ) → n < limit → length (take n xs) < limit
 take_short zero limit xs h = h

@@ -1,9 +1,9 @@
 -- Elements between offsets.
 use Rattle.std.proofs.Common.{◌≡◌, ℕ, zero, suc, ◌+◌, ◌<◌, ◌≤◌, true, nat_le, List, [], ◌∷◌, ◌++◌, length, get_or, map, arith, ap, sym, ◌∙◌, subst, subst₂, refl, drop}
 use Rattle.std.specs.List.{flat_map}
-use Rattle.std.proofs.lemmas.Bool.{and_parts, and_from, le-leb, leb-true}
+use Rattle.std.proofs.lemmas.Bool.{and_parts, and_from, le-leb, leb-true, eqb-true}
 use Rattle.std.proofs.lemmas.List.{length-append, drop_all, append-nil}
-use Rattle.zarr_model.specs.ArrayBytes.{ends_from}
+use Rattle.zarr_model.specs.ArrayBytes.{ends_from, offsets_rise_to}
 use Rattle.zarrs_codec_bytes.specs.Picking.{are_within, stay_within}
 
 stays_rise : (end : ℕ) (offsets : List ℕ) (i : ℕ) → stay_within end offsets ≡ true → i + 1 < length offsets → get_or offsets i 0 ≤ get_or offsets (i + 1) 0
@@ -54,3 +54,10 @@ within_at_end f xs i bytes offsets end e g =
     (sym e ∙ (ap (λ rest. bytes ++ flat_map f rest) (drop_all i xs end) ∙ append-nil bytes))
     (sym g ∙ (ap (λ rest. offsets ++ ends_from (length bytes) (map f rest)) (drop_all i xs end) ∙ append-nil offsets))
     (gathered_within f xs)
+
+-- offsets that rise to the end of their bytes
+pub rising_within : (end from : ℕ) (offsets : List ℕ) → offsets_rise_to end from offsets ≡ true → stay_within end (from ∷ offsets) ≡ true
+rising_within end from [] rises = let same : from ≡ end = eqb-true from end rises in le-leb from end (omega (arith, same))
+rising_within end from (to ∷ offsets) rises =
+    let parts = and_parts (nat_le from to) (offsets_rise_to end to offsets) rises in
+    and_from (nat_le from to) (stay_within end (to ∷ offsets)) parts.0 (rising_within end to offsets parts.1)

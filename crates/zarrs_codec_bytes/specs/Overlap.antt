@@ -1,13 +1,7 @@
 -- What a copy between two boxes does.
 use Rattle.std.specs.Prelude.{◌≡◌, ℕ, ◌+◌, ◌-◌, ◌<◌, max, min, if◌then◌else◌, List, ◌++◌, length, get_or, take, drop, [], ◌∷◌}
-use Rattle.zarr_model.specs.Prelude.{Span, Region, starts, sizes, count, contains, place, tuple_at}
-
--- the span of a region in one dimension
-abbrev pub span_at : Region → ℕ → Span
-span_at region axis = record {
-  start = get_or (starts region) axis 0;
-  size = get_or (sizes region) axis 0;
-}
+use Rattle.zarr_model.specs.Prelude.{Span, Region, count, contains, place, tuple_at}
+pub use Rattle.zarr_model.specs.Region.{span_at}
 
 -- where the first index that two spans share is in the one span, and how many they share
 abbrev pub shared_from : Span → Span → ℕ

@@ -152,10 +152,10 @@ impl ArrayBytesRawOffsetsOutOfBoundsError {
 #[derive(Debug, Drop, Error)]
 pub enum ArrayBytesFixedDisjointViewCreateError {
     /// The subset has another rank, or leads out of the array or of the view.
-    #[error("{0}")]
+    #[error(transparent)]
     SubsetOutOfBounds(SubsetOutOfBoundsError),
     /// The bytes have another length than the array's.
-    #[error("{0}")]
+    #[error(transparent)]
     InvalidBytesLength(InvalidBytesLengthError),
     /// Memory ran out.
     #[error("out of memory")]

@@ -7,20 +7,20 @@ use crate::array_bytes_error::{
 };
 use thiserror::Error;
 use zarrs_array_subset::{ArraySubsetError, IncompatibleDimensionalityError, IndexerError};
-use zarrs_data_type::{DataTypeCodecError, DataTypeFillValueError};
+use zarrs_data_type_elements::{DataTypeCodecError, DataTypeFillValueError};
 use zarrs_storage::{InvalidByteRangeError, StorageError};
 
 /// Why a codec, or a handle of what it decodes, refuses a call.
 #[derive(Debug, Drop, Error)]
 pub enum CodecError {
     /// Two things that were used together have another number of dimensions.
-    #[error("{0}")]
+    #[error(transparent)]
     IncompatibleDimensionalityError(IncompatibleDimensionalityError),
     /// A byte range is not valid for the value or interval.
-    #[error("{0}")]
+    #[error(transparent)]
     InvalidByteRangeError(InvalidByteRangeError),
     /// The indexer's rank or an index does not fit the shape.
-    #[error("{0}")]
+    #[error(transparent)]
     IncompatibleIndexer(IndexerError),
     /// Fixed-length bytes, a mask view or an encoded value have another length than they must.
     #[error("a chunk has another size than it must: {0}")]
@@ -29,10 +29,10 @@ pub enum CodecError {
     #[error("the checksum is not that of the bytes")]
     InvalidChecksum,
     /// The store failed.
-    #[error("{0}")]
+    #[error(transparent)]
     StorageError(StorageError),
     /// The codec does not serve the data type, the shape or the fill value.
-    #[error("{0}")]
+    #[error(transparent)]
     UnsupportedDataTypeCodec(DataTypeCodecError),
     /// Components have several bytes, and no byte order is given.
     #[error("components of several bytes need a byte order")]
@@ -44,31 +44,31 @@ pub enum CodecError {
     #[error("the mask of optional elements is not of its form")]
     InvalidMask,
     /// The bytes are no elements of one length.
-    #[error("{0}")]
+    #[error(transparent)]
     ExpectedFixedLengthBytes(ExpectedFixedLengthBytesError),
     /// The bytes are no elements of different lengths.
-    #[error("{0}")]
+    #[error(transparent)]
     ExpectedVariableLengthBytes(ExpectedVariableLengthBytesError),
     /// The bytes have no mask.
-    #[error("{0}")]
+    #[error(transparent)]
     ExpectedOptionalBytes(ExpectedOptionalBytesError),
     /// An indexer or a shape has another number of elements than the target.
-    #[error("{0}")]
+    #[error(transparent)]
     InvalidNumberOfElements(InvalidNumberOfElementsError),
     /// An array subset leads out of another one.
-    #[error("{0}")]
+    #[error(transparent)]
     SubsetOutOfBounds(SubsetOutOfBoundsError),
     /// Numbers are no offsets of variable-length elements.
-    #[error("{0}")]
+    #[error(transparent)]
     RawBytesOffsetsCreate(ArrayBytesRawOffsetsCreateError),
     /// The last offset leads past the bytes.
-    #[error("{0}")]
+    #[error(transparent)]
     RawBytesOffsetsOutOfBounds(ArrayBytesRawOffsetsOutOfBoundsError),
     /// A fill value has another size than the data type's elements.
-    #[error("{0}")]
+    #[error(transparent)]
     DataTypeFillValueError(DataTypeFillValueError),
     /// There is no such array subset.
-    #[error("{0}")]
+    #[error(transparent)]
     ArraySubsetError(ArraySubsetError),
     /// Memory ran out.
     #[error("out of memory")]

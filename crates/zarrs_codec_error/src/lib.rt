@@ -12,4 +12,4 @@ pub use array_bytes_error::{
     InvalidBytesLengthError, InvalidNumberOfElementsError, SubsetOutOfBoundsError,
 };
 pub use error::CodecError;
-pub use zarrs_data_type::DataTypeFillValueError;
+pub use zarrs_data_type_elements::DataTypeFillValueError;

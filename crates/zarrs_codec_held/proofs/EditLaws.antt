@@ -1,14 +1,16 @@
 -- Changes after reads.
-use Rattle.std.proofs.Common.{◌≡◌, ◌⊎◌, ℕ, ◌+◌, ◌-◌, ◌^◌, ◌≤◌, min, Bool, true, false, List, Option, Some, None, IsSome, Result, Ok, Err, OnOk, OnErr, refl, sym, ◌∙◌, subst, arith, inl, inr, ⊎_elim}
+use Rattle.std.proofs.Common.{◌≡◌, ◌⊎◌, ℕ, ◌+◌, ◌-◌, ◌^◌, ◌≤◌, min, Bool, true, false, List, Option, Some, None, IsSome, Result, Ok, Err, refl, sym, ◌∙◌, subst, arith, inl, inr, ⊎_elim}
 use Rattle.std.proofs.lemmas.Result.{on_err_weaker}
 use Rattle.zarr_model.specs.Codec.{Options}
 use Rattle.zarr_model.specs.Prelude.{Rose, counted}
+use Rattle.zarr_model.proofs.Choices.{always_ok, always_err}
 use Rattle.zarrs_storage.specs.Parts.{held_bytes}
 use Rattle.zarrs_codec_error.specs.declared.error.CodecError.{CodecError}
 use Rattle.zarrs_codec_error.specs.declared.error.CodecError.TheVariants as codec
 use Rattle.zarrs_codec_held.specs.Held.{Held, Seen}
 use Rattle.zarrs_codec_held.specs.Reads.{Keeps, Reads, IsFault, IsHandleError}
-use Rattle.zarrs_codec_held.specs.Writes.{Holds, Stays, Stands, is_fault, Unless, UnlessFault, Writes, Unasked, MayCountIf, Edits}
+use Rattle.zarrs_codec_held.specs.Writes.{Holds, Stays, Stands, Writes, Unasked, MayCountIf, Edits}
+use Rattle.zarrs_codec_held.proofs.FaultLaws.{unless_of, unless}
 
 -- a fault after an earlier count
 pub rose_later : (first before now : ℕ) → first ≤ before → Rose before now → Rose first now
@@ -18,36 +20,12 @@ pub fault_later : (first before now : ℕ) (e : CodecError) → first ≤ before
 fault_later first before now e later cause =
     ⊎_elim (λ (m : e ≡ codec.OutOfMemory). inl m) (λ (f : IsFault before now e). inr (f.0, rose_later first before now later f.1)) cause
 
-unless_of : {T P : Type 0} (r : Result T CodecError) → P → UnlessFault r P
-unless_of (Ok v) p = tt
-unless_of {T} {P} (Err e) p = go (is_fault e)
-  where
-    go : (b : Bool) → Unless b P
-    go true = tt
-    go false = p
-
-unless_after : {T P Q : Type 0} (r : Result T CodecError) → (P → Q) → UnlessFault r P → UnlessFault r Q
-unless_after (Ok v) f p = p
-unless_after {T} {P} {Q} (Err e) f p = go (is_fault e) p
-  where
-    go : (b : Bool) → Unless b P → Unless b Q
-    go true p = p
-    go false p = f p
-
-always_ok : {T E P : Type 0} (r : Result T E) → P → OnOk r P
-always_ok (Ok v) p = p
-always_ok (Err e) p = tt
-
-always_err : {T E P : Type 0} (r : Result T E) → P → OnErr r P
-always_err (Ok v) p = tt
-always_err (Err e) p = p
-
 -- a read and then a change
 pub writes_after : {T : Type 0} (value : Option (List ℕ)) (first old new : Seen) (result : Result T CodecError) → Keeps first old → Writes value old new result → Writes value first new result
 writes_after value first old new result keeps writes = record {
   ok = writes.ok;
   failed = on_err_weaker result (λ case. ⊎_elim (λ (same : Stands old new). let s : Stands first new = record { there = same.there ∙ keeps.there; held = λ under. same.held under ∙ keeps.held under } in inl s) (λ (more : Holds value new ⊎ Holds None new). inr more) case) writes.failed;
-  unchanged = unless_after result (λ (stays : Stays old new). let s : Stays first new = record { there = stays.there ∙ keeps.there; held = λ under. stays.held under ∙ keeps.held under; content = λ key. stays.content key ∙ keeps.content key } in s) writes.unchanged;
+  unchanged = unless result (λ (stays : Stays old new). let s : Stays first new = record { there = stays.there ∙ keeps.there; held = λ under. stays.held under ∙ keeps.held under; content = λ key. stays.content key ∙ keeps.content key } in s) writes.unchanged;
   others = λ other unlike. writes.others other (λ is. unlike (is ∙ keeps.key)) ∙ keeps.content other;
   key = writes.key ∙ keeps.key;
   place = writes.place ∙ keeps.place;

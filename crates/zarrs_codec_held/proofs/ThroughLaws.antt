@@ -8,9 +8,10 @@ use Rattle.zarrs_codec_error.specs.declared.error.CodecError.{CodecError}
 use Rattle.zarrs_codec_error.specs.declared.error.CodecError.TheVariants as codec
 use Rattle.zarrs_codec_held.specs.Held.{Held, HasPart, value_part, part_of, Seen, IsSound}
 use Rattle.zarrs_codec_held.specs.Reads.{Keeps, Reads, GivesParts, AreParts, AreAbsent, RefusesSome, IsRangeErrorOf, IsHandleError, IsReadError, IsPartError}
-use Rattle.zarrs_codec_held.specs.Writes.{Holds, Stays, Stands, is_fault, Unless, UnlessFault, Writes, ToldAfter}
+use Rattle.zarrs_codec_held.specs.Writes.{Holds, Stays, Stands, Writes, ToldAfter}
 use Rattle.zarrs_codec_held.specs.Through.{through, says_of, through_says, decoded}
 use Rattle.zarrs_codec_held.proofs.PartLaws.{within_value, value_there, none_absent}
+use Rattle.zarrs_codec_held.proofs.FaultLaws.{unless}
 
 within_held : (held : Held) (offset len : ℕ) (bytes : List ℕ) → part_of held (FromStart offset (Some len)) ≡ Some (Some bytes) → HasPart (part_of held) offset len bytes
 within_held None offset len bytes is = cc
@@ -132,14 +133,6 @@ many_given held value ranges parts there is given are = (sym given, subst (λ (h
 
 pub many_absent : (held : Held) (ranges : List ByteRange) (there : Bool) → held ≡ Some None → false ≡ there → GivesParts there (part_of held) ranges None
 many_absent held ranges there is given = (sym given, subst (λ (h : Held). AreAbsent (part_of h) ranges) (sym is) (none_absent ranges))
-
-unless : {T P Q : Type 0} (r : Result T CodecError) → (P → Q) → UnlessFault r P → UnlessFault r Q
-unless (Ok v) f p = p
-unless {T} {P} {Q} (Err e) f p = go (is_fault e) p
-  where
-    go : (b : Bool) → Unless b P → Unless b Q
-    go true p = p
-    go false p = f p
 
 -- a change of the value below as one of what it decodes to
 module _ {T : Type 0} (meaning : Options → List ℕ → Option (List ℕ)) (below above : Option (List ℕ)) (gives : (under : Options) → through (meaning under) (Some below) ≡ Some above) (old new : Seen) (result : Result T CodecError) where

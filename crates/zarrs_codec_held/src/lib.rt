@@ -4,4 +4,4 @@
 
 mod parts;
 
-pub use parts::{only_part, parts_in_memory};
+pub use parts::parts_in_memory;

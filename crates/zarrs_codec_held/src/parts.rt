@@ -1,6 +1,6 @@
 //! Parts of a value in memory.
 
-ghost use Rattle.std.specs.Prelude.{◌≡◌, ◌∷◌, [], ◌⊎◌, length, Some, IfOk, IfErr};
+ghost use Rattle.std.specs.Prelude.{◌≡◌, ◌⊎◌, length, Some, IfOk, IfErr};
 ghost use Rattle.zarrs_storage.specs.ByteRange.{parts_of};
 ghost use Rattle.zarrs_codec_error.specs.declared.error.CodecError.TheVariants as codec;
 ghost use Rattle.zarrs_codec_held.specs.Held.{value_part};
@@ -31,13 +31,4 @@ pub fn parts_in_memory(
         Ok(parts) => Ok(parts),
         Err(fault) => Err(CodecError::from(fault)),
     }
-}
-
-/// The one part that there is.
-pub fn only_part(parts: Vec<Vec<u8>>) -> Vec<u8>
-    requires { length (parts_of parts) ≡ 1 }
-    ensures { parts_of parts ≡ result.items ∷ [] }
-{
-    let mut parts = parts;
-    parts.pop().unwrap()
 }

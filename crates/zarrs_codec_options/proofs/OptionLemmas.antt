@@ -21,16 +21,13 @@ Entry = String Global × Configuration
 abbrev pub against : List ℕ → String Global → Ordering
 against name key = slice_cmp nat_cmp name (string_bytes key)
 
-through_cond : {A B : Type 0} (f : A → B) (b : Bool) (x y : A) → f (cond b x y) ≡ cond b (f x) (f y)
-through_cond f true x y = refl
-through_cond f false x y = refl
-
 find-entries_seen : (name : List ℕ) (es : List Entry) →
     find (slice_cmp nat_cmp) name (entries_seen es) ≡ option_map configuration_seen (lookup (is_at (against name)) es)
 find-entries_seen name [] = refl
 find-entries_seen name (e ∷ es) =
     ap (cond (is_at (against name) e.0) (Some (configuration_seen e.1))) (find-entries_seen name es)
-    ∙ sym (through_cond (option_map configuration_seen) (is_at (against name) e.0) (Some e.1) (lookup (is_at (against name)) es))
+    ∙ elim (is_at (against name) e.0) as (λ b. cond b (Some (configuration_seen e.1)) (option_map configuration_seen (lookup (is_at (against name)) es)) ≡ option_map configuration_seen (cond b (Some e.1) (lookup (is_at (against name)) es)))
+    [ true ↦ refl | false ↦ refl ]
 
 -- a look-up in the options is one in the map
 pub get_seen : (o : CodecSpecificOptions) (name : List ℕ) →

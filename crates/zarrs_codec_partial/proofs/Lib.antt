@@ -1,8 +1,7 @@
-pub mod AbsentLaws
-pub mod DenotesLaws
-pub mod SelectLaws
-pub mod ExtractLaws
-pub mod HeldLaws
-pub mod ReadLaws
-pub mod WriteLaws
-pub mod ServedLaws
+mod ByteLaws
+mod FillLaws
+pub mod AboveLaws
+pub mod StoreLaws
+mod ServedLaws
+mod ReadLaws
+mod StepLaws

@@ -1,6 +1,7 @@
-pub mod Level
-pub mod Boxes
+pub mod Above
+pub mod Counted
 pub mod Reading
 pub mod Writing
-pub mod Counted
-pub mod Kinds
+pub use Rattle.zarrs_codec_partial_bytes.specs as bytes
+pub use Rattle.zarrs_codec_partial_elements.specs as elements
+pub use Rattle.zarrs_codec_partial_traits.specs as handles

@@ -1,70 +1,105 @@
--- What reading elements owes.
-use Rattle.std.specs.Prelude.{◌≡◌, ◌⊎◌, ℕ, Bool, true, List, Option, None, IsSome, Result, IfErr, OnOk}
-use Rattle.zarr_model.specs.Region.{Region}
-use Rattle.zarr_model.specs.Element.{Element, DataType}
+-- What reading elements through a codec owes.
+use Rattle.std.specs.Prelude.{◌≡◌, ℕ, Bool, true, false, List, Option, Some, None, IsSome, Result, IfOk, IfErr, OnOk, OnErr}
+use Rattle.zarr_model.specs.Region.{Region, whole}
+use Rattle.zarr_model.specs.Element.{Element, fill_element, kind_of}
+use Rattle.zarr_model.specs.ArrayBytes.{meaning}
 use Rattle.zarr_model.specs.Codec.{Level, Options}
-use Rattle.zarrs_storage.specs.declared.byte_range.ByteRange.{ByteRange}
-use Rattle.zarrs_codec_array_bytes.specs.declared.array_bytes.ArrayBytes as code
+use Rattle.zarr_model.specs.Command.{has_long_element}
+use Rattle.zarrs_array_subset.specs.declared.error.IndexerError.{IndexerError}
 use Rattle.zarrs_codec_error.specs.declared.error.CodecError.{CodecError}
 use Rattle.zarrs_codec_error.specs.declared.error.CodecError.TheVariants as codec
-use Rattle.zarrs_codec_traits.specs.Errors.{Unserved}
-use Rattle.zarrs_codec_held.specs.Held.{Seen}
-use Rattle.zarrs_codec_held.specs.Reads.{Reads}
-use Rattle.zarrs_codec_partial_traits.specs.Lists.{fills, IsListError, TellsFault}
-use Rattle.zarrs_codec_partial_traits.specs.ListWrites.{IsUnfilled}
-use Rattle.zarrs_codec_partial.specs.declared.level.BottomLevel.{BottomLevel}
-use Rattle.zarrs_codec_partial.specs.Level.{bottom_level, bottom_fill, IsOtherFill, IsServed, list_in, says_in, seen_by}
-use Rattle.zarrs_codec_partial.specs.Boxes.{Denotes, Choice, every, GivesElements}
+use Rattle.zarrs_codec_array_bytes.specs.declared.array_bytes.ArrayBytes as code
+use Rattle.zarrs_codec_array_bytes.specs.Raw.{raw_of}
+use Rattle.zarrs_codec_array_bytes.specs.Refusals.{fine, first_answer, IfUnfit}
+use Rattle.zarrs_codec_traits.specs.Errors.{IsNoFault, RefusesAs}
+use Rattle.zarrs_codec_partial_traits.specs.Lists.{Refused, RefusesFor, ListSeen, IsListError, TellsFault, IsUnread, ReadsList}
+use Rattle.zarrs_codec_partial_traits.specs.declared.array_partial_decoder.ArrayPartialDecoderTraits as decoder
+use Rattle.zarrs_codec_partial_elements.specs.Boxes.{Denotes, Choice, every, boxed, placed}
+use Rattle.zarrs_codec_partial.specs.Above.{CodecSeen, level_below, list_above, seen_above, box_for, first_unserved}
 
--- the elements that are asked for of the fill's, or why there are none
-pub record FillsElements (choice : Level → Choice) (level : Level) (fill : List ℕ)
+-- what is asked for: all elements, those of a box, or those at some places, with the smaller box
+-- that these are, if they are one
+pub data Asked : Type 0 where
+  every_element : Asked
+  in_box : Region → Asked
+  at_places : Option Region → List (List ℕ) → Asked
+
+-- the box that is read for it by itself, if one is, and the one below that is then read
+abbrev pub own_box : Asked → Option Region
+own_box every_element = None
+own_box (in_box box) = Some box
+own_box (at_places box places) = box
+
+abbrev pub box_read : CodecSeen → Asked → Region
+box_read at asked =
+    box_for (at.region_below at.level.shape) (whole (level_below at).shape) (own_box asked)
+
+-- how many elements these are, and which ones of a list
+abbrev pub choice_of : Level → Asked → Choice
+choice_of level every_element = every level
+choice_of level (in_box box) = boxed box level
+choice_of level (at_places box places) = placed places level
+
+-- the list that array bytes mean which are given for it, if they are valid
+abbrev pub given_for : Level → Asked → code.ArrayBytes → Option (List Element)
+given_for level asked v =
+    meaning (kind_of level.data_type) (choice_of level asked).number (raw_of v)
+
+-- what is answered: those elements of the list above; or the error says why there are none
+pub record GivesAsked (at : CodecSeen) (asked : Asked) (fits : Bool) (list : Option (List Element))
+    (tells : CodecError → Type 0) (old new : ListSeen) (result : Result code.ArrayBytes CodecError)
+    : Type 0 where
+  pub value : (xs : List Element) → list ≡ Some xs
+      → IfOk result (λ v. given_for at.level asked v ≡ Some ((choice_of at.level asked).pick xs))
+  pub valid : IfOk result (λ v. IsSome (given_for at.level asked v))
+  pub failed : fits ≡ true
+      → IfErr result (IsListError old.there list tells old.shown.faults new.shown.faults)
+  -- a value that is read whole below decodes, and so does one all of whose elements are read
+  pub decodes : old.there ≡ true → old.whole (Some (box_read at asked)) ≡ true
+      → OnOk result (IsSome list)
+  pub all : own_box asked ≡ None → OnOk result (IsSome list)
+
+-- what is read: one box below, with all else kept; only a fault there is told as one; and nothing
+-- long is given where what is below is short
+pub record ReadsBelow {A : Type 0} (H : decoder.Ghosts A) (box : Region) (old new : A)
     (result : Result code.ArrayBytes CodecError) : Type 0 where
-  pub gives : GivesElements (choice level) level fill (fills level fill) result
-  pub failed : IfErr result (λ e. (e ≡ codec.OutOfMemory) ⊎ IsOtherFill level fill e)
+  pub reads : ReadsList (Some box) (H.seen old) (H.seen new) result
+  pub same : H.same old new
+  pub tells : (under : Options) (asked : Option Region) (e : CodecError)
+      → H.tells new under asked e → H.tells old under asked e
+  pub fault : IfErr result (TellsFault (H.seen old).shown.faults (H.seen new).shown.faults)
+  pub short : (H.seen old).unserved ≡ None → (H.seen old).short ≡ true
+      → IfOk result (λ v. has_long_element (raw_of v) ≡ false)
 
--- Over the members of a codec and of a handle on bytes.
-module _ {B X : Type 0}
-    (unserved : B → Option (List ℕ) → Option DataType → Option (List ℕ) → Option Unserved)
-    (meaning : B → Options → Level → List ℕ → Option (List Element))
-    (says : B → Options → Level → List ℕ → CodecError → Type 0) (seen : X → Seen)
-    (Tells : X → Options → Option (List ByteRange) → CodecError → Type 0)
-    (Same : X → X → Type 0) where
-  -- A read of elements, by ranges of the value or of all of it, where what was tested is in order.
-  pub record ReadsElements (bottom : BottomLevel B) (choice : Level → Choice)
-      (asked : Option (List ByteRange)) (in_order : Bool) (under : Options) (old new : X)
-      (result : Result code.ArrayBytes CodecError) : Type 0 where
-    -- of a level that is served the elements, or why there are none
-    pub gives : IsServed unserved bottom → GivesElements (choice (bottom_level bottom))
-        (bottom_level bottom) (bottom_fill bottom) (list_in meaning bottom (seen old) under) result
-    pub failed : IsServed unserved bottom → in_order ≡ true → IfErr result
-        (IsListError (seen old).there (list_in meaning bottom (seen old) under)
-        (says_in meaning says bottom (Tells old) (seen old) under asked)
-        (seen old).shown.faults (seen new).shown.faults)
-    -- what is read as a whole has a list where it is there, or the fill value denotes an element
-    pub decodes : IsServed unserved bottom → asked ≡ None
-        → ((seen old).there ≡ true) ⊎ Denotes (bottom_level bottom) (bottom_fill bottom)
-        → OnOk result (IsSome (list_in meaning bottom (seen old) under))
-    pub fault : IfErr result (TellsFault (seen old).shown.faults (seen new).shown.faults)
-    -- what was read, and what stayed
-    pub reads : Reads asked (seen old) (seen new) result
-    pub same : Same old new
-    pub tells : (options : Options) (ranges : Option (List ByteRange)) (e : CodecError)
-        → Tells new options ranges e → Tells old options ranges e
+-- a step of reading, at a level that the codec serves
+pub record ReadsAsked {A : Type 0} (H : decoder.Ghosts A) (at : CodecSeen) (under : Options)
+    (asked : Asked) (old new : A) (result : Result code.ArrayBytes CodecError) : Type 0 where
+  pub gives : (seen_above at (H.seen old)).unserved ≡ None → GivesAsked at asked true
+      (list_above at ((H.seen old).list under)) (H.tells old under (Some (box_read at asked)))
+      (H.seen old) (H.seen new) result
+  pub named : RefusesFor (H.seen old).unserved result
+  pub below : ReadsBelow H (box_read at asked) old new result
 
-  -- A read of all elements, which there are of an absent value where the fill value denotes one.
-  pub record ReadsOld (request : B → List ℕ → DataType → Region → Option (List ByteRange))
-      (bottom : BottomLevel B) (under : Options) (old new : X)
-      (result : Result code.ArrayBytes CodecError) : Type 0 where
-    -- of a level that is served the elements, or why there are none
-    pub gives : IsServed unserved bottom → GivesElements (every (bottom_level bottom))
-        (bottom_level bottom) (bottom_fill bottom) (list_in meaning bottom (seen old) under) result
-    pub failed : IsServed unserved bottom → IfErr result
-        (λ e. IsListError (seen old).there (list_in meaning bottom (seen old) under)
-        (says_in meaning says bottom (Tells old) (seen old) under None)
-        (seen old).shown.faults (seen new).shown.faults e
-        ⊎ IsUnfilled (seen_by unserved meaning request bottom (seen old)) e)
-    pub decodes : IsServed unserved bottom
-        → OnOk result (IsSome (list_in meaning bottom (seen old) under))
-    pub fault : IfErr result (TellsFault (seen old).shown.faults (seen new).shown.faults)
-    pub reads : Reads None (seen old) (seen new) result
-    pub same : Same old new
+-- a whole call: an indexer that does not fit is refused first, by its own refusal, and nothing is
+-- read; then the call is refused for the first reason for which nothing is served
+pub record DecodesElements {A : Type 0} (H : decoder.Ghosts A) (at : CodecSeen) (under : Options)
+    (asked : Asked) (fits : Bool) (refuses : IndexerError → Type 0) (old new : A)
+    (result : Result code.ArrayBytes CodecError) : Type 0 where
+  pub unfit : RefusesAs (first_answer None fits fine) result
+  pub refusal : fits ≡ false → IfErr result (IfUnfit refuses)
+  pub unread : fits ≡ false → IsUnread (H.seen old).shown (H.seen new).shown
+  pub named : fits ≡ true → RefusesFor (seen_above at (H.seen old)).unserved result
+  pub gives : (seen_above at (H.seen old)).unserved ≡ None → GivesAsked at asked fits
+      (list_above at ((H.seen old).list under)) (H.tells old under (Some (box_read at asked)))
+      (H.seen old) (H.seen new) result
+  pub below : ReadsBelow H (box_read at asked) old new result
+
+-- a test that the fill value denotes an element, and that the codec serves its level
+pub record TestsServed {T : Type 0} (at : CodecSeen) (result : Result T CodecError) : Type 0 where
+  pub served : IfOk result (λ v. at.unserved ≡ None)
+  pub denotes : IfOk result (λ v. Denotes at.level at.fill)
+  pub memory : at.unserved ≡ None → Denotes at.level at.fill
+      → IfErr result (λ e. e ≡ codec.OutOfMemory)
+  pub named : (below : Option Refused) → OnErr result (RefusesFor (first_unserved at.unserved below
+      (fill_element (kind_of at.level.data_type) at.fill)) result)
+  pub no_fault : IfErr result IsNoFault

@@ -1,90 +1,108 @@
--- What writing elements owes.
-use Rattle.std.specs.Prelude.{◌≡◌, ℕ, Bool, true, not, List, length, Option, None, Some, Vec, Result, IfOk, IfErr}
-use Rattle.zarr_model.specs.Region.{Region}
-use Rattle.zarr_model.specs.Element.{Element, DataType, kind_of}
+-- What writing elements through a codec owes.
+use Rattle.std.specs.Prelude.{◌≡◌, true, false, not, replicate, Some, IsSome, Result, IfOk, IfErr, OnErr}
+use Rattle.zarr_model.specs.Region.{whole, count_of}
+use Rattle.zarr_model.specs.Element.{kind_of}
 use Rattle.zarr_model.specs.ArrayBytes.{ArrayBytes}
 use Rattle.zarr_model.specs.Codec.{Level, Options}
-use Rattle.zarrs_storage.specs.declared.byte_range.ByteRange.{ByteRange}
+use Rattle.zarr_model.specs.Command.{has_long_element}
 use Rattle.zarrs_array_subset.specs.declared.error.IndexerError.{IndexerError}
-use Rattle.zarrs_codec_array_bytes.specs.Refusals.{Told, fine, told_by, validity, Answers, IfUnfit}
-use Rattle.zarrs_codec_array_bytes.specs.declared.array_bytes.ArrayBytes as code
 use Rattle.zarrs_codec_error.specs.declared.error.CodecError.{CodecError}
-use Rattle.zarrs_codec_traits.specs.Errors.{Unserved}
+use Rattle.zarrs_codec_error.specs.declared.error.CodecError.TheVariants as codec
+use Rattle.zarrs_codec_array_bytes.specs.declared.array_bytes.ArrayBytes as code
+use Rattle.zarrs_codec_array_bytes.specs.Raw.{raw_of}
+use Rattle.zarrs_codec_array_bytes.specs.Refusals.{Told, fine, validity, IfUnfit}
+use Rattle.zarrs_codec_traits.specs.Errors.{RefusesAs}
 use Rattle.zarrs_codec_traits.specs.Words.{list_at}
-use Rattle.zarrs_codec_held.specs.Held.{Seen}
-use Rattle.zarrs_codec_partial_traits.specs.ListWrites.{given_answer}
-use Rattle.zarrs_codec_partial_traits.specs.Updates.{Change, change_of, ReadsListIf, GivesMade, Updates}
-use Rattle.zarrs_codec_partial.specs.declared.level.BottomLevel.{BottomLevel}
-use Rattle.zarrs_codec_partial.specs.Level.{bottom_level, says_in, seen_by}
+use Rattle.zarrs_codec_partial_traits.specs.Lists.{RefusesFor, is_short}
+use Rattle.zarrs_codec_partial_traits.specs.ListWrites.{given_answer, KeepsRest, IsUntouched}
+use Rattle.zarrs_codec_partial_traits.specs.Updates.{Change, given_by, ReadsListIf, GivesMade, Stores, Updates}
+use Rattle.zarrs_codec_partial_traits.specs.declared.array_partial_decoder.ArrayPartialDecoderTraits as decoder
+use Rattle.zarrs_codec_partial_traits.specs.declared.array_partial_encoder.ArrayPartialEncoderTraits as encoder
+use Rattle.zarrs_codec_partial_elements.specs.Boxes.{Denotes}
+use Rattle.zarrs_codec_partial.specs.Above.{CodecSeen, level_below, seen_above, HandsOn, IsUnencodedBelow, IsEncodedBelow}
 
--- array bytes of these elements are refused by what is beyond the codec
-pub record IsBeyond (beyond : ArrayBytes → Told) (level : Level) (list : List Element)
-    (e : CodecError) : Type 0 where
-  pub bytes : ArrayBytes
-  pub means : list_at level bytes ≡ Some list
-  pub told : told_by e ≡ beyond bytes
+-- what is said of the elements that are given, and then of their indexer
+abbrev pub change_answer : Level → Change → Told
+change_answer level change =
+    given_answer (kind_of level.data_type) change.fits change.number change.bytes
 
--- array bytes of these elements are not, so that they are encoded
-pub record IsTaken (beyond : ArrayBytes → Told) (level : Level) (list : List Element) : Type 0
-  where
-    pub bytes : ArrayBytes
-    pub means : list_at level bytes ≡ Some list
-    pub fits : beyond bytes ≡ fine
+-- which errors tell that there are no elements below
+abbrev pub TellsNone : {A : Type 0} → decoder.Ghosts A → CodecSeen → Options → A → CodecError
+    → Type 0
+TellsNone H at under old = H.tells old under (Some (whole (level_below at).shape))
 
--- the elements that array bytes are for an indexer
-abbrev pub change_by : {B I : Type 0} → (I → List ℕ → Bool) → (I → Option Region)
-    → (I → List (List ℕ)) → BottomLevel B → I → ArrayBytes → Change
-change_by fits as_region places bottom indexer bytes = change_of (bottom_level bottom)
-    (fits indexer (bottom_level bottom).shape) (as_region indexer) (places indexer) bytes
+-- a step that makes all elements of a change: of the old ones, all of which are read below, unless
+-- all are given
+pub record MakesElements {A : Type 0} (H : decoder.Ghosts A) (at : CodecSeen) (under : Options)
+    (change : Change) (old new : A) (result : Result code.ArrayBytes CodecError) : Type 0 where
+  pub made : GivesMade under change (TellsNone H at under old) (seen_above at (H.seen old))
+      (seen_above at (H.seen new)) result
+  pub reads : ReadsListIf (not change.all) (Some (whole (level_below at).shape)) (H.seen old)
+      (H.seen new) result
+  pub same : H.same old new
+  pub named : OnErr result (RefusesFor (H.seen old).unserved result)
+  pub served : change.all ≡ false → RefusesFor (H.seen old).unserved result
+  pub valid : change.all ≡ true → IsSome (given_by at.level change)
+      → IfOk result (λ v. IsSome (list_at at.level (raw_of v)))
 
--- what is said of them, and then of the indexer
-abbrev pub answer_by : {B I : Type 0} → (I → List ℕ → Bool) → (I → List (List ℕ))
-    → BottomLevel B → I → ArrayBytes → Told
-answer_by fits places bottom indexer bytes = given_answer
-    (kind_of (bottom_level bottom).data_type) (fits indexer (bottom_level bottom).shape)
-    (length (places indexer)) bytes
+-- a step that gives the fill value below for each element there
+pub record FillsBelow (at : CodecSeen) (result : Result code.ArrayBytes CodecError) : Type 0 where
+  pub value : Denotes at.level at.fill → IfOk result (λ v. list_at (level_below at) (raw_of v)
+      ≡ Some (replicate (count_of (level_below at).shape) (level_below at).fill))
+  pub short : Denotes at.level at.fill → is_short at.level at.fill ≡ true
+      → IfOk result (λ v. has_long_element (raw_of v) ≡ false)
+  pub failed : Denotes at.level at.fill → IfErr result (λ e. e ≡ codec.OutOfMemory)
 
--- elements that are given were tested, and then the indexer that they are for
-pub record TestsGiven {I Z : Type 0} (fits : I → List ℕ → Bool)
-    (Refuses : I → List ℕ → IndexerError → Type 0) (places : I → List (List ℕ))
-    (shape : List ℕ) (data_type : DataType) (indexer : I) (bytes : ArrayBytes)
-    (result : Result (Vec ℕ Z) CodecError) : Type 0 where
-  pub value : IfOk result (λ v. v.items ≡ shape)
-  pub fit : IfOk result (λ v. fits indexer shape ≡ true)
-  pub answer : Answers (given_answer (kind_of data_type) (fits indexer shape)
-      (length (places indexer)) bytes) result
-  pub refusal : validity (kind_of data_type) (length (places indexer)) bytes ≡ fine
-      → IfErr result (IfUnfit (Refuses indexer shape))
+-- a step that gives what is handed on of all elements of some bytes
+pub record HandsBelow (at : CodecSeen) (under : Options) (bytes : ArrayBytes)
+    (result : Result code.ArrayBytes CodecError) : Type 0 where
+  pub hands : IfOk result (λ v. HandsOn at.meaning at.level at.fill
+      (at.fill_below at.level.data_type at.fill) under bytes (raw_of v))
+  pub failed : Denotes at.level at.fill → IsSome (list_at at.level bytes)
+      → IfErr result (λ e. e ≡ codec.OutOfMemory)
 
--- Over the members of a codec and of a handle on bytes.
-module _ {B X : Type 0}
-    (unserved : B → Option (List ℕ) → Option DataType → Option (List ℕ) → Option Unserved)
-    (meaning : B → Options → Level → List ℕ → Option (List Element))
-    (says : B → Options → Level → List ℕ → CodecError → Type 0)
-    (request : B → List ℕ → DataType → Region → Option (List ByteRange)) (seen : X → Seen)
-    (Tells : X → Options → Option (List ByteRange) → CodecError → Type 0)
-    (Same : X → X → Type 0) where
-  -- New elements were made of what a handle holds and of those that are put in.
-  pub record MakesElements (bottom : BottomLevel B) (change : Change) (under : Options)
-      (old new : X) (result : Result code.ArrayBytes CodecError) : Type 0 where
-    pub made : GivesMade under change
-        (says_in meaning says bottom (Tells old) (seen old) under None)
-        (seen_by unserved meaning request bottom (seen old))
-        (seen_by unserved meaning request bottom (seen new)) result
-    pub reads : ReadsListIf (not change.all) None
-        (seen_by unserved meaning request bottom (seen old))
-        (seen_by unserved meaning request bottom (seen new)) result
-    pub same : Same old new
+-- a step that stores all elements of some bytes
+pub record StoresElements {A T : Type 0} (H : decoder.Ghosts A) (W : encoder.Ghosts A)
+    (at : CodecSeen) (under : Options) (bytes : ArrayBytes) (old new : A)
+    (result : Result T CodecError) : Type 0 where
+  pub stores : Stores under bytes
+      (IsUnencodedBelow (at.meaning.decode_list at.level) (W.unencoded old))
+      (IsEncodedBelow (at.meaning.decode_list at.level) (W.encodes old)) (W.encodes_short old)
+      (seen_above at (H.seen old)) (seen_above at (H.seen new)) result
+  pub rest : KeepsRest (H.seen old) (H.seen new)
+  pub same : H.same old new
+  pub named : Denotes at.level at.fill → IsSome (list_at at.level bytes)
+      → RefusesFor (H.seen old).unserved result
 
-  -- They were made and then stored.
-  pub record PutsElements {T : Type 0} (beyond : B → Level → ArrayBytes → Told)
-      (Takes : B → Level → Type 0) (bottom : BottomLevel B) (change : Change) (under : Options)
-      (old new : X) (result : Result T CodecError) : Type 0 where
-    pub updates : Updates under change
-        (says_in meaning says bottom (Tells old) (seen old) under None)
-        (IsBeyond (beyond bottom.codec (bottom_level bottom)) (bottom_level bottom))
-        (IsTaken (beyond bottom.codec (bottom_level bottom)) (bottom_level bottom))
-        (Takes bottom.codec (bottom_level bottom))
-        (seen_by unserved meaning request bottom (seen old))
-        (seen_by unserved meaning request bottom (seen new)) result
-    pub same : Same old new
+-- a change of what is held above, with all else kept
+pub record ChangesAbove {A T : Type 0} (H : decoder.Ghosts A) (W : encoder.Ghosts A)
+    (at : CodecSeen) (under : Options) (change : Change) (old new : A)
+    (result : Result T CodecError) : Type 0 where
+  pub updates : Updates under change (TellsNone H at under old)
+      (IsUnencodedBelow (at.meaning.decode_list at.level) (W.unencoded old))
+      (IsEncodedBelow (at.meaning.decode_list at.level) (W.encodes old)) (W.encodes_short old)
+      (seen_above at (H.seen old)) (seen_above at (H.seen new)) result
+  pub rest : KeepsRest (H.seen old) (H.seen new)
+  pub same : H.same old new
+
+-- both steps, at a level that the codec serves
+pub record UpdatesElements {A T : Type 0} (H : decoder.Ghosts A) (W : encoder.Ghosts A)
+    (at : CodecSeen) (under : Options) (change : Change) (old new : A)
+    (result : Result T CodecError) : Type 0 where
+  pub changes : ChangesAbove H W at under change old new result
+  pub named : Denotes at.level at.fill → IsSome (given_by at.level change)
+      → RefusesFor (H.seen old).unserved result
+
+-- a whole call: elements and an indexer that are not in order are refused first, and nothing is
+-- read or changed; then the call is refused for the first reason for which nothing is served
+pub record EncodesElements {A T : Type 0} (H : decoder.Ghosts A) (W : encoder.Ghosts A)
+    (at : CodecSeen) (under : Options) (change : Change) (refuses : IndexerError → Type 0)
+    (old new : A) (result : Result T CodecError) : Type 0 where
+  pub given : RefusesAs (change_answer at.level change) result
+  pub refusal : validity (kind_of at.level.data_type) change.number change.bytes ≡ fine
+      → change.fits ≡ false → IfErr result (IfUnfit refuses)
+  pub untouched : IsUntouched (change_answer at.level change) (seen_above at (H.seen old))
+      (seen_above at (H.seen new))
+  pub named : change_answer at.level change ≡ fine
+      → RefusesFor (seen_above at (H.seen old)).unserved result
+  pub changes : ChangesAbove H W at under change old new result

@@ -1,14 +1,14 @@
-//! An array-to-bytes codec with its level.
+//! An array-to-array codec with its level.
 
 use zarrs_array_subset::ChunkShape;
 use zarrs_data_type_elements::FillValue;
 use zarrs_data_type_names::DataType;
 
-/// An array-to-bytes codec, with the shape, the data type and the fill value of what it encodes.
+/// An array-to-array codec, with the shape, the data type and the fill value of what it encodes.
 #[derive(Drop)]
-pub struct BottomLevel<B> {
+pub struct ArrayLevel<A> {
     /// The codec.
-    pub codec: B,
+    pub codec: A,
     /// The shape.
     pub shape: ChunkShape,
     /// The data type.

@@ -1,12 +1,23 @@
-//! Handles on elements, over handles on bytes.
+//! Handles on values and on the elements that they decode to.
+//!
+//! Handles on elements over handles on the elements of the level below stand here. Those over handles on bytes come from the
+//! crate `zarrs_codec_partial_elements`, handles on bytes from `zarrs_codec_partial_bytes`, and the traits of all of them from
+//! `zarrs_codec_partial_traits`; all are passed on here.
 #![tactic(auto)]
 
-mod array_to_bytes_codec_partial_default;
-pub mod boxes;
-pub mod fill;
+mod array_to_array_codec_partial_default;
 mod level;
-pub mod read;
-pub mod write;
+mod read;
+mod write;
 
-pub use array_to_bytes_codec_partial_default::ArrayToBytesCodecPartialDefault;
-pub use level::BottomLevel;
+pub use array_to_array_codec_partial_default::ArrayToArrayCodecPartialDefault;
+pub use level::ArrayLevel;
+pub use zarrs_codec_partial_bytes::{
+    ByteIntervalPartialDecoder, BytesToBytesCodecPartialDefault, MemoryHandle,
+    StoragePartialDecoder, StoragePartialEncoder,
+};
+pub use zarrs_codec_partial_elements::ArrayToBytesCodecPartialDefault;
+pub use zarrs_codec_partial_traits::{
+    ArrayPartialDecoderTraits, ArrayPartialEncoderTraits, BytesPartialDecoderTraits,
+    BytesPartialEncoderTraits,
+};

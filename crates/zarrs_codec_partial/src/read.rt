@@ -1,235 +1,131 @@
-//! The elements of what a handle of bytes holds, by a codec with its level.
+//! The elements of what a handle of elements of the level below holds, by an array-to-array codec.
 
-ghost use Rattle.std.specs.Prelude.{◌≡◌, ◌∷◌, [], ◌+◌, ◌<◌, ◌^◌, true, false, None, Some, IsSome, IsOk, IfOk, IfErr, option_map};
-ghost use Rattle.zarrs_storage.specs.ByteRange.{parts_of};
-ghost use Rattle.zarr_model.specs.Region.{count_of, ends_within};
+ghost use Rattle.std.specs.Prelude.{◌≡◌, true, None, MatchResult};
+ghost use Rattle.zarr_model.specs.Region.{whole, ends_within};
 ghost use Rattle.zarrs_array_subset.specs.ArraySubset.{region as box_of};
-ghost use Rattle.zarrs_codec_array_bytes.specs.Refusals.{fine, first_answer, Answers, IfUnfit};
-ghost use Rattle.zarrs_codec_traits.specs.Errors.{unserved_at, IsNoFault, RefusesAs};
-ghost use Rattle.zarrs_codec_traits.specs.Views.{lengths, options_of};
+ghost use Rattle.zarrs_codec_error.specs.declared.error.CodecError.TheVariants as codec;
+ghost use Rattle.zarrs_codec_traits.specs.Errors.{unserved_at};
+ghost use Rattle.zarrs_codec_traits.specs.Views.{options_of};
 ghost use Rattle.zarrs_codec_traits.specs.Words.{IsFit};
-ghost use Rattle.zarrs_codec_partial_traits.specs.Lists.{by_codec, IsUnread, RefusesFor};
-ghost use Rattle.zarrs_codec_partial.specs.Boxes.{every, boxed, placed};
-ghost use Rattle.zarrs_codec_partial.specs.Reading.{FillsElements, ReadsElements};
+ghost use Rattle.zarrs_codec_partial_traits.specs.Boxes.{smaller_box as box_within};
+ghost use Rattle.zarrs_codec_partial.specs.Above.{IsBelowServed, IsOver};
+ghost use Rattle.zarrs_codec_partial.specs.Reading.{every_element, in_box, at_places, ReadsAsked, DecodesElements, TestsServed};
 
-use crate::boxes::smaller_box;
-use crate::level::BottomLevel;
-use std::alloc::{AllocError, Global};
-use std::num::NonZeroU64;
+use crate::level::ArrayLevel;
+use std::alloc::Global;
 use zarrs_array_subset::ArraySubset;
 use zarrs_chunk_grid_indexer::Indexer;
 use zarrs_codec_array_bytes::ArrayBytes;
-use zarrs_codec_array_bytes::array_bytes::checks::expect_fit;
 use zarrs_codec_error::CodecError;
 use zarrs_codec_options::CodecOptions;
-use zarrs_codec_partial_traits::BytesPartialDecoderTraits;
-use zarrs_codec_traits::{ArrayToBytesCodecTraits, num_elements, shape_numbers};
-use zarrs_storage::ByteRange;
+use zarrs_codec_partial_elements::boxes::smaller_box;
+use zarrs_codec_partial_elements::fill::expect_denoted;
+use zarrs_codec_partial_elements::read::fitting_numbers;
+use zarrs_codec_partial_traits::ArrayPartialDecoderTraits;
+use zarrs_codec_traits::{ArrayToArrayCodecTraits, whole_box};
 
-/// The lengths of a shape that an indexer fits.
-///
-/// # Errors
-/// [`CodecError::IncompatibleIndexer`] exactly where it does not fit, or [`CodecError::OutOfMemory`].
-pub fn fitting_numbers<I: Indexer>(
-    alloc: Global,
-    indexer: &I,
-    shape: &[NonZeroU64],
-) -> Result<Vec<u64>, CodecError>
-    requires { count_of (lengths shape.now) + 1 < 2 ^ 64 }
-    ensures value { IfOk result (λ v. v.items ≡ lengths shape.now) }
-    ensures fit { IfOk result (λ v. I.fits indexer.now (lengths shape.now) ≡ true) }
-    ensures answer { Answers (first_answer None (I.fits indexer.now (lengths shape.now)) fine)
-        result }
-    ensures unfit { IfErr result (IfUnfit (I.refuses indexer.now (lengths shape.now))) }
-{
-    match shape_numbers(alloc, shape) {
-        Ok(numbers) => match expect_fit(alloc, indexer, &numbers) {
-            Ok(()) => Ok(numbers),
-            Err(error) => Err(error),
-        },
-        Err(error) => Err(CodecError::from(error)),
-    }
-}
+impl<C: ArrayToArrayCodecTraits> ArrayLevel<C> {
+    ghost use Rattle.zarrs_codec_partial.specs.Above.{array_level, array_fill, codec_seen};
 
-// One part.
-fn one(alloc: Global, value: Vec<u8>) -> Result<Vec<Vec<u8>>, AllocError>
-    ensures { IfOk result (λ parts. parts_of parts ≡ value.items ∷ []) }
-{
-    let mut parts = Vec::new(alloc);
-    parts.push(value).map_err(AllocError::from)?;
-    Ok(parts)
-}
-
-impl<C: ArrayToBytesCodecTraits> BottomLevel<C> {
-    ghost use Rattle.zarrs_codec_partial.specs.Level.{bottom_level, bottom_fill, IsServed, request_of};
-
-    // Tests that the codec serves the shape, the data type and the fill value.
-    pub(crate) fn expect_served(&self) -> Result<(), CodecError>
-        requires fits { IsFit (bottom_level self.now).shape (bottom_level self.now).data_type }
-        ensures named { RefusesFor (option_map by_codec (unserved_at (C.unserved self.now.codec)
-            (bottom_level self.now) (bottom_fill self.now))) result }
-        ensures served { IsServed C.unserved self.now → IsOk result }
-        ensures no_fault { IfErr result IsNoFault }
+    // Tests that the fill value denotes an element, and then that the codec serves it with the shape and the data type.
+    pub(crate) fn expect_served(&self, alloc: Global) -> Result<(), CodecError>
+        requires fits { IsFit (array_level self.now).shape (array_level self.now).data_type }
+        ensures { TestsServed
+            (codec_seen C.ArrayCodecTraits.own C.ArrayToArrayCodecTraits.own self.now) result }
     {
-        match self
-            .codec
-            .encoded_representation(&self.shape, &self.data_type, &self.fill_value)
-        {
-            Ok(_) => Ok(()),
+        match expect_denoted(&self.data_type, &self.fill_value) {
+            Ok(()) => match self
+                .codec
+                .encoded_representation(alloc, &self.shape, &self.data_type, &self.fill_value)
+            {
+                Ok(_) => Ok(()),
+                Err(error) => Err(error),
+            },
             Err(error) => Err(error),
         }
     }
 
-    // The fill value for each element.
-    pub(crate) fn fill_whole(&self, alloc: Global) -> Result<ArrayBytes<'static>, CodecError>
-        requires fits { IsFit (bottom_level self.now).shape (bottom_level self.now).data_type }
-        ensures { FillsElements every (bottom_level self.now) (bottom_fill self.now) result }
+    // The box of all elements of the level below.
+    pub(crate) fn whole_below(&self, alloc: Global) -> Result<ArraySubset, CodecError>
+        requires served { unserved_at (C.unserved self.now.codec) (array_level self.now)
+            (array_fill self.now) ≡ None }
+        ensures { MatchResult result (λ r. box_of r ≡ whole
+            ((C.meaning self.now.codec).level_below (array_level self.now)).shape)
+            (λ e. e ≡ codec.OutOfMemory) }
     {
-        let number = num_elements(&self.shape);
-        ArrayBytes::new_fill_value(alloc, &self.data_type, number, &self.fill_value)
-    }
-
-    // The fill value for each element of a region.
-    fn fill_box(
-        &self,
-        alloc: Global,
-        region: &ArraySubset,
-    ) -> Result<ArrayBytes<'static>, CodecError>
-        requires fits { IsFit (bottom_level self.now).shape (bottom_level self.now).data_type }
-        requires inside { ends_within (box_of region.now) (bottom_level self.now).shape ≡ true }
-        ensures { FillsElements (boxed (box_of region.now)) (bottom_level self.now)
-            (bottom_fill self.now) result }
-    {
-        let number = region.num_elements();
-        ArrayBytes::new_fill_value(alloc, &self.data_type, number, &self.fill_value)
-    }
-
-    /// All elements.
-    ///
-    /// # Errors
-    /// [`CodecError`] where what is below fails, where the value does not decode, or where memory runs out.
-    pub fn decode_whole<H: BytesPartialDecoderTraits>(
-        &self,
-        alloc: Global,
-        handle: &mut H,
-        options: &CodecOptions,
-    ) -> Result<ArrayBytes<'static>, CodecError>
-        requires fits { IsFit (bottom_level self.now).shape (bottom_level self.now).data_type }
-        ensures { ReadsElements C.unserved C.meaning C.says H.seen H.tells H.same self.now
-            every None true (options_of options.now) handle.old handle.new result }
-    {
-        match handle.decode(alloc, options) {
-            Ok(Some(value)) => self.codec.decode(
-                alloc,
-                value,
-                &self.shape,
-                &self.data_type,
-                &self.fill_value,
-                options,
-            ),
-            Ok(None) => self.fill_whole(alloc),
+        match self.codec.encoded_shape(alloc, &self.shape) {
+            Ok(shape) => whole_box(alloc, &shape),
             Err(error) => Err(error),
         }
     }
 
-    // The elements of a region, out of the whole value.
-    fn decode_box_of_value<H: BytesPartialDecoderTraits>(
+    // The elements of a region, out of those of the box below.
+    fn decode_box<H: ArrayPartialDecoderTraits>(
         &self,
         alloc: Global,
         handle: &mut H,
         region: &ArraySubset,
         options: &CodecOptions,
     ) -> Result<ArrayBytes<'static>, CodecError>
-        requires fits { IsFit (bottom_level self.now).shape (bottom_level self.now).data_type }
-        requires inside { ends_within (box_of region.now) (bottom_level self.now).shape ≡ true }
-        requires whole { request_of C.request self.now (box_of region.now) ≡ None }
-        ensures { ReadsElements C.unserved C.meaning C.says H.seen H.tells H.same self.now
-            (boxed (box_of region.now)) (request_of C.request self.now (box_of region.now)) true
-            (options_of options.now) handle.old handle.new result }
+        requires over { IsOver (H.seen handle.old)
+            (codec_seen C.ArrayCodecTraits.own C.ArrayToArrayCodecTraits.own self.now) }
+        requires inside { ends_within (box_of region.now) (array_level self.now).shape ≡ true }
+        ensures { ReadsAsked H.ArrayPartialDecoderTraits
+            (codec_seen C.ArrayCodecTraits.own C.ArrayToArrayCodecTraits.own self.now)
+            (options_of options.now) (in_box (box_of region.now)) handle.old handle.new result }
     {
-        match handle.decode(alloc, options) {
-            Ok(Some(value)) => match one(alloc, value) {
-                Ok(parts) => self.codec.decode_parts(
+        match self.codec.inner_subset(alloc, region, &self.shape) {
+            Ok(inner) => match handle.partial_decode(alloc, &inner, options) {
+                Ok(bytes) => self.codec.decode_region(
                     alloc,
-                    parts,
+                    bytes,
                     region,
                     &self.shape,
                     &self.data_type,
                     &self.fill_value,
                     options,
                 ),
-                Err(error) => Err(CodecError::from(error)),
+                Err(error) => Err(error),
             },
-            Ok(None) => self.fill_box(alloc, region),
             Err(error) => Err(error),
         }
     }
 
-    // The elements of a region, out of the parts that the codec asks for.
-    fn decode_box_of_parts<H: BytesPartialDecoderTraits>(
+    // All elements, out of all those below.
+    pub(crate) fn decode_whole<H: ArrayPartialDecoderTraits>(
         &self,
         alloc: Global,
         handle: &mut H,
-        ranges: &[ByteRange],
-        region: &ArraySubset,
         options: &CodecOptions,
     ) -> Result<ArrayBytes<'static>, CodecError>
-        requires fits { IsFit (bottom_level self.now).shape (bottom_level self.now).data_type }
-        requires inside { ends_within (box_of region.now) (bottom_level self.now).shape ≡ true }
-        requires asked { request_of C.request self.now (box_of region.now) ≡ Some ranges.now }
-        ensures { ReadsElements C.unserved C.meaning C.says H.seen H.tells H.same self.now
-            (boxed (box_of region.now)) (request_of C.request self.now (box_of region.now)) true
-            (options_of options.now) handle.old handle.new result }
+        requires over { IsOver (H.seen handle.old)
+            (codec_seen C.ArrayCodecTraits.own C.ArrayToArrayCodecTraits.own self.now) }
+        ensures { ReadsAsked H.ArrayPartialDecoderTraits
+            (codec_seen C.ArrayCodecTraits.own C.ArrayToArrayCodecTraits.own self.now)
+            (options_of options.now) every_element handle.old handle.new result }
     {
-        match handle.partial_decode_many(alloc, ranges, options) {
-            Ok(Some(parts)) => self.codec.decode_parts(
-                alloc,
-                parts,
-                region,
-                &self.shape,
-                &self.data_type,
-                &self.fill_value,
-                options,
-            ),
-            Ok(None) => self.fill_box(alloc, region),
-            Err(error) => Err(error),
-        }
-    }
-
-    /// The elements of a region: out of the parts that the codec asks for, or out of the whole value where it asks for
-    /// none.
-    ///
-    /// # Errors
-    /// [`CodecError`] where what is below fails, where the value does not decode, or where memory runs out.
-    pub fn decode_box<H: BytesPartialDecoderTraits>(
-        &self,
-        alloc: Global,
-        handle: &mut H,
-        region: &ArraySubset,
-        options: &CodecOptions,
-    ) -> Result<ArrayBytes<'static>, CodecError>
-        requires fits { IsFit (bottom_level self.now).shape (bottom_level self.now).data_type }
-        requires inside { ends_within (box_of region.now) (bottom_level self.now).shape ≡ true }
-        ensures { ReadsElements C.unserved C.meaning C.says H.seen H.tells H.same self.now
-            (boxed (box_of region.now)) (request_of C.request self.now (box_of region.now)) true
-            (options_of options.now) handle.old handle.new result }
-    {
-        match self
-            .codec
-            .byte_request(alloc, region, &self.shape, &self.data_type)
-        {
-            Ok(Some(ranges)) => self.decode_box_of_parts(alloc, handle, &ranges, region, options),
-            Ok(None) => self.decode_box_of_value(alloc, handle, region, options),
+        match self.whole_below(alloc) {
+            Ok(all) => match handle.partial_decode(alloc, &all, options) {
+                Ok(bytes) => self.codec.decode(
+                    alloc,
+                    bytes,
+                    &self.shape,
+                    &self.data_type,
+                    &self.fill_value,
+                    options,
+                ),
+                Err(error) => Err(error),
+            },
             Err(error) => Err(error),
         }
     }
 }
 
-impl<C: ArrayToBytesCodecTraits> BottomLevel<C> {
-    ghost use Rattle.zarrs_codec_partial.specs.Level.{bottom_level, bottom_fill, request_for};
+impl<C: ArrayToArrayCodecTraits> ArrayLevel<C> {
+    ghost use Rattle.zarrs_codec_partial.specs.Above.{array_level, array_fill, codec_seen};
 
     // The elements at an indexer's indices, out of all elements.
-    fn decode_listed<H: BytesPartialDecoderTraits, I: Indexer>(
+    fn decode_listed<H: ArrayPartialDecoderTraits, I: Indexer>(
         &self,
         alloc: Global,
         handle: &mut H,
@@ -237,21 +133,23 @@ impl<C: ArrayToBytesCodecTraits> BottomLevel<C> {
         numbers: &[u64],
         options: &CodecOptions,
     ) -> Result<ArrayBytes<'static>, CodecError>
-        requires fits { IsFit (bottom_level self.now).shape (bottom_level self.now).data_type }
-        requires shape { numbers.now ≡ (bottom_level self.now).shape }
+        requires over { IsOver (H.seen handle.old)
+            (codec_seen C.ArrayCodecTraits.own C.ArrayToArrayCodecTraits.own self.now) }
+        requires shape { numbers.now ≡ (array_level self.now).shape }
         requires fit { I.fits indexer.now numbers.now ≡ true }
-        ensures { ReadsElements C.unserved C.meaning C.says H.seen H.tells H.same self.now
-            (placed (I.places indexer.now)) None true (options_of options.now)
+        ensures { ReadsAsked H.ArrayPartialDecoderTraits
+            (codec_seen C.ArrayCodecTraits.own C.ArrayToArrayCodecTraits.own self.now)
+            (options_of options.now) (at_places None (I.places indexer.now))
             handle.old handle.new result }
     {
         match self.decode_whole(alloc, handle, options) {
-            Ok(whole) => whole.extract_array_subset(alloc, indexer, numbers, &self.data_type),
+            Ok(all) => all.extract_array_subset(alloc, indexer, numbers, &self.data_type),
             Err(error) => Err(error),
         }
     }
 
     // The elements at the indices of an indexer that fits.
-    fn decode_fit<H: BytesPartialDecoderTraits, I: Indexer>(
+    fn decode_fit<H: ArrayPartialDecoderTraits, I: Indexer>(
         &self,
         alloc: Global,
         handle: &mut H,
@@ -259,13 +157,15 @@ impl<C: ArrayToBytesCodecTraits> BottomLevel<C> {
         numbers: &[u64],
         options: &CodecOptions,
     ) -> Result<ArrayBytes<'static>, CodecError>
-        requires fits { IsFit (bottom_level self.now).shape (bottom_level self.now).data_type }
-        requires shape { numbers.now ≡ (bottom_level self.now).shape }
+        requires over { IsOver (H.seen handle.old)
+            (codec_seen C.ArrayCodecTraits.own C.ArrayToArrayCodecTraits.own self.now) }
+        requires shape { numbers.now ≡ (array_level self.now).shape }
         requires fit { I.fits indexer.now numbers.now ≡ true }
-        ensures { ReadsElements C.unserved C.meaning C.says H.seen H.tells H.same self.now
-            (placed (I.places indexer.now))
-            (request_for C.request self.now (I.as_region indexer.now)) true
-            (options_of options.now) handle.old handle.new result }
+        ensures { ReadsAsked H.ArrayPartialDecoderTraits
+            (codec_seen C.ArrayCodecTraits.own C.ArrayToArrayCodecTraits.own self.now)
+            (options_of options.now)
+            (at_places (box_within (array_level self.now).shape (I.as_region indexer.now))
+            (I.places indexer.now)) handle.old handle.new result }
     {
         match smaller_box(alloc, indexer, numbers) {
             Ok(Some(region)) => self.decode_box(alloc, handle, &region, options),
@@ -278,36 +178,28 @@ impl<C: ArrayToBytesCodecTraits> BottomLevel<C> {
     /// codec, else out of all elements.
     ///
     /// # Errors
-    /// [`CodecError`] exactly where the indexer does not fit the shape, else where the codec does not serve its level, both
-    /// before anything is read; else where what is below fails, where the value does not decode, or where memory runs out.
-    pub fn decode_elements<H: BytesPartialDecoderTraits, I: Indexer>(
+    /// [`CodecError`] exactly where the indexer does not fit the shape, before anything is read; else where the fill value
+    /// denotes no element, where the codec does not serve its level, where what is below is not served, fails or does not
+    /// decode, or where memory runs out.
+    pub fn decode_elements<H: ArrayPartialDecoderTraits, I: Indexer>(
         &self,
         alloc: Global,
         handle: &mut H,
         indexer: &I,
         options: &CodecOptions,
     ) -> Result<ArrayBytes<'static>, CodecError>
-        requires fits { IsFit (bottom_level self.now).shape (bottom_level self.now).data_type }
-        ensures unfit { RefusesAs (first_answer None
-            (I.fits indexer.now (bottom_level self.now).shape) fine) result }
-        ensures refusal { I.fits indexer.now (bottom_level self.now).shape ≡ false
-            → IfErr result (IfUnfit (I.refuses indexer.now (bottom_level self.now).shape)) }
-        ensures unread { I.fits indexer.now (bottom_level self.now).shape ≡ false
-            → IsUnread (H.seen handle.old).shown (H.seen handle.new).shown }
-        ensures named { I.fits indexer.now (bottom_level self.now).shape ≡ true
-            → RefusesFor (option_map by_codec (unserved_at (C.unserved self.now.codec)
-            (bottom_level self.now) (bottom_fill self.now))) result }
-        ensures unserved { IsSome (unserved_at (C.unserved self.now.codec)
-            (bottom_level self.now) (bottom_fill self.now))
-            → IsUnread (H.seen handle.old).shown (H.seen handle.new).shown }
-        ensures read { ReadsElements C.unserved C.meaning C.says H.seen H.tells H.same self.now
-            (placed (I.places indexer.now))
-            (request_for C.request self.now (I.as_region indexer.now))
-            (I.fits indexer.now (bottom_level self.now).shape) (options_of options.now)
-            handle.old handle.new result }
+        requires fits { IsFit (array_level self.now).shape (array_level self.now).data_type }
+        requires below { IsBelowServed (H.seen handle.old)
+            (codec_seen C.ArrayCodecTraits.own C.ArrayToArrayCodecTraits.own self.now) }
+        ensures { DecodesElements H.ArrayPartialDecoderTraits
+            (codec_seen C.ArrayCodecTraits.own C.ArrayToArrayCodecTraits.own self.now)
+            (options_of options.now)
+            (at_places (box_within (array_level self.now).shape (I.as_region indexer.now))
+            (I.places indexer.now)) (I.fits indexer.now (array_level self.now).shape)
+            (I.refuses indexer.now (array_level self.now).shape) handle.old handle.new result }
     {
         match fitting_numbers(alloc, indexer, &self.shape) {
-            Ok(numbers) => match self.expect_served() {
+            Ok(numbers) => match self.expect_served(alloc) {
                 Ok(()) => self.decode_fit(alloc, handle, indexer, &numbers, options),
                 Err(error) => Err(error),
             },

@@ -1,17 +1,13 @@
 -- Codecs that serve their level, and what a chunk over two codecs has.
-use Rattle.std.proofs.Common.{◌≡◌, ℕ, List, Option, Some, None, IsSome, option_map, Ok, refl, ap, ◌∙◌}
+use Rattle.std.proofs.Common.{◌≡◌, ℕ, List, Option, Some, None, IsSome, option_map, refl, ap, ◌∙◌}
 use Rattle.zarr_model.specs.Element.{Element, DataType}
 use Rattle.zarr_model.specs.Codec.{Level, Options}
-use Rattle.zarrs_codec_traits.specs.Errors.{Unserved, RefusesBy, unserved_at}
+use Rattle.zarrs_codec_traits.specs.Errors.{Unserved, unserved_at}
 use Rattle.zarrs_codec_partial_traits.specs.Lists.{by_codec}
-use Rattle.zarrs_codec_partial.specs.Level.{bottom_level, bottom_fill, list_in}
-use Rattle.zarrs_codec_partial.specs.declared.level.BottomLevel.{BottomLevel}
+use Rattle.zarrs_codec_partial_elements.specs.Level.{bottom_level, bottom_fill, list_in}
+use Rattle.zarrs_codec_partial_elements.specs.declared.level.BottomLevel.{BottomLevel}
 use Rattle.zarrs_codec_held.specs.Held.{in_memory}
-use Rattle.zarrs_codec_partial_arrays.specs.Above.{first_unserved}
-
-pub served_ok : {T : Type 0} (reason : Option Unserved) (v : T) → RefusesBy reason (Ok v) → reason ≡ None
-served_ok None v answer = refl
-served_ok (Some why) v answer = absurd answer
+use Rattle.zarrs_codec_partial.specs.Above.{first_unserved}
 
 -- a codec below that serves its level leaves nothing unserved
 pub served_below : {B : Type 0} (unserved : B → Option (List ℕ) → Option DataType → Option (List ℕ) → Option Unserved) (bottom : BottomLevel B) (codec : B) (level : Level) (fill : List ℕ) (element : Option Element)

@@ -1,5 +1,5 @@
 -- Elements of a list that is turned round.
-use Rattle.std.proofs.Common.{◌≡◌, ◌⊎◌, ℕ, ◌-◌, ◌<◌, List, length, get_or, Bool, true, false, Option, Some, None, IsSome, is_some, option_map, Result, Ok, Err, IfOk, refl, sym, ap, ◌∙◌, subst, arith, inl, inr}
+use Rattle.std.proofs.Common.{◌≡◌, ◌⊎◌, ℕ, ◌-◌, ◌<◌, List, length, get_or, Bool, true, false, Option, Some, None, IsSome, is_some, option_map, Result, Ok, Err, IfOk, refl, sym, ap, ◌∙◌, subst, arith}
 use Rattle.std.specs.Prelude.{reverse}
 use Rattle.std.proofs.lemmas.List.{length-map, get_or-map, get_or-reverse, length-reverse}
 use Rattle.std.proofs.lemmas.Simd.{map-map}
@@ -7,8 +7,7 @@ use Rattle.zarr_model.specs.Region.{Region, count, count_of, sizes, whole, tuple
 use Rattle.zarr_model.specs.Element.{Element, null, Kind, fixed_size, fill_element}
 use Rattle.zarr_model.specs.ArrayBytes.{ArrayBytes, meaning}
 use Rattle.zarr_model.specs.Command.{has_long_element}
-use Rattle.zarr_model.proofs.RegionLaws.{length-tuples}
-use Rattle.zarr_model.proofs.ChainLaws.{sizes-whole}
+use Rattle.zarr_model.proofs.RegionLaws.{length-tuples, sizes_whole}
 use Rattle.zarr_model.proofs.BytesLaws.{length-meaning, refusal-meaning}
 use Rattle.zarrs_chunk_grid_iterators.proofs.BoxFacts.{box_inside}
 use Rattle.zarrs_codec_bytes.specs.Picking.{AllBelow, gathered, picked, size_in}
@@ -22,9 +21,10 @@ use Rattle.zarrs_codec_error.specs.declared.error.CodecError.TheVariants as code
 use Rattle.zarrs_codec_array_bytes.specs.Selection.{linear}
 use Rattle.zarrs_codec_array_bytes.specs.Refusals.{fine, fill_answer, lengths_refusal, told_by, validity, Answers}
 use Rattle.zarrs_codec_array_bytes.proofs.CheckLaws.{sized_fine, still_short, below_twice}
+use Rattle.zarrs_codec_array_bytes.proofs.ToldLaws.{fill_memory}
+use Rattle.zarrs_codec_array_bytes.proofs.ExtractLaws.{lengths_kept}
 use Rattle.zarrs_codec_traits.specs.Words.{Gives, select}
-use Rattle.zarrs_codec_partial.proofs.ExtractLaws.{says_some, lengths_kept}
-use Rattle.zarrs_codec_partial.proofs.SelectLaws.{listed}
+use Rattle.zarrs_codec_traits.proofs.SelectLaws.{listed}
 use Rattle.zarrs_codec_partial_callers.specs.Turned.{mirrored, turned_part}
 
 -- array bytes that are valid mean a list
@@ -89,7 +89,7 @@ region_short kind shape box places raw new inside are valid is short =
 -- all of a shape
 pub select-whole : (shape : List ℕ) (xs : List Element) → length xs ≡ count_of shape → select shape (whole shape) xs ≡ xs
 select-whole shape xs long =
-    listed (whole shape) (λ tuple. get_or xs (place (whole shape) tuple) null) xs null (long ∙ sym (ap count_of (sizes-whole shape))) (λ tuple here. refl)
+    listed (whole shape) (λ tuple. get_or xs (place (whole shape) tuple) null) xs null (long ∙ sym (ap count_of (sizes_whole shape))) (λ tuple here. refl)
 
 whole_part : (kind : Kind) (shape : List ℕ) (raw : ArrayBytes) → turned_part shape (whole shape) (meaning kind (count_of shape) raw) ≡ option_map reverse (meaning kind (count_of shape) raw)
 whole_part kind shape raw = go (meaning kind (count_of shape) raw) refl
@@ -103,7 +103,7 @@ pub all_turned : {T E : Type 0} (seen : T → ArrayBytes) (kind : Kind) (shape :
     IfOk r (λ v. Gives (meaning kind (count_of shape) (seen v)) (option_map reverse (meaning kind (count_of shape) raw)))
 all_turned seen kind shape box raw (Err e) all gives = tt
 all_turned seen kind shape box raw (Ok v) all gives =
-    let number : count box ≡ count_of shape = ap count all ∙ ap count_of (sizes-whole shape) in
+    let number : count box ≡ count_of shape = ap count all ∙ ap count_of (sizes_whole shape) in
     record {
       same = ap (λ n. meaning kind n (seen v)) (sym number) ∙ (gives.same ∙ (ap (λ (b : Region). turned_part shape b (meaning kind (count_of shape) raw)) all ∙ whole_part kind shape raw));
       there = subst (λ n. IsSome (meaning kind n (seen v))) number gives.there;
@@ -115,21 +115,16 @@ pub part_gives : {T E : Type 0} (kind : Kind) (shape : List ℕ) (box : Region) 
     meaning kind (count_of (sizes (whole shape))) raw ≡ Some (select shape (whole shape) list) → IfOk r (λ v. seen v ≡ Some (select shape box xs))
 part_gives kind shape box raw (Err e) seen list xs gives long turned is = tt
 part_gives kind shape box raw (Ok v) seen list xs gives long turned is =
-    let given : meaning kind (count_of shape) raw ≡ Some list = ap (λ s. meaning kind (count_of s) raw) (sym (sizes-whole shape)) ∙ (is ∙ ap Some (select-whole shape list long)) in
+    let given : meaning kind (count_of shape) raw ≡ Some list = ap (λ s. meaning kind (count_of s) raw) (sym (sizes_whole shape)) ∙ (is ∙ ap Some (select-whole shape list long)) in
     gives.same ∙ (ap (turned_part shape box) given ∙ ap (option_map (select shape box)) turned)
 
 pub whole_answers : {T : Type 0} (kind : Kind) (shape : List ℕ) (raw : ArrayBytes) (r : Result T CodecError) → Answers (validity kind (count_of shape) raw) r → Answers (validity kind (count_of (sizes (whole shape))) raw) r
-whole_answers kind shape raw r answers = subst (λ s. Answers (validity kind (count_of s) raw) r) (sym (sizes-whole shape)) answers
+whole_answers kind shape raw r answers = subst (λ s. Answers (validity kind (count_of s) raw) r) (sym (sizes_whole shape)) answers
 
 -- a fill value that denotes an element is refused for want of memory alone
 pub denoted_err : (kind : Kind) (fill : List ℕ) (e : CodecError) → (e ≡ codec.OutOfMemory) ⊎ (told_by e ≡ fill_answer (has_size kind fill)) → IsSome (fill_element kind fill) → e ≡ codec.OutOfMemory
 denoted_err kind fill e answers there = go (fill_element kind fill) refl there
   where
-    only : (b : Bool) → b ≡ true → (e ≡ codec.OutOfMemory) ⊎ (told_by e ≡ fill_answer b) → e ≡ codec.OutOfMemory
-    only true sized (inl memory) = memory
-    only true sized (inr told) = absurd (says_some e told)
-    only false sized answers = cc
-
     go : (o : Option Element) → fill_element kind fill ≡ o → IsSome o → e ≡ codec.OutOfMemory
-    go (Some x) is there = only (has_size kind fill) (element_fits kind fill x is) answers
+    go (Some x) is there = fill_memory (has_size kind fill) e (element_fits kind fill x is) answers
     go None is there = cc

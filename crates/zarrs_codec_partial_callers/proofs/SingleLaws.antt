@@ -9,6 +9,7 @@ use Rattle.zarr_model.specs.ArrayBytes.{ArrayBytes, fixed_bytes, variable_bytes,
 use Rattle.zarr_model.specs.Codec.{Level}
 use Rattle.zarr_model.specs.Command.{bytes_refusal}
 use Rattle.zarr_model.proofs.RegionLaws.{length-tuples}
+use Rattle.zarr_model.proofs.Choices.{some_now}
 use Rattle.zarrs_chunk_grid_iterators.proofs.BoxFacts.{box_inside}
 use Rattle.zarrs_storage.specs.ByteRange.{slice_of, slices_of}
 use Rattle.zarrs_codec_bytes.specs.Picking.{AllBelow}
@@ -22,11 +23,11 @@ use Rattle.zarrs_codec_array_bytes.specs.declared.array_bytes.ArrayBytes as code
 use Rattle.zarrs_codec_array_bytes.specs.Raw.{raw_of}
 use Rattle.zarrs_codec_array_bytes.specs.Selection.{linear}
 use Rattle.zarrs_codec_array_bytes.proofs.CheckLaws.{sized_fine}
+use Rattle.zarrs_codec_array_bytes.proofs.ToldLaws.{says_some}
 use Rattle.zarrs_codec_traits.specs.Errors.{IsNoFault, IsDecodeError, RefusesAs}
 use Rattle.zarrs_codec_traits.specs.Parts.{lengths_answer}
 use Rattle.zarrs_codec_traits.specs.Words.{list_at, at_box, select, Gives}
 use Rattle.zarrs_codec_traits.proofs.FaultLaws.{is_known, answers_no_fault, known_then}
-use Rattle.zarrs_codec_partial.proofs.ExtractLaws.{says_some}
 use Rattle.zarrs_codec_partial_callers.specs.SingleBytes.{type_unserved, served_kind, range_at, ranges_in, single_list, single_answer, singles_answer, data_in, AreJoined}
 
 -- array bytes of one byte each have one size
@@ -51,11 +52,8 @@ single_means kind number bytes is long =
     ∙ (cond-true (length bytes == length bytes * 1) _ _ (eq-eqb _ _ (let one : length bytes ≡ length bytes * 1 = omega arith in one))
     ∙ ap (λ (p : List (List ℕ)). Some (map of_bytes p)) (pieces_each bytes)))
 
-some_is : {A : Type 0} (o : Option A) (x : A) → o ≡ Some x → IsSome o
-some_is o x is = subst (λ o. IsSome o) (sym is) refl
-
 pub byte_list : (level : Level) (value : List ℕ) → type_unserved level.data_type ≡ None → length value ≡ count_of level.shape → Gives (list_at level (fixed_bytes value)) (single_list level value)
-byte_list level value served long = record { same = refl; there = some_is _ _ (single_means (kind_of level.data_type) (count_of level.shape) value (served_kind level.data_type served) long) }
+byte_list level value served long = record { same = refl; there = some_now _ _ (single_means (kind_of level.data_type) (count_of level.shape) value (served_kind level.data_type served) long) }
 
 pub no_list : (level : Level) (value : List ℕ) (e : CodecError) → type_unserved level.data_type ≡ None → ¬ (length value ≡ count_of level.shape) → told_by e ≡ wrong_length (length value) (count_of level.shape)
     → IsDecodeError (single_list level value) (λ e. told_by e ≡ wrong_length (length value) (count_of level.shape)) e
@@ -76,7 +74,7 @@ module _ (shape : List ℕ) (region : Region) (bytes : List ℕ) (parts : List (
   as_long many = sym (length-map bytes (λ byte. byte ∷ [])) ∙ (ap length joined ∙ (many ∙ places_long))
 
   pub joined_there : (kind : Kind) → kind ≡ fixed 1 → length parts ≡ length (ranges_in shape region) → IsSome (meaning kind (count_of (sizes region)) (fixed_bytes bytes))
-  joined_there kind is many = some_is _ _ (single_means kind (count_of (sizes region)) bytes is (as_long many))
+  joined_there kind is many = some_now _ _ (single_means kind (count_of (sizes region)) bytes is (as_long many))
 
   pub joined_value : (kind : Kind) (value : List ℕ) (xs : List Element) → kind ≡ fixed 1 → ends_within region shape ≡ true → parts ≡ slices_of (ranges_in shape region) value → meaning kind (count_of shape) (fixed_bytes value) ≡ Some xs
       → meaning kind (count_of (sizes region)) (fixed_bytes bytes) ≡ Some (select shape region xs)

@@ -3,16 +3,18 @@ use Rattle.std.specs.Prelude.{◌≡◌, ℕ, zero, suc, ◌-◌, List, [], ◌�
 use Rattle.std.proofs.Common.{ap, sym, ◌∙◌}
 use Rattle.std.proofs.lemmas.Grind.{reverse_onto}
 use Rattle.std.proofs.lemmas.List.{length-reverse}
-use Rattle.zarr_model.specs.Region.{Region}
+use Rattle.zarr_model.specs.Region.{Region, whole}
 use Rattle.zarr_model.specs.Element.{Element}
 use Rattle.zarr_model.specs.Codec.{ArrayCodec}
 use Rattle.zarrs_codec_traits.specs.Words.{select}
 
--- the level below is the level itself, and its list decodes to its reverse
+-- the level below is the level itself, its list decodes to its reverse, and of a part all of it is
+-- needed
 abbrev pub reversed_codec : ArrayCodec
 reversed_codec = record {
   level_below = λ level. level;
   decode_list = λ level list. Some (reverse list);
+  box_below = λ shape box. whole shape;
 }
 
 -- places, counted from the other end of so many

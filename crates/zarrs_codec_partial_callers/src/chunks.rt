@@ -6,13 +6,13 @@ ghost use Rattle.zarrs_data_type_elements.specs.FillValue.{fill_bytes};
 ghost use Rattle.zarrs_data_type_names.specs.DataType.{type_of};
 ghost use Rattle.zarrs_codec_traits.specs.Views.{lengths, level_of};
 ghost use Rattle.zarrs_codec_traits.specs.Words.{IsFit};
-ghost use Rattle.zarrs_codec_partial.specs.Level.{bottom_level, bottom_fill};
+ghost use Rattle.zarrs_codec_partial_elements.specs.Level.{bottom_level, bottom_fill};
 
 use std::alloc::Global;
 use zarrs_array_subset::ChunkShape;
 use zarrs_codec_error::CodecError;
-use zarrs_codec_partial::ArrayToBytesCodecPartialDefault;
-use zarrs_codec_partial_arrays::ArrayToArrayCodecPartialDefault;
+use zarrs_codec_partial::ArrayToArrayCodecPartialDefault;
+use zarrs_codec_partial_elements::ArrayToBytesCodecPartialDefault;
 use zarrs_codec_partial_traits::BytesPartialDecoderTraits;
 use zarrs_codec_traits::{ArrayToArrayCodecTraits, ArrayToBytesCodecTraits};
 use zarrs_data_type_elements::FillValue;

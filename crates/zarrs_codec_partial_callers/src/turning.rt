@@ -1,7 +1,7 @@
 //! Elements of a list that is turned round.
 
 ghost use Rattle.std.specs.Prelude.{◌≡◌, ◌<◌, ◌^◌, true, false, reverse, IsSome, IfOk, IfErr, MatchResult, option_map};
-ghost use Rattle.zarr_model.specs.Region.{count, count_of, whole, tuples, ends_within};
+ghost use Rattle.zarr_model.specs.Region.{count, count_of, tuples, ends_within};
 ghost use Rattle.zarr_model.specs.Element.{fill_element};
 ghost use Rattle.zarr_model.specs.ArrayBytes.{meaning};
 ghost use Rattle.zarr_model.specs.Command.{has_long_element};
@@ -27,22 +27,9 @@ use zarrs_codec_array_bytes::array_bytes::extract::linear_indices;
 use zarrs_codec_array_bytes::array_bytes::gather::select;
 use zarrs_codec_array_bytes::array_bytes::step::element_size;
 use zarrs_codec_error::CodecError;
-use zarrs_codec_traits::{num_elements, shape_numbers};
+use zarrs_codec_traits::{num_elements, shape_numbers, whole_box};
 use zarrs_data_type_elements::FillValue;
 use zarrs_data_type_names::DataType;
-
-/// The box of all of a shape.
-///
-/// # Errors
-/// [`CodecError::OutOfMemory`] where memory runs out.
-pub fn whole_box(alloc: Global, shape: &[NonZeroU64]) -> Result<ArraySubset, CodecError>
-    ensures { MatchResult result (λ r. box_of r ≡ whole (lengths shape.now))
-        (λ e. e ≡ codec.OutOfMemory) }
-{
-    let numbers = shape_numbers(alloc, shape)?;
-    let all = ArraySubset::new_with_shape(alloc, numbers)?;
-    Ok(all)
-}
 
 // Each place, counted from the other end of so many.
 fn mirror(alloc: Global, places: &[u64], count: u64) -> Result<Vec<u64>, AllocError>

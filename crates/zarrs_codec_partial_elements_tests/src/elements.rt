@@ -20,10 +20,10 @@ use zarrs_array_subset::{ArraySubset, ChunkShape};
 use zarrs_codec_array_bytes::ArrayBytes;
 use zarrs_codec_error::CodecError;
 use zarrs_codec_options::CodecOptions;
-use zarrs_codec_partial::ArrayToBytesCodecPartialDefault;
 use zarrs_codec_partial_bytes::{MemoryHandle, StoragePartialEncoder};
 use zarrs_codec_partial_callers::ReversedElementsCodec;
 use zarrs_codec_partial_callers::chunks::{Chunk, chunk_of};
+use zarrs_codec_partial_elements::ArrayToBytesCodecPartialDefault;
 use zarrs_codec_partial_traits::{
     ArrayPartialDecoderTraits, ArrayPartialEncoderTraits, BytesPartialEncoderTraits,
 };

@@ -9,7 +9,7 @@ use zarrs_codec_partial_bytes::{
 };
 use zarrs_codec_partial_callers::ReversedCodec;
 use zarrs_codec_partial_traits::{BytesPartialDecoderTraits, BytesPartialEncoderTraits};
-use zarrs_storage::ByteRange;
+use zarrs_storage::{ByteRange, OffsetBytes};
 
 fn six(alloc: Global) -> Result<Vec<u8>, AllocError> {
     Vec::from_slice(alloc, &[0, 1, 2, 3, 4, 5])
@@ -109,6 +109,35 @@ fn a_value_in_memory_is_changed(rt: HostRuntime) -> Result<(), Fail> {
     assert_eq!(rt; text.as_str(), CHANGED);
     assert!(rt; handle.value().is_none());
     assert_eq!(rt; handle.size_held(), 0);
+    Ok(())
+}
+
+// Two parts are put into six bytes, the second over the end of the first.
+fn parts_put<H: BytesPartialEncoderTraits>(
+    alloc: Global,
+    handle: &mut H,
+) -> Result<String, CodecError> {
+    let (first, second) = (vec![in alloc; 7, 8]?, vec![in alloc; 9]?);
+    let parts = [
+        OffsetBytes {
+            offset: 5,
+            bytes: first,
+        },
+        OffsetBytes {
+            offset: 6,
+            bytes: second,
+        },
+    ];
+    handle.partial_encode_many(alloc, &parts, &CodecOptions::default())?;
+    let text = whole(alloc, handle)?;
+    Ok(text)
+}
+
+#[test]
+fn parts_are_put_in_their_order(rt: HostRuntime) -> Result<(), Fail> {
+    let mut handle = MemoryHandle::new(Some(six(rt.alloc())?));
+    let text = parts_put(rt.alloc(), &mut handle)?;
+    assert_eq!(rt; text.as_str(), "Some([0, 1, 2, 3, 4, 7, 9])");
     Ok(())
 }
 

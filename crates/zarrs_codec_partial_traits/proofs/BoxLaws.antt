@@ -2,7 +2,7 @@
 use Rattle.std.proofs.Common.{◌≡◌, ℕ, ◌+◌, ◌≤◌, Bool, true, false, not, ◌&&◌, nat_le, if◌then◌else◌, List, [], ◌∷◌, Option, Some, None, refl, sym, ap₂, subst, arith, eq-eqb}
 use Rattle.std.proofs.lemmas.Bool.{le-leb}
 use Rattle.zarr_model.specs.Region.{Region, whole, sizes, ends_within}
-use Rattle.zarr_model.proofs.ChainLaws.{sizes-whole}
+use Rattle.zarr_model.proofs.RegionLaws.{sizes_whole}
 use Rattle.zarrs_codec_partial_traits.specs.Boxes.{same_lengths, is_all, smaller_box}
 
 -- a whole shape lies within itself, and is all of it
@@ -15,7 +15,7 @@ same_here [] = refl
 same_here (n ∷ shape) = ap₂ (λ (a b : Bool). a && b) (eq-eqb n n refl) (same_here shape)
 
 pub whole_is_all : (shape : List ℕ) → is_all shape (Some (whole shape)) ≡ true
-whole_is_all shape = ap₂ (λ (a b : Bool). a && b) (whole_inside shape) (subst (λ (s : List ℕ). same_lengths s shape ≡ true) (sym (sizes-whole shape)) (same_here shape))
+whole_is_all shape = ap₂ (λ (a b : Bool). a && b) (whole_inside shape) (subst (λ (s : List ℕ). same_lengths s shape ≡ true) (sym (sizes_whole shape)) (same_here shape))
 
 -- the box of all elements is no smaller one
 pub all_not_smaller : {P : Type 0} (shape : List ℕ) (asked : Option Region) (box : Region) → smaller_box shape asked ≡ Some box → is_all shape asked ≡ true → P

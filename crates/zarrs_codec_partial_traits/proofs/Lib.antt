@@ -4,3 +4,4 @@ pub mod FaultLaws
 pub mod NamedLaws
 pub mod SelectsLaws
 pub mod UpdateLaws
+pub mod SliceLaws

@@ -4,6 +4,7 @@ use Rattle.zarr_model.specs.Region.{Region}
 use Rattle.zarr_model.specs.Element.{Element, Kind, kind_of}
 use Rattle.zarr_model.specs.ArrayBytes.{ArrayBytes, meaning}
 use Rattle.zarr_model.specs.Codec.{Options}
+use Rattle.zarr_model.proofs.Choices.{some_given, always_ok, always_err}
 use Rattle.zarrs_codec_error.specs.declared.error.CodecError.{CodecError}
 use Rattle.zarrs_codec_array_bytes.specs.declared.array_bytes.ArrayBytes as code
 use Rattle.zarrs_codec_array_bytes.specs.Raw.{raw_of}
@@ -16,14 +17,14 @@ use Rattle.zarrs_codec_view.specs.declared.array_bytes_fixed_disjoint_view.Array
 use Rattle.zarrs_codec_partial_traits.specs.Lists.{ListSeen, HasFill, ReadsList}
 use Rattle.zarrs_codec_partial_traits.specs.Selects.{Selects, HasListOrFill, SelectsInto, KeepsFrame}
 use Rattle.zarrs_codec_partial_traits.proofs.NamedLaws.{refused_never, refused_still}
-use Rattle.zarrs_codec_partial_traits.proofs.UpdateLaws.{keeps_self, was_ok, was_err}
+use Rattle.zarrs_codec_partial_traits.proofs.UpdateLaws.{keeps_self}
 
 pub reads_not : {T E : Type 0} (asked : Option Region) (seen : ListSeen) (e : E) → ReadsList {T = T} asked seen seen (Err e)
 reads_not asked seen e = record { keeps = keeps_self seen; asks = tt; asks_err = inl refl; taken = tt; taken_err = inl refl }
 
 -- a read that was made, whatever comes after it
 pub reads_still : {T U E F : Type 0} (asked : Option Region) (old new : ListSeen) (v : U) (result : Result T E) → ReadsList {E = F} asked old new (Ok v) → ReadsList asked old new result
-reads_still asked old new v result reads = record { keeps = reads.keeps; asks = was_ok result reads.asks; asks_err = was_err result (inr reads.asks); taken = was_ok result reads.taken; taken_err = was_err result (inr reads.taken) }
+reads_still asked old new v result reads = record { keeps = reads.keeps; asks = always_ok result reads.asks; asks_err = always_err result (inr reads.asks); taken = always_ok result reads.taken; taken_err = always_err result (inr reads.taken) }
 
 -- elements that are put into a target's views
 module _ (kind : Kind) (number : ℕ) (raw : ArrayBytes) (olds news : List ArrayBytesFixedDisjointView) (from to : ArrayBytesFixedDisjointView) where
@@ -61,10 +62,6 @@ none_some : {P : Type 0} (o : Option (List Element)) → o ≡ None → IsSome o
 none_some None is there = cc
 none_some (Some xs) is there = cc
 
-some_list : {P : Type 0} (o : Option (List Element)) → IsSome o → ((list : List Element) → o ≡ Some list → P) → P
-some_list None there of = cc
-some_list (Some list) there of = of list refl
-
 module _ (under : Options) (asked : Option Region) (places : List (List ℕ)) (in_order : Bool) (tells : CodecError → Type 0) (olds : List ArrayBytesFixedDisjointView) (from : ArrayBytesFixedDisjointView) (old new : ListSeen) where
   abbrev answer : Told
   answer = into_answer (kind_of old.level.data_type) (length places) olds from
@@ -76,15 +73,15 @@ module _ (under : Options) (asked : Option Region) (places : List (List ℕ)) (i
         taken = λ served some. ok_told result answer (answered served some);
         failed = λ served some order. err_told result answer _ (answered served some);
         undecoded = λ served order there all none. none_some (old.list under) none (selects.decodes served there all);
-        decodes = λ served there all. was_ok result (selects.decodes served there all);
-        all = λ served filled all. was_ok result (selects.all served filled all);
+        decodes = λ served there all. always_ok result (selects.decodes served there all);
+        all = λ served filled all. always_ok result (selects.all served filled all);
         named = λ order. refused_never old.unserved elements result (selects.named order);
         reads = reads_still asked old new elements result selects.reads;
       }
     where
       valid : old.unserved ≡ None → HasListOrFill under old → IsSome (meaning (kind_of old.level.data_type) (length places) (raw_of elements))
       valid served some = ⊎_elim
-          (λ (held : IsSome (old.list under)). some_list (old.list under) held (λ list is. subst (λ (o : Option (List Element)). IsSome o) (sym (selects.value list served is)) refl))
+          (λ (held : IsSome (old.list under)). some_given (old.list under) held (λ list is. subst (λ (o : Option (List Element)). IsSome o) (sym (selects.value list served is)) refl))
           (λ (filled : HasFill old). selects.valid served filled) some
 
       answered : old.unserved ≡ None → HasListOrFill under old → told result ≡ answer

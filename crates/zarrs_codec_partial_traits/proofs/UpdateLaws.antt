@@ -6,6 +6,7 @@ use Rattle.zarr_model.specs.Element.{Element, fill_element, kind_of}
 use Rattle.zarr_model.specs.ArrayBytes.{ArrayBytes}
 use Rattle.zarr_model.specs.Codec.{Level, Options}
 use Rattle.zarr_model.specs.Command.{has_long_element}
+use Rattle.zarr_model.proofs.Choices.{none_some, always_ok, always_err}
 use Rattle.zarrs_codec_error.specs.declared.error.CodecError.{CodecError}
 use Rattle.zarrs_codec_error.specs.declared.error.CodecError.TheVariants as codec
 use Rattle.zarrs_codec_array_bytes.specs.declared.array_bytes.ArrayBytes as code
@@ -15,43 +16,15 @@ use Rattle.zarrs_codec_traits.specs.Errors.{IsNoFault}
 use Rattle.zarrs_codec_held.specs.Reads.{IsFault, IsHandleError}
 use Rattle.zarrs_codec_held.specs.Writes.{is_fault, Unless, UnlessFault, CountsIf, MayCountIf}
 use Rattle.zarrs_codec_held.proofs.EditLaws.{fault_later}
+use Rattle.zarrs_codec_held.proofs.FaultLaws.{unless_of, unless}
 use Rattle.zarrs_codec_partial_traits.specs.Lists.{Refused, ListSeen, HasShortFill, KeepsList, ReadsList, IsListError}
 use Rattle.zarrs_codec_partial_traits.specs.ListWrites.{is_kept, is_stored, HoldsStored, IsAbsent, SameList, IsLeft, IsRefused, PutsList, StaysList, KeepsRest, UnaskedList, MayPutList, Rewrites, IsUnencoded, IsEncoded, IsUnfilled, IsUnreadList}
 use Rattle.zarrs_codec_partial_traits.proofs.FaultLaws.{no_fault, faults_after}
 use Rattle.zarrs_codec_partial_traits.specs.Updates.{Change, given_by, made_by, ReadsListIf, GivesMade, Stores, Updates}
 
--- what holds where no fault is told
-pub unless : {T P Q : Type 0} (r : Result T CodecError) → (P → Q) → UnlessFault r P → UnlessFault r Q
-unless (Ok v) f p = p
-unless {T} {P} {Q} (Err e) f p = go (is_fault e) p
-  where
-    go : (b : Bool) → Unless b P → Unless b Q
-    go true p = p
-    go false p = f p
-
-pub unless_of : {T P : Type 0} (r : Result T CodecError) → P → UnlessFault r P
-unless_of (Ok v) p = tt
-unless_of {T} {P} (Err e) p = go (is_fault e)
-  where
-    go : (b : Bool) → Unless b P
-    go true = tt
-    go false = p
-
 pub unless_fault : {T : Type 0} (P : Type 0) (r : Result T CodecError) (before now : ℕ) → IfErr r (IsFault before now) → UnlessFault r P
 unless_fault P (Ok v) before now is = tt
 unless_fault {T} P (Err e) before now is = subst (λ (x : CodecError). Unless (is_fault x) P) (sym is.0) tt
-
-pub was_ok : {T E P : Type 0} (r : Result T E) → P → OnOk r P
-was_ok (Ok v) p = p
-was_ok (Err e) p = tt
-
-pub was_err : {T E P : Type 0} (r : Result T E) → P → OnErr r P
-was_err (Ok v) p = tt
-was_err (Err e) p = p
-
-none_some : {A : Type 0} (o : Option A) → o ≡ None → IsSome o → ⊥
-none_some None is there = cc
-none_some (Some x) is there = cc
 
 pub keeps_self : (seen : ListSeen) → KeepsList seen seen
 keeps_self seen = record {
@@ -136,10 +109,10 @@ module _ (first old new : ListSeen) (keeps : KeepsList first old) where
       record {
         unchanged = unless result stays_after unchanged;
         rest = rest_after rest;
-        asks = was_ok result asks;
-        asks_err = was_err result (may rereads _ _ _ asks);
-        taken = was_ok result taken;
-        taken_err = was_err result (may rereads _ _ _ taken);
+        asks = always_ok result asks;
+        asks_err = always_err result (may rereads _ _ _ asks);
+        taken = always_ok result taken;
+        taken_err = always_err result (may rereads _ _ _ taken);
       }
 
   same_fill : fill_element (kind_of old.level.data_type) old.fill ≡ fill_element (kind_of first.level.data_type) first.fill
@@ -179,7 +152,7 @@ may_same false before more = refl
 
 -- a read of all elements, whatever comes after it
 pub reads_if_still : {T U E F : Type 0} (asked : Option Region) (old new : ListSeen) (v : U) (result : Result T E) → ReadsList {E = F} asked old new (Ok v) → ReadsListIf true asked old new result
-reads_if_still asked old new v result reads = record { keeps = reads.keeps; asks = was_ok result reads.asks; asks_err = was_err result (inr reads.asks); taken = was_ok result reads.taken; taken_err = was_err result (inr reads.taken) }
+reads_if_still asked old new v result reads = record { keeps = reads.keeps; asks = always_ok result reads.asks; asks_err = always_err result (inr reads.asks); taken = always_ok result reads.taken; taken_err = always_err result (inr reads.taken) }
 
 pub reads_if_not : {T U E : Type 0} (asked : Option Region) (old new : ListSeen) (e : E) → ReadsList {T = T} asked old new (Err e) → ReadsListIf {T = U} true asked old new (Err e)
 reads_if_not asked old new e reads = record { keeps = reads.keeps; asks = tt; asks_err = reads.asks_err; taken = tt; taken_err = reads.taken_err }
@@ -188,7 +161,7 @@ reads_if_not asked old new e reads = record { keeps = reads.keeps; asks = tt; as
 pub reads_none : {T E : Type 0} (reads : Bool) (asked : Option Region) (seen : ListSeen) (result : Result T E) → reads ≡ false → ReadsListIf reads asked seen seen result
 reads_none reads asked seen result not_read =
     subst (λ (b : Bool). ReadsListIf b asked seen seen result) (sym not_read)
-    (let none : ReadsListIf false asked seen seen result = record { keeps = keeps_self seen; asks = was_ok result refl; asks_err = was_err result refl; taken = was_ok result refl; taken_err = was_err result refl } in none)
+    (let none : ReadsListIf false asked seen seen result = record { keeps = keeps_self seen; asks = always_ok result refl; asks_err = always_err result refl; taken = always_ok result refl; taken_err = always_err result refl } in none)
 
 -- nothing was done
 pub unread_if : {T E : Type 0} (reads : Bool) (asked : Option Region) (seen : ListSeen) (e : E) → ReadsListIf {T = T} reads asked seen seen (Err e)
@@ -292,7 +265,7 @@ module _ (under : Options) (change : Change) (tells : CodecError → Type 0) (un
           (λ xs here. subst (λ (b : Bool). OnErr result (IsLeft (λ other. b) (Some xs) mid new)) (stored_after first mid new keeps under xs)
           (stores.left xs (keeps.unserved ∙ served) (ap (λ (level : Level). list_at level (raw_of elements)) keeps.level ∙ here)))
       left_by given is (Some why) because =
-          was_err result (left_same (is_stored under first) (made_by change given (first.list under)) first new (stays_same first new (unserved_by (subst (λ (o : Option Refused). IsSome o) (sym because) refl)).stays))
+          always_err result (left_same (is_stored under first) (made_by change given (first.list under)) first new (stays_same first new (unserved_by (subst (λ (o : Option Refused). IsSome o) (sym because) refl)).stays))
 
   -- they were not made
   pub updates_not : {T : Type 0} (first mid : ListSeen) (e : CodecError) → GivesMade under change tells first mid (Err e) → ReadsListIf {T = code.ArrayBytes} (not change.all) None first mid (Err e) → Updates {T = T} under change tells unencoded takes Short first mid (Err e)

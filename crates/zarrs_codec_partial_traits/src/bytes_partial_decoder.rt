@@ -15,8 +15,8 @@ ghost use Rattle.zarrs_codec_held.specs.Reads.{Looks, Reads, GivesParts, IsReadE
 
 use std::alloc::Global;
 use zarrs_codec_error::CodecError;
-use zarrs_codec_held::only_part;
 use zarrs_codec_options::CodecOptions;
+use zarrs_codec_traits::only_part;
 use zarrs_storage::{ByteRange, StorageError};
 
 /// A handle on one value that is bytes, which is read whole or by ranges.

@@ -140,6 +140,89 @@ fn views_write_their_boxes(rt: HostRuntime) {
     );
 }
 
+// Whether a view of a box of elements of a size is refused, and what is then left of nine bytes.
+fn is_refused(
+    rt: &impl Abort,
+    alloc: Global,
+    bytes: &mut [u8],
+    size: usize,
+    ranges: &[Range<u64>],
+) -> bool
+    requires { 0 < size }
+{
+    let subset = region(rt, alloc, ranges);
+    match ArrayBytesFixedDisjointView::new(alloc, bytes, size, &[3, 3], subset) {
+        Ok(_) => false,
+        Err(_) => true,
+    }
+}
+
+// The same of a smaller view of a view of the two last columns.
+fn is_inner_refused(
+    rt: &impl Abort,
+    alloc: Global,
+    bytes: &mut [u8],
+    ranges: &[Range<u64>],
+) -> bool {
+    let mut view = view_in(rt, alloc, bytes, &[0..3, 1..3]);
+    match view.subdivide(alloc, region(rt, alloc, ranges)) {
+        Ok(_) => false,
+        Err(_) => true,
+    }
+}
+
+fn left_by(
+    rt: &impl Abort,
+    alloc: Global,
+    size: usize,
+    ranges: &[Range<u64>],
+) -> Result<String, AllocError>
+    requires { 0 < size }
+{
+    let mut bytes: [u8; 9] = [0, 1, 2, 3, 4, 5, 6, 7, 8];
+    let refused = is_refused(rt, alloc, &mut bytes, size, ranges);
+    format!(in alloc; "{refused} {bytes:?}")
+}
+
+fn left_by_inner(
+    rt: &impl Abort,
+    alloc: Global,
+    ranges: &[Range<u64>],
+) -> Result<String, AllocError> {
+    let mut bytes: [u8; 9] = [0, 1, 2, 3, 4, 5, 6, 7, 8];
+    let refused = is_inner_refused(rt, alloc, &mut bytes, ranges);
+    format!(in alloc; "{refused} {bytes:?}")
+}
+
+#[test]
+fn refused_views_leave_the_bytes(rt: HostRuntime) {
+    let alloc = rt.alloc();
+    let left = "true [0, 1, 2, 3, 4, 5, 6, 7, 8]";
+    is_text(&rt, left_by(&rt, alloc, 2, &[0..3, 0..3]), left);
+    is_text(&rt, left_by(&rt, alloc, 1, &[0..2, 1..10]), left);
+}
+
+#[test]
+fn refused_smaller_views_leave_the_bytes(rt: HostRuntime) {
+    let left = "true [0, 1, 2, 3, 4, 5, 6, 7, 8]";
+    is_text(&rt, left_by_inner(&rt, rt.alloc(), &[0..1, 0..2]), left);
+}
+
+// Three boxes are written, the second through a smaller view.
+fn three_written(rt: &impl Abort, alloc: Global) -> Result<String, AllocError> {
+    let mut bytes: [u8; 9] = [0, 1, 2, 3, 4, 5, 6, 7, 8];
+    copy_box(rt, alloc, &mut bytes, &[0..2, 1..3], &[11, 12, 14, 15]);
+    copy_inner(rt, alloc, &mut bytes, &[1..2, 1..3], &[24, 25]);
+    fill_box(rt, alloc, &mut bytes, &[2..3, 1..3], &[255]);
+    format!(in alloc; "{bytes:?}")
+}
+
+#[test]
+fn smaller_views_write_the_same_bytes(rt: HostRuntime) {
+    let want = "[0, 11, 12, 3, 24, 25, 6, 255, 255]";
+    is_text(&rt, three_written(&rt, rt.alloc()), want);
+}
+
 fn view_of<'b>(
     rt: &impl Abort,
     alloc: Global,

@@ -2,13 +2,8 @@
 use Rattle.std.proofs.Common.{◌≡◌, ℕ, zero, suc, ◌<◌, Bool, true, false, ◌==◌, if◌then◌else◌, List, [], ◌∷◌, length, take, Option, Some, None, option_map, slice_index, refl, subst}
 use Rattle.std.specs.List.{AllByRecursion}
 use Rattle.zarr_model.specs.Element.{Element, of_bytes, null, some, Kind, fixed, variable, optional, fill_element, optional_fill}
+use Rattle.zarr_model.proofs.ListLaws.{bytes-take}
 use Rattle.zarrs_codec_traits.specs.Words.{AreBytes}
-
--- the first bytes of some are bytes
-bytes_taken : (n : ℕ) (bytes : List ℕ) → AllByRecursion (λ b. b < 256) bytes → AllByRecursion (λ b. b < 256) (take n bytes)
-bytes_taken zero bytes small = tt
-bytes_taken (suc n) [] small = tt
-bytes_taken (suc n) (b ∷ bytes) small = (small.0, bytes_taken n bytes small.1)
 
 -- the element that bytes denote has bytes in it
 fixed_bytes : (same : Bool) (fill : List ℕ) (x : Element) → AllByRecursion (λ b. b < 256) fill → (if same then Some (of_bytes fill) else None) ≡ Some x → AreBytes x
@@ -29,4 +24,4 @@ element_bytes variable fill x small is = let e : of_bytes fill ≡ x = cc in sub
 element_bytes (optional kind) [] x small is = cc
 element_bytes (optional kind) (b ∷ value) x small is =
     optional_bytes (slice_index (b ∷ value) (length value)) (fill_element kind (take (length value) (b ∷ value))) x
-    (λ y inner. element_bytes kind (take (length value) (b ∷ value)) y (bytes_taken (length value) (b ∷ value) small) inner) is
+    (λ y inner. element_bytes kind (take (length value) (b ∷ value)) y (bytes-take (length value) (b ∷ value) small) inner) is

@@ -1,8 +1,9 @@
 //! The shape of a chunk, and the bytes of its elements.
 
-ghost use Rattle.std.specs.Prelude.{◌≡◌, ◌<◌, ◌^◌, true, IfOk, IfErr};
-ghost use Rattle.zarr_model.specs.Region.{count_of};
+ghost use Rattle.std.specs.Prelude.{◌≡◌, ◌<◌, ◌^◌, true, IfOk, IfErr, MatchResult};
+ghost use Rattle.zarr_model.specs.Region.{count_of, whole};
 ghost use Rattle.zarr_model.specs.ArrayBytes.{fixed_bytes};
+ghost use Rattle.zarrs_array_subset.specs.ArraySubset.{region as box_of};
 ghost use Rattle.zarrs_codec_array_bytes.specs.Levels.{is_fixed};
 ghost use Rattle.zarrs_codec_array_bytes.specs.Raw.{raw_of};
 ghost use Rattle.zarrs_codec_error.specs.declared.error.CodecError.TheVariants as codec;
@@ -10,7 +11,7 @@ ghost use Rattle.zarrs_codec_traits.specs.Views.{lengths};
 
 use std::alloc::{AllocError, Global};
 use std::num::NonZeroU64;
-use zarrs_array_subset::ChunkShape;
+use zarrs_array_subset::{ArraySubset, ChunkShape};
 use zarrs_codec_array_bytes::ArrayBytes;
 use zarrs_codec_error::CodecError;
 
@@ -34,6 +35,19 @@ pub fn shape_numbers(alloc: Global, shape: &[NonZeroU64]) -> Result<Vec<u64>, Al
     ensures { IfOk result (λ v. v.items ≡ lengths shape.now) }
 {
     shape.iter().map(|n| n.get()).collect(alloc)
+}
+
+/// The box of all of a shape.
+///
+/// # Errors
+/// [`CodecError::OutOfMemory`] where memory runs out.
+pub fn whole_box(alloc: Global, shape: &[NonZeroU64]) -> Result<ArraySubset, CodecError>
+    ensures { MatchResult result (λ r. box_of r ≡ whole (lengths shape.now))
+        (λ e. e ≡ codec.OutOfMemory) }
+{
+    let numbers = shape_numbers(alloc, shape)?;
+    let all = ArraySubset::new_with_shape(alloc, numbers)?;
+    Ok(all)
 }
 
 /// The same shape.

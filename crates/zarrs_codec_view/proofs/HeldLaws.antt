@@ -14,6 +14,7 @@ use Rattle.zarrs_codec_bytes.specs.Elements.{fixed_elements}
 use Rattle.zarrs_codec_bytes.specs.Overlap.{Copied}
 use Rattle.zarrs_codec_bytes.proofs.FixedLaws.{elements_are, length-elements}
 use Rattle.zarrs_codec_bytes.proofs.MaskLaws.{IsMasked, masked_parts}
+use Rattle.zarrs_codec_bytes.proofs.LeafLaws.{fixed_long}
 use Rattle.zarrs_codec_view.specs.declared.array_bytes_fixed_disjoint_view.ArrayBytesFixedDisjointView.{ArrayBytesFixedDisjointView}
 use Rattle.zarrs_codec_view.specs.declared.part.Part.{Part}
 use Rattle.zarrs_codec_view.specs.Held.{box_elements, box_bytes, held_by, HasElements, IsTargetOf, HaveBytes}
@@ -118,9 +119,6 @@ view_takes size number value view has full long =
     ∙ cond-true (length value == count (region view.part.subset) * view.part.size) _ _
     (eq-eqb (length value) (count (region view.part.subset) * view.part.size) (long ∙ ap₂ (λ a b. a * b) (sym has.counted) (sym has.sized)))
 
-value_long : (size number : ℕ) (value : List ℕ) (xs : List Element) → meaning (fixed size) number (fixed_bytes value) ≡ Some xs → length value ≡ number * size
-value_long size number value xs means = eqb-true (length value) (number * size) (when_some (length value == number * size) (map of_bytes (pieces number size value)) xs means).0
-
 kinds_taken : (kind : Kind) (number : ℕ) (bytes : ArrayBytes) (views : List ArrayBytesFixedDisjointView) (inner : ArrayBytesFixedDisjointView) (xs : List Element) →
     IsTargetOf kind number views inner → meaning kind number bytes ≡ Some xs → kinds_answer (length views) bytes ≡ fine
 kinds_taken (fixed size) number (fixed_bytes value) [] inner xs target means = refl
@@ -137,7 +135,7 @@ kinds_taken (optional kind) number (optional_bytes under mask) (view ∷ views) 
 
 sizes_taken : (kind : Kind) (number : ℕ) (bytes : ArrayBytes) (views : List ArrayBytesFixedDisjointView) (inner : ArrayBytesFixedDisjointView) (xs : List Element) →
     IsTargetOf kind number views inner → HaveBytes views inner → meaning kind number bytes ≡ Some xs → sizes_answer bytes views inner ≡ fine
-sizes_taken (fixed size) number (fixed_bytes value) [] inner xs target full means = view_takes size number value inner target full (value_long size number value xs means)
+sizes_taken (fixed size) number (fixed_bytes value) [] inner xs target full means = view_takes size number value inner target full (fixed_long size number value xs means)
 sizes_taken (fixed size) number (fixed_bytes value) (view ∷ views) inner xs target full means = absurd target
 sizes_taken (fixed size) number (variable_bytes value offsets) views inner xs target full means = cc
 sizes_taken (fixed size) number (optional_bytes under mask) views inner xs target full means = cc

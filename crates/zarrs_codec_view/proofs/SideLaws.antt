@@ -2,8 +2,8 @@
 use Rattle.std.proofs.Common.{◌≡◌, ℕ, ◌<◌, Bool, true, false, if◌then◌else◌, List, get_or, refl, sym, ap, ◌∙◌, subst}
 use Rattle.std.proofs.lemmas.Bool.{cond-true, cond-false}
 use Rattle.zarr_model.specs.Prelude.{count, contains, place, tuple_at, whole}
+use Rattle.zarr_model.proofs.RegionLaws.{count_whole}
 use Rattle.zarrs_codec_view.specs.Laws.{StandSideBySide}
-use Rattle.zarrs_codec_view.proofs.ViewLaws.{count-whole}
 
 pub side_by_side : StandSideBySide
 side_by_side shape first second given other old mid new apart one two k d h =
@@ -13,7 +13,7 @@ side_by_side shape first second given other old mid new apart one two k d h =
     tuple = tuple_at (whole shape) k
 
     inside : k < count (whole shape)
-    inside = subst (λ n. k < n) (sym (count-whole shape)) h
+    inside = subst (λ n. k < n) (sym (count_whole shape)) h
 
     go : (b : Bool) → contains first (tuple_at (whole shape) k) ≡ b →
         (if contains second (tuple_at (whole shape) k) then get_or other (place second (tuple_at (whole shape) k)) d else get_or mid k d)

@@ -5,41 +5,19 @@ use Rattle.std.proofs.lemmas.Bool.Decides.{nat_tests}
 use Rattle.std.proofs.lemmas.Bool.{and_parts, and_from, leb-true, le-leb}
 use Rattle.std.proofs.Math.Nat.{mul-le-mul_right, mul-le-mul_left}
 use Rattle.zarr_model.specs.Region.{Region, whole, count, count_of, sizes, ends_within}
+use Rattle.zarr_model.proofs.RegionLaws.{rank_within, count_within, count_whole, sizes_whole}
 use Rattle.zarrs_array_subset.specs.Boxes.{is_within}
 use Rattle.zarrs_chunk_grid_iterators.specs.Runs.{run_size, run_length, is_whole}
-
-pub count-whole : (shape : List ℕ) → count (whole shape) ≡ count_of shape
-count-whole [] = refl
-count-whole (n ∷ shape) = ap (λ m. n * m) (count-whole shape)
 
 length-whole : (shape : List ℕ) → length (whole shape) ≡ length shape
 length-whole [] = refl
 length-whole (n ∷ shape) = ap suc (length-whole shape)
 
-same_rank : (region : Region) (shape : List ℕ) → ends_within region shape ≡ true → length region ≡ length shape
-same_rank [] [] h = refl
-same_rank [] (n ∷ shape) h = cc
-same_rank (span ∷ region) [] h = cc
-same_rank (span ∷ region) (n ∷ shape) h = ap suc (same_rank region shape (and_parts (nat_le (span.start + span.size) n) (ends_within region shape) h).1)
-
 pub whole_rank : (outer region : Region) (shape : List ℕ) → outer ≡ whole shape → ends_within region shape ≡ true → length outer ≡ length region
-whole_rank outer region shape is h = ap length is ∙ (length-whole shape ∙ sym (same_rank region shape h))
+whole_rank outer region shape is h = ap length is ∙ (length-whole shape ∙ sym (rank_within region shape h))
 
 pub whole_long : (outer : Region) (shape : List ℕ) (size long : ℕ) → outer ≡ whole shape → long ≡ count_of shape * size → long ≡ count outer * size
-whole_long outer shape size long is e = e ∙ ap (λ n. n * size) (sym (ap count is ∙ count-whole shape))
-
--- a box has at most as many elements as the shape that it is in
-pub count_within : (region : Region) (shape : List ℕ) → ends_within region shape ≡ true → count region ≤ count_of shape
-count_within [] [] h = omega arith
-count_within [] (n ∷ shape) h = cc
-count_within (span ∷ region) [] h = cc
-count_within (span ∷ region) (n ∷ shape) h =
-    let parts = and_parts (nat_le (span.start + span.size) n) (ends_within region shape) h in
-    let low : span.start + span.size ≤ n = leb-true (span.start + span.size) n parts.0 in
-    let inner : count region ≤ count_of shape = count_within region shape parts.1 in
-    let a : span.size * count region ≤ span.size * count_of shape = mul-le-mul_left span.size inner in
-    let b : span.size * count_of shape ≤ n * count_of shape = mul-le-mul_right (count_of shape) (let c : span.size ≤ n = omega (arith, low) in c) in
-    omega (arith, a, b)
+whole_long outer shape size long is e = e ∙ ap (λ n. n * size) (sym (ap count is ∙ count_whole shape))
 
 -- its number of elements fits where the shape's bytes do
 pub part_fits : (region : Region) (shape : List ℕ) (size len : ℕ) → 0 < size → len < 2 ^ 64 → ends_within region shape ≡ true → len ≡ count_of shape * size →
@@ -65,11 +43,6 @@ within_ends (a ∷ region) (b ∷ within) (n ∷ shape) e h =
     let high : b.start + b.size ≤ n = leb-true (b.start + b.size) n outer.0 in
     and_from (nat_le (a.start + a.size) n) (ends_within region shape) (le-leb (a.start + a.size) n (omega (arith, low, high))) (within_ends region within shape parts.1 outer.1)
 
--- a whole shape's lengths are the shape
-pub sizes_whole : (shape : List ℕ) → sizes (whole shape) ≡ shape
-sizes_whole [] = refl
-sizes_whole (n ∷ shape) = ap (λ rest. n ∷ rest) (sizes_whole shape)
-
 pub whole_again : (outer : Region) (shape : List ℕ) → outer ≡ whole shape → outer ≡ whole (sizes outer)
 whole_again outer shape is = is ∙ ap whole (sym (ap sizes is ∙ sizes_whole shape))
 
@@ -80,7 +53,7 @@ pub long_again : (outer : Region) (shape : List ℕ) (size len : ℕ) → outer 
 long_again outer shape size len is e = whole_long outer shape size len is e
 
 pub part_rank : (outer region : Region) → ends_within region (sizes outer) ≡ true → length outer ≡ length region
-part_rank outer region h = sym (same_rank region (sizes outer) h ∙ length-map outer (λ span. span.size))
+part_rank outer region h = sym (rank_within region (sizes outer) h ∙ length-map outer (λ span. span.size))
 
 pub whole_count : (outer : Region) (size len : ℕ) → len ≡ count outer * size → len ≡ count_of (sizes outer) * size
 whole_count outer size len e = e

@@ -155,7 +155,7 @@ fn test_len(
 }
 
 /// A box of an array of this shape, whose elements have `size` bytes each and all together `array_len`.
-#[tactic(auto, using(crate::proofs::ViewLaws::sizes_whole, crate::proofs::ViewLaws::within_whole))]
+#[tactic(auto, using(zarr_model::proofs::RegionLaws::sizes_whole, crate::proofs::ViewLaws::within_whole))]
 pub fn part_of(
     alloc: Global,
     array_len: usize,
@@ -194,7 +194,7 @@ pub fn inner_part(
 }
 
 // Tells another length than the expected one.
-pub fn expect_len(len: usize, expected_len: usize) -> Result<(), InvalidBytesLengthError>
+pub(crate) fn expect_len(len: usize, expected_len: usize) -> Result<(), InvalidBytesLengthError>
     ensures exact { is_ok result ≡ (len == expected_len) }
     ensures told { IfErr result
         (λ e. e ≡ record { len = len; expected_len = expected_len }) }

@@ -7,7 +7,7 @@ use Rattle.std.specs.Str.{is_utf8}
 use Rattle.std.proofs.Math.Nat.{pow-succ', add-mul-mod_self_right, add-mul-div_right}
 use Rattle.std.proofs.Math.Seq.{take-append_seam}
 use Rattle.std.proofs.lemmas.List.{length-append}
-use Rattle.std.proofs.lemmas.Bool.{lt-ltb, ltb-true, cond-true}
+use Rattle.std.proofs.lemmas.Bool.{lt-ltb, ltb-true, cond-true, eqb-true}
 use Rattle.std.proofs.lemmas.Bool.Decides.{nat_tests}
 use Rattle.serde_json.specs.Data.{Data, null, boolean, number, string, array, unsigned, no_items, item}
 use Rattle.serde_json.specs.Find.{as_bool, as_number, as_array, as_u64, as_i64, of_integer}
@@ -16,6 +16,7 @@ use Rattle.zarr_model.specs.Element.{of_bytes, some, Kind, fixed, optional, Data
 use Rattle.zarr_model.specs.Codec.{low_bytes, number_of_bytes}
 use Rattle.zarr_model.proofs.BytesLaws.{when_some, mapped_some}
 use Rattle.zarr_model.proofs.VlenLaws.{low_bytes-number_of_bytes}
+use Rattle.zarr_model.proofs.Choices.{is_some-option_map, then_some}
 use Rattle.zarrs_metadata_values.specs.FillValueMetadata.{byte, bytes_in}
 use Rattle.zarrs_metadata_values.specs.Reading.{◌>>=◌, each}
 use Rattle.zarrs_metadata_values.specs.Writing.{number_data, numbers_data}
@@ -26,16 +27,9 @@ use Rattle.zarrs_data_type_names.specs.declared.data_type.DataType as types
 abbrev AreBytes : List ℕ → Type 0
 AreBytes bytes = AllByRecursion (λ b. b < 256) bytes
 
-same_number : (m n : ℕ) → (m == n) ≡ true → m ≡ n
-same_number m n h = grind (arith, nat_tests)
-
 when_then : {A : Type 0} (b : Bool) (o : Option A) (y : A) → (if b then o else None) ≡ Some y → (b ≡ true) × (o ≡ Some y)
 when_then true o y e = (refl, e)
 when_then false o y e = cc
-
-then_some : {A B : Type 0} (f : A → Option B) (o : Option A) (y : B) → option_and_then f o ≡ Some y → (x : A) × (o ≡ Some x) × (f x ≡ Some y)
-then_some f None y e = cc
-then_some f (Some x) y e = (x, refl, e)
 
 unwrapped : {A : Type 0} (x y : A) → Some x ≡ Some y → x ≡ y
 unwrapped x y e = cc
@@ -63,10 +57,6 @@ length_low (suc n) m = ap suc (length_low n (m / 256))
 low_there : (n m : ℕ) (bytes : List ℕ) → low_bytes n m ≡ bytes → is_some (fill_element (fixed n) bytes) ≡ true
 low_there n m bytes h = fixed_there n bytes (ap length (sym h) ∙ length_low n m)
 
-some_there : {A B : Type 0} (f : A → B) (o : Option A) → is_some (option_map f o) ≡ is_some o
-some_there f None = refl
-some_there f (Some x) = refl
-
 -- a fill value that a document gives denotes an element
 pub fill_denotes : (t : DataType) (d : Data) (bytes : List ℕ) → fill_of t d ≡ Some bytes → is_some (fill_element (kind_of t) bytes) ≡ true
 fill_denotes bool_type d bytes e =
@@ -82,7 +72,7 @@ fill_denotes (uint_type n) d bytes e =
 fill_denotes (raw_type n) d bytes e =
     let found = then_some (of_length n) (bytes_in (as_array d)) bytes e in
     let parts = when_some (length found.0 == n) found.0 bytes found.2 in
-    fixed_there n bytes (ap length (sym parts.1) ∙ same_number (length found.0) n parts.0)
+    fixed_there n bytes (ap length (sym parts.1) ∙ eqb-true (length found.0) n parts.0)
 fill_denotes string_type d bytes e = refl
 fill_denotes bytes_type d bytes e = refl
 fill_denotes (optional_type inner) null bytes e =
@@ -91,7 +81,7 @@ fill_denotes (optional_type inner) (array (item d no_items)) bytes e =
     let found = mapped_some some_bytes (fill_of inner d) bytes e in
     ap (λ b. is_some (fill_element (optional (kind_of inner)) b)) (sym found.2)
     ∙ (ap is_some (some_element (kind_of inner) found.0)
-    ∙ (some_there some (fill_element (kind_of inner) found.0) ∙ fill_denotes inner d found.0 found.1))
+    ∙ (is_some-option_map some (fill_element (kind_of inner) found.0) ∙ fill_denotes inner d found.0 found.1))
 fill_denotes (optional_type inner) _ bytes e = cc
 
 when_there : {A : Type 0} (b : Bool) (x : A) → is_some (if b then Some x else None) ≡ true → b ≡ true
@@ -101,7 +91,7 @@ when_there false x e = e
 -- of a fixed size it has that many bytes
 pub fill_length : (t : DataType) (d : Data) (bytes : List ℕ) (n : ℕ) → fill_of t d ≡ Some bytes → kind_of t ≡ fixed n → length bytes ≡ n
 fill_length t d bytes n e is =
-    same_number (length bytes) n (when_there (length bytes == n) (of_bytes bytes)
+    eqb-true (length bytes) n (when_there (length bytes == n) (of_bytes bytes)
     (ap (λ k. is_some (fill_element k bytes)) (sym is) ∙ fill_denotes t d bytes e))
 
 -- ---- what a document says gives the same element
@@ -136,17 +126,17 @@ bool_kept [] d e = cc
 bool_kept (b ∷ []) d e = go (b == 0) (b == 1) refl refl e
   where
     go : (t u : Bool) → (b == 0) ≡ t → (b == 1) ≡ u → (if t then Some (boolean false) else if u then Some (boolean true) else None) ≡ Some d → fill_of bool_type d ≡ Some (b ∷ [])
-    go true u p q f = ap (fill_of bool_type) (sym (unwrapped (boolean false) d f)) ∙ ap (λ x. Some (x ∷ [])) (sym (same_number b 0 p))
-    go false true p q f = ap (fill_of bool_type) (sym (unwrapped (boolean true) d f)) ∙ ap (λ x. Some (x ∷ [])) (sym (same_number b 1 q))
+    go true u p q f = ap (fill_of bool_type) (sym (unwrapped (boolean false) d f)) ∙ ap (λ x. Some (x ∷ [])) (sym (eqb-true b 0 p))
+    go false true p q f = ap (fill_of bool_type) (sym (unwrapped (boolean true) d f)) ∙ ap (λ x. Some (x ∷ [])) (sym (eqb-true b 1 q))
     go false false p q f = cc
 bool_kept (b ∷ c ∷ bytes) d e =
     let parts = when_then (length (b ∷ c ∷ bytes) == 1) (byte_as_bool b) d e in
-    let long = same_number (length (b ∷ c ∷ bytes)) 1 parts.0 in absurd (omega arith)
+    let long = eqb-true (length (b ∷ c ∷ bytes)) 1 parts.0 in absurd (omega arith)
 
 uint_kept : (n : ℕ) (bytes : List ℕ) (d : Data) → AreBytes bytes → fill_metadata_of (uint_type n) bytes ≡ Some d → fill_of (uint_type n) d ≡ Some bytes
 uint_kept n bytes d all e =
     let parts = when_some (length bytes == n) (number (unsigned (number_of_bytes bytes))) d e in
-    let long = same_number (length bytes) n parts.0 in
+    let long = eqb-true (length bytes) n parts.0 in
     let small : number_of_bytes bytes < 256 ^ n = subst (λ k. number_of_bytes bytes < 256 ^ k) long (below_power bytes all) in
     ap (fill_of (uint_type n)) (sym parts.1)
     ∙ (cond-true (nat_lt (number_of_bytes bytes) (256 ^ n)) (Some (low_bytes n (number_of_bytes bytes))) None (lt-ltb (number_of_bytes bytes) (256 ^ n) small)
@@ -170,7 +160,7 @@ int_kept : (n half j : ℕ) → half ≡ 2 ^ (8 * n - 1) → 256 ^ n ≡ 2 * hal
     (bytes : List ℕ) (d : Data) → AreBytes bytes → fill_metadata_of (int_type n) bytes ≡ Some d → fill_of (int_type n) d ≡ Some bytes
 int_kept n half j is whole few times bytes d all e =
     let parts = when_some (length bytes == n) (number (of_integer (signed_number n (number_of_bytes bytes)))) d e in
-    let long = same_number (length bytes) n parts.0 in
+    let long = eqb-true (length bytes) n parts.0 in
     let small : number_of_bytes bytes < 256 ^ n = subst (λ k. number_of_bytes bytes < 256 ^ k) long (below_power bytes all) in
     ap (fill_of (int_type n)) (sym parts.1) ∙ (go (number_of_bytes bytes) small (nat_lt (number_of_bytes bytes) (2 ^ (8 * n - 1))) refl ∙ ap Some (low_back n bytes all long))
   where

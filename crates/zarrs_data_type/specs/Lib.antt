@@ -4,7 +4,6 @@ pub use Rattle.zarrs_data_type_elements.specs.ByteOrder
 pub use Rattle.zarrs_data_type_elements.specs.BytesSupport
 pub use Rattle.zarrs_data_type_elements.specs.Rounding
 pub use Rattle.zarrs_data_type_elements.specs.CodecSupport
-pub use Rattle.zarrs_data_type_names.specs.Number
 pub use Rattle.zarrs_data_type_names.specs.DataType
 pub use Rattle.zarrs_data_type_names.specs.Kinds
 pub use Rattle.zarrs_data_type_names.specs.Making
@@ -12,5 +11,5 @@ pub use Rattle.zarrs_data_type_names.specs.Naming
 pub use Rattle.zarrs_data_type_names.specs.SameType
 pub use Rattle.zarrs_data_type_names.specs.OptionalRef
 pub mod FillMetadata
-pub mod Size
 pub mod Optional
+pub use Rattle.zarr_model.specs.DataTypeSize

@@ -12,18 +12,17 @@ ghost use Rattle.zarrs_metadata_parts.specs.DataTypeV2.{data_type_v2_seen};
 ghost use Rattle.zarrs_data_type_elements.specs.FillValue.{fill_bytes};
 ghost use Rattle.zarrs_data_type_names.specs.DataType.{type_of, size_of};
 ghost use Rattle.zarrs_data_type_names.specs.Naming.{type_name, type_configuration};
-ghost use Rattle.zarrs_data_type.specs.Size.{size_seen};
+ghost use Rattle.zarr_model.specs.DataTypeSize.{size_seen};
 ghost use Rattle.zarrs_data_type.specs.FillMetadata.{fill_of, Fills, fill_metadata_of, Tells};
 ghost use Rattle.zarrs_data_type_names.specs.Making.{Makes, type_by, type_by_v2};
 
 use crate::fill_metadata::{FillMetadataFault, fill_from_metadata};
 use crate::metadata_of_fill::{FillFault, metadata_of_fill};
 use std::alloc::{AllocError, Global};
+use zarr_model::DataTypeSize;
 use zarrs_data_type_elements::FillValue;
-use zarrs_data_type_names::{DataType, DataTypeKind, DataTypeMetadata, type_members};
-use zarrs_metadata_parts::{
-    Configuration, DataTypeMetadataV2, DataTypeSize, FillValueMetadata, MetadataV3,
-};
+use zarrs_data_type_names::{DataType, DataTypeKind, DataTypeMetadata, type_members, type_size};
+use zarrs_metadata_parts::{Configuration, DataTypeMetadataV2, FillValueMetadata, MetadataV3};
 use zarrs_plugin::{ExtensionName, PluginCreateError, Registry, ZarrVersion};
 
 /// What a data type tells of itself.
@@ -166,16 +165,6 @@ pub trait DataTypeTraitsV2: Sized {
     ) -> Result<Self, PluginCreateError>
         ensures { Makes created_v2 result
             (type_by_v2 (registry_of registry.now) (data_type_v2_seen metadata.now)) };
-}
-
-/// The size of the elements of a data type.
-pub(crate) fn type_size(data_type: &DataType) -> DataTypeSize
-    ensures { size_seen result ≡ size_of (type_of data_type.now) }
-{
-    match data_type.fixed_size() {
-        Some(size) => DataTypeSize::Fixed(size),
-        None => DataTypeSize::Variable,
-    }
 }
 
 impl DataTypeTraits for DataType {

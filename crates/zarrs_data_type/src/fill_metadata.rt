@@ -24,7 +24,7 @@ pub struct DataTypeFillValueMetadataError;
 #[derive(Clone, Copy, Debug, PartialEq, Eq, Error)]
 pub enum FillMetadataFault {
     /// It is none of the data type.
-    #[error("{0}")]
+    #[error(transparent)]
     Metadata(DataTypeFillValueMetadataError),
     /// Memory ran out.
     #[error("out of memory")]

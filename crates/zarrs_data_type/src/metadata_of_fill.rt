@@ -12,19 +12,15 @@ ghost use Rattle.zarrs_data_type.specs.FillMetadata.{signed_number, fill_metadat
 
 use std::alloc::{AllocError, AllocFailed, Global};
 use thiserror::Error;
+use zarrs_data_type_elements::DataTypeFillValueError;
 use zarrs_data_type_names::DataType;
 use zarrs_metadata_parts::FillValueMetadata;
-
-/// The bytes of a fill value denote no element of the data type.
-#[derive(Clone, Copy, Debug, PartialEq, Eq, Error)]
-#[error("the fill value denotes no element of the data type")]
-pub struct DataTypeFillValueError;
 
 /// Why a fill value is not written to a document.
 #[derive(Clone, Copy, Debug, PartialEq, Eq, Error)]
 pub enum FillFault {
     /// Its bytes denote no element of the data type.
-    #[error("{0}")]
+    #[error(transparent)]
     Value(DataTypeFillValueError),
     /// Memory ran out.
     #[error("out of memory")]

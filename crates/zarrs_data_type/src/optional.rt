@@ -8,17 +8,18 @@ ghost use Rattle.zarrs_data_type_elements.specs.FillValue.{fill_bytes};
 ghost use Rattle.zarrs_data_type_elements.specs.Pieces.{ends_in_zero};
 ghost use Rattle.zarrs_data_type_names.specs.DataType.{type_of, size_of};
 ghost use Rattle.zarrs_data_type_names.specs.Naming.{type_name, type_configuration};
-ghost use Rattle.zarrs_data_type.specs.Size.{size_seen};
+ghost use Rattle.zarr_model.specs.DataTypeSize.{size_seen};
 ghost use Rattle.zarrs_data_type.specs.FillMetadata.{fill_of, Fills};
 ghost use Rattle.zarrs_data_type.specs.Optional.{inner_type, optional_seen};
 
-use crate::data_type_traits::{DataTypeTraits, are_equal, type_size};
+use crate::data_type_traits::{DataTypeTraits, are_equal};
 use crate::fill_metadata::{FillMetadataFault, fill_from_metadata, optional_fill};
 use crate::metadata_of_fill::{FillFault, optional_metadata};
 use std::alloc::{AllocError, Global};
+use zarr_model::DataTypeSize;
 use zarrs_data_type_elements::FillValue;
-use zarrs_data_type_names::{DataType, optional_members};
-use zarrs_metadata_parts::{Configuration, DataTypeSize, FillValueMetadata};
+use zarrs_data_type_names::{DataType, optional_members, type_size};
+use zarrs_metadata_parts::{Configuration, FillValueMetadata};
 use zarrs_plugin::{ExtensionName, ZarrVersion};
 
 /// An optional type, as the type inside.

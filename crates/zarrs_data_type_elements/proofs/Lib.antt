@@ -5,3 +5,5 @@ pub mod NumberLaws
 pub mod LowLaws
 pub mod OrderLaws
 pub mod RepeatLaws
+pub mod Masks
+pub mod LaneLaws

@@ -1,11 +1,11 @@
 -- Byte order: twice, and as the model's codec has it.
 use Rattle.std.proofs.Common.{◌≡◌, ℕ, zero, suc, ◌*◌, ◌/◌, ◌<◌, ◌==◌, if◌then◌else◌, Bool, true, false, List, [], ◌∷◌, ◌++◌, length, take, drop, reverse, flat_map, Option, Some, None, refl, sym, ap, ◌∙◌, arith}
-use Rattle.std.proofs.lemmas.List.{length-drop}
+use Rattle.std.proofs.lemmas.List.{length-drop, nil_from_length}
 use Rattle.std.proofs.Math.Nat.{suc-mul, mul-div_cancel}
 use Rattle.zarr_model.specs.ArrayBytes.{pieces}
 use Rattle.zarr_model.specs.Codec.{big, from_order}
-use Rattle.zarrs_metadata_parts.specs.declared.array.endianness.Endianness.{Endianness}
-use Rattle.zarrs_metadata_parts.specs.declared.array.endianness.Endianness.TheVariants.{Little, Big}
+use Rattle.zarr_model.specs.declared.endianness.Endianness.{Endianness}
+use Rattle.zarr_model.specs.declared.endianness.Endianness.TheVariants.{Little, Big}
 use Rattle.zarrs_data_type_elements.specs.Pieces.{in_pieces, components_reversed}
 use Rattle.zarrs_data_type_elements.specs.ByteOrder.{ordered, in_order}
 use Rattle.zarrs_data_type_elements.proofs.PieceLaws.{reversed_back}
@@ -28,13 +28,9 @@ undone n order bytes there e = go (n == 1) e
     go true e = sym e
     go false e = ordered_back n order bytes there e
 
-none : (l : List ℕ) → length l ≡ 0 → l ≡ []
-none [] e = refl
-none (x ∷ l) e = absurd (omega arith)
-
 -- pieces that are all of some bytes
 pub all_pieces : (change : List ℕ → List ℕ) (n k : ℕ) (bytes : List ℕ) → length bytes ≡ k * n → in_pieces change k n bytes ≡ flat_map change (pieces k n bytes)
-all_pieces change n zero bytes e = none bytes (omega (arith, e))
+all_pieces change n zero bytes e = nil_from_length bytes (omega (arith, e))
 all_pieces change n (suc k) bytes e =
     ap (λ l. change (take n bytes) ++ l) (all_pieces change n k (drop n bytes) (omega (arith, length-drop n bytes, e, suc-mul k n)))
 

@@ -1,6 +1,6 @@
 -- Bytes piece by piece: lengths, one more piece, the same change twice, and lists again and again.
-use Rattle.std.proofs.Common.{rules, ◌≡◌, ℕ, zero, suc, ◌+◌, ◌-◌, ◌*◌, ◌/◌, ◌%◌, ◌<◌, ◌≤◌, List, [], ◌∷◌, ◌++◌, length, take, drop, reverse, refl, sym, ap, ap₂, ◌∙◌, subst, arith}
-use Rattle.std.proofs.lemmas.List.{take_all, length-append, length-take-le, length-drop, take-append-drop, append_assoc, reverse-reverse, length-reverse}
+use Rattle.std.proofs.Common.{◌≡◌, ℕ, zero, suc, ◌+◌, ◌-◌, ◌*◌, ◌/◌, ◌%◌, ◌<◌, ◌≤◌, List, [], ◌∷◌, ◌++◌, length, take, drop, reverse, refl, sym, ap, ap₂, ◌∙◌, subst, arith}
+use Rattle.std.proofs.lemmas.List.{take_all, length-append, length-take-le, length-drop, take-append-drop, append_assoc, reverse-reverse, length-reverse, append-nil}
 use Rattle.std.proofs.Math.Seq.{take-append-add, drop-append-add, take-append_seam, drop-append_seam}
 use Rattle.std.proofs.Math.Nat.{div-add-mod', suc-mul, mul-le-mul_right, div-mul-le_self}
 use Rattle.zarrs_data_type_elements.specs.Pieces.{repeated, in_pieces, components_reversed}
@@ -104,10 +104,7 @@ repeated_piece (suc k) (suc i) list h =
     ∙ repeated_piece k i list (omega arith)
 
 pub repeated_step : (k : ℕ) (list : List ℕ) → repeated (k + 1) list ≡ repeated k list ++ list
-repeated_step zero list = append_none list
-  where
-    append_none : (l : List ℕ) → l ++ [] ≡ l
-    append_none l = search rules
+repeated_step zero list = append-nil list
 repeated_step (suc k) list = ap (λ m. repeated m list) (let e : suc k + 1 ≡ suc (k + 1) = omega arith in e) ∙ (ap (λ l. list ++ l) (repeated_step k list) ∙ sym (append_assoc list (repeated k list) list))
 
 take_none : (m : ℕ) → take {A = ℕ} m [] ≡ []

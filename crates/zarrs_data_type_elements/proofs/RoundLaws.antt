@@ -9,6 +9,7 @@ use Rattle.std.proofs.lemmas.List.{length-take-le, length-drop}
 use Rattle.std.proofs.Math.Seq.{take-append_seam, drop-append_seam}
 use Rattle.zarr_model.specs.Codec.{number_of_bytes, low_bytes}
 use Rattle.zarr_model.proofs.VlenLaws.{number_of_bytes-low_bytes}
+use Rattle.zarr_model.proofs.ListLaws.{bytes-take}
 use Rattle.zarrs_data_type_elements.specs.Pieces.{in_pieces}
 use Rattle.zarrs_data_type_elements.specs.Rounding.{binary_digits, without_low, rounded, rounded_bytes, elements_rounded}
 use Rattle.zarrs_data_type_elements.proofs.PieceLaws.{Keeps, length-in_pieces, whole_pieces}
@@ -203,11 +204,6 @@ piece_settles keep size piece keeps few long all =
     ∙ ap (low_bytes size) (settles keep size (number_of_bytes piece) keeps few fits)
 
 -- and so in all pieces
-bytes_take : (n : ℕ) (bytes : List ℕ) → AllByRecursion (λ b. b < 256) bytes → AllByRecursion (λ b. b < 256) (take n bytes)
-bytes_take zero bytes all = tt
-bytes_take (suc n) [] all = tt
-bytes_take (suc n) (b ∷ bytes) all = (all.0, bytes_take n bytes all.1)
-
 bytes_drop : (n : ℕ) (bytes : List ℕ) → AllByRecursion (λ b. b < 256) bytes → AllByRecursion (λ b. b < 256) (drop n bytes)
 bytes_drop zero bytes all = all
 bytes_drop (suc n) [] all = tt
@@ -222,7 +218,7 @@ pieces_settle keep size (suc k) bytes keeps few room all =
     let long : length piece ≡ size = length-low_bytes size (rounded keep size (number_of_bytes (take size bytes))) in
     ap₂ (λ a b. a ++ b)
     (ap (rounded_bytes keep size) (subst (λ m. take m (piece ++ rest) ≡ piece) long (take-append_seam piece rest))
-    ∙ piece_settles keep size (take size bytes) keeps few (length-take-le size bytes (omega (arith, room, suc-mul k size))) (bytes_take size bytes all))
+    ∙ piece_settles keep size (take size bytes) keeps few (length-take-le size bytes (omega (arith, room, suc-mul k size))) (bytes-take size bytes all))
     (ap (in_pieces (rounded_bytes keep size) k size) (subst (λ m. drop m (piece ++ rest) ≡ rest) long (drop-append_seam piece rest))
     ∙ pieces_settle keep size k (drop size bytes) keeps few (omega (arith, room, suc-mul k size, length-drop size bytes)) (bytes_drop size bytes all))
 

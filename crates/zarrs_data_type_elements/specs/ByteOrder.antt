@@ -4,8 +4,8 @@ use Rattle.std.specs.Cow.{cow_slice_items}
 use Rattle.std.specs.declared.borrow.CowSlice.{CowSlice}
 use Rattle.std.specs.declared.alloc.Global.{Global}
 use Rattle.std.specs.declared.vec.Vec.{Vec}
-use Rattle.zarrs_metadata_parts.specs.declared.array.endianness.Endianness.{Endianness}
-use Rattle.zarrs_metadata_parts.specs.declared.array.endianness.Endianness.TheVariants.{Little, Big}
+use Rattle.zarr_model.specs.declared.endianness.Endianness.{Endianness}
+use Rattle.zarr_model.specs.declared.endianness.Endianness.TheVariants.{Little, Big}
 use Rattle.zarrs_data_type_elements.specs.Pieces.{components_reversed}
 use Rattle.zarrs_data_type_elements.specs.declared.codec_traits.bytes.BytesCodecEndiannessMissingError.{BytesCodecEndiannessMissingError}
 use Rattle.zarrs_data_type_elements.specs.declared.codec_traits.bytes.BytesCodecFault.{BytesCodecFault}

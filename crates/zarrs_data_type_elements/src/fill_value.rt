@@ -3,13 +3,17 @@
 //! See <https://zarr-specs.readthedocs.io/en/latest/v3/core/index.html#fill-value>.
 
 ghost use Rattle.std.specs.Prelude.{◌≡◌, ◌<◌, ◌-◌, ◌%◌, ◌/◌, ◌++◌, ◌∷◌, [], ◌↔◌, IsTrue, IfOk, length, take};
+ghost use Rattle.std.specs.List.{AllByRecursion};
 ghost use Rattle.zarrs_data_type_elements.specs.Pieces.{repeated, Repeats, ends_in_zero};
 
 mod from;
+mod lanes;
 mod repeat;
 
+use lanes::by_lanes;
 use std::alloc::{AllocError, Global};
 use std::fmt;
+use thiserror::Error;
 
 /// The element of an array where nothing is stored, as its bytes.
 ///
@@ -19,6 +23,11 @@ use std::fmt;
 pub struct FillValue {
     bytes: Vec<u8>,
 }
+
+/// The bytes of a fill value denote no element of the data type.
+#[derive(Clone, Copy, Debug, PartialEq, Eq, Error)]
+#[error("the fill value denotes no element of the data type")]
+pub struct DataTypeFillValueError;
 
 fn are_same(bytes: &[u8], other: &[u8]) -> bool
     ensures { IsTrue result ↔ (bytes.now ≡ other.now) }
@@ -40,6 +49,24 @@ fn all_pieces(fill: &[u8], bytes: &[u8]) -> bool
     true
 }
 
+/// The numbers in a slice are bytes, as these are held.
+pub fn are_bytes(_bytes: &[u8])
+    ensures { AllByRecursion (λ b. b < 256) _bytes.now }
+{}
+
+// The same by lanes where the fill goes into them, which is so of 1, 2, 4, 8 and 16 bytes.
+fn all_fill(fill: &[u8], bytes: &[u8]) -> bool
+    requires some { 0 < length fill.now }
+    requires whole { length bytes.now % length fill.now ≡ 0 }
+    ensures { IsTrue result ↔ (bytes.now ≡ repeated (length bytes.now / length fill.now) fill.now) }
+{
+    if 16 % fill.len() == 0 {
+        by_lanes(fill, bytes)
+    } else {
+        all_pieces(fill, bytes)
+    }
+}
+
 /// Whether bytes are those of a fill value repeated at least once; empty ones equal only empty bytes.
 pub fn repeats(fill: &[u8], bytes: &[u8]) -> bool
     ensures { IsTrue result ↔ Repeats fill.now bytes.now }
@@ -53,7 +80,7 @@ pub fn repeats(fill: &[u8], bytes: &[u8]) -> bool
     if bytes.len() % fill.len() != 0 {
         return false;
     }
-    all_pieces(fill, bytes)
+    all_fill(fill, bytes)
 }
 
 /// Whether the last byte is 0, which makes a fill value of an optional type null.

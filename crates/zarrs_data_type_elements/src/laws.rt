@@ -3,7 +3,7 @@
 ghost use Rattle.std.specs.Prelude.{◌≡◌, ◌<◌, ◌≤◌, ◌*◌, ℕ, List, length, Option, Some};
 ghost use Rattle.std.specs.List.{AllByRecursion};
 ghost use Rattle.zarr_model.specs.Codec.{big, from_order};
-ghost use Rattle.zarrs_metadata_parts.specs.declared.array.endianness.Endianness.{Endianness};
+ghost use Rattle.zarr_model.specs.declared.endianness.Endianness.{Endianness};
 ghost use Rattle.zarrs_data_type_elements.specs.Pieces.{components_reversed};
 ghost use Rattle.zarrs_data_type_elements.specs.ByteOrder.{in_order};
 ghost use Rattle.zarrs_data_type_elements.specs.Rounding.{elements_rounded};

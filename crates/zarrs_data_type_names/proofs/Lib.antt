@@ -1,4 +1,3 @@
-pub mod NumberLaws
 pub mod MakingLaws
 pub mod SameTypeLaws
 pub mod TypeLaws

@@ -1,19 +1,16 @@
 -- Two types are the same where they are equal.
-use Rattle.std.proofs.Common.{◌≡◌, ◌↔◌, ◌==◌, IsTrue, ℕ, true, refl, ap, subst, arith, eq-eqb}
-use Rattle.std.proofs.lemmas.Bool.Decides.{nat_tests}
+use Rattle.std.proofs.Common.{◌≡◌, ◌↔◌, ◌==◌, IsTrue, ℕ, true, refl, ap, subst, eq-eqb}
+use Rattle.std.proofs.lemmas.Bool.{eqb-true}
 use Rattle.zarr_model.specs.Element.{DataType, bool_type, int_type, uint_type, raw_type, string_type, bytes_type, optional_type}
 use Rattle.zarrs_data_type_names.specs.DataType.{same_type}
-
-same_number : (m n : ℕ) → (m == n) ≡ true → m ≡ n
-same_number m n h = grind (arith, nat_tests)
 
 pub equal_types : (a b : DataType) → same_type a b ≡ true → a ≡ b
 equal_types bool_type bool_type h = refl
 equal_types string_type string_type h = refl
 equal_types bytes_type bytes_type h = refl
-equal_types (int_type m) (int_type n) h = ap int_type (same_number m n h)
-equal_types (uint_type m) (uint_type n) h = ap uint_type (same_number m n h)
-equal_types (raw_type m) (raw_type n) h = ap raw_type (same_number m n h)
+equal_types (int_type m) (int_type n) h = ap int_type (eqb-true m n h)
+equal_types (uint_type m) (uint_type n) h = ap uint_type (eqb-true m n h)
+equal_types (raw_type m) (raw_type n) h = ap raw_type (eqb-true m n h)
 equal_types (optional_type a) (optional_type b) h = ap optional_type (equal_types a b h)
 equal_types _ _ h = cc
 

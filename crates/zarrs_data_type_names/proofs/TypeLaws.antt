@@ -10,7 +10,7 @@ use Rattle.zarr_model.proofs.BytesLaws.{when_some}
 use Rattle.zarrs_plugin.specs.Registry.{Names, find}
 use Rattle.zarrs_metadata_values.specs.Configuration.{is_empty}
 use Rattle.zarrs_data_type_names.specs.DataType.{is_type}
-use Rattle.zarrs_data_type_names.specs.Number.{number_of}
+use Rattle.zarrs_plugin.specs.Number.{number_of}
 use Rattle.zarrs_data_type_names.specs.Kinds.{behind, whole_bytes, raw_size, raw_of_size, kind_type}
 use Rattle.zarrs_data_type_names.specs.Making.{optional_of, are_named, optional_pair, pair_type, type_in, type_by, unless_raw, name_v2, type_by_v2, Makes}
 use Rattle.zarrs_data_type_names.specs.declared.data_type.kind.DataTypeKind as kinds

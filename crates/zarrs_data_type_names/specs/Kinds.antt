@@ -2,7 +2,7 @@
 use Rattle.std.specs.Prelude.{ℕ, ◌/◌, ◌%◌, ◌==◌, ◌&&◌, nat_lt, Bool, if◌then◌else◌, List, [], ◌∷◌, Option, Some, None, option_and_then, Result, Ok, Err}
 use Rattle.zarr_model.specs.Element.{DataType, bool_type, int_type, uint_type, raw_type, string_type, bytes_type}
 use Rattle.zarrs_plugin.specs.Making.{Unmade, unsupported, config}
-use Rattle.zarrs_data_type_names.specs.Number.{number_of}
+use Rattle.zarrs_plugin.specs.Number.{number_of}
 use Rattle.zarrs_data_type_names.specs.declared.data_type.kind.DataTypeKind as kinds
 use Rattle.zarrs_data_type_names.specs.declared.data_type.kind.DataTypeKind.TheVariants as kind
 

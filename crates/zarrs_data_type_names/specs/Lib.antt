@@ -1,4 +1,3 @@
-pub mod Number
 pub mod DataType
 pub mod SameType
 pub mod Kinds

@@ -10,6 +10,7 @@ mod codecs;
 pub mod create;
 pub mod kind;
 pub mod naming;
+pub mod size;
 
 use std::alloc::{AllocError, Global};
 

@@ -5,12 +5,11 @@
 
 mod data_type;
 pub mod laws;
-mod number;
 mod optional;
 
 pub use data_type::DataType;
 pub use data_type::create::DataTypeMetadata;
 pub use data_type::kind::DataTypeKind;
 pub use data_type::naming::{optional_members, type_members};
-pub use number::parse_number;
+pub use data_type::size::type_size;
 pub use optional::OptionalRef;

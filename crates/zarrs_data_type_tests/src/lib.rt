@@ -6,6 +6,8 @@ mod documents;
 #[cfg(test)]
 mod fills;
 #[cfg(test)]
+mod lanes;
+#[cfg(test)]
 mod names;
 #[cfg(test)]
 mod numbers;

@@ -4,8 +4,8 @@ use crate::texts::{bytes_of, cut, is_text};
 use std::alloc::Global;
 use std::borrow::CowSlice;
 use std::process::Abort;
+use zarr_model::Endianness;
 use zarrs_data_type_elements::{BytesCodecFault, BytesDataTypeTraits, BytesSupport};
-use zarrs_metadata_parts::Endianness;
 
 // The size of a component, an order, some bytes, and these in that order.
 const ORDERED: &str = "1 | none | 1 2 3 | [1, 2, 3]

@@ -11,6 +11,7 @@ use Rattle.zarrs_metadata_parts.specs.MetadataV3.{Extension, extension_data, nor
 use Rattle.zarrs_metadata_values.proofs.PutLemmas.{look}
 use Rattle.zarrs_metadata_parts.proofs.ExtensionLemmas.{extension_reads_back}
 use Rattle.zarrs_metadata_values.proofs.NumberLists.{whole_numbers_read_back}
+use Rattle.zarrs_metadata_values.proofs.PutObject.{either_way, look_object, object_back, object_found}
 use Rattle.zarrs_metadata_parts.proofs.ReadBack.{extensions_read_back}
 use Rattle.zarrs_metadata_parts.specs.AdditionalFields.{is_array_key, is_named_key, additional_fields_of, put_fields}
 use Rattle.zarrs_metadata_parts.specs.DimensionNames.{dimension_name, dimension_names, dimension_name_data}
@@ -19,7 +20,7 @@ use Rattle.zarrs_metadata.specs.GroupMetadata.{GroupFields, group_data}
 use Rattle.zarrs_metadata.specs.Node.{NodeFields, array_node, group_node, node_of, node_data, normal_node}
 use Rattle.zarrs_metadata_parts.specs.declared.v3.additional_fields.NodeKind.TheVariants.{Array, Group}
 use Rattle.zarrs_metadata_parts.proofs.FieldsBack.{fields-put_named, fields_beside, look-put_fields}
-use Rattle.zarrs_metadata.proofs.GroupBack.{either_way, object_found, look_object, fields_object, object_back, group_format, group_type, group_reads_back}
+use Rattle.zarrs_metadata.proofs.GroupBack.{fields_object, group_format, group_type, group_reads_back}
 
 -- ---- what is found after a member that is put only where it isn't empty
 

@@ -1,40 +1,20 @@
 -- What is written for a group, read again; and members that are put only where they are not empty.
-use Rattle.std.proofs.Common.{◌≡◌, ℕ, List, Ordering, Less, Equal, Greater, Option, Some, None, codes, nat_cmp, true, refl, sym}
-use Rattle.std.specs.Cmp.Lexicographic.{slice_cmp}
-use Rattle.std.specs.Ordering.{match_ordering}
-use Rattle.serde_json.specs.Data.{Data, unsigned, number, string, object, Members, no_members, member}
+use Rattle.std.proofs.Common.{◌≡◌, ℕ, List, Some, None, codes, true, refl}
+use Rattle.serde_json.specs.Data.{unsigned, number, string, object, Members, no_members, member}
 use Rattle.serde_json.specs.Find.{get_member}
-use Rattle.zarrs_metadata_parts.specs.Reading.{from_data, unless_float, is_number, is_text, object_or_empty}
+use Rattle.zarrs_metadata_parts.specs.Reading.{from_data, unless_float, is_number, is_text}
 use Rattle.zarrs_metadata_parts.specs.Writing.{put_object}
 use Rattle.zarrs_metadata_values.proofs.PutLemmas.{look}
+use Rattle.zarrs_metadata_values.proofs.PutObject.{object_found, look_object, object_back}
 use Rattle.zarrs_metadata_parts.specs.AdditionalFields.{is_group_key, is_named_key, additional_fields_of, put_fields}
 use Rattle.zarrs_metadata.specs.GroupMetadata.{GroupFields, group_members, group_of, group_data_members, group_data, normal_group}
 use Rattle.zarrs_metadata_parts.specs.declared.v3.additional_fields.NodeKind.{NodeKind}
 use Rattle.zarrs_metadata_parts.specs.declared.v3.additional_fields.NodeKind.TheVariants.{Group}
 use Rattle.zarrs_metadata_parts.proofs.FieldsBack.{fields-put_named, fields_beside, look-put_fields}
 
-pub either_way : (o : Ordering) (x : Option Data) → match_ordering o x x x ≡ x
-either_way Less x = refl
-either_way Equal x = refl
-either_way Greater x = refl
-
--- what is found after a member that is put only where it isn't empty
-abbrev pub object_found : Members → Option Data → Option Data
-object_found no_members before = before
-object_found (member k d ms) before = Some (object (member k d ms))
-
-pub look_object : (q k : List ℕ) (ns ms : Members) → get_member q (put_object k ns ms) ≡ match_ordering (slice_cmp nat_cmp q k) (get_member q ms) (object_found ns (get_member q ms)) (get_member q ms)
-look_object q k no_members ms = sym (either_way (slice_cmp nat_cmp q k) (get_member q ms))
-look_object q k (member l e ns) ms = look q k (object (member l e ns)) ms
-
 pub fields_object : (kind : NodeKind) (k : List ℕ) (ns ms : Members) → is_named_key kind k ≡ true → additional_fields_of kind (put_object k ns ms) ≡ additional_fields_of kind ms
 fields_object kind k no_members ms named = refl
 fields_object kind k (member l e ns) ms named = fields-put_named kind k (object (member l e ns)) ms named
-
-pub object_back : (ns : Members) → object_or_empty (object_found ns None) ≡ Some ns
-unfolding object_or_empty
-object_back no_members = refl
-object_back (member k d ns) = refl
 
 group_attributes : (g : GroupFields) (ms : Members) → get_member (codes "attributes") (group_data_members g ms) ≡ object_found g.attributes (get_member (codes "attributes") ms)
 unfolding group_data_members

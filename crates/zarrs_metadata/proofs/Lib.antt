@@ -4,3 +4,5 @@ pub mod GroupTwice
 pub mod ArrayBack
 pub mod ReadFields
 pub mod Twice
+pub mod AnyBack
+pub mod StaysKind

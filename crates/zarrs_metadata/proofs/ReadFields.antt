@@ -13,7 +13,7 @@ use Rattle.zarrs_metadata.specs.GroupMetadata.{group_of}
 use Rattle.zarrs_metadata.specs.Node.{NodeFields, array_node, group_node, node_seen, node_of, array_node_or, group_node_of, KeepsNodeFields}
 use Rattle.zarrs_metadata_parts.specs.declared.v3.additional_fields.NodeKind.TheVariants.{Array}
 use Rattle.zarrs_metadata.specs.declared.v3.array.ArrayMetadataV3.{ArrayMetadataV3}
-use Rattle.zarrs_metadata.specs.declared.node.NodeMetadataV3.{NodeMetadataV3}
+use Rattle.zarrs_metadata.specs.declared.v3.node.NodeMetadataV3.{NodeMetadataV3}
 use Rattle.zarrs_metadata.proofs.GroupFields.{fields_kept, group_again}
 
 optional_parts : (ms : Members) (o : OptionalFields) → optional_fields ms ≡ Some o → o.additional_fields ≡ additional_fields_of Array ms

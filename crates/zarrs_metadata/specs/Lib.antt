@@ -13,3 +13,13 @@ pub use Rattle.zarrs_metadata_parts.specs.Names
 pub mod GroupMetadata
 pub mod ArrayMetadata
 pub mod Node
+pub use Rattle.zarrs_metadata_v2_nodes.specs.EndiannessV2
+pub use Rattle.zarrs_metadata_v2_nodes.specs.CodecsV2
+pub use Rattle.zarrs_metadata_v2_nodes.specs.ArrayMetadataV2
+pub use Rattle.zarrs_metadata_v2_nodes.specs.GroupMetadataV2
+pub use Rattle.zarrs_metadata_v2_nodes.specs.NodeV2
+pub mod AnyArray
+pub mod AnyGroup
+pub mod AnyNode
+pub use Rattle.zarr_model.specs.Endianness
+pub use Rattle.zarr_model.specs.DataTypeSize

@@ -4,8 +4,8 @@ use Rattle.serde_json.specs.Data.{Data}
 use Rattle.zarrs_metadata_parts.specs.Reading.{◌>>=◌}
 use Rattle.zarrs_metadata.specs.ArrayMetadata.{ArrayFields, array_seen, array_of, array_data, normal_array, KeepsFields}
 use Rattle.zarrs_metadata.specs.GroupMetadata.{GroupFields, group_seen, group_of, group_data, normal_group}
-use Rattle.zarrs_metadata.specs.declared.node.NodeMetadataV3.{NodeMetadataV3}
-use Rattle.zarrs_metadata.specs.declared.node.NodeMetadataV3.TheVariants.{Array, Group}
+use Rattle.zarrs_metadata.specs.declared.v3.node.NodeMetadataV3.{NodeMetadataV3}
+use Rattle.zarrs_metadata.specs.declared.v3.node.NodeMetadataV3.TheVariants.{Array, Group}
 
 pub data NodeFields : Type 0 where
   array_node : ArrayFields → NodeFields

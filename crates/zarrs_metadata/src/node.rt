@@ -1,104 +1,95 @@
-//! The documents of arrays and groups.
+//! The documents of arrays and groups of either version.
 
 ghost use Rattle.std.specs.Prelude.{◌≡◌, ◌≤◌, Some, IfOk, string_bytes};
 ghost use Rattle.serde_json.specs.Data.{depth};
 ghost use Rattle.serde_json.specs.Read.{read, max_depth};
 ghost use Rattle.serde_json.specs.View.{view};
-ghost use Rattle.zarrs_metadata_parts.specs.Reading.{Reads, Gives, from_data, from_json};
-ghost use Rattle.zarrs_metadata.specs.Node.{node_seen, node_of, group_node_of, node_data, KeepsNodeFields};
+ghost use Rattle.zarrs_metadata_values.specs.Reading.{Gives, from_data, from_json};
+ghost use Rattle.zarrs_metadata.specs.AnyNode.{any_node_seen, only_group, any_node_of, any_node_data};
 
-use crate::v3::array::ArrayMetadataV3;
-use crate::v3::group::{GroupMetadataV3, read_group};
-use crate::v3::reading::read_array;
+use crate::array::ArrayMetadata;
+use crate::group::GroupMetadata;
 use serde_json::Value;
 use std::alloc::{AllocError, Global};
-use zarrs_metadata_parts::MetadataError;
-use zarrs_metadata_parts::reading::{read_value, refuse_floats};
+use zarrs_metadata_values::MetadataError;
+use zarrs_metadata_values::reading::read_value;
 
-/// The version 3 document of an array or a group.
+/// The document of an array or a group.
 #[derive(Debug, PartialEq, Drop)]
-pub enum NodeMetadataV3 {
+pub enum NodeMetadata {
     /// An array.
-    Array(ArrayMetadataV3),
+    Array(ArrayMetadata),
     /// A group.
-    Group(GroupMetadataV3),
+    Group(GroupMetadata),
 }
 
-impl NodeMetadataV3 {
-    /// The document that a value is: an array's, else a group's. Its additional fields stay as they are when it is
-    /// written and read again.
+impl NodeMetadata {
+    /// The document that a value is: an array's of version 3, else of version 2, else a group's of version 3, else of
+    /// version 2. So a version 2 array that lacks a field is read as a version 2 group with its other members as
+    /// attributes.
     ///
     /// # Errors
     /// `FloatNumber` exactly where the value holds a float, attributes included, else `InvalidMetadata` exactly where it
-    /// is neither.
-    #[tactic(auto, using(crate::proofs::ReadFields::read_node_kept))]
+    /// is none of the four.
     pub fn from_value(alloc: Global, value: &Value) -> Result<Self, MetadataError>
-        ensures gives { Gives node_seen result (from_data node_of (view value.now)) }
-        ensures kept { IfOk result (λ n. KeepsNodeFields (node_seen n)) }
+        ensures { Gives any_node_seen result (from_data any_node_of (view value.now)) }
     {
-        refuse_floats(value)?;
-        read_node(alloc, value)
+        match ArrayMetadata::from_value(alloc, value) {
+            Ok(array) => Ok(NodeMetadata::Array(array)),
+            Err(MetadataError::InvalidMetadata) => read_only_group(alloc, value),
+            Err(e) => Err(e),
+        }
     }
 
     /// The value that is the document.
     pub fn to_value(&self, alloc: Global) -> Result<Value, AllocError>
-        ensures { IfOk result (λ v. view v ≡ node_data (node_seen self.now)) }
+        ensures { IfOk result (λ v. view v ≡ any_node_data (any_node_seen self.now)) }
     {
         match self {
-            NodeMetadataV3::Array(array) => array.to_value(alloc),
-            NodeMetadataV3::Group(group) => group.to_value(alloc),
+            NodeMetadata::Array(array) => array.to_value(alloc),
+            NodeMetadata::Group(group) => group.to_value(alloc),
         }
     }
 
-    /// The document that a text is, as [`NodeMetadataV3::from_value`].
+    /// The document that a text is, as [`NodeMetadata::from_value`].
     ///
     /// # Errors
     /// `InvalidJson` exactly where the text is not JSON, else as for the value.
-    #[tactic(auto, using(crate::proofs::ReadFields::read_node_kept))]
     pub fn try_from_text(alloc: Global, text: &str) -> Result<Self, MetadataError>
-        ensures gives { Gives node_seen result (from_json node_of (read text.now)) }
-        ensures kept { IfOk result (λ n. KeepsNodeFields (node_seen n)) }
+        ensures { Gives any_node_seen result (from_json any_node_of (read text.now)) }
     {
         let value = read_value(alloc, text)?;
-        read_node(alloc, &value)
+        NodeMetadata::from_value(alloc, &value)
     }
 
     /// The document as text, a line for each member.
     pub fn to_string_pretty(&self, alloc: Global) -> Result<String, AllocError>
-        ensures { IfOk result (λ text. depth (node_data (node_seen self.now)) ≤ max_depth
-            → read (string_bytes text) ≡ Some (node_data (node_seen self.now))) }
+        ensures { IfOk result (λ text. depth (any_node_data (any_node_seen self.now)) ≤ max_depth
+            → read (string_bytes text) ≡ Some (any_node_data (any_node_seen self.now))) }
     {
         match self {
-            NodeMetadataV3::Array(array) => array.to_string_pretty(alloc),
-            NodeMetadataV3::Group(group) => group.to_string_pretty(alloc),
+            NodeMetadata::Array(array) => array.to_string_pretty(alloc),
+            NodeMetadata::Group(group) => group.to_string_pretty(alloc),
         }
     }
 
     /// A copy.
     pub fn try_clone(&self, alloc: Global) -> Result<Self, AllocError>
-        ensures { IfOk result (λ copy. node_seen copy ≡ node_seen self.now) }
+        ensures { IfOk result (λ copy. any_node_seen copy ≡ any_node_seen self.now) }
     {
         match self {
-            NodeMetadataV3::Array(array) => Ok(NodeMetadataV3::Array(array.try_clone(alloc)?)),
-            NodeMetadataV3::Group(group) => Ok(NodeMetadataV3::Group(group.try_clone(alloc)?)),
+            NodeMetadata::Array(array) => Ok(NodeMetadata::Array(array.try_clone(alloc)?)),
+            NodeMetadata::Group(group) => Ok(NodeMetadata::Group(group.try_clone(alloc)?)),
         }
     }
 }
 
-// The document that a value is: an array's, else a group's.
-fn read_node(alloc: Global, value: &Value) -> Result<NodeMetadataV3, MetadataError>
-    ensures { Reads node_seen result (node_of (view value.now)) }
+// The group that a value is, of either version.
+fn read_only_group(alloc: Global, value: &Value) -> Result<NodeMetadata, MetadataError>
+    ensures { Gives any_node_seen result (from_data only_group (view value.now)) }
 {
-    match read_array(alloc, value) {
-        Ok(array) => Ok(NodeMetadataV3::Array(array)),
-        Err(MetadataError::InvalidMetadata) => read_group_node(alloc, value),
+    match GroupMetadata::from_value(alloc, value) {
+        Ok(group) => Ok(NodeMetadata::Group(group)),
         Err(e) => Err(e),
     }
-}
-
-fn read_group_node(alloc: Global, value: &Value) -> Result<NodeMetadataV3, MetadataError>
-    ensures { Reads node_seen result (group_node_of (view value.now)) }
-{
-    let group = read_group(alloc, value)?;
-    Ok(NodeMetadataV3::Group(group))
 }

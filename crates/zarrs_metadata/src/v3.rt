@@ -5,6 +5,7 @@ pub mod copying;
 pub mod group;
 pub mod laws;
 pub mod named_parts;
+pub mod node;
 pub mod optional_parts;
 pub mod reading;
 pub mod writing;

@@ -2,7 +2,7 @@
 
 use crate::texts::is_text;
 use std::alloc::{AllocError, Global};
-use zarrs_metadata_nodes::{ArrayMetadata, GroupMetadata, NodeMetadata};
+use zarrs_metadata::{ArrayMetadata, GroupMetadata, NodeMetadata};
 use zarrs_metadata_values::MetadataError;
 
 fn of_pretty_text(alloc: Global, node: &NodeMetadata) -> Result<NodeMetadata, MetadataError> {

@@ -2,7 +2,7 @@
 
 use crate::texts::is_text;
 use std::alloc::{AllocError, Global};
-use zarrs_metadata_nodes::data_type_metadata_v2_to_endianness;
+use zarrs_metadata::data_type_metadata_v2_to_endianness;
 use zarrs_metadata_v2::DataTypeMetadataV2;
 
 fn order_of(alloc: Global, data_type: &DataTypeMetadataV2) -> Result<String, AllocError> {

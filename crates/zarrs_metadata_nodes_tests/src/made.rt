@@ -4,9 +4,7 @@ use crate::texts::is_text;
 use serde_json::{Map, Value};
 use std::alloc::{AllocError, Global};
 use std::num::NonZeroU64;
-use zarrs_metadata_nodes::{
-    ArrayMetadataV2, ArrayMetadataV2Order, GroupMetadataV2, NodeMetadataV2,
-};
+use zarrs_metadata::{ArrayMetadataV2, ArrayMetadataV2Order, GroupMetadataV2, NodeMetadataV2};
 use zarrs_metadata_parts::{ChunkKeySeparator, ChunkShape, FillValueMetadataV2};
 use zarrs_metadata_v2::DataTypeMetadataV2;
 

@@ -1,6 +1,6 @@
 //! Each reader of a document, once.
 
-use zarrs_metadata_nodes::{
+use zarrs_metadata::{
     ArrayMetadata, ArrayMetadataV2, GroupMetadata, GroupMetadataV2, NodeMetadataV2,
 };
 use zarrs_metadata_values::MetadataError;

@@ -5,3 +5,4 @@ pub mod ReadBack
 pub mod RisingLemmas
 pub mod AdditionalFieldLemmas
 pub mod FieldsBack
+pub mod MakingLaws

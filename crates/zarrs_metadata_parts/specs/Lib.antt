@@ -10,3 +10,4 @@ pub mod AdditionalField
 pub mod AdditionalFields
 pub mod DimensionNames
 pub mod Names
+pub mod Making

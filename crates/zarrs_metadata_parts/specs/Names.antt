@@ -1,9 +1,7 @@
--- Separators and byte orders as characters and texts.
-use Rattle.std.specs.Prelude.{ℕ, ◌==◌, Bool, true, false, if◌then◌else◌, List, Result, Ok, Err, codes}
+-- Separators as characters and texts.
+use Rattle.std.specs.Prelude.{ℕ, ◌==◌, if◌then◌else◌, List, Result, Ok, Err, codes}
 use Rattle.zarrs_metadata_parts.specs.declared.array.chunk_key_separator.ChunkKeySeparator.{ChunkKeySeparator}
 use Rattle.zarrs_metadata_parts.specs.declared.array.chunk_key_separator.ChunkKeySeparator.TheVariants.{Slash, Dot}
-use Rattle.zarrs_metadata_parts.specs.declared.array.endianness.Endianness.{Endianness}
-use Rattle.zarrs_metadata_parts.specs.declared.array.endianness.Endianness.TheVariants.{Little, Big}
 
 abbrev pub separator_code : ChunkKeySeparator → ℕ
 separator_code Slash = 47
@@ -16,11 +14,3 @@ separator_text Dot = codes "."
 -- any other character is handed back
 abbrev pub separator_of : ℕ → Result ChunkKeySeparator ℕ
 separator_of c = if c == 47 then Ok Slash else if c == 46 then Ok Dot else Err c
-
-abbrev pub is_little : Endianness → Bool
-is_little Little = true
-is_little Big = false
-
-abbrev pub endianness_text : Endianness → List ℕ
-endianness_text Little = codes "Little"
-endianness_text Big = codes "Big"

@@ -1,4 +1,4 @@
-//! Shapes, dimension names and sizes, which both versions have.
+//! Dimension names and separators, which both versions have.
 
 ghost use Rattle.std.specs.Prelude.{◌≡◌, ℕ, List, Option, Some, IfOk, option_map, string_bytes};
 
@@ -6,19 +6,9 @@ use std::alloc::{AllocError, Global};
 
 pub mod chunk_key_separator;
 pub mod dimension_names;
-pub mod endianness;
 
 /// The name of a dimension, if it has one.
 pub type DimensionName = Option<String>;
-
-/// The size of an element of a data type.
-#[derive(Clone, Copy, Debug, PartialEq, Eq)]
-pub enum DataTypeSize {
-    /// So many bytes.
-    Fixed(usize),
-    /// Not the same for each element.
-    Variable,
-}
 
 /// What can be taken as the name of a dimension.
 pub trait IntoDimensionName {

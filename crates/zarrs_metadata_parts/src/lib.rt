@@ -10,17 +10,17 @@
 mod array;
 pub mod copying;
 pub mod laws;
+pub mod making;
 pub mod reading;
 mod v3;
 pub mod writing;
 
 pub use array::chunk_key_separator::ChunkKeySeparator;
-pub use array::endianness::Endianness;
-pub use array::{DataTypeSize, DimensionName, IntoDimensionName, dimension_names};
+pub use array::{DimensionName, IntoDimensionName, dimension_names};
 pub use v3::additional_field::{AdditionalFieldV3, AdditionalFieldsV3};
 pub use v3::additional_fields;
 pub use v3::metadata::MetadataV3;
-pub use zarr_model::{ArrayShape, ChunkShape};
+pub use zarr_model::{ArrayShape, ChunkShape, DataTypeSize, Endianness};
 pub use zarrs_metadata_v2::{
     DataTypeMetadataV2, DataTypeMetadataV2EndiannessError, DataTypeMetadataV2Structured, MetadataV2,
 };

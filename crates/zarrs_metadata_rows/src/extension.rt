@@ -1,8 +1,8 @@
 //! Rows of named extensions: what a text says.
 
 use std::alloc::{AllocError, Global};
-use zarrs_metadata_parts::laws::read_again;
-use zarrs_metadata_parts::{MetadataError, MetadataV3};
+use zarrs_metadata::laws::read_again;
+use zarrs_metadata::{MetadataError, MetadataV3};
 
 // How an extension is written.
 fn written(alloc: Global, extension: &MetadataV3) -> Result<String, AllocError> {

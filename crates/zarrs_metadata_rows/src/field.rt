@@ -1,7 +1,7 @@
 //! Rows of additional fields: what a text says as one.
 
 use std::alloc::{AllocError, Global};
-use zarrs_metadata_parts::{AdditionalFieldV3, MetadataError};
+use zarrs_metadata::{AdditionalFieldV3, MetadataError};
 
 fn of_value(alloc: Global, field: &AdditionalFieldV3) -> Result<AdditionalFieldV3, MetadataError> {
     let value = field.to_value(alloc)?;

@@ -1,7 +1,7 @@
 //! Rows of fill values: which kinds a text is of.
 
 use std::alloc::{AllocError, Global};
-use zarrs_metadata_parts::{EmptyConfiguration, FillValueMetadataV3, MetadataError};
+use zarrs_metadata::{EmptyConfiguration, FillValueMetadataV3, MetadataError};
 
 fn of_value(
     alloc: Global,

@@ -1,7 +1,7 @@
 //! Rows of the codecs and data types of version 2 arrays: what a text says as one.
 
 use std::alloc::{AllocError, Global};
-use zarrs_metadata_parts::{DataTypeMetadataV2, EmptyConfiguration, MetadataError, MetadataV2};
+use zarrs_metadata::{DataTypeMetadataV2, EmptyConfiguration, MetadataError, MetadataV2};
 
 fn codec_of_value(alloc: Global, codec: &MetadataV2) -> Result<MetadataV2, MetadataError> {
     let value = codec.to_value(alloc)?;

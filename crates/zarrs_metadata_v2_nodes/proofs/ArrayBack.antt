@@ -22,7 +22,7 @@ use Rattle.zarrs_metadata_v2_nodes.specs.CodecsV2.{compressor_of, filters_of, co
 use Rattle.zarrs_metadata_v2_nodes.specs.ArrayMetadataV2.{ArrayV2, order_of, order_text, separator_of_text, dimension_separator_of, positive_number, positive_numbers, required_v2, optional_v2, with_optional_fields_v2, array_v2_members, array_v2_of, optional_data_v2, parts_data_v2, required_data_v2, array_v2_data, normal_array_v2, required_part_v2, optional_part_v2, HasChunks}
 use Rattle.zarrs_metadata_v2_nodes.specs.declared.array.order.ArrayMetadataV2Order.{ArrayMetadataV2Order}
 use Rattle.zarrs_metadata_v2_nodes.specs.declared.array.order.ArrayMetadataV2Order.TheVariants.{C, F}
-use Rattle.zarrs_metadata_v2_nodes.proofs.PutObject.{object_found, look_object, object_back}
+use Rattle.zarrs_metadata_values.proofs.PutObject.{object_found, look_object, object_back}
 
 -- ---- the parts that are always there
 

@@ -1,5 +1,4 @@
 pub mod TypeLemmas
-pub mod PutObject
 pub mod ArrayBack
 pub mod GroupBack
 pub mod Stays

@@ -1,8 +1,8 @@
 -- The byte order that a version 2 data type begins with.
 use Rattle.std.specs.Prelude.{ℕ, ◌==◌, if◌then◌else◌, List, [], ◌∷◌, Option, Some, None, Result, Ok, Err}
 use Rattle.zarrs_metadata_v2.specs.DataTypeV2.{DataTypeV2, simple, structured}
-use Rattle.zarrs_metadata_parts.specs.declared.array.endianness.Endianness.{Endianness}
-use Rattle.zarrs_metadata_parts.specs.declared.array.endianness.Endianness.TheVariants.{Little, Big}
+use Rattle.zarr_model.specs.declared.endianness.Endianness.{Endianness}
+use Rattle.zarr_model.specs.declared.endianness.Endianness.TheVariants.{Little, Big}
 
 -- `|` is for types without a byte order; any other byte tells nothing
 abbrev pub order_of_byte : ℕ → Option (Option Endianness)

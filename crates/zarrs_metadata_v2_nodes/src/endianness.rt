@@ -6,7 +6,7 @@ ghost use Rattle.std.specs.Prelude.{◌≡◌};
 ghost use Rattle.zarrs_metadata_v2.specs.DataTypeV2.{data_type_v2_seen};
 ghost use Rattle.zarrs_metadata_v2_nodes.specs.EndiannessV2.{answer_of, endianness_v2, order_of_text, order_of_byte};
 
-use zarrs_metadata_parts::Endianness;
+use zarr_model::Endianness;
 use zarrs_metadata_v2::{DataTypeMetadataV2, DataTypeMetadataV2EndiannessError};
 
 /// The byte order of a version 2 data type, and [`None`] where its elements have none: what it begins with, `<` for

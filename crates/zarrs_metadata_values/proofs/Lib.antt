@@ -5,3 +5,4 @@ pub mod RisingLemmas
 pub mod FillLemmas
 pub mod FillBytes
 pub mod NumberLists
+pub mod PutObject

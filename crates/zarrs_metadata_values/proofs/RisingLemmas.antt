@@ -26,7 +26,8 @@ pub later_sorted : (e : Entry) (es : List Entry) → IsStrictlySortedBy string_c
 unfolding IsStrictlySortedBy
 later_sorted e es sorted = sorted.1
 
-gone_later : (k : List ℕ) (ms : Members) → IsBelowMembers k ms → get_member k ms ≡ None
+-- a key below all is not there
+pub gone_later : (k : List ℕ) (ms : Members) → IsBelowMembers k ms → get_member k ms ≡ None
 gone_later k no_members h = refl
 gone_later k (member l e ms) h = rw (h.0, gone_later k ms h.1)
 

@@ -1,7 +1,7 @@
 -- Configurations, and values that are read from them.
-use Rattle.std.specs.Prelude.{◌≡◌, ℕ, Bool, true, false, List, Option, Some, None, option_map, Result, Ok, Err, string_bytes}
+use Rattle.std.specs.Prelude.{◌≡◌, ℕ, Bool, true, false, if◌then◌else◌, List, bytes_eq, Option, Some, None, option_map, Result, Ok, Err, string_bytes}
 use Rattle.std.specs.declared.alloc.AllocError.{AllocError}
-use Rattle.serde_json.specs.Data.{Members, no_members, member}
+use Rattle.serde_json.specs.Data.{Data, Members, no_members, member}
 use Rattle.serde_json.specs.View.{members_view}
 use Rattle.zarrs_metadata_values.specs.declared.configuration.Configuration.{Configuration}
 use Rattle.zarrs_metadata_values.specs.declared.configuration.ConfigurationError.{ConfigurationError}
@@ -26,6 +26,12 @@ is_empty (member k d ms) = false
 abbrev pub is_none_or_empty : Option Members → Bool
 is_none_or_empty None = true
 is_none_or_empty (Some ms) = is_empty ms
+
+-- the value of the only member, which has this name
+abbrev pub only_member : List ℕ → Members → Option Data
+only_member name no_members = None
+only_member name (member key value no_members) = if bytes_eq key name then Some value else None
+only_member name (member key value (member other next ms)) = None
 
 -- a name and a configuration that go with each other
 pub record NamedConfiguration : Type 0 where

@@ -2,13 +2,15 @@
 //!
 //! See <https://zarr-specs.readthedocs.io/en/latest/v3/core/index.html#extension-definition>.
 
-ghost use Rattle.std.specs.Prelude.{◌≡◌, Bool, Some, None, IfOk, option_map, string_bytes};
+ghost use Rattle.std.specs.Prelude.{◌≡◌, Bool, Some, None, IfOk, IfErr, option_map, string_bytes};
 ghost use Rattle.serde_json.specs.Data.{Members, no_members};
-ghost use Rattle.serde_json.specs.View.{members_view};
-ghost use Rattle.zarrs_metadata_values.specs.Configuration.{configuration_seen, configuration_error_seen, is_empty, Typed};
+ghost use Rattle.serde_json.specs.View.{members_view, view};
+ghost use Rattle.zarrs_metadata_values.specs.Configuration.{configuration_seen, configuration_error_seen, is_empty, only_member, Typed};
+ghost use Rattle.zarrs_metadata_values.specs.Reading.{Reads};
 ghost use Rattle.zarrs_metadata_values.specs.declared.configuration.ToConfigurationFault.TheVariants.{OutOfMemory};
+ghost use Rattle.zarrs_metadata_values.specs.declared.error.MetadataError.TheVariants as fault;
 
-use crate::error::FromConfigurationError;
+use crate::error::{FromConfigurationError, MetadataError};
 use crate::json::copy_members;
 use serde_json::{Map, Value};
 use std::alloc::{AllocError, Global};
@@ -133,6 +135,32 @@ pub fn is_empty(members: &Map<String, Value>) -> bool
     members.iter().next().is_none()
 }
 
+/// The value of the only member, which must have this name.
+///
+/// # Errors
+/// `InvalidMetadata` exactly where there are other members, or none.
+pub fn only_member<'a>(
+    configuration: &'a Configuration,
+    name: &str,
+) -> Result<&'a Value, MetadataError>
+    ensures value { Reads (λ v. view v.now) result
+        (only_member name.now (configuration_seen configuration.now)) }
+    ensures form { IfErr result (λ e. e ≡ fault.InvalidMetadata) }
+{
+    let mut members = configuration.as_map().iter();
+    let Some((key, value)) = members.next() else {
+        return Err(MetadataError::InvalidMetadata);
+    };
+    if members.next().is_some() {
+        return Err(MetadataError::InvalidMetadata);
+    }
+    if key.as_str() == name {
+        Ok(value)
+    } else {
+        Err(MetadataError::InvalidMetadata)
+    }
+}
+
 /// A configuration that goes with no type, and the name of the extension that has it.
 #[derive(Debug, PartialEq, Drop, Error)]
 #[error("the configuration of {name} is not supported")]
@@ -201,7 +229,7 @@ pub fn copy_optional(
 #[derive(Debug, Drop, Error)]
 pub enum ToConfigurationFault {
     /// The type accepts no such configuration.
-    #[error("{0}")]
+    #[error(transparent)]
     Mismatch(ConfigurationError),
     /// Memory ran out.
     #[error("out of memory")]

@@ -57,7 +57,7 @@ impl PluginUnsupportedError {
 #[derive(Debug, Drop, Error)]
 pub enum PluginCreateError {
     /// The name is not supported.
-    #[error("{0}")]
+    #[error(transparent)]
     Unsupported(PluginUnsupportedError),
     /// The configuration is not one that the extension has.
     #[error("the configuration is not supported")]

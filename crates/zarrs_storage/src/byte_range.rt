@@ -46,7 +46,7 @@ impl InvalidByteRangeError {
 #[derive(Clone, Copy, Debug, Error)]
 pub enum ByteRangeFault {
     /// A range is not valid, the first such one.
-    #[error("{0}")]
+    #[error(transparent)]
     Invalid(InvalidByteRangeError),
     /// Memory ran out.
     #[error("out of memory")]

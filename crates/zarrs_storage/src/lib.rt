@@ -3,18 +3,20 @@
 //! See <https://zarr-specs.readthedocs.io/en/latest/v3/core/index.html#stores>.
 #![tactic(auto)]
 
-pub mod byte_range;
-pub mod memory_store;
-pub mod parts;
-pub mod sink;
-pub mod source;
-pub mod store;
-pub mod store_key;
+mod byte_range;
+mod failing_store;
+mod memory_store;
+mod parts;
+mod sink;
+mod source;
+mod store;
+mod store_key;
 
 pub use byte_range::{
     ByteRange, ByteRangeFault, InvalidByteRangeError, OffsetBytes, extract_byte_ranges,
     extract_byte_ranges_concat,
 };
+pub use failing_store::FailingStore;
 pub use memory_store::MemoryStore;
 pub use parts::put_parts;
 pub use sink::{MemorySink, Sink, WriteSink};

@@ -56,7 +56,7 @@ impl MemoryStore {
 }
 
 // A count with the lengths of parts, which stops at the last value.
-fn with_lengths(count: u64, parts: &[Vec<u8>]) -> u64
+pub(crate) fn with_lengths(count: u64, parts: &[Vec<u8>]) -> u64
     ensures { result ≡ count_of (count + total_of parts.now) }
 {
     let mut sum = count;
@@ -72,6 +72,8 @@ impl Store for MemoryStore {
     ghost use Rattle.zarrs_storage.specs.Calls.{count_of-fits};
 
     ghost shown = { shown_of };
+
+    ghost kept = { λ _ _. Unit {0} };
 
     ghost gets_parts = { λ _. true };
 
@@ -165,4 +167,8 @@ impl Store for MemoryStore {
     }
 
     ghost counts_fit = { λ s. (count_of-fits 0, count_of-fits s.asks, count_of-fits s.taken) };
+
+    ghost kept_self = { λ _. tt };
+
+    ghost kept_twice = { λ _ _ _ _ _. tt };
 }

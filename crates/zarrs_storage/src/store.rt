@@ -18,7 +18,7 @@ pub enum StorageError {
     #[error("the store failed")]
     Failed,
     /// A range of bytes is not valid for the value, the first such one.
-    #[error("{0}")]
+    #[error(transparent)]
     InvalidByteRange(InvalidByteRangeError),
     /// Memory ran out, and the content is as before.
     #[error("out of memory")]
@@ -65,6 +65,11 @@ pub trait Store {
     /// Its content and its counts.
     ghost shown: { Self → Shown };
 
+    /// What a reading call keeps of a store beside what it shows, from before the call to after it.
+    ///
+    /// A store that lies over another one says here what stays of that one, so who lent it knows it afterwards.
+    ghost kept: { Self → Self → Type 0 };
+
     // Whether it reads and writes parts of a value.
     ghost gets_parts: { Self → Bool };
 
@@ -75,7 +80,8 @@ pub trait Store {
     /// # Errors
     /// [`StorageError::Failed`] where the store fails, which its count of faults tells, or [`StorageError::OutOfMemory`].
     fn get(&mut self, alloc: Global, key: &StoreKey) -> Result<Option<Vec<u8>>, StorageError>
-        ensures { Gets key.now (shown self.old) (shown self.new) result };
+        ensures reads { Gets key.now (shown self.old) (shown self.new) result }
+        ensures kept { kept self.old self.new };
 
     /// The bytes of each range of the value under `key`, in the order of the ranges, or None where the key is absent. A
     /// reading call.
@@ -89,7 +95,8 @@ pub trait Store {
         key: &StoreKey,
         ranges: &[ByteRange],
     ) -> Result<Option<Vec<Vec<u8>>>, StorageError>
-        ensures { GetsParts key.now ranges.now (shown self.old) (shown self.new) result };
+        ensures reads { GetsParts key.now ranges.now (shown self.old) (shown self.new) result }
+        ensures kept { kept self.old self.new };
 
     /// How many bytes the value under `key` has, or None where the key is absent. A reading call that hands out no value
     /// and takes no memory.
@@ -97,14 +104,16 @@ pub trait Store {
     /// # Errors
     /// [`StorageError::Failed`] where the store fails, which its count of faults tells.
     fn size_key(&mut self, key: &StoreKey) -> Result<Option<u64>, StorageError>
-        ensures { Sizes key.now (shown self.old) (shown self.new) result };
+        ensures reads { Sizes key.now (shown self.old) (shown self.new) result }
+        ensures kept { kept self.old self.new };
 
     /// All keys, in the order of their bytes. A reading call that hands out no value.
     ///
     /// # Errors
     /// [`StorageError::Failed`] where the store fails, which its count of faults tells, or [`StorageError::OutOfMemory`].
     fn list(&mut self, alloc: Global) -> Result<Vec<StoreKey>, StorageError>
-        ensures { Lists (shown self.old) (shown self.new) result };
+        ensures reads { Lists (shown self.old) (shown self.new) result }
+        ensures kept { kept self.old self.new };
 
     /// Makes the value under `key` exactly `value`.
     ///
@@ -163,4 +172,10 @@ pub trait Store {
     /// Each count has a `u64`'s range.
     ghost counts_fit: { (s : Self) → ((shown s).faults ≤ 2 ^ 64 - 1) × ((shown s).asks ≤ 2 ^ 64 - 1)
         × ((shown s).taken ≤ 2 ^ 64 - 1) };
+
+    /// A store that is not read keeps all.
+    ghost kept_self: { (s : Self) → kept s s };
+
+    /// What each of two readings keeps, both keep one after the other.
+    ghost kept_twice: { (a b c : Self) → kept a b → kept b c → kept a c };
 }

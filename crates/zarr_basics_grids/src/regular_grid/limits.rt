@@ -15,7 +15,7 @@ fn product(a: u64, b: u64) -> Option<u64>
 }
 
 // Whether there is a chunk in each dimension.
-pub fn are_some(counts: &[u64]) -> bool
+pub(crate) fn are_some(counts: &[u64]) -> bool
     ensures { result ≡ are_some counts.now }
 {
     match counts {
@@ -30,7 +30,7 @@ pub fn are_some(counts: &[u64]) -> bool
 }
 
 // Whether the last chunk of each dimension ends within `u64`.
-pub fn ends_fit(counts: &[u64], lengths: &[NonZeroU64]) -> bool
+pub(crate) fn ends_fit(counts: &[u64], lengths: &[NonZeroU64]) -> bool
     ensures { result ≡ ends_fit counts.now (nonzeros lengths.now) }
 {
     match counts {
@@ -63,7 +63,7 @@ fn num_elements(lengths: &[NonZeroU64]) -> Option<u64>
 
 // Whether there are too many elements of a size: as many as the greatest number, or more bytes than it.
 #[tactic(auto, using(crate::proofs::LimitLaws::of_sizes))]
-pub fn is_too_large(lengths: &[NonZeroU64], size: Option<usize>) -> bool
+pub(crate) fn is_too_large(lengths: &[NonZeroU64], size: Option<usize>) -> bool
     ensures { result ≡ is_too_large size (count_of (nonzeros lengths.now)) }
 {
     match num_elements(lengths) {

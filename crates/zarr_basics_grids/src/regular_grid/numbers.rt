@@ -7,7 +7,11 @@ use std::alloc::{AllocError, Global};
 use std::num::NonZeroU64;
 
 // How many chunks cover each length.
-pub fn counts(alloc: Global, shape: &[u64], lengths: &[NonZeroU64]) -> Result<Vec<u64>, AllocError>
+pub(crate) fn counts(
+    alloc: Global,
+    shape: &[u64],
+    lengths: &[NonZeroU64],
+) -> Result<Vec<u64>, AllocError>
     ensures { IfOk result (λ v. v.items ≡ quotients_up shape.now lengths.now) }
 {
     shape
@@ -18,7 +22,7 @@ pub fn counts(alloc: Global, shape: &[u64], lengths: &[NonZeroU64]) -> Result<Ve
 }
 
 // The chunk of each index.
-pub fn quotients(
+pub(crate) fn quotients(
     alloc: Global,
     indices: &[u64],
     lengths: &[NonZeroU64],
@@ -33,7 +37,11 @@ pub fn quotients(
 }
 
 // The last chunk before each end.
-pub fn lasts(alloc: Global, ends: &[u64], lengths: &[NonZeroU64]) -> Result<Vec<u64>, AllocError>
+pub(crate) fn lasts(
+    alloc: Global,
+    ends: &[u64],
+    lengths: &[NonZeroU64],
+) -> Result<Vec<u64>, AllocError>
     ensures { IfOk result (λ v. v.items ≡ lasts ends.now lengths.now) }
 {
     ends.iter()
@@ -43,7 +51,7 @@ pub fn lasts(alloc: Global, ends: &[u64], lengths: &[NonZeroU64]) -> Result<Vec<
 }
 
 // Where each chunk starts.
-pub fn products(
+pub(crate) fn products(
     alloc: Global,
     chunk: &[u64],
     lengths: &[NonZeroU64],
@@ -58,14 +66,18 @@ pub fn products(
 }
 
 // The lengths as numbers.
-pub fn numbers(alloc: Global, lengths: &[NonZeroU64]) -> Result<Vec<u64>, AllocError>
+pub(crate) fn numbers(alloc: Global, lengths: &[NonZeroU64]) -> Result<Vec<u64>, AllocError>
     ensures { IfOk result (λ v. v.items ≡ nonzeros lengths.now) }
 {
     lengths.iter().map(|p| p.get()).collect(alloc)
 }
 
 // How many chunks there are from the first to the last.
-pub fn counts_between(alloc: Global, lasts: &[u64], firsts: &[u64]) -> Result<Vec<u64>, AllocError>
+pub(crate) fn counts_between(
+    alloc: Global,
+    lasts: &[u64],
+    firsts: &[u64],
+) -> Result<Vec<u64>, AllocError>
     ensures { IfOk result (λ v. v.items ≡ counts_between lasts.now firsts.now) }
 {
     lasts

@@ -22,28 +22,28 @@ fn ends_fit_in(start: &[u64], shape: &[u64]) -> bool
 }
 
 // Whether no number of the one list is above that of the other.
-pub fn is_below(low: &[u64], high: &[u64]) -> bool
+pub(crate) fn is_below(low: &[u64], high: &[u64]) -> bool
     ensures { result ≡ list_all (λ p. nat_le p.0 p.1) (zip low.now high.now) }
 {
     low.iter().zip(high).all(|(a, b)| *a <= *b)
 }
 
 // The starts of ranges.
-pub fn starts_of(alloc: Global, ranges: &[Range<u64>]) -> Result<Vec<u64>, AllocError>
+pub(crate) fn starts_of(alloc: Global, ranges: &[Range<u64>]) -> Result<Vec<u64>, AllocError>
     ensures { IfOk result (λ v. v.items ≡ map (λ r. r.start) ranges.now) }
 {
     ranges.iter().map(|range| range.start).collect(alloc)
 }
 
 // The ends of ranges.
-pub fn ends_of(alloc: Global, ranges: &[Range<u64>]) -> Result<Vec<u64>, AllocError>
+pub(crate) fn ends_of(alloc: Global, ranges: &[Range<u64>]) -> Result<Vec<u64>, AllocError>
     ensures { IfOk result (λ v. v.items ≡ map (λ r. r.end) ranges.now) }
 {
     ranges.iter().map(|range| range.end).collect(alloc)
 }
 
 // The sums, which stop at the greatest number.
-pub fn sums(alloc: Global, a: &[u64], b: &[u64]) -> Result<Vec<u64>, AllocError>
+pub(crate) fn sums(alloc: Global, a: &[u64], b: &[u64]) -> Result<Vec<u64>, AllocError>
     ensures { IfOk result (λ v. v.items ≡ sums_up a.now b.now) }
 {
     a.iter()
@@ -53,7 +53,7 @@ pub fn sums(alloc: Global, a: &[u64], b: &[u64]) -> Result<Vec<u64>, AllocError>
 }
 
 // The differences, which stop at 0.
-pub fn lengths_between(alloc: Global, a: &[u64], b: &[u64]) -> Result<Vec<u64>, AllocError>
+pub(crate) fn lengths_between(alloc: Global, a: &[u64], b: &[u64]) -> Result<Vec<u64>, AllocError>
     ensures { IfOk result (λ v. v.items ≡ differences a.now b.now) }
 {
     a.iter()
@@ -63,14 +63,14 @@ pub fn lengths_between(alloc: Global, a: &[u64], b: &[u64]) -> Result<Vec<u64>, 
 }
 
 // The greater of both numbers.
-pub fn greater(alloc: Global, a: &[u64], b: &[u64]) -> Result<Vec<u64>, AllocError>
+pub(crate) fn greater(alloc: Global, a: &[u64], b: &[u64]) -> Result<Vec<u64>, AllocError>
     ensures { IfOk result (λ v. v.items ≡ maxes a.now b.now) }
 {
     a.iter().zip(b).map(|(x, y)| *x.max(y)).collect(alloc)
 }
 
 // The lesser of both numbers.
-pub fn lesser(alloc: Global, a: &[u64], b: &[u64]) -> Result<Vec<u64>, AllocError>
+pub(crate) fn lesser(alloc: Global, a: &[u64], b: &[u64]) -> Result<Vec<u64>, AllocError>
     ensures { IfOk result (λ v. v.items ≡ mins a.now b.now) }
 {
     a.iter().zip(b).map(|(x, y)| *x.min(y)).collect(alloc)
@@ -78,7 +78,7 @@ pub fn lesser(alloc: Global, a: &[u64], b: &[u64]) -> Result<Vec<u64>, AllocErro
 
 // Whether each index is in its span.
 #[tactic(auto, unfolding(crate::specs::Boxes::are_in))]
-pub fn are_within(start: &[u64], shape: &[u64], indices: &[u64]) -> bool
+pub(crate) fn are_within(start: &[u64], shape: &[u64], indices: &[u64]) -> bool
     ensures { result ≡ are_in start.now shape.now indices.now }
 {
     start
@@ -90,7 +90,7 @@ pub fn are_within(start: &[u64], shape: &[u64], indices: &[u64]) -> bool
 
 // Whether each end is within its length.
 #[tactic(auto, unfolding(crate::specs::Boxes::end_in))]
-pub fn are_ends_within(start: &[u64], shape: &[u64], bounds: &[u64]) -> bool
+pub(crate) fn are_ends_within(start: &[u64], shape: &[u64], bounds: &[u64]) -> bool
     ensures { result ≡ end_in start.now shape.now bounds.now }
 {
     start
@@ -102,7 +102,7 @@ pub fn are_ends_within(start: &[u64], shape: &[u64], bounds: &[u64]) -> bool
 
 // Whether each start, with the offset and the length added, fits `u64`.
 #[tactic(auto, unfolding(crate::specs::Boxes::can_move))]
-pub fn may_move(start: &[u64], shape: &[u64], offset: &[u64]) -> bool
+pub(crate) fn may_move(start: &[u64], shape: &[u64], offset: &[u64]) -> bool
     ensures { result ≡ can_move start.now shape.now offset.now }
 {
     start.iter().zip(shape).zip(offset).all(|((s, n), o)| *s as u128 + *o as u128 + (*n as u128)
@@ -111,7 +111,7 @@ pub fn may_move(start: &[u64], shape: &[u64], offset: &[u64]) -> bool
 
 // Whether each start is at least, and each end at most the other's.
 #[tactic(auto, unfolding(crate::specs::Boxes::box_in))]
-pub fn are_boxes_within(
+pub(crate) fn are_boxes_within(
     start: &[u64],
     shape: &[u64],
     other_start: &[u64],
@@ -139,7 +139,7 @@ fn rise_before_last(start: &[u64], end: &[u64]) -> bool
 }
 
 // Makes each end the length from the start there, or 0, and this much more.
-pub fn to_lengths(ends: &mut Vec<u64>, starts: &[u64], more: u64)
+pub(crate) fn to_lengths(ends: &mut Vec<u64>, starts: &[u64], more: u64)
     requires { length ends.old.items ≡ length starts.now }
     ensures { ends.new.items ≡ lengths_to more ends.old.items starts.now }
 {
@@ -157,14 +157,14 @@ fn turn_to_lengths(ends: &mut [u64], starts: &[u64], more: u64)
 }
 
 // The numbers before each.
-pub fn numbers_before(alloc: Global, end: &[u64]) -> Result<Vec<u64>, AllocError>
+pub(crate) fn numbers_before(alloc: Global, end: &[u64]) -> Result<Vec<u64>, AllocError>
     ensures { IfOk result (λ v. v.items ≡ map (λ e. e - 1) end.now) }
 {
     end.iter().map(|e| e.saturating_sub(1)).collect(alloc)
 }
 
 // Each start to the end there.
-pub fn ranges_between(
+pub(crate) fn ranges_between(
     alloc: Global,
     start: &[u64],
     end: &[u64],
@@ -177,7 +177,7 @@ pub fn ranges_between(
 
 // Whether two lists have one length, and no start is above the end there.
 #[tactic(auto, using(crate::proofs::BoxLaws::of_rising))]
-pub fn rises(start: &[u64], end: &[u64]) -> bool
+pub(crate) fn rises(start: &[u64], end: &[u64]) -> bool
     ensures { result ≡ is_rising start.now end.now }
 {
     start.len() == end.len() && is_below(start, end)
@@ -185,7 +185,7 @@ pub fn rises(start: &[u64], end: &[u64]) -> bool
 
 // The same, where each end is included.
 #[tactic(auto, using(crate::proofs::BoxLaws::of_rising))]
-pub fn rises_inc(start: &[u64], end: &[u64]) -> bool
+pub(crate) fn rises_inc(start: &[u64], end: &[u64]) -> bool
     ensures { result ≡ is_rising_inc start.now end.now }
 {
     start.len() == end.len() && rise_before_last(start, end)
@@ -193,14 +193,14 @@ pub fn rises_inc(start: &[u64], end: &[u64]) -> bool
 
 // Whether two lists have one length, and each end fits `u64`.
 #[tactic(auto, using(crate::proofs::BoxLaws::of_boxes))]
-pub fn fits(start: &[u64], shape: &[u64]) -> bool
+pub(crate) fn fits(start: &[u64], shape: &[u64]) -> bool
     ensures { result ≡ is_box start.now shape.now }
 {
     start.len() == shape.len() && ends_fit_in(start, shape)
 }
 
 // A start of 0 for each length.
-pub fn zeros(alloc: Global, shape: &[u64]) -> Result<Vec<u64>, AllocError>
+pub(crate) fn zeros(alloc: Global, shape: &[u64]) -> Result<Vec<u64>, AllocError>
     ensures { IfOk result (λ v. (v.items ≡ replicate (length shape.now) 0)
         × (is_box v.items shape.now ≡ true)) }
 {
@@ -209,7 +209,7 @@ pub fn zeros(alloc: Global, shape: &[u64]) -> Result<Vec<u64>, AllocError>
 }
 
 // As many lengths of 0.
-pub fn no_lengths(alloc: Global, dimensionality: usize) -> Result<Vec<u64>, AllocError>
+pub(crate) fn no_lengths(alloc: Global, dimensionality: usize) -> Result<Vec<u64>, AllocError>
     ensures { IfOk result (λ v. v.items ≡ replicate dimensionality 0) }
 {
     let lengths = vec![in alloc; 0; dimensionality]?;
@@ -217,14 +217,17 @@ pub fn no_lengths(alloc: Global, dimensionality: usize) -> Result<Vec<u64>, Allo
 }
 
 // The numbers as `usize`.
-pub fn to_usizes(alloc: Global, numbers: &[u64]) -> Result<Vec<usize>, AllocError>
+pub(crate) fn to_usizes(alloc: Global, numbers: &[u64]) -> Result<Vec<usize>, AllocError>
     ensures { IfOk result (λ v. v.items ≡ numbers.now) }
 {
     numbers.iter().map(|n| *n as usize).collect(alloc)
 }
 
 // The numbers, where none is 0.
-pub fn non_zeros(alloc: Global, numbers: &[u64]) -> Result<Option<Vec<NonZeroU64>>, AllocError>
+pub(crate) fn non_zeros(
+    alloc: Global,
+    numbers: &[u64],
+) -> Result<Option<Vec<NonZeroU64>>, AllocError>
     ensures some { IfOk result (λ o. IfSome o (λ v. map non_zero_u64_get v.items ≡ numbers.now)) }
     ensures none { IfOk result (λ o. IfNone o (count_of numbers.now ≡ 0)) }
 {
@@ -239,7 +242,7 @@ pub fn non_zeros(alloc: Global, numbers: &[u64]) -> Result<Option<Vec<NonZeroU64
 }
 
 // Whether a length is 0.
-pub fn has_zero(shape: &[u64]) -> bool
+pub(crate) fn has_zero(shape: &[u64]) -> bool
     ensures { result ≡ nat_eq (count_of shape.now) 0 }
 {
     some_is_zero(shape)

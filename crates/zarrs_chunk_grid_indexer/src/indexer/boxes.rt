@@ -15,7 +15,7 @@ use zarrs_chunk_grid_iterators::{
 };
 
 // The tuples of a subset that is the region r.
-pub fn list_tuples(subset: ArraySubset) -> IndicesIntoIterator
+pub(crate) fn list_tuples(subset: ArraySubset) -> IndicesIntoIterator
     requires { count (region subset) < 2 ^ 64 }
     ensures { (r : Region) → region subset ≡ r → tuples_left result ≡ tuples r }
 {
@@ -23,7 +23,7 @@ pub fn list_tuples(subset: ArraySubset) -> IndicesIntoIterator
 }
 
 // Its linear indices in a shape.
-pub fn list_linear(
+pub(crate) fn list_linear(
     alloc: Global,
     subset: ArraySubset,
     array_shape: &[u64],
@@ -43,7 +43,7 @@ pub fn list_linear(
 }
 
 // Its runs in a shape.
-pub fn list_runs(
+pub(crate) fn list_runs(
     alloc: Global,
     subset: ArraySubset,
     array_shape: &[u64],

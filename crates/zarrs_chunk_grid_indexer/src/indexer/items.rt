@@ -15,7 +15,7 @@ use std::alloc::{AllocError, Global};
 use zarrs_array_subset::{ArrayIndicesTinyVec, IndexerError};
 
 // The dimensionality of the first item.
-pub fn rank_of_items<T: Indexer>(list: &[T]) -> usize
+pub(crate) fn rank_of_items<T: Indexer>(list: &[T]) -> usize
     ensures { result ≡ first_of_items T.rank list.now }
 {
     match list {
@@ -26,7 +26,7 @@ pub fn rank_of_items<T: Indexer>(list: &[T]) -> usize
 
 // The number of indices; none exactly where it passes `u64`.
 #[tactic(auto, using(crate::proofs::Items::of_counts))]
-pub fn count_items<T: Indexer>(list: &[T]) -> Option<u64>
+pub(crate) fn count_items<T: Indexer>(list: &[T]) -> Option<u64>
     ensures { SomeIff result (length (flat_map T.places list.now) < 2 ^ 64)
         (length (flat_map T.places list.now)) }
 {
@@ -42,7 +42,7 @@ pub fn count_items<T: Indexer>(list: &[T]) -> Option<u64>
 
 // Whether there is no index.
 #[tactic(auto, using(crate::proofs::Items::of_counts))]
-pub fn are_empty<T: Indexer>(list: &[T]) -> bool
+pub(crate) fn are_empty<T: Indexer>(list: &[T]) -> bool
     ensures { result ≡ nat_eq (length (flat_map T.places list.now)) 0 }
 {
     match list {
@@ -52,7 +52,7 @@ pub fn are_empty<T: Indexer>(list: &[T]) -> bool
 }
 
 // The indices.
-pub fn tuples_of_items<T: Indexer>(
+pub(crate) fn tuples_of_items<T: Indexer>(
     alloc: Global,
     list: &[T],
 ) -> Result<Vec<ArrayIndicesTinyVec>, AllocError>
@@ -67,7 +67,7 @@ pub fn tuples_of_items<T: Indexer>(
 }
 
 // The linear indices.
-pub fn linear_of_items<T: Indexer>(
+pub(crate) fn linear_of_items<T: Indexer>(
     alloc: Global,
     list: &[T],
     array_shape: &[u64],
@@ -91,7 +91,7 @@ pub fn linear_of_items<T: Indexer>(
 }
 
 // The runs.
-pub fn runs_of_items<T: Indexer>(
+pub(crate) fn runs_of_items<T: Indexer>(
     alloc: Global,
     list: &[T],
     array_shape: &[u64],

@@ -13,7 +13,7 @@ use zarrs_array_subset::{ArrayIndices, ArrayIndicesTinyVec, IndexerError, ravel_
 use zarrs_chunk_grid_iterators::{GatheredTuples, SingleRuns};
 
 // The length of the first tuple.
-pub fn rank_of(list: &[ArrayIndices]) -> usize
+pub(crate) fn rank_of(list: &[ArrayIndices]) -> usize
     ensures { result ≡ first_rank (map (λ t. t.items) list.now) }
 {
     match list {
@@ -23,7 +23,7 @@ pub fn rank_of(list: &[ArrayIndices]) -> usize
 }
 
 // A copy of a list of tuples.
-pub fn copy_tuples(
+pub(crate) fn copy_tuples(
     alloc: Global,
     list: &[ArrayIndices],
 ) -> Result<Vec<ArrayIndicesTinyVec>, AllocError>
@@ -56,7 +56,7 @@ fn linear_of(alloc: Global, tuple: &[u64], array_shape: &[u64]) -> Result<u64, I
 }
 
 // The linear indices of a list of tuples.
-pub fn linear_of_list(
+pub(crate) fn linear_of_list(
     alloc: Global,
     list: &[ArrayIndices],
     array_shape: &[u64],
@@ -79,7 +79,10 @@ pub fn linear_of_list(
 }
 
 // The tuples of a list, xs.
-pub fn iter_tuples(alloc: Global, list: &[ArrayIndices]) -> Result<GatheredTuples, AllocError>
+pub(crate) fn iter_tuples(
+    alloc: Global,
+    list: &[ArrayIndices],
+) -> Result<GatheredTuples, AllocError>
     ensures { IfOk result (λ it. (xs : List (List ℕ)) → map (λ t. t.items) list.now ≡ xs
         → gathered_left it ≡ xs) }
 {
@@ -90,7 +93,7 @@ pub fn iter_tuples(alloc: Global, list: &[ArrayIndices]) -> Result<GatheredTuple
 }
 
 // The linear indices of a list, xs.
-pub fn iter_linear(
+pub(crate) fn iter_linear(
     alloc: Global,
     list: &[ArrayIndices],
     array_shape: &[u64],
@@ -110,7 +113,7 @@ pub fn iter_linear(
 }
 
 // The runs of a list, xs: each index is one.
-pub fn iter_runs(
+pub(crate) fn iter_runs(
     alloc: Global,
     list: &[ArrayIndices],
     array_shape: &[u64],

@@ -11,7 +11,7 @@ use std::ops::Range;
 
 // The lengths.
 #[tactic(auto, using(crate::proofs::Ranges::of_lists))]
-pub fn lengths_of(alloc: Global, ranges: &[Range<u64>]) -> Result<Vec<u64>, AllocError>
+pub(crate) fn lengths_of(alloc: Global, ranges: &[Range<u64>]) -> Result<Vec<u64>, AllocError>
     ensures { IfOk result (λ v. v.items ≡ sizes (region_of_ranges ranges.now)) }
 {
     let lengths = list_lengths(alloc, ranges)?;
@@ -29,7 +29,7 @@ fn list_lengths(alloc: Global, ranges: &[Range<u64>]) -> Result<Vec<u64>, AllocE
 
 // The number of tuples; none exactly where it passes `u64`.
 #[tactic(auto, using(zarrs_array_subset::proofs::BoxLaws::of_products))]
-pub fn count_of_ranges(ranges: &[Range<u64>]) -> Option<u64>
+pub(crate) fn count_of_ranges(ranges: &[Range<u64>]) -> Option<u64>
     ensures { SomeIff result (count (region_of_ranges ranges.now) < 2 ^ 64)
         (count (region_of_ranges ranges.now)) }
 {
@@ -47,7 +47,7 @@ pub fn count_of_ranges(ranges: &[Range<u64>]) -> Option<u64>
 }
 
 // The number of tuples.
-pub fn num_of_ranges(ranges: &[Range<u64>]) -> u64
+pub(crate) fn num_of_ranges(ranges: &[Range<u64>]) -> u64
     requires { count (region_of_ranges ranges.now) < 2 ^ 64 }
     ensures { result ≡ count (region_of_ranges ranges.now) }
 {
@@ -66,7 +66,7 @@ fn has_empty(ranges: &[Range<u64>]) -> bool
 
 // Whether a range is empty.
 #[tactic(auto, using(crate::proofs::Ranges::of_empty))]
-pub fn is_empty(ranges: &[Range<u64>]) -> bool
+pub(crate) fn is_empty(ranges: &[Range<u64>]) -> bool
     ensures { result ≡ nat_eq (count (region_of_ranges ranges.now)) 0 }
 {
     has_empty(ranges)

@@ -41,7 +41,7 @@ fn is_inbounds(index: u64, length: u64) -> bool
 }
 
 // The same, where every index is below a length of 0.
-pub fn are_inbounds(shape: &[u64], indices: &[u64]) -> bool
+pub(crate) fn are_inbounds(shape: &[u64], indices: &[u64]) -> bool
     ensures { result ≡ are_inbounds shape.now indices.now }
 {
     match shape {
@@ -57,8 +57,11 @@ pub fn are_inbounds(shape: &[u64], indices: &[u64]) -> bool
 }
 
 // All indices below a shape.
-#[tactic(auto, using(crate::proofs::GridIndices::sizes_whole))]
-pub fn indices_within(alloc: Global, shape: &[u64]) -> Result<IndicesIntoIterator, AllocError>
+#[tactic(auto, using(zarr_model::proofs::RegionLaws::sizes_whole))]
+pub(crate) fn indices_within(
+    alloc: Global,
+    shape: &[u64],
+) -> Result<IndicesIntoIterator, AllocError>
     requires { count_of shape.now < 2 ^ 64 }
     ensures { IfOk result (λ it. tuples_left it ≡ tuples (whole shape.now)) }
 {
@@ -69,7 +72,7 @@ pub fn indices_within(alloc: Global, shape: &[u64]) -> Result<IndicesIntoIterato
 }
 
 // Lengths as numbers.
-pub fn numbers(alloc: Global, lengths: &[NonZeroU64]) -> Result<Vec<u64>, AllocError>
+pub(crate) fn numbers(alloc: Global, lengths: &[NonZeroU64]) -> Result<Vec<u64>, AllocError>
     ensures { IfOk result (λ v. v.items ≡ map non_zero_u64_get lengths.now) }
 {
     lengths.iter().map(|length| length.get()).collect(alloc)

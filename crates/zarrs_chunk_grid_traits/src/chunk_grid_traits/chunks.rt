@@ -57,7 +57,7 @@ fn lengths_of<G: ChunkGridTraits>(
 }
 
 // The box of a chunk of the grid.
-pub fn box_of<G: ChunkGridTraits>(
+pub(crate) fn box_of<G: ChunkGridTraits>(
     grid: &G,
     alloc: Global,
     chunk: &[u64],
@@ -75,7 +75,7 @@ pub fn box_of<G: ChunkGridTraits>(
 }
 
 // The box of a chunk, if the indices are one's.
-pub fn subset_of<G: ChunkGridTraits>(
+pub(crate) fn subset_of<G: ChunkGridTraits>(
     grid: &G,
     alloc: Global,
     chunk: &[u64],
@@ -122,7 +122,7 @@ fn place_in_chunk<G: ChunkGridTraits>(
 }
 
 // Where an element is in its chunk, if the indices are one's.
-pub fn element_indices_of<G: ChunkGridTraits>(
+pub(crate) fn element_indices_of<G: ChunkGridTraits>(
     grid: &G,
     alloc: Global,
     element: &[u64],
@@ -189,7 +189,7 @@ fn between_chunks<G: ChunkGridTraits>(
 }
 
 // The region of some chunks.
-pub fn chunks_subset_of<G: ChunkGridTraits>(
+pub(crate) fn chunks_subset_of<G: ChunkGridTraits>(
     grid: &G,
     alloc: Global,
     chunks: &ArraySubset,
@@ -214,7 +214,7 @@ pub fn chunks_subset_of<G: ChunkGridTraits>(
 }
 
 // The chunks that share an element with a region.
-pub fn chunks_in_array_subset_of<G: ChunkGridTraits>(
+pub(crate) fn chunks_in_array_subset_of<G: ChunkGridTraits>(
     grid: &G,
     alloc: Global,
     array_subset: &ArraySubset,

@@ -2,10 +2,11 @@
 
 ghost use Rattle.std.specs.Prelude.{◌≡◌, ◌<◌};
 ghost use Rattle.zarrs_codec_bytes.specs.Picking.{size_in};
-ghost use Rattle.zarrs_codec_array_bytes.specs.Steps.{kind_seen, bytes_seen, step_kind, size_seen, depth, IfInner};
+ghost use Rattle.zarrs_codec_array_bytes.specs.Steps.{kind_seen, bytes_seen, step_kind, depth, IfInner};
+ghost use Rattle.zarr_model.specs.DataTypeSize.{size_seen};
 
+use zarr_model::DataTypeSize;
 use zarrs_data_type_names::DataType;
-use zarrs_metadata_parts::DataTypeSize;
 
 /// The outermost level of a data type.
 pub enum Step<'t> {

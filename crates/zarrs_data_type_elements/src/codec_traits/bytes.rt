@@ -9,7 +9,7 @@ use crate::byte_order::reverse_components;
 use std::alloc::{AllocError, Global};
 use std::borrow::CowSlice;
 use thiserror::Error;
-use zarrs_metadata_parts::Endianness;
+use zarr_model::Endianness;
 
 /// Components have several bytes, and no byte order is given.
 #[derive(Clone, Copy, Debug, PartialEq, Eq, Error)]
@@ -20,7 +20,7 @@ pub struct BytesCodecEndiannessMissingError;
 #[derive(Clone, Copy, Debug, PartialEq, Eq, Error)]
 pub enum BytesCodecFault {
     /// The order is missing.
-    #[error("{0}")]
+    #[error(transparent)]
     EndiannessMissing(BytesCodecEndiannessMissingError),
     /// Memory ran out.
     #[error("out of memory")]

@@ -15,12 +15,11 @@ ghost use Rattle.zarrs_data_type_names.specs.Making.{Makes, are_named, pair_type
 
 use crate::data_type::DataType;
 use crate::data_type::kind::DataTypeKind;
-use crate::number::parse_number;
 use serde_json::{Map, Value};
 use std::alloc::Global;
 use zarrs_metadata_parts::{DataTypeMetadataV2, MetadataV3};
 use zarrs_metadata_values::configuration::is_empty;
-use zarrs_plugin::{PluginCreateError, PluginKind, PluginUnsupportedError, Registry};
+use zarrs_plugin::{PluginCreateError, PluginKind, PluginUnsupportedError, Registry, parse_number};
 
 /// The metadata of a data type in either version of Zarr.
 #[derive(Clone, Copy, Debug)]

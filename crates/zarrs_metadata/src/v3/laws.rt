@@ -14,7 +14,7 @@ use crate::v3::array::ArrayMetadataV3;
 use crate::v3::group::GroupMetadataV3;
 use std::alloc::Global;
 use zarrs_metadata_parts::MetadataError;
-pub use zarrs_metadata_parts::laws::orderly_fields_read_back;
+pub use zarrs_metadata_parts::laws::{orderly_fields_read_back, read_again};
 
 /// What is written for a group reads back as it was, but for its additional fields.
 #[tactic(auto, using(crate::proofs::GroupBack::group_reads_back))]

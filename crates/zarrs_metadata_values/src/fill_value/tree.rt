@@ -104,52 +104,13 @@ pub(crate) fn members_from_fields(
     Ok(members)
 }
 
-#[cycle(fill_copy)]
+/// A copy, by way of the value that it is.
 pub(crate) fn copy_fill(
     alloc: Global,
     fill: &FillValueMetadataV3,
 ) -> Result<FillValueMetadataV3, AllocError>
     ensures { IfOk result (λ copy. fill_view copy ≡ fill_view fill.now) }
 {
-    match fill {
-        FillValueMetadataV3::Null => Ok(FillValueMetadataV3::Null),
-        FillValueMetadataV3::Bool(b) => Ok(FillValueMetadataV3::Bool(*b)),
-        FillValueMetadataV3::Number(n) => Ok(FillValueMetadataV3::Number(*n)),
-        FillValueMetadataV3::String(text) => Ok(FillValueMetadataV3::String(text.clone()?)),
-        FillValueMetadataV3::Array(fills) => Ok(FillValueMetadataV3::Array(copy_fills(
-            alloc, fills,
-        )?)),
-        FillValueMetadataV3::Object(fields) => Ok(FillValueMetadataV3::Object(copy_fields(
-            alloc, fields,
-        )?)),
-    }
-}
-
-#[cycle(fill_copy)]
-fn copy_fills(
-    alloc: Global,
-    fills: &Vec<FillValueMetadataV3>,
-) -> Result<Vec<FillValueMetadataV3>, AllocError>
-    ensures { IfOk result (λ copies. fills_view copies.items ≡ fills_view fills.now.items) }
-{
-    let mut copies = Vec::with_capacity(alloc, fills.len())?;
-    for fill in fills {
-        copies.push(copy_fill(alloc, fill)?)?;
-    }
-    Ok(copies)
-}
-
-#[cycle(fill_copy)]
-fn copy_fields(
-    alloc: Global,
-    fields: &BTreeMap<String, FillValueMetadataV3>,
-) -> Result<BTreeMap<String, FillValueMetadataV3>, AllocError>
-    ensures { IfOk result (λ copies. fields_view copies.entries ≡ fields_view fields.now.entries) }
-{
-    let mut copies = BTreeMap::new(alloc);
-    for (name, field) in fields.iter() {
-        let name = name.clone()?;
-        drop(copies.insert(name, copy_fill(alloc, field)?)?);
-    }
-    Ok(copies)
+    let value = fill_to_value(alloc, fill)?;
+    fill_from_value(alloc, &value)
 }

@@ -1,3 +1,4 @@
+use Rattle.std.proofs.Common.{sym}
 use Rattle.zarrs_array_subset.specs.ArraySubset.{region}
 use Rattle.zarrs_codec_array_bytes.specs.Raw.{raw_of}
 use Rattle.zarrs_codec_array_bytes.specs.Steps.{kind_seen}
@@ -9,4 +10,4 @@ returns-in-Ok-clause-puts c =
     updated_puts (kind_seen c.args.data_type.now) (region c.args.chunk_subset.now) (region c.args.subset.now) (region c.in_ok-part.part) (region c.in_ok-at.at) c.shape.result.now
     (raw_of c.args.bytes.now) (raw_of c.args.chunk.now) (raw_of c.in_ok-piece.piece) (raw_of c.in-Ok.bytes)
     c.requires.rank c.requires.means c.requires.chunk_means c.in_ok-part.ensures c.in_ok-at.ensures c.shape.ensures.value
-    c.in_ok-piece.ensures.selected (λ xs ys was is. c.in-Ok.ensures.updated (kind_seen c.args.data_type.now) xs ys c.size_of_type-size.ensures was is)
+    c.in_ok-piece.ensures.selected (λ xs ys was is. c.in-Ok.ensures.updated (kind_seen c.args.data_type.now) xs ys (sym c.type_size-size.ensures) was is)

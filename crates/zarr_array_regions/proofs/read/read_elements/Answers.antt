@@ -14,8 +14,8 @@ read_all-requires-clause-as_long g c =
     let are = subst (Meets c.args.array.now c.args.subset.now) c.in-Some.is c.in_ok-met.ensures in
     length-list_held c.in_ok-elements.elements ∙ (ap count c.in_ok-elements.ensures.subset ∙ ap (λ s. count (region s)) (sym are.of_subset))
 
-pub returns-in_ok-bytes-in-None : goal.returns-in_ok-bytes-in-None
-returns-in_ok-bytes-in-None g c =
+pub returns-in_ok-bytes-in-None-clause-read : goal.returns-in_ok-bytes-in-None-clause-read
+returns-in_ok-bytes-in-None-clause-read g c =
     let elements = c.in_ok-elements.elements in
     let store = g.S.Store.shown c.args.store.now in
     read_bytes c.args.array.now (options_of c.args.options.now) (region c.args.subset.now) (raw_of c.in_ok-bytes-in-None.bytes) (kind_held elements) (box_held elements) (list_held elements) store store

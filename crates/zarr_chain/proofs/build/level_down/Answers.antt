@@ -1,7 +1,8 @@
 use Rattle.std.proofs.Common.{ap, is_some}
 use Rattle.zarrs_codec_traits.specs.Errors.{unserved_at}
+use Rattle.zarrs_codec_traits.proofs.LevelLaws.{served_ok}
 use Rattle.zarr_chain.specs.Building.{level_at, fill_at}
-use Rattle.zarr_chain.proofs.BuildLaws.{served_ok, ready_as}
+use Rattle.zarr_chain.proofs.BuildLaws.{ready_as}
 use Rattle.zarr_chain.proofs.build.level_down.Goals as goal
 
 pub returns-clause-ready : goal.returns-clause-ready

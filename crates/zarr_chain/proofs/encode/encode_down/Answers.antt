@@ -4,9 +4,10 @@ use Rattle.zarrs_codec_array_bytes.specs.Raw.{raw_of}
 use Rattle.zarrs_data_type_names.specs.DataType.{type_of}
 use Rattle.zarrs_codec_traits.specs.Views.{lengths}
 use Rattle.zarrs_codec_traits.specs.Words.{IsFit, list_at}
+use Rattle.zarrs_codec_traits.proofs.LevelLaws.{valid_memory}
 use Rattle.zarr_chain.specs.Levels.{above, top, SaysInvalid}
 use Rattle.zarr_chain.proofs.ListSteps.{at-front, at-next}
-use Rattle.zarr_chain.proofs.LevelLaws.{fit-drop, none_invalid, at-start, memory_some, step-down, down-there}
+use Rattle.zarr_chain.proofs.LevelLaws.{fit-drop, none_invalid, at-start, step-down, down-there}
 use Rattle.zarr_chain.proofs.encode.encode_down.Goals as goal
 
 none_below : {X : Type 0} (xs : List X) (i : ℕ) → xs ≡ [] → i < length xs → ⊥
@@ -30,7 +31,7 @@ returns-in_err-encoded-clause-value g c = λ bottom list links means.
     let here = at-front steps n c.level-item.result c.loop-level-test.true c.level-item.is in
     let ready = down-there code.meaning g.A.ArrayCodecTraits.unserved bottom n steps c.level-item.result _ list (raw_of c.loop-level.encoded) here links (c.loop-level.invariant.value bottom list links means) in
     let refused = rw c.deref.ensures.value at c.in_err-encoded.ensures.exact in
-    let memory = memory_some (above c.level-item.result) (raw_of c.loop-level.encoded) c.in_err-encoded.field-0.0 ready.1 (refused ready.0) in
+    let memory = valid_memory (above c.level-item.result) (raw_of c.loop-level.encoded) c.in_err-encoded.field-0.0 ready.1 (refused ready.0) in
     search rules
 
 pub returns-in_err-encoded-clause-refused : goal.returns-in_err-encoded-clause-refused

@@ -1,8 +1,8 @@
 use Rattle.std.proofs.Common.{◌≤◌, ◌+◌, ◌<◌, ◌^◌, arith}
 use Rattle.zarr_model.specs.Region.{count, count_of}
+use Rattle.zarr_model.proofs.RegionLaws.{count_within}
 use Rattle.zarrs_array_subset.specs.ArraySubset.{region as box_of}
 use Rattle.zarrs_codec_traits.specs.Views.{lengths}
-use Rattle.zarrs_chunk_grid_iterators.proofs.Linears.{count_within}
 use Rattle.zarr_chain_stored.proofs.reading.is_whole.Goals as goal
 
 pub num_elements-requires : goal.num_elements-requires

@@ -4,9 +4,10 @@ use Rattle.zarrs_codec_array_bytes.specs.Raw.{raw_of}
 use Rattle.zarrs_codec_traits.specs.Views.{options_of}
 use Rattle.zarrs_codec_traits.specs.Words.{list_at, at_box, select}
 use Rattle.zarr_chain.specs.Chain.{first_level}
+use Rattle.zarr_chain.proofs.ChainLaws.{some_of}
 use Rattle.zarr_chain_stored.specs.Regions.{GivesRegion, fetched_list, region_request}
 use Rattle.zarr_chain_stored.proofs.PartLaws.{cut_reads, cut_alike}
-use Rattle.zarr_chain_stored.proofs.ReadLaws.{ok_half, ok_there, some_of}
+use Rattle.zarr_chain_stored.proofs.ReadLaws.{ok_half, ok_there}
 use Rattle.zarr_chain_stored.proofs.reading.read.Goals as goal
 
 pub returns-in-Ok-Chunk-clause-elements : goal.returns-in-Ok-Chunk-clause-elements

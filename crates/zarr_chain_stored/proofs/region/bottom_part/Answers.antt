@@ -5,8 +5,8 @@ use Rattle.zarr_chain.specs.Regions.{last_item}
 use Rattle.zarr_chain.proofs.RegionLaws.{inside-bottom, map_last}
 use Rattle.zarr_chain_stored.proofs.region.bottom_part.Goals as goal
 
-pub region_of-requires : goal.region_of-requires
-region_of-requires g c =
+pub extracted-requires : goal.extracted-requires
+extracted-requires g c =
     let chain = c.args.chain.now in
     let array = g.A.ArrayToArrayCodecTraits in
     let here = ap box_of c.last_or.ensures ∙ (sym (map_last box_of c.args.boxes.now c.args.region.now) ∙ ap (λ boxes. last_item boxes (box_of c.args.region.now)) c.requires.boxes) in
@@ -19,4 +19,4 @@ region_of-requires g c =
 pub returns-clause-value : goal.returns-clause-value
 returns-clause-value g c = λ list is.
     let here = ap box_of c.last_or.ensures ∙ (sym (map_last box_of c.args.boxes.now c.args.region.now) ∙ ap (λ boxes. last_item boxes (box_of c.args.region.now)) c.requires.boxes) in
-    (rw (here, c.deref.ensures.value) at c.region_of.ensures.value) list is
+    (rw (here, c.deref.ensures.value) at c.extracted.ensures.value) list is

@@ -1,11 +1,12 @@
 use Rattle.std.proofs.Common.{◌+◌, ◌<◌, ◌^◌, arith}
 use Rattle.zarr_model.specs.Region.{count}
+use Rattle.zarr_model.proofs.ElementLaws.{denoted}
 use Rattle.zarrs_array_subset.specs.ArraySubset.{region as box_of}
 use Rattle.zarrs_data_type_elements.specs.FillValue.{fill_bytes}
 use Rattle.zarrs_codec_traits.specs.Views.{level_of}
 use Rattle.zarrs_codec_traits.specs.Words.{at_box}
-use Rattle.zarrs_codec_partial.proofs.SelectLaws.{box-fits}
-use Rattle.zarr_chain_stored.proofs.FetchLaws.{denoted, filled_gives}
+use Rattle.zarrs_codec_traits.proofs.SelectLaws.{box-fits}
+use Rattle.zarr_chain_stored.proofs.FetchLaws.{filled_gives}
 use Rattle.zarr_chain_stored.proofs.region.filled_region.Goals as goal
 
 pub num_elements-requires : goal.num_elements-requires

@@ -1,4 +1,4 @@
-use Rattle.std.proofs.Common.{◌≡◌, ◌∙◌, ap, length, Some}
+use Rattle.std.proofs.Common.{◌≡◌, ◌∙◌, ap, sym, length, Some}
 use Rattle.zarr_model.specs.Element.{kind_of}
 use Rattle.zarr_model.specs.ArrayBytes.{meaning}
 use Rattle.zarr_model.specs.Region.{count_of, ends_within, tuples}
@@ -6,7 +6,7 @@ use Rattle.zarr_model.proofs.RegionLaws.{length-tuples}
 use Rattle.zarrs_array_subset.specs.ArraySubset.{region as box_of}
 use Rattle.zarrs_data_type_names.specs.DataType.{type_of}
 use Rattle.zarrs_codec_array_bytes.specs.Raw.{raw_of}
-use Rattle.zarrs_codec_array_bytes.specs.Steps.{size_seen}
+use Rattle.zarr_model.specs.DataTypeSize.{size_seen}
 use Rattle.zarrs_codec_traits.specs.Views.{lengths}
 use Rattle.zarr_chain_stored.specs.Update.{with_box}
 use Rattle.zarr_chain_stored.proofs.UpdateLaws.{update_gives}
@@ -23,6 +23,6 @@ returns-clause-value c = λ old new was is.
     let answer = rw same at c.update_array_bytes.ensures.answer in
     let updated = rw same at c.update_array_bytes.ensures.updated in
     let given : meaning kind (length (tuples box)) bytes ≡ Some new = ap (λ m. meaning kind m bytes) (length-tuples box) ∙ is in
-    update_gives kind (size_seen c.size_of_type.result) (ends_within box shape) (count_of shape) (length (tuples box)) before bytes old new
+    update_gives kind (size_seen c.type_size.result) (ends_within box shape) (count_of shape) (length (tuples box)) before bytes old new
     (λ v. meaning kind (count_of shape) (raw_of v) ≡ Some (with_box shape box new old)) c.update_array_bytes.result
-    c.size_of_type.ensures c.requires.inside was given answer (updated kind old new c.size_of_type.ensures was given)
+    (sym c.type_size.ensures) c.requires.inside was given answer (updated kind old new (sym c.type_size.ensures) was given)

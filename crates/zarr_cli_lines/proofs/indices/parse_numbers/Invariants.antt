@@ -1,7 +1,7 @@
 use Rattle.std.proofs.Common.{◌≡◌, ◌+◌, ◌++◌, [], length, map, option_map}
 use Rattle.std.specs.Option.{option_map_or}
 use Rattle.zarr_cli_lines.specs.Text.{split_at, all_some}
-use Rattle.zarrs_data_type_names.specs.Number.{number_of}
+use Rattle.zarrs_plugin.specs.Number.{number_of}
 use Rattle.zarr_cli_lines.proofs.indices.parse_numbers.Given as goal
 
 abbrev pub invariant-parts : goal.invariant-parts

@@ -1,4 +1,4 @@
-use Rattle.zarrs_codec_array_bytes.specs.Steps.{size_seen}
+use Rattle.zarr_model.specs.DataTypeSize.{size_seen}
 use Rattle.zarrs_codec_array_bytes.specs.Raw.{raw_of}
 use Rattle.zarrs_codec_array_bytes_update.proofs.UpdateLaws.{updated, updated_short}
 use Rattle.zarrs_codec_array_bytes_update.proofs.update.update_array_bytes.Goals as goal

@@ -4,7 +4,7 @@ use Rattle.zarrs_data_type_elements.specs.FillValue.{fill_bytes}
 use Rattle.zarrs_codec_traits.specs.Errors.{unserved_at}
 use Rattle.zarrs_codec_traits.specs.Views.{level_of}
 use Rattle.zarrs_codec_traits.specs.Words.{IsFit}
-use Rattle.zarrs_codec_partial_callers.proofs.ChunkLaws.{served_ok}
+use Rattle.zarrs_codec_traits.proofs.LevelLaws.{served_ok}
 use Rattle.zarrs_codec_partial_callers.proofs.chunks.chunk_of.Goals as goal
 
 pub new-elements-requires : goal.new-elements-requires

@@ -22,4 +22,4 @@ returns c =
     let pieces = repeats-pieces c.args.fill.now c.args.bytes.now
     (some_by (length c.args.fill.now) c.is_empty.result c.is_empty.ensures c.if-is_empty.false)
     (some_by (length c.args.bytes.now) c.is_empty-2.result c.is_empty-2.ensures c.if-is_empty-2.false) c.if-bytes-fill-ne0.false in
-    (λ h. pieces.0 (c.all_pieces.ensures.0 h), λ r. c.all_pieces.ensures.1 (pieces.1 r))
+    (λ h. pieces.0 (c.all_fill.ensures.0 h), λ r. c.all_fill.ensures.1 (pieces.1 r))

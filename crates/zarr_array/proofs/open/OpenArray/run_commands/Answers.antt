@@ -5,7 +5,7 @@ use Rattle.zarrs_codec_traits.specs.Views.{options_of}
 use Rattle.zarr_array.specs.OpenArray.{described}
 use Rattle.zarr_array.specs.Runs.{Runs}
 use Rattle.zarr_array_regions.proofs.ServedLaws.{described_covers, described_sound}
-use Rattle.zarr_array.proofs.RunsLaws.{command_here, one_more_ran, stops_at, take_next, take_whole}
+use Rattle.zarr_array.proofs.RunsLaws.{command_here, read_here, one_more_ran, stops_at, take_next, take_whole}
 use Rattle.zarr_array.proofs.open.OpenArray.run_commands.Goals as goal
 
 pub loop-number-preserved : goal.loop-number-preserved
@@ -20,6 +20,10 @@ loop-number-preserved g c = record {
       subst₂ (λ commands answers. Runs array options commands (g.S.Store.shown c.args.store.now) (g.S.Store.shown c.run_command.new.store) (Ok answers))
       (sym (take_next commands c.loop-number.number (command_of c.index-commands-number.result) here)) (sym answered)
       (one_more_ran array options (described_covers c.args.self.now.parts) (described_sound c.args.self.now.parts options) _ _ _ (g.S.Store.shown c.loop-number.store) _ _ _ c.loop-number.invariant.so_far c.in-Ok-run_command.ensures.runs);
+  kept =
+      let here = command_here command_of c.args.commands.now c.loop-number.number c.index-commands-number.result c.loop-number-test.true c.index-commands-number.is in
+      λ reads. g.met.S.Store.kept_twice c.args.store.now c.loop-number.store c.run_command.new.store (c.loop-number.invariant.kept reads)
+      (c.run_command.ensures.kept (read_here (map command_of c.args.commands.now) c.loop-number.number (command_of c.index-commands-number.result) here reads));
   long = c.push.ensures.len ∙ (ap (λ r. if is_ok r then vec_len c.loop-number.replies + 1 else vec_len c.loop-number.replies) c.unwrap.ensures ∙ ap (λ n. n + 1) c.loop-number.invariant.long);
   room = le_trans c.loop-number.invariant.room c.push.ensures.capacity;
 }
@@ -35,3 +39,9 @@ returns-in-Err-run_command-clause-runs g c =
     stops_at (described c.args.self.now) options (described_covers c.args.self.now.parts) (described_sound c.args.self.now.parts options)
     (map command_of c.args.commands.now) c.loop-number.number (command_of c.index-commands-number.result) _ (g.S.Store.shown c.loop-number.store) _ _
     c.in-Err-run_command.error.chunks_done c.in-Err-run_command.error.kind here c.loop-number.invariant.so_far c.in-Err-run_command.ensures.runs
+
+pub returns-in-Err-run_command-clause-kept : goal.returns-in-Err-run_command-clause-kept
+returns-in-Err-run_command-clause-kept g c =
+    let here = command_here command_of c.args.commands.now c.loop-number.number c.index-commands-number.result c.loop-number-test.true c.index-commands-number.is in
+    λ reads. g.met.S.Store.kept_twice c.args.store.now c.loop-number.store c.run_command.new.store (c.loop-number.invariant.kept reads)
+    (c.run_command.ensures.kept (read_here (map command_of c.args.commands.now) c.loop-number.number (command_of c.index-commands-number.result) here reads))

@@ -16,10 +16,10 @@ returns-in_err-elements-clause-runs g c =
     let p = err_from_is_err_and c.from_residual.result c.from_residual.ensures.1 in
     rw (p.1, p.2) (failed_gives (described c.args.self.now) (options_of c.args.options.now) (described_covers c.args.self.now.parts) (described_sound c.args.self.now.parts (options_of c.args.options.now)) (read (region c.args.subset.now) ∷ []) (g.S.Store.shown c.args.store.now) (g.S.Store.shown c.read_elements.new.store) _ _
     (read-fails c.args.self.now.parts (options_of c.args.options.now) (region c.args.subset.now) (g.S.Store.shown c.args.store.now) (g.S.Store.shown c.read_elements.new.store)
-    _ (search rules) c.in_err-elements.ensures)
-    (search rules) (search rules) c.in_err-elements.ensures.later)
+    _ (search rules) c.in_err-elements.ensures.read)
+    (search rules) (search rules) c.in_err-elements.ensures.read.later)
 
 pub returns-clause-runs : goal.returns-clause-runs
 returns-clause-runs g c = ran_gives (described c.args.self.now) (options_of c.args.options.now) (described_covers c.args.self.now.parts) (described_sound c.args.self.now.parts (options_of c.args.options.now)) (read (region c.args.subset.now) ∷ []) (g.S.Store.shown c.args.store.now) (g.S.Store.shown c.read_elements.new.store) _
     (bytes-read c.args.self.now.parts (options_of c.args.options.now) (region c.args.subset.now) (g.S.Store.shown c.args.store.now) (g.S.Store.shown c.read_elements.new.store) (raw_of c.in_ok-elements.elements)
-    (search rules) c.in_ok-elements.ensures)
+    (search rules) c.in_ok-elements.ensures.read)

@@ -14,16 +14,16 @@ fetch-requires-clause-fill g c =
     let met = c.args.self.now in
     has_fill lent met.array.now met.chain c.requires.met.codecs.serves (options_of c.args.options.now) (chunk_at met c.args.number) (met_chunk met c.requires.met c.args.number c.requires.below)
 
-pub returns-in_err-bytes : goal.returns-in_err-bytes
-returns-in_err-bytes g c =
+pub returns-in_err-bytes-clause-fetched : goal.returns-in_err-bytes-clause-fetched
+returns-in_err-bytes-clause-fetched g c =
     let p = err_from_is_err_and c.from_residual.result c.from_residual.ensures.1 in
     let met = c.args.self.now in
     rw (p.1, p.2) (fetch_failed lent met.array.now (options_of c.args.options.now) (chunk_at met c.args.number) met.chain c.requires.met.codecs
     (met_chunk met c.requires.met c.args.number c.requires.below) c.args.key.now (g.S.Store.shown c.args.store.now) (g.S.Store.shown c.fetch.new.store) _ c.requires.key
     (record { same = c.fetch.ensures.same; asks = inr c.fetch.ensures.asks; later = c.fetch.ensures.later }) c.in_err-bytes.ensures.failed)
 
-pub returns : goal.returns
-returns g c =
+pub returns-clause-fetched : goal.returns-clause-fetched
+returns-clause-fetched g c =
     let met = c.args.self.now in
     let chunk = chunk_at met c.args.number in
     let options = options_of c.args.options.now in

@@ -21,8 +21,8 @@ fetch_region-requires-clause-inside g c =
     within_level lent met.array.now met.chain c.requires.met.codecs.serves (options_of c.args.options.now) (chunk_at met c.args.number) (met_chunk met c.requires.met c.args.number c.requires.below)
     (region c.args.within.now) c.requires.inside
 
-pub returns-in_err-fetched : goal.returns-in_err-fetched
-returns-in_err-fetched g c =
+pub returns-in_err-fetched-clause-fetched : goal.returns-in_err-fetched-clause-fetched
+returns-in_err-fetched-clause-fetched g c =
     let p = err_from_is_err_and c.from_residual.result c.from_residual.ensures.1 in
     let met = c.args.self.now in
     rw (p.1, p.2) (fetch_failed lent met.array.now (options_of c.args.options.now) (chunk_at met c.args.number) met.chain c.requires.met.codecs
@@ -30,8 +30,8 @@ returns-in_err-fetched g c =
     (record { same = c.in_err-fetched.ensures.fetched.read.same; asks = asked_at_most Fetched _ _ _ c.in_err-fetched.ensures.fetched.read.asks; later = c.in_err-fetched.ensures.fetched.read.later })
     (chunk_fails lent met.chain (options_of c.args.options.now) _ _ _ _ _ (none_asked _) c.in_err-fetched.ensures.fetched.read.failed))
 
-pub returns : goal.returns
-returns g c =
+pub returns-clause-fetched : goal.returns-clause-fetched
+returns-clause-fetched g c =
     let met = c.args.self.now in (
       record { same = c.in_ok-fetched.ensures.fetched.read.same; asks = c.in_ok-fetched.ensures.fetched.read.asks; later = c.in_ok-fetched.ensures.fetched.read.later },
       fetched_part lent met.array.now met.chain c.requires.met.codecs.serves (options_of c.args.options.now) (chunk_at met c.args.number) (met_chunk met c.requires.met c.args.number c.requires.below)

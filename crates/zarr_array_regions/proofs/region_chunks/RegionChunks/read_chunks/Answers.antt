@@ -15,6 +15,7 @@ loop-number-init g c =
       c.requires.holds,
       none_read met.array.now (options_of c.args.options.now) (region met.subset.now) (list_held c.args.elements.now) (g.S.Store.shown c.args.store.now) c.requires.as_long
           (g.met.S.Store.counts_fit c.args.store.now).1,
+      g.met.S.Store.kept_self c.args.store.now,
     )
 
 pub returns-in-Err-clause-read : goal.returns-in-Err-clause-read
@@ -33,6 +34,7 @@ loop-number-preserved g c =
       one_read met.array.now (options_of c.args.options.now) (region met.subset.now) c.loop-number.number (chunk_at met c.loop-number.number) (list_held c.loop-number.elements) (list_held c.read_chunk.new.elements)
           (g.S.Store.shown c.args.store.now) (g.S.Store.shown c.loop-number.store) (g.S.Store.shown c.read_chunk.new.store)
           (met_here met c.requires.met c.loop-number.number below) (met_chunk met c.requires.met c.loop-number.number below) c.loop-number.invariant.1 c.in_default.ensures.read,
+      g.met.S.Store.kept_twice c.args.store.now c.loop-number.store c.read_chunk.new.store c.loop-number.invariant.2 c.read_chunk.ensures.kept,
     )
 
 pub returns-clause-read : goal.returns-clause-read

@@ -9,3 +9,4 @@ abbrev pub invariant-loop-number : goal.invariant-loop-number
 invariant-loop-number g l =
     HoldsRegion l.self.array.now (region l.self.subset.now) l.elements
     × HasReadSome l.self.array.now (options_of l.options) (region l.self.subset.now) l.number (list_held l.elements) (g.S.Store.shown l.fn.store) (g.S.Store.shown l.store)
+    × g.S.Store.kept l.fn.store l.store

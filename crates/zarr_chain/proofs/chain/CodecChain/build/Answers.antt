@@ -1,10 +1,11 @@
 use Rattle.std.proofs.Common.{ap}
 use Rattle.zarr_model.specs.Element.{fill_element, kind_of}
+use Rattle.zarr_model.proofs.ElementLaws.{denoted}
 use Rattle.zarrs_data_type_elements.specs.FillValue.{fill_bytes}
 use Rattle.zarrs_data_type_names.specs.DataType.{type_of}
 use Rattle.zarr_chain.specs.Values.{byte_codecs}
 use Rattle.zarrs_codec_traits.proofs.FillLaws.{element_bytes}
-use Rattle.zarr_chain.proofs.BuildLaws.{ready_as, denoted, codecs_of, chain_same}
+use Rattle.zarr_chain.proofs.BuildLaws.{ready_as, codecs_of, chain_same}
 use Rattle.zarr_chain.proofs.chain.CodecChain.build.Goals as goal
 
 pub levels_down-requires : goal.levels_down-requires

@@ -4,11 +4,12 @@ use Rattle.zarr_model.specs.Region.{ends_within}
 use Rattle.zarrs_array_subset.specs.ArraySubset.{region as box_of}
 use Rattle.zarrs_codec_array_bytes.specs.Raw.{raw_of}
 use Rattle.zarrs_codec_traits.specs.Words.{list_at, at_box, select}
+use Rattle.zarrs_codec_traits.proofs.LevelLaws.{valid_memory}
 use Rattle.zarr_chain.specs.declared.level.CodecLevel.{CodecLevel}
 use Rattle.zarr_chain.specs.Levels.{above, top}
 use Rattle.zarr_chain.specs.Regions.{boxes_below, last_item}
 use Rattle.zarr_chain.proofs.ListSteps.{at-back}
-use Rattle.zarr_chain.proofs.LevelLaws.{fit-drop, memory_some}
+use Rattle.zarr_chain.proofs.LevelLaws.{fit-drop}
 use Rattle.zarr_chain.proofs.RegionLaws.{first-link, linked-drop, inside-at, box-at, last-of, length-boxes, given, given-bytes, valid-below}
 use Rattle.zarr_chain.proofs.chain.CodecChain.decode_boxes_up.Goals as goal
 
@@ -126,7 +127,7 @@ returns-in_err-decoded-clause-valid g c =
     let refused = rw (c.deref.ensures.value, from) at c.in_err-decoded.ensures.exact in
     let given = valid-below code.meaning g.A.ArrayCodecTraits.unserved code.region_below bottom step (drop c.loop-left.left steps) box _ (raw_of c.loop-left.decoded) link below_it c.loop-left.invariant.valid in
     let below = at_box (code.region_below step.codec (above step).shape box) ((code.meaning step.codec).level_below (above step)) in
-    let memory = memory_some below (raw_of c.loop-left.decoded) c.in_err-decoded.field-0.0 given (refused link.served) in
+    let memory = valid_memory below (raw_of c.loop-left.decoded) c.in_err-decoded.field-0.0 given (refused link.served) in
     search rules
 
 pub returns : goal.returns

@@ -3,11 +3,11 @@ use Rattle.zarr_model.specs.Codec.{decode_array_to_bytes}
 use Rattle.zarrs_codec_array_bytes.specs.declared.array_bytes.ArrayBytes as code
 use Rattle.zarrs_codec_error.specs.declared.error.CodecError.{CodecError}
 use Rattle.zarrs_codec_traits.specs.Views.{level_of, options_of}
-use Rattle.zarr_codecs.proofs.ExtractLaws.{taken_valid, taken_error, same_part}
 use Rattle.zarr_codecs_array_to_bytes.specs.Plain.{codec_of}
 use Rattle.zarr_codecs_array_to_bytes.specs.Views.{plain_of}
 use Rattle.zarr_codecs_array_to_bytes.specs.Answers.{Decodes}
 use Rattle.zarrs_codec_traits.specs.Errors.{IsNoFault}
+use Rattle.zarrs_codec_traits.proofs.TakenLaws.{taken_valid, taken_error, same_part}
 use Rattle.zarr_codecs_array_to_bytes.proofs.OptionalLaws.{decodes_no_fault}
 use Rattle.zarr_codecs_array_to_bytes.proofs.basic.BasicArrayToBytesArrayToBytesCodecTraits.decode_parts.Goals as goal
 
@@ -20,7 +20,7 @@ returns-clause-value c = λ value xs served parts e.
     let told : Decodes plain under level given (Ok c.in_ok-whole.whole) =
     subst (λ (r : Result code.ArrayBytes CodecError). Decodes plain under level given r) c.in_ok-whole.was c.decode_by.ensures in
     let same : given ≡ value = same_part _ value (sym c.only_part-value.ensures ∙ parts) in
-    c.extracted.ensures.value c.args.fill_value.now xs
+    c.extracted.ensures.value xs
     ((told.value served).same ∙ (ap (λ (v : List ℕ). decode_array_to_bytes under (codec_of plain) level v) same ∙ e))
 
 pub returns-clause-cause : goal.returns-clause-cause
@@ -31,7 +31,7 @@ returns-clause-cause c = λ value served parts fits.
     let given = c.only_part-value.result.items in
     let told : Decodes plain under level given (Ok c.in_ok-whole.whole) =
     subst (λ (r : Result code.ArrayBytes CodecError). Decodes plain under level given r) c.in_ok-whole.was c.decode_by.ensures in
-    taken_error c.extracted.result _ _ _ _ _ (told.value served).there (c.extracted.ensures.value c.args.fill_value.now)
+    taken_error c.extracted.result _ _ _ _ _ (told.value served).there c.extracted.ensures.value
 
 pub returns-clause-valid : goal.returns-clause-valid
 returns-clause-valid c = λ served.
@@ -41,7 +41,7 @@ returns-clause-valid c = λ served.
     let given = c.only_part-value.result.items in
     let told : Decodes plain under level given (Ok c.in_ok-whole.whole) =
     subst (λ (r : Result code.ArrayBytes CodecError). Decodes plain under level given r) c.in_ok-whole.was c.decode_by.ensures in
-    taken_valid c.extracted.result _ _ _ _ (told.value served).there (c.extracted.ensures.value c.args.fill_value.now)
+    taken_valid c.extracted.result _ _ _ _ (told.value served).there c.extracted.ensures.value
 
 pub returns-in_err-whole-clause-no_fault : goal.returns-in_err-whole-clause-no_fault
 returns-in_err-whole-clause-no_fault c =

@@ -5,12 +5,12 @@ use Rattle.zarrs_codec_array_bytes.specs.declared.array_bytes.ArrayBytes as code
 use Rattle.zarrs_codec_error.specs.declared.error.CodecError.{CodecError}
 use Rattle.zarrs_codec_error.specs.declared.error.CodecError.TheVariants.{OutOfMemory}
 use Rattle.zarrs_codec_traits.specs.Views.{level_of, options_of}
-use Rattle.zarr_codecs.proofs.ExtractLaws.{taken_valid, taken_error, taken_some, same_part}
 use Rattle.zarr_codecs_array_to_bytes.specs.Plain.{Plain, codec_of, says_by}
 use Rattle.zarr_codecs_array_to_bytes.specs.Views.{optional_plain}
 use Rattle.zarr_codecs_array_to_bytes.specs.Answers.{Decodes}
 use Rattle.zarr_codecs_array_to_bytes.proofs.OptionalLaws.{starved_alone, decodes_no_fault}
 use Rattle.zarrs_codec_traits.specs.Errors.{IsNoFault}
+use Rattle.zarrs_codec_traits.proofs.TakenLaws.{taken_valid, taken_error, taken_some, same_part}
 use Rattle.zarr_codecs_array_to_bytes.proofs.optional.OptionalCodecArrayToBytesCodecTraits.decode_parts.Goals as goal
 
 pub returns-clause-value : goal.returns-clause-value
@@ -23,7 +23,7 @@ returns-clause-value c = λ value xs served parts e.
     subst (λ (r : Result code.ArrayBytes CodecError). Decodes plain under level given r) c.in_ok-whole.was
     (subst (λ (p : Plain). Decodes p under level given c.decode_optional.result) c.inner.ensures c.decode_optional.ensures) in
     let same : given ≡ value = same_part _ value (sym c.only_part-value.ensures ∙ parts) in
-    c.extracted.ensures.value c.args.fill_value.now xs
+    c.extracted.ensures.value xs
     ((told.value served).same ∙ (ap (λ (v : List ℕ). decode_array_to_bytes under (codec_of plain) level v) same ∙ e))
 
 pub returns-clause-cause : goal.returns-clause-cause
@@ -35,7 +35,7 @@ returns-clause-cause c = λ value served parts fits.
     let told : Decodes plain under level given (Ok c.in_ok-whole.whole) =
     subst (λ (r : Result code.ArrayBytes CodecError). Decodes plain under level given r) c.in_ok-whole.was
     (subst (λ (p : Plain). Decodes p under level given c.decode_optional.result) c.inner.ensures c.decode_optional.ensures) in
-    taken_error c.extracted.result _ _ _ _ _ (told.value served).there (c.extracted.ensures.value c.args.fill_value.now)
+    taken_error c.extracted.result _ _ _ _ _ (told.value served).there c.extracted.ensures.value
 
 pub returns-clause-valid : goal.returns-clause-valid
 returns-clause-valid c = λ served.
@@ -46,7 +46,7 @@ returns-clause-valid c = λ served.
     let told : Decodes plain under level given (Ok c.in_ok-whole.whole) =
     subst (λ (r : Result code.ArrayBytes CodecError). Decodes plain under level given r) c.in_ok-whole.was
     (subst (λ (p : Plain). Decodes p under level given c.decode_optional.result) c.inner.ensures c.decode_optional.ensures) in
-    taken_valid c.extracted.result _ _ _ _ (told.value served).there (c.extracted.ensures.value c.args.fill_value.now)
+    taken_valid c.extracted.result _ _ _ _ (told.value served).there c.extracted.ensures.value
 
 pub returns-clause-decodes : goal.returns-clause-decodes
 returns-clause-decodes c = λ value served none parts.

@@ -1,11 +1,11 @@
 use Rattle.std.proofs.Common.{arith}
 use Rattle.zarr_model.specs.Region.{count, count_of}
 use Rattle.zarr_model.specs.ArrayBytes.{meaning}
+use Rattle.zarr_model.proofs.RegionLaws.{count_within}
 use Rattle.zarrs_array_subset.specs.ArraySubset.{region as box_of}
 use Rattle.zarrs_codec_array_bytes.specs.Raw.{raw_of}
 use Rattle.zarrs_codec_array_bytes.specs.Steps.{kind_seen, bytes_seen}
 use Rattle.zarrs_codec_traits.specs.Views.{lengths}
-use Rattle.zarrs_codec_view.proofs.ViewLaws.{count_within}
 use Rattle.zarr_codecs_offset.specs.OffsetOf.{offset_of}
 use Rattle.zarr_codecs_offset.proofs.ShiftLaws.{part_ok, part_bytes}
 use Rattle.zarr_codecs_offset.proofs.offset_codec.OffsetCodecArrayToArrayCodecTraits.decode_region.Goals as goal

@@ -7,8 +7,8 @@ use Rattle.zarrs_storage.proofs.MemoryStoreLemmas.{get-held_by}
 use Rattle.zarrs_storage.proofs.RangeLemmas.{range_error}
 use Rattle.zarrs_storage.proofs.memory_store.MemoryStoreStore.get_partial_many.Goals as goal
 
-pub returns-in_default : goal.returns-in_default
-returns-in_default c =
+pub returns-in_default-clause-reads : goal.returns-in_default-clause-reads
+returns-in_default-clause-reads c =
     let found = get-held_by c.self.inside.map c.args.key.now in
     let absent : None ≡ content_of c.args.self.now c.args.key.now = rw (← c.self.view_is, found) (grind (arith, common_steps)) in
     record {
@@ -22,8 +22,8 @@ returns-in_default c =
       cause = search rules;
     }
 
-pub returns-in_err-parts : goal.returns-in_err-parts
-returns-in_err-parts c =
+pub returns-in_err-parts-clause-reads : goal.returns-in_err-parts-clause-reads
+returns-in_err-parts-clause-reads c =
     let found = get-held_by c.self.inside.map c.args.key.now in
     let here : Some c.deref.result.now ≡ content_of c.args.self.now c.args.key.now = rw (← c.self.view_is, found) (grind (arith, common_steps)) in
     let told : IsRangeError c.args.ranges.now (content_of c.args.self.now c.args.key.now) (range_fault c.in_err-parts.field-0.0) =
@@ -40,8 +40,8 @@ returns-in_err-parts c =
       cause = search rules;
     }
 
-pub returns : goal.returns
-returns c =
+pub returns-clause-reads : goal.returns-clause-reads
+returns-clause-reads c =
     let found = get-held_by c.self.inside.map c.args.key.now in
     let here : Some c.deref.result.now ≡ content_of c.args.self.now c.args.key.now = rw (← c.self.view_is, found) (grind (arith, common_steps)) in
     record {

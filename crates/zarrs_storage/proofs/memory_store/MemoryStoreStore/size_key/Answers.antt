@@ -3,8 +3,8 @@ use Rattle.std.proofs.lemmas.Grind.{common_steps}
 use Rattle.zarrs_storage.proofs.MemoryStoreLemmas.{get-held_by}
 use Rattle.zarrs_storage.proofs.memory_store.MemoryStoreStore.size_key.Goals as goal
 
-pub returns-in_default : goal.returns-in_default
-returns-in_default c = record {
+pub returns-in_default-clause-reads : goal.returns-in_default-clause-reads
+returns-in_default-clause-reads c = record {
   value =
       let found = get-held_by c.self.inside.map c.args.key.now in
       rw (← c.self.view_is, found) (grind (arith, common_steps));
@@ -15,8 +15,8 @@ returns-in_default c = record {
   cause = search rules;
 }
 
-pub returns : goal.returns
-returns c = record {
+pub returns-clause-reads : goal.returns-clause-reads
+returns-clause-reads c = record {
   value =
       let found = get-held_by c.self.inside.map c.args.key.now in
       rw (← c.self.view_is, found) (grind (arith, common_steps));

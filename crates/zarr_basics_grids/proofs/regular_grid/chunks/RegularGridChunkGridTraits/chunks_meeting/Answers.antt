@@ -1,8 +1,9 @@
 use Rattle.std.proofs.Common.{rules, ◌<◌, length, ap, ◌∙◌, sym}
 use Rattle.zarr_model.specs.Prelude.{count}
+use Rattle.zarr_model.proofs.RegionLaws.{rank_within}
 use Rattle.zarrs_array_subset.specs.ArraySubset.{region}
 use Rattle.zarr_basics_grids.specs.RegularGrid.{chunk_region}
-use Rattle.zarr_basics_grids.proofs.RegularLaws.{rank_within, chunks_listed}
+use Rattle.zarr_basics_grids.proofs.RegularLaws.{chunks_listed}
 use Rattle.zarr_basics_grids.proofs.regular_grid.chunks.RegularGridChunkGridTraits.chunks_meeting.Goals as goal
 
 pub chunks_of-requires-clause-rank : goal.chunks_of-requires-clause-rank

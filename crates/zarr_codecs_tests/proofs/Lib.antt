@@ -1,2 +1,0 @@
-mod LevelLaws
-mod TargetLaws

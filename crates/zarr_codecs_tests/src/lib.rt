@@ -1,6 +1,0 @@
-//! Callers of codecs, each for every codec.
-#![tactic(auto)]
-
-pub mod levels;
-pub mod parts;
-pub mod targets;

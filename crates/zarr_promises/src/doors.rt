@@ -1,0 +1,35 @@
+//! Callers that name one front door alone.
+
+ghost use Rattle.std.specs.Prelude.{◌≡◌, true, MatchResult};
+ghost use Rattle.zarrs_codec.specs.codec_error.declared.error.CodecError.TheVariants as error;
+
+use std::alloc::Global;
+use zarrs_codec::{BytesRepresentation, BytesToBytesCodecTraits, CodecError, CodecOptions};
+use zarrs_codec_partial::BytesPartialDecoderTraits;
+
+/// A value, encoded and decoded again by any bytes-to-bytes codec: it is itself.
+///
+/// # Errors
+/// [`CodecError`] where memory runs out.
+pub fn there_and_back<C: BytesToBytesCodecTraits>(
+    codec: &C,
+    alloc: Global,
+    value: Vec<u8>,
+    representation: &BytesRepresentation,
+    options: &CodecOptions,
+) -> Result<Vec<u8>, CodecError>
+    ensures { MatchResult result (λ v. v.items ≡ value.items) (λ e. e ≡ error.OutOfMemory) }
+{
+    let encoded = codec.encode(alloc, value, options)?;
+    codec.decode(alloc, encoded, representation, options)
+}
+
+/// Whether a handle's value is certainly there.
+pub fn is_there<H: BytesPartialDecoderTraits>(handle: &mut H) -> bool
+    ensures { result ≡ true → (H.seen handle.old).there ≡ true }
+{
+    match handle.exists() {
+        Ok(there) => there,
+        Err(_) => false,
+    }
+}

@@ -1,3 +1,0 @@
-pub mod Making
-pub mod CodecMetadata
-pub mod CodecOf

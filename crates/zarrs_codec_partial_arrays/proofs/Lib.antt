@@ -1,7 +1,0 @@
-mod ByteLaws
-mod FillLaws
-pub mod AboveLaws
-pub mod StoreLaws
-mod ServedLaws
-mod ReadLaws
-mod StepLaws

@@ -1,4 +1,0 @@
-pub mod Above
-pub mod Counted
-pub mod Reading
-pub mod Writing

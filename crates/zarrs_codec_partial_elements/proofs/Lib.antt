@@ -1,0 +1,6 @@
+pub mod AbsentLaws
+pub mod DenotesLaws
+pub mod HeldLaws
+pub mod ReadLaws
+pub mod WriteLaws
+pub mod ServedLaws

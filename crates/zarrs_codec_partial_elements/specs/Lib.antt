@@ -1,0 +1,6 @@
+pub mod Level
+pub mod Boxes
+pub mod Reading
+pub mod Writing
+pub mod Counted
+pub mod Kinds

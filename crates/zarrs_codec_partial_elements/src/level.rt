@@ -1,0 +1,18 @@
+//! An array-to-bytes codec with its level.
+
+use zarrs_array_subset::ChunkShape;
+use zarrs_data_type_elements::FillValue;
+use zarrs_data_type_names::DataType;
+
+/// An array-to-bytes codec, with the shape, the data type and the fill value of what it encodes.
+#[derive(Drop)]
+pub struct BottomLevel<B> {
+    /// The codec.
+    pub codec: B,
+    /// The shape.
+    pub shape: ChunkShape,
+    /// The data type.
+    pub data_type: DataType,
+    /// The fill value.
+    pub fill_value: FillValue,
+}

@@ -1,2 +1,0 @@
-pub mod AnyBack
-pub mod StaysKind
