@@ -15,6 +15,15 @@ def document(shape, chunks, data_type="uint8", endian="little"):
     return DOCUMENT.format(shape=list(shape), chunks=list(chunks), data_type=data_type, endian=endian)
 
 
+def bounded(text, lengths):
+    """The same input over a grid of boundaries with these lengths in each dimension."""
+    start = text.index('"chunk_grid"')
+    end = text.index('"chunk_key_encoding"')
+    rows = ",".join("[" + ",".join(map(str, row)) + "]" for row in lengths)
+    grid = f'"chunk_grid":{{"name":"zarr_basics.boundaries","configuration":{{"lengths":[{rows}]}}}},'
+    return text[:start] + grid + text[end:]
+
+
 def key_lines(counts, size):
     """A value of `size` bytes for each chunk of a grid of these counts."""
     value = "".join(f"{n % 251 + 1:02x}" for n in range(size))
@@ -72,6 +81,14 @@ def texts(shape, chunks, size):
     )
 
 
+def single_reads(chunks, reads):
+    """Reads of one element each out of a dimension of as many chunks, of lengths 3 and 1 in turn."""
+    lengths = [3 if n % 2 == 0 else 1 for n in range(chunks)]
+    total = sum(lengths)
+    places = ((n * 7919 + 13) % total for n in range(reads))
+    return bounded(document((total,), (1,)), [lengths]) + "".join(f"read {at}..{at + 1}\n" for at in places)
+
+
 def cases():
     """Each case: its group, its name, and a function that makes its input."""
     yield "read", "one read of 600 x 800 from 64 chunks of 128 x 128", one_read
@@ -111,6 +128,18 @@ def cases():
             f"write and read {shape[0]} x {shape[1]} texts of 16 bytes in chunks of 32 x 32",
             lambda shape=shape: texts(shape, (32, 32), 16),
         )
+    for chunks in (1_000, 1_000_000):
+        for reads in (0, 10_000):
+            yield (
+                "boundaries",
+                f"{reads:,} reads of one element out of {chunks:,} chunks of a grid of boundaries",
+                lambda chunks=chunks, reads=reads: single_reads(chunks, reads),
+            )
+    yield (
+        "boundaries of one shape",
+        "write and read 1000 x 1000 in 10,000 chunks of 10 x 10 of a grid of boundaries",
+        lambda: bounded(write_and_read((1000, 1000), (10, 10)), [[10] * 100, [10] * 100]),
+    )
 
 
 if __name__ == "__main__":

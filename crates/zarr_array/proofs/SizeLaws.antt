@@ -11,5 +11,5 @@ use Rattle.zarr_array_regions.proofs.SizeLaws.{sized_some}
 
 pub some_size : (parts : ArrayParts) (type : DataType) (n : ℕ) → type ≡ (documented parts).data_type → kind_of type ≡ fixed n → 0 < n
 some_size parts type n same is =
-    let serves = is_served-serves (chain_form parts.array_codecs.items parts.to_bytes parts.byte_codecs.items) (type_of parts.data_type) parts.served in
-    sized_some (plain_of parts.to_bytes) (type_of parts.data_type) n serves.bytes parts.proper (ap kind_of (sym same) ∙ is)
+    let serves = is_served-serves (chain_form parts.chain) (type_of parts.data_type) parts.served in
+    sized_some (plain_of parts.chain.to_bytes) (type_of parts.data_type) n serves.bytes parts.proper (ap kind_of (sym same) ∙ is)

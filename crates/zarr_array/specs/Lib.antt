@@ -2,6 +2,7 @@ pub use Rattle.zarr_array_regions.specs as regions
 pub use Rattle.zarr_array_regions.specs.parts
 pub mod OpenError
 pub mod OpenArray
+pub mod Handle
 pub mod Command
 pub mod Stored
 pub mod Session

@@ -4,6 +4,7 @@
 mod calls;
 mod command;
 mod error;
+mod handle;
 mod open;
 mod refusal;
 mod session;
@@ -11,17 +12,20 @@ mod step;
 
 pub use command::{Command, Reply};
 pub use error::{SessionError, SessionErrorKind};
+pub use handle::ChainHandle;
 pub use open::OpenArray;
 pub use refusal::Refusal;
 pub use session::run_session;
 pub use zarr_array_regions::{
-    BasicChain, ChainHandle, ChunkKeyKind, CodecKind, DataTypeKind, GridKind, OpenError,
-    Registries, builtin_registries,
+    BasicChain, BasicGrid, ChunkKeyKind, CodecKind, DataTypeKind, GridKind, OpenError, Registries,
+    builtin_registries,
 };
-pub use zarrs_array_subset::ArraySubset;
+pub use zarr_chain::ChunkLevels;
+pub use zarrs_array_subset::{ArraySubset, ChunkShape};
+pub use zarrs_chunk_grid_traits::{ChunkGridError, ChunkGridTraits};
 pub use zarrs_codec_array_bytes::{ArrayBytes, ArrayBytesOffsets};
 pub use zarrs_codec_error::CodecError;
 pub use zarrs_codec_options::CodecOptions;
-pub use zarrs_data_type::DataType;
+pub use zarrs_data_type::{DataType, FillValue};
 pub use zarrs_plugin::NamePattern;
 pub use zarrs_storage::{MemoryStore, Store, StoreKey};

@@ -2,25 +2,27 @@
 //!
 //! See <https://zarr-specs.readthedocs.io/en/latest/v3/core/index.html#array-metadata>.
 
-ghost use Rattle.std.specs.Prelude.{◌≡◌, ◌<◌, ℕ, true, IfOk};
-ghost use Rattle.zarr_model.specs.Prelude.{fixed, kind_of};
+ghost use Rattle.std.specs.Prelude.{◌≡◌, ◌<◌, ℕ, length, Some, IfOk};
+ghost use Rattle.zarr_model.specs.Prelude.{fixed, kind_of, fill_element, sizes, IsChunk};
+ghost use Rattle.zarrs_chunk_grid_traits.specs.ChunkGridErrors.{Answers};
+ghost use Rattle.zarrs_chunk_grid_traits.specs.ChunkGrid.{in_chunk};
+ghost use Rattle.zarrs_codec_traits.specs.Views.{lengths};
+ghost use Rattle.zarrs_data_type.specs.FillValue.{fill_bytes};
 ghost use Rattle.zarrs_data_type.specs.DataType.{type_of};
+ghost use Rattle.zarr_array_regions.specs.parts.basics.BasicGrid.{basic_grid, basic_shape};
 ghost use Rattle.zarr_array_regions.specs.parts.basics.Registries.{names_of};
 ghost use Rattle.zarr_array_regions.specs.parts.Opening.{open_document};
-ghost use Rattle.zarr_array_regions.specs.parts.ChunkChain.{owned};
+ghost use Rattle.zarr_array_regions.specs.parts.Chain.{chain_form};
+ghost use Rattle.zarr_array_regions.specs.parts.ChunkLevels.{ServesShape, chunk_shape};
 ghost use Rattle.zarr_array_regions.specs.parts.Sizes.{have_chunks};
-ghost use Rattle.zarr_chain.specs.Levels.{above};
-ghost use Rattle.zarr_array_regions.specs.stored.Fetch.{HasFill};
-ghost use Rattle.zarr_chain.specs.Chain.{IsServed};
-ghost use Rattle.zarr_array_regions.specs.Codecs.{IsChainOf};
 
 use std::alloc::{AllocError, Global};
-use zarr_array_regions::{
-    ArrayParts, BasicArrayToArray, BasicChain, OpenError, Registries, codec_chain,
-};
-use zarr_codecs_array_to_bytes::BasicArrayToBytes;
-use zarrs_codec_traits::{ArrayCodecTraits, ArrayToArrayCodecTraits, ArrayToBytesCodecTraits};
-use zarrs_data_type::DataType;
+use zarr_array_regions::{ArrayParts, BasicChain, BasicGrid, OpenError, Registries, chunk_key};
+use zarr_chain::ChunkLevels;
+use zarrs_array_subset::ChunkShape;
+use zarrs_chunk_grid_traits::{ChunkGridError, ChunkGridTraits};
+use zarrs_data_type::{DataType, FillValue};
+use zarrs_storage::StoreKey;
 
 /// An array that a document describes.
 #[derive(Drop)]
@@ -55,23 +57,40 @@ impl OpenArray {
         self.parts.has_chunks()
     }
 
-    /// A chain of copies of the array's codecs with their levels. One chain serves all chunks. The array has a chunk. With
-    /// [`ChainHandle::from_parts`](crate::ChainHandle::from_parts) it becomes a handle on one chunk in a store.
+    /// The codecs, in the order of encoding.
+    pub fn chain(&self) -> &BasicChain
+        ensures { result.now ≡ self.now.parts.chain }
+    {
+        self.parts.chain()
+    }
+
+    /// Copies of the codecs.
     ///
     /// # Errors
     /// [`AllocError`] where memory runs out.
-    pub fn chain(&self, alloc: Global) -> Result<BasicChain, AllocError>
-        requires some { have_chunks (described self.now).grid.grid_shape ≡ true }
-        ensures codecs { IfOk result (IsChainOf owned (documented self.now)) }
-        ensures served { IfOk result (IsServed
-            ⟦<BasicArrayToArray as ArrayToArrayCodecTraits>⟧.meaning
-            ⟦<BasicArrayToArray as ArrayCodecTraits>⟧.unserved
-            ⟦<BasicArrayToBytes as ArrayCodecTraits>⟧.unserved) }
-        ensures fill { IfOk result HasFill }
-        ensures takes { IfOk result (λ chain. ⟦<BasicArrayToBytes as ArrayToBytesCodecTraits>⟧.takes
-            chain.bottom.codec (above chain.bottom)) }
+    pub fn copied_chain(&self, alloc: Global) -> Result<BasicChain, AllocError>
+        ensures { IfOk result (λ chain. chain_form chain ≡ chain_form self.now.parts.chain) }
     {
-        codec_chain(&self.parts, alloc)
+        self.parts.copied_chain(alloc)
+    }
+
+    /// What the elements of a chunk of the grid are above each codec, of the array's or of copies. It is so of each chunk of
+    /// the same shape.
+    ///
+    /// # Errors
+    /// [`AllocError`] where memory runs out.
+    pub fn levels(
+        &self,
+        alloc: Global,
+        chain: &BasicChain,
+        chunk: &[u64],
+    ) -> Result<ChunkLevels, AllocError>
+        requires chain { chain_form chain.now ≡ chain_form self.now.parts.chain }
+        requires chunk { IsChunk (described self.now).grid chunk.now }
+        ensures { IfOk result (ServesShape self.now.parts
+            (chunk_shape (described self.now) chunk.now) chain.now) }
+    {
+        self.parts.levels(alloc, chain, chunk)
     }
 
     /// The data type of the elements.
@@ -82,10 +101,52 @@ impl OpenArray {
         self.parts.data_type()
     }
 
+    /// The fill value.
+    pub fn fill_value(&self) -> &FillValue
+        ensures { fill_element (kind_of (documented self.now).data_type) (fill_bytes result.now)
+            ≡ Some (documented self.now).fill }
+    {
+        self.parts.fill_value()
+    }
+
     /// The shape of the array.
     pub fn shape(&self) -> &[u64]
         ensures { result.now ≡ (documented self.now).shape }
     {
         self.parts.shape()
+    }
+
+    /// The grid of chunks.
+    pub fn grid(&self) -> &BasicGrid
+        ensures grid { basic_grid result.now ≡ (described self.now).grid }
+        ensures shape { basic_shape result.now ≡ (documented self.now).shape }
+    {
+        self.parts.grid()
+    }
+
+    /// The shape of a chunk, which is whole also at the edge of the array, or none where the grid has no such chunk.
+    ///
+    /// # Errors
+    /// [`ChunkGridError`] where the indices have another number of dimensions than the array, or memory runs out.
+    pub fn chunk_shape(
+        &self,
+        alloc: Global,
+        chunk: &[u64],
+    ) -> Result<Option<ChunkShape>, ChunkGridError>
+        ensures { Answers (λ v. lengths v.items) result (length chunk.now)
+            (length (documented self.now).shape)
+            (in_chunk sizes (described self.now).grid chunk.now) }
+    {
+        self.parts.grid().chunk_shape(alloc, chunk)
+    }
+
+    /// The key that the value of a chunk stands under.
+    ///
+    /// # Errors
+    /// [`AllocError`] where memory runs out.
+    pub fn chunk_key(&self, alloc: Global, chunk: &[u64]) -> Result<StoreKey, AllocError>
+        ensures { IfOk result (λ key. key ≡ (described self.now).key chunk.now) }
+    {
+        chunk_key(&self.parts, alloc, chunk)
     }
 }

@@ -7,12 +7,12 @@ use crate::made::{key_of, opened, put, region};
 use std::alloc::{AllocError, Global};
 use std::num::NonZeroU64;
 use std::process::Abort;
-use zarr_array::{ChainHandle, CodecOptions, OpenArray};
+use zarr_array::{ChainHandle, ChunkGridTraits, CodecOptions, OpenArray};
 use zarrs_array_subset::ArraySubset;
 use zarrs_codec_array_bytes::ArrayBytes;
 use zarrs_codec_array_bytes::array_bytes::bytes_in;
 use zarrs_codec_error::CodecError;
-use zarrs_storage::{MemoryStore, Store, StoreKey};
+use zarrs_storage::{MemoryStore, Store};
 
 // Two rows of three numbers of two bytes in a chunk, 7 where nothing is written. One is put on each, the greater byte
 // comes first, and a digest is last.
@@ -31,24 +31,34 @@ fn numbers(alloc: Global, shape: &[NonZeroU64]) -> Result<Vec<u64>, AllocError>
 fn put_again(
     alloc: Global,
     array: &OpenArray,
+    chunk: &[u64],
     store: &mut MemoryStore,
-    key: StoreKey,
     region: &ArraySubset,
 ) -> Result<Option<ArrayBytes<'static>>, CodecError> {
-    if !array.has_chunks() {
+    if !array.grid().has_chunk(chunk) {
         return Ok(None);
     }
-    let chain = array.chain(alloc)?;
-    let shape = numbers(alloc, chain.shape())?;
+    let key = array.chunk_key(alloc, chunk)?;
+    let chain = array.copied_chain(alloc)?;
+    let levels = array.levels(alloc, &chain, chunk)?;
+    let shape = numbers(alloc, levels.shape())?;
     if !region.inbounds_shape(&shape) {
         return Ok(None);
     }
     let options = CodecOptions::default();
-    let mut handle = ChainHandle::from_parts(chain, store, key);
-    let elements = handle.partial_decode(alloc, region, &options)?;
-    handle.erase()?;
-    handle.partial_encode(alloc, region, &elements, &options)?;
-    Ok(Some(elements))
+    let mut handle = ChainHandle::from_parts(chain, levels, store, key);
+    let result = match handle.partial_decode(alloc, region, &options) {
+        Ok(elements) => match handle.erase() {
+            Ok(()) => match handle.partial_encode(alloc, region, &elements, &options) {
+                Ok(()) => Ok(Some(elements)),
+                Err(error) => Err(error),
+            },
+            Err(error) => Err(error),
+        },
+        Err(error) => Err(error),
+    };
+    let _store = handle.into_storage();
+    result
 }
 
 // The rows [1, 2, 3] and [4, 5, 6], as they are stored, and those with 7 in place of the first column.
@@ -70,8 +80,7 @@ fn is_put_again(
     store: &mut MemoryStore,
 ) -> bool {
     let columns = region(rt, alloc, &[0..2, 1..3]);
-    let key = key_of(rt, alloc, "c/0/1");
-    match put_again(alloc, array, store, key, &columns) {
+    match put_again(alloc, array, &[0, 1], store, &columns) {
         Ok(Some(ArrayBytes::Fixed(bytes))) => {
             bytes_in(&bytes) == [2, 0, 3, 0, 5, 0, 6, 0].as_slice()
         }
@@ -89,4 +98,47 @@ fn a_chunk_is_read_erased_and_written(rt: HostRuntime) {
     let value = store.get(alloc, &key_of(&rt, alloc, "c/0/1"));
     let value = value.ok().expect(&rt, "a value");
     assert_eq!(rt; value.as_deref(), Some(AFTER.as_slice()));
+}
+
+// Six elements in chunks of two and of four.
+const BOUNDED: &str =
+    r#"{"zarr_format":3,"node_type":"array","shape":[5],"data_type":"uint8","chunk_grid":{"name":"zarr_basics.boundaries","configuration":{"lengths":[[2,4]]}},"chunk_key_encoding":"default","fill_value":9,"codecs":["bytes"]}"#;
+
+// What a region of a chunk had, after the chunk was erased and the region put again.
+fn put_in_chunk(
+    rt: &impl Abort,
+    alloc: Global,
+    chunk: &[u64],
+    columns: &ArraySubset,
+    store: &mut MemoryStore,
+) -> Option<ArrayBytes<'static>> {
+    let array = opened(rt, alloc, BOUNDED);
+    put_again(alloc, &array, chunk, store, columns)
+        .ok()
+        .expect(rt, "elements")
+}
+
+// Whether these are elements of one byte.
+fn are_elements(part: Option<ArrayBytes<'static>>, elements: &[u8]) -> bool {
+    match part {
+        Some(ArrayBytes::Fixed(bytes)) => bytes_in(&bytes) == elements,
+        _ => false,
+    }
+}
+
+#[test]
+fn a_handle_has_the_shape_of_its_chunk(rt: HostRuntime) {
+    let alloc = rt.alloc();
+    let columns = region(&rt, alloc, &[1..3]);
+    let mut store = MemoryStore::new(alloc);
+    put(&rt, alloc, &mut store, "c/1", &[5, 6, 7, 8]);
+    let first = put_in_chunk(&rt, alloc, &[0], &columns, &mut store);
+    assert_eq!(rt; first.is_none(), true);
+    let past = put_in_chunk(&rt, alloc, &[2], &columns, &mut store);
+    assert_eq!(rt; past.is_none(), true);
+    let part = put_in_chunk(&rt, alloc, &[1], &columns, &mut store);
+    assert_eq!(rt; are_elements(part, &[6, 7]), true);
+    let value = store.get(alloc, &key_of(&rt, alloc, "c/1"));
+    let value = value.ok().expect(&rt, "a value");
+    assert_eq!(rt; value.as_deref(), Some([9, 6, 7, 9].as_slice()));
 }

@@ -57,13 +57,13 @@ chunk_counts array chunk is_chunk = counts_of (fixed_size (kind (described array
 pub ruleset of_chunks = (chunk_fits, chunk_some, chunk_counts)
 
 -- each chunk can be stored: where lengths are, its number of elements fits, and so does the fill
-long_parts : (array : ArrayParts) → stores_lengths (plain_of array.to_bytes) ≡ true →
+long_parts : (array : ArrayParts) → stores_lengths (plain_of array.chain.to_bytes) ≡ true →
     has_long_chunk (described array).grid (innermost_fill (kind (described array)) (fill_bytes array.fill)) ≡ false
 long_parts array stores =
     ap (λ b. b && has_long_chunk (described array).grid (innermost_fill (kind (described array)) (fill_bytes array.fill))) (sym stores)
     ∙ (or_parts (has_large_chunk (described array).grid (fixed_size (kind (described array)))) _ array.fits).1
 
-pub chunk_short : (array : ArrayParts) (chunk : List ℕ) → IsChunk (described array).grid chunk → stores_lengths (plain_of array.to_bytes) ≡ true →
+pub chunk_short : (array : ArrayParts) (chunk : List ℕ) → IsChunk (described array).grid chunk → stores_lengths (plain_of array.chain.to_bytes) ≡ true →
     (count ((described array).grid.chunk_box chunk) < 2 ^ 32) × (length (innermost_fill (kind (described array)) (fill_bytes array.fill)) < 2 ^ 32)
 chunk_short array chunk is_chunk stores =
     let filler = innermost_fill (kind (described array)) (fill_bytes array.fill) in

@@ -11,14 +11,15 @@ use Rattle.zarrs_codec_error.specs.declared.error.CodecError.TheVariants as code
 use Rattle.zarrs_codec_traits.specs.Errors.{Unserved, RefusesBy, unserved_error, unsupported}
 use Rattle.zarr_codecs_numbers.specs.Numbers.{bytes_less}
 use Rattle.zarr_codecs_numbers.specs.Offset.{offset_unserved}
-use Rattle.zarr_codecs_array_to_bytes.specs.Plain.{unserved_by, plain_unserved}
+use Rattle.zarr_codecs_array_to_bytes.specs.Plain.{unserved_by}
 use Rattle.zarr_codecs_array_to_bytes.specs.Views.{plain_of}
 use Rattle.zarr_codecs_array_to_bytes.specs.declared.codecs.BasicArrayToBytes.{BasicArrayToBytes}
 use Rattle.zarr_basics.specs.kinds.Basic.{basic_offset}
 use Rattle.zarr_basics.specs.kinds.declared.array_to_array.BasicArrayToArray.{BasicArrayToArray}
 use Rattle.zarr_chain.specs.Building.{chain_unserved, IsReason, FailsToBuild}
 use Rattle.zarr_array_parts.specs.Document.{ArrayToArray, offset, ChainForm}
-use Rattle.zarr_array_parts.specs.Chain.{array_form}
+use Rattle.zarr_array_parts.specs.Chain.{array_form, BasicChain, chain_form}
+use Rattle.zarr_array_parts.specs.Codecs.{array_meaning, array_unserved, list_unserved}
 use Rattle.zarr_array_parts.specs.OpenError.{open_refusal_of, unserved_as}
 use Rattle.zarr_array_parts.specs.Parts.{StopsBy}
 use Rattle.zarr_array_parts.proofs.OpeningLaws.{fails_after}
@@ -84,15 +85,17 @@ offset_serves bytes_type e = cc
 offset_serves (optional_type inner) e = cc
 
 -- so no codec of a chain refuses its level
-pub none_refuses : {A B : Type 0} (array : A → BasicArrayToArray) (to_bytes : B → BasicArrayToBytes) (codecs : List A) (codec : B) (level : Level) (fill : List ℕ)
-    → bottom_type (map array_form (map array codecs)) level.data_type ≡ Ok level.data_type → unserved_by (plain_of (to_bytes codec)) level.data_type ≡ None
-    → chain_unserved (λ (c : A). offset_codec (basic_offset (array c))) (λ c _ data_type _. offset_unserved data_type) (λ c _ fill. bytes_less (opposite (basic_offset (array c))) fill)
-    (λ (c : B) _ data_type _. plain_unserved (plain_of (to_bytes c)) data_type) codecs codec level fill ≡ None
-none_refuses array to_bytes [] codec level fill arrays serves = serves
-none_refuses array to_bytes (first ∷ codecs) codec level fill arrays serves =
-    let ends = test_passed (is_whole_number level.data_type) level.data_type level.data_type unsupported_data_type (bottom_type (map array_form (map array codecs))) arrays in
+abbrev pub fill_less : BasicArrayToArray → DataType → List ℕ → List ℕ
+fill_less codec type fill = bytes_less (opposite (basic_offset codec)) fill
+
+pub none_refuses : (codecs : List BasicArrayToArray) (codec : BasicArrayToBytes) (level : Level) (fill : List ℕ)
+    → bottom_type (map array_form codecs) level.data_type ≡ Ok level.data_type → unserved_by (plain_of codec) level.data_type ≡ None
+    → chain_unserved array_meaning array_unserved fill_less list_unserved codecs codec level fill ≡ None
+none_refuses [] codec level fill arrays serves = serves
+none_refuses (first ∷ codecs) codec level fill arrays serves =
+    let ends = test_passed (is_whole_number level.data_type) level.data_type level.data_type unsupported_data_type (bottom_type (map array_form codecs)) arrays in
     rw (offset_serves level.data_type ends.0)
-    (none_refuses array to_bytes codecs codec ((offset_codec (basic_offset (array first))).level_below level) (bytes_less (opposite (basic_offset (array first))) fill) ends.1 serves)
+    (none_refuses codecs codec ((array_meaning first).level_below level) (fill_less first level.data_type fill) ends.1 serves)
 
 -- the type below an offset, and why there is none
 pub below_made : (number : ℤ) (type : DataType) (t : types.DataType) → RefusesBy {T = types.DataType} (offset_unserved (Some type)) (Ok t)
@@ -143,11 +146,11 @@ only_memory : (reason : Option Unserved) (e : CodecError) → FailsToBuild reaso
 only_memory reason e (inl memory) none = memory
 only_memory reason e (inr why) none = absurd (subst (λ r. IsReason r e) none why)
 
-pub not_built : {A B : Type 0} (array : A → BasicArrayToArray) (to_bytes : B → BasicArrayToBytes) (form : ChainForm) (codecs : List A) (bottom : B) (level : Level) (fill : List ℕ) (e : CodecError)
-    → is_served form level.data_type ≡ true → map array_form (map array codecs) ≡ form.array_codecs → plain_of (to_bytes bottom) ≡ form.to_bytes
-    → FailsToBuild (chain_unserved (λ (c : A). offset_codec (basic_offset (array c))) (λ c _ data_type _. offset_unserved data_type) (λ c _ fill. bytes_less (opposite (basic_offset (array c))) fill)
-    (λ (c : B) _ data_type _. plain_unserved (plain_of (to_bytes c)) data_type) codecs bottom level fill) e → e ≡ codec.OutOfMemory
-not_built array to_bytes form codecs bottom level fill e served arrays same fails =
+pub not_built : (form : ChainForm) (chain : BasicChain) (level : Level) (fill : List ℕ) (e : CodecError)
+    → is_served form level.data_type ≡ true → chain_form chain ≡ form
+    → FailsToBuild (chain_unserved array_meaning array_unserved fill_less list_unserved chain.array_codecs.items chain.to_bytes level fill) e → e ≡ codec.OutOfMemory
+not_built form chain level fill e served same fails =
     let serves = is_served-serves form level.data_type served in
     only_memory _ e fails
-    (none_refuses array to_bytes codecs bottom level fill (ap (λ l. bottom_type l level.data_type) arrays ∙ serves.arrays) (ap (λ p. unserved_by p level.data_type) same ∙ serves.bytes))
+    (none_refuses chain.array_codecs.items chain.to_bytes level fill
+    (ap (λ (f : ChainForm). bottom_type f.array_codecs level.data_type) same ∙ serves.arrays) (ap (λ (f : ChainForm). unserved_by f.to_bytes level.data_type) same ∙ serves.bytes))

@@ -8,6 +8,7 @@ use Rattle.zarr_codecs_array_to_bytes.specs.Views.{plain_of}
 use Rattle.zarr_codecs_array_to_bytes.specs.declared.codecs.BasicArrayToBytes.{BasicArrayToBytes}
 use Rattle.zarr_basics.specs.kinds.declared.bytes_to_bytes.BasicBytesToBytes.{BasicBytesToBytes}
 use Rattle.zarr_basics.specs.kinds.declared.bytes_to_bytes.BasicBytesToBytes.TheVariants.{Sha256}
+use Rattle.zarr_chain.specs.declared.chain.CodecChain.{CodecChain}
 use Rattle.zarr_array_parts.specs.Document.{ArrayToArray, offset, BytesToBytes, checksum, ChainForm}
 
 -- the array-to-array codecs that a list begins with
@@ -54,10 +55,12 @@ array_form codec = offset (basic_offset codec)
 abbrev pub byte_form : BasicBytesToBytes → BytesToBytes
 byte_form (Sha256 codec) = checksum
 
-abbrev pub chain_form : List BasicArrayToArray → BasicArrayToBytes → List BasicBytesToBytes →
-    ChainForm
-chain_form array_codecs to_bytes byte_codecs = record {
-  array_codecs = map array_form array_codecs;
-  to_bytes = plain_of to_bytes;
-  byte_codecs = map byte_form byte_codecs;
+abbrev pub BasicChain : Type 0
+BasicChain = CodecChain BasicArrayToArray BasicArrayToBytes BasicBytesToBytes
+
+abbrev pub chain_form : BasicChain → ChainForm
+chain_form chain = record {
+  array_codecs = map array_form chain.array_codecs.items;
+  to_bytes = plain_of chain.to_bytes;
+  byte_codecs = map byte_form chain.byte_codecs.items;
 }

@@ -6,4 +6,5 @@ pub mod Sizes
 pub mod Opening
 pub mod OpenError
 pub mod Parts
-pub mod ChunkChain
+pub mod Codecs
+pub mod ChunkLevels

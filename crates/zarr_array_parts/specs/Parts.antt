@@ -14,8 +14,7 @@ use Rattle.zarr_array_parts.specs.declared.open_error.OpenError.{OpenError}
 
 -- its document
 abbrev pub documented : ArrayParts → ArrayDocument
-documented array = document_with (keys_of array.keys)
-    (chain_form array.array_codecs.items array.to_bytes array.byte_codecs.items)
+documented array = document_with (keys_of array.keys) (chain_form array.chain)
     (type_of array.data_type) (basic_shape array.grid) (basic_form array.grid)
     (fill_bytes array.fill)
 

@@ -9,15 +9,11 @@ ghost use Rattle.zarr_array_parts.specs.Parts.{Opens};
 use crate::open_error::OpenError;
 use std::alloc::{AllocError, Global};
 use zarr_basics::{BasicArrayToArray, BasicArrayToBytes, BasicBytesToBytes, BasicCodec};
+use zarr_chain::CodecChain;
 use zarrs_codec_traits::Codec;
 
-// The codecs of a chain.
-#[derive(Drop)]
-pub(crate) struct ChainCodecs {
-    pub(crate) array_codecs: Vec<BasicArrayToArray>,
-    pub(crate) to_bytes: BasicArrayToBytes,
-    pub(crate) byte_codecs: Vec<BasicBytesToBytes>,
-}
+/// A chain of this project's codecs.
+pub type BasicChain = CodecChain<BasicArrayToArray, BasicArrayToBytes, BasicBytesToBytes>;
 
 // The array-to-array codecs that a list begins with.
 fn leading(alloc: Global, codecs: &[BasicCodec]) -> Result<Vec<BasicArrayToArray>, AllocError>
@@ -52,15 +48,14 @@ fn byte_codecs(alloc: Global, codecs: &[BasicCodec]) -> Result<Vec<BasicBytesToB
 }
 
 // The chain that codecs are.
-pub(crate) fn chain_of(alloc: Global, codecs: &[BasicCodec]) -> Result<ChainCodecs, OpenError>
-    ensures { Opens (λ c. chain_form c.array_codecs.items c.to_bytes c.byte_codecs.items) result
-        (or_refused chain_order (chain_in (map form_of codecs.now))) }
+pub(crate) fn chain_of(alloc: Global, codecs: &[BasicCodec]) -> Result<BasicChain, OpenError>
+    ensures { Opens chain_form result (or_refused chain_order (chain_in (map form_of codecs.now))) }
 {
     let array_codecs = leading(alloc, codecs)?;
     match &codecs[array_codecs.len()..] {
         [Codec::ArrayToBytes(to_bytes), rest @ ..] => {
             let byte_codecs = byte_codecs(alloc, rest)?;
-            Ok(ChainCodecs {
+            Ok(CodecChain {
                 array_codecs,
                 to_bytes: to_bytes.try_clone(alloc)?,
                 byte_codecs,

@@ -62,7 +62,7 @@ fn has_long_chunk(grid: &BasicGrid, fill: &[u8]) -> bool
     if !has_chunks(grid) {
         return false;
     }
-    LONG <= num_elements(grid.chunk_lengths()) || LONG <= fill.len() as u64
+    LONG <= num_elements(grid.largest_lengths()) || LONG <= fill.len() as u64
 }
 
 /// Whether some chunk can't be held or addressed, or its lengths can't be stored where they have to be.

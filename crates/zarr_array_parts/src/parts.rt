@@ -16,7 +16,7 @@ ghost use Rattle.zarr_array_parts.specs.Chain.{chain_form};
 ghost use Rattle.zarr_array_parts.specs.Sizes.{are_countable};
 ghost use Rattle.zarr_array_parts.specs.Opening.{is_large, is_served, served_document, document_of, document_read, open_document};
 
-use crate::codecs::{ChainCodecs, chain_of};
+use crate::codecs::{BasicChain, chain_of};
 use crate::document::read_document;
 use crate::extensions::{
     codecs_by, data_type_by, expect_known_fields, fill_value_of, grid_by, keys_by,
@@ -25,10 +25,7 @@ use crate::limits::is_large;
 use crate::open_error::OpenError;
 use crate::served::expect_chain;
 use std::alloc::Global;
-use zarr_basics::{
-    BasicArrayToArray, BasicArrayToBytes, BasicBytesToBytes, BasicGrid, ChunkKeyEncoding,
-    Registries,
-};
+use zarr_basics::{BasicGrid, ChunkKeyEncoding, Registries};
 use zarrs_chunk_grid_traits::ChunkGridTraits;
 use zarrs_data_type::{DataType, FillValue};
 use zarrs_metadata::ArrayMetadataV3;
@@ -41,16 +38,13 @@ pub struct ArrayParts {
     pub(crate) fill: FillValue,
     pub(crate) grid: BasicGrid,
     pub(crate) keys: ChunkKeyEncoding,
-    pub(crate) array_codecs: Vec<BasicArrayToArray>,
-    pub(crate) to_bytes: BasicArrayToBytes,
-    pub(crate) byte_codecs: Vec<BasicBytesToBytes>,
+    pub(crate) chain: BasicChain,
     ghost proper: { is_type (type_of data_type) ≡ true },
     ghost filled: { is_some (fill_element (kind_of (type_of data_type)) (fill_bytes fill)) ≡ true },
     ghost countable: { are_countable (basic_grid grid).grid_shape ≡ true },
-    ghost fits: { is_large (plain_of to_bytes) (type_of data_type) (fill_bytes fill)
+    ghost fits: { is_large (plain_of chain.to_bytes) (type_of data_type) (fill_bytes fill)
         (basic_grid grid) ≡ false },
-    ghost served: { is_served (chain_form array_codecs.items to_bytes byte_codecs.items)
-        (type_of data_type) ≡ true },
+    ghost served: { is_served (chain_form chain) (type_of data_type) ≡ true },
 }
 
 // Numbers of chunks have the range of a `u64`, as these are held.
@@ -70,33 +64,25 @@ impl ArrayParts {
         fill: FillValue,
         grid: BasicGrid,
         keys: ChunkKeyEncoding,
-        codecs: ChainCodecs,
+        chain: BasicChain,
     ) -> Result<ArrayParts, OpenError>
         requires proper { is_type (type_of data_type) ≡ true }
         requires filled { is_some (fill_element (kind_of (type_of data_type)) (fill_bytes fill))
             ≡ true }
-        ensures { Opens documented result (served_document (keys_of keys)
-            (chain_form codecs.array_codecs.items codecs.to_bytes codecs.byte_codecs.items)
+        ensures { Opens documented result (served_document (keys_of keys) (chain_form chain)
             (type_of data_type) (basic_shape grid) (basic_form grid) (fill_bytes fill)) }
     {
         countable(grid.grid_shape());
-        expect_chain(alloc, &codecs, &data_type)?;
-        if is_large(&codecs.to_bytes, &data_type, &fill, &grid) {
+        expect_chain(alloc, &chain, &data_type)?;
+        if is_large(&chain.to_bytes, &data_type, &fill, &grid) {
             return Err(OpenError::ChunkTooLarge);
         }
-        let ChainCodecs {
-            array_codecs,
-            to_bytes,
-            byte_codecs,
-        } = codecs;
         Ok(ArrayParts {
             data_type,
             fill,
             grid,
             keys,
-            array_codecs,
-            to_bytes,
-            byte_codecs,
+            chain,
         })
     }
 
@@ -125,8 +111,8 @@ impl ArrayParts {
         )?;
         let codecs = codecs_by(alloc, &metadata.codecs, &registries.codecs)?;
         let fill = fill_value_of(alloc, &data_type, &metadata.fill_value)?;
-        let codecs = chain_of(alloc, &codecs)?;
-        Self::with_parts(alloc, data_type, fill, grid, keys, codecs)
+        let chain = chain_of(alloc, &codecs)?;
+        Self::with_parts(alloc, data_type, fill, grid, keys, chain)
     }
 
     // The array that a text describes.

@@ -7,7 +7,7 @@ ghost use Rattle.zarr_array_parts.specs.Chain.{array_form, chain_form};
 ghost use Rattle.zarr_array_parts.specs.Opening.{type_below, bottom_type, expect_bytes, expect_chain};
 ghost use Rattle.zarr_array_parts.specs.Parts.{Opens};
 
-use crate::codecs::ChainCodecs;
+use crate::codecs::BasicChain;
 use crate::open_error::OpenError;
 use std::alloc::Global;
 use zarr_basics::{BasicArrayToArray, BasicArrayToBytes};
@@ -63,12 +63,12 @@ fn expect_bytes(codec: &BasicArrayToBytes, data_type: &DataType) -> Result<(), O
 #[tactic(auto, using(crate::proofs::OpeningLaws::fails_after))]
 pub(crate) fn expect_chain(
     alloc: Global,
-    codecs: &ChainCodecs,
+    chain: &BasicChain,
     data_type: &DataType,
 ) -> Result<(), OpenError>
-    ensures { Opens (λ _. tt) result (expect_chain (chain_form codecs.now.array_codecs.items
-        codecs.now.to_bytes codecs.now.byte_codecs.items) (type_of data_type.now)) }
+    ensures { Opens (λ _. tt) result
+        (expect_chain (chain_form chain.now) (type_of data_type.now)) }
 {
-    let bottom = bottom_type(alloc, &codecs.array_codecs, data_type)?;
-    expect_bytes(&codecs.to_bytes, &bottom)
+    let bottom = bottom_type(alloc, &chain.array_codecs, data_type)?;
+    expect_bytes(&chain.to_bytes, &bottom)
 }

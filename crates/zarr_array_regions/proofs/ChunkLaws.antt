@@ -1,24 +1,27 @@
 -- The chunks of an array: what stands under their keys.
 use Rattle.std.proofs.Common.{◌≡◌, ℕ, ◌⊎◌, inl, inr, ⊎_elim, Bool, true, false, List, [], ◌∷◌, length, take, drop, nat_le, replicate, Option, Some, None, IsSome, unwrap_or, Result, Ok, Err, OnOk, OnErr, refl, sym, ap, ◌∙◌, subst}
-use Rattle.zarr_model.specs.Prelude.{Element, DataType, fill_element, Region, count, count_of, Options, Level, decode_bytes, kind, kind_of, meaning, is_mask, Content, Rose, Shown, Description, IsChunk, box_content, chunk_content, layout, ArrayBytes, has_long_element}
+use Rattle.zarr_model.specs.Prelude.{Element, DataType, Region, count, count_of, Options, Level, decode_bytes, kind, kind_of, meaning, is_mask, Content, Rose, Shown, box_content, chunk_content, layout, ArrayBytes, has_long_element}
 use Rattle.zarrs_codec_traits.specs.Words.{list_at, Gives}
 use Rattle.zarrs_codec_error.specs.declared.error.CodecError.{CodecError}
 use Rattle.zarrs_codec_error.specs.declared.error.CodecError.TheVariants as codec
 use Rattle.zarrs_storage.specs.declared.store.StorageError.{StorageError}
 use Rattle.zarrs_storage.specs.declared.store.StorageError.TheVariants as storage
 use Rattle.zarrs_codec_held.specs.Reads.{IsHandleError}
-use Rattle.zarr_chain.specs.Chain.{first_level, first_fill, decoded}
-use Rattle.zarr_chain.specs.Levels.{above}
+use Rattle.zarr_chain.specs.Chain.{first_level, bottom_level, decoded}
+use Rattle.zarr_chain.specs.declared.levels.ChunkLevels.{ChunkLevels}
 use Rattle.zarr_chain.specs.Values.{byte_codecs}
 use Rattle.zarr_chain.specs.Values as values
 use Rattle.zarr_chain_stored.specs.Fetch as stored
+use Rattle.zarr_chain_stored.specs.Seen.{ChunkTells}
 use Rattle.zarr_chain_stored.specs.Put as put
 use Rattle.zarr_array_parts.specs.kinds.codecs.Sha256.{says_digest, sha256_says}
 use Rattle.zarr_codecs_array_to_bytes.specs.Plain.{Plain, plain_bytes, plain_vlen, plain_optional, held_type, says_by, says_optional}
 use Rattle.zarr_codecs_array_to_bytes.specs.Views.{plain_of}
-use Rattle.zarr_array_parts.specs.ChunkChain.{CodecViews}
-use Rattle.zarr_chain.specs.declared.chain.CodecChain.{CodecChain}
-use Rattle.zarr_array_regions.specs.Codecs.{array_meaning, list_meaning, list_says, bytes_meaning, bytes_says, ServesChunks}
+use Rattle.zarr_array_parts.specs.kinds.declared.bytes_to_bytes.BasicBytesToBytes.{BasicBytesToBytes}
+use Rattle.zarr_array_parts.specs.Codecs.{array_meaning, list_meaning, list_says, bytes_meaning, bytes_says}
+use Rattle.zarr_array_parts.specs.Chain.{BasicChain}
+use Rattle.zarr_array_parts.specs.ChunkLevels.{chunk_shape, ServesShape}
+use Rattle.zarr_array_regions.specs.Codecs.{basic_seen}
 use Rattle.zarr_array_regions.specs.Chunk.{storage_kind, is_dropped, decode_at, PutsElements, MayPutElements, chunk_kind, FailsToFetch}
 use Rattle.zarr_array_regions.specs.Fetch.{chunk_list, MeanChunk}
 use Rattle.zarr_array_regions.specs.declared.error.SessionErrorKind.{SessionErrorKind}
@@ -59,16 +62,21 @@ module _ (holds : List ℕ → SessionErrorKind → Type 0) where
   by_kind key (codec.DataTypeFillValueError error) storage memory other = other
   by_kind key (codec.ArraySubsetError error) storage memory other = other
 
--- a chain that serves the chunks decodes their values as the array's does
-module _ {A B C : Type 0} (views : CodecViews A B C) (array : Description) (chain : CodecChain A B C) (serves : ServesChunks views array chain) (options : Options) (chunk : List ℕ) (is_chunk : IsChunk array.grid chunk) where
+-- a chain that an array lends is its own
+pub lent_serves : (array : ArrayParts) (chain : BasicChain) (levels : ChunkLevels) (chunk : List ℕ) → chain ≡ array.chain → ServesShape array (chunk_shape (described array) chunk) array.chain levels →
+    ServesShape array (chunk_shape (described array) chunk) chain levels
+lent_serves array chain levels chunk is serves = subst (λ c. ServesShape array (chunk_shape (described array) chunk) c levels) (sym is) serves
+
+-- levels of a chunk's shape decode its values as the array does
+module _ (array : ArrayParts) (chain : BasicChain) (levels : ChunkLevels) (options : Options) (chunk : List ℕ) (serves : ServesShape array (chunk_shape (described array) chunk) chain levels) where
   abbrev chain_decodes : put.Decoding
-  chain_decodes = decoded (array_meaning views) (list_meaning views) (bytes_meaning views) chain
+  chain_decodes = decoded array_meaning list_meaning bytes_meaning chain levels
 
-  pub decodes_as : (under : Options) (value : List ℕ) → chain_decodes under value ≡ decode_at array chunk under value
-  decodes_as under value = serves.chunks.values under chunk value is_chunk
+  pub decodes_as : (under : Options) (value : List ℕ) → chain_decodes under value ≡ decode_at (described array) chunk under value
+  decodes_as under value = serves.values under value
 
-  pub content_as : (value : Option (List ℕ)) → stored.chunk_content (array_meaning views) (list_meaning views) (bytes_meaning views) chain options value ≡ box_content (layout array options) (array.grid.chunk_box chunk) value
-  content_as None = ap (λ (l : Level). Some (replicate (count_of l.shape) l.fill)) (serves.chunks.level chunk is_chunk)
+  pub content_as : (value : Option (List ℕ)) → stored.chunk_content array_meaning list_meaning bytes_meaning chain levels options value ≡ box_content (layout (described array) options) ((described array).grid.chunk_box chunk) value
+  content_as None = ap (λ (l : Level). Some (replicate (count_of l.shape) l.fill)) serves.level
   content_as (Some value) = decodes_as options value
 
   -- what was put for the chain was put for the array
@@ -78,22 +86,22 @@ module _ {A B C : Type 0} (views : CodecViews A B C) (array : Description) (chai
   is_put decode other same false list None here = here
   is_put decode other same false list (Some value) here = λ under. sym (same under value) ∙ here under
 
-  put_as : (list : List Element) (value : Option (List ℕ)) → put.IsPut chain_decodes (put.is_dropped options (first_level chain) list) list value →
-      put.IsPut (decode_at array chunk) (is_dropped array options list) list value
-  put_as list value here = is_put chain_decodes (decode_at array chunk) decodes_as (is_dropped array options list) list value
-      (subst (λ (l : Level). put.IsPut chain_decodes (put.is_dropped options l list) list value) (serves.chunks.level chunk is_chunk) here)
+  put_as : (list : List Element) (value : Option (List ℕ)) → put.IsPut chain_decodes (put.is_dropped options (first_level levels) list) list value →
+      put.IsPut (decode_at (described array) chunk) (is_dropped (described array) options list) list value
+  put_as list value here = is_put chain_decodes (decode_at (described array) chunk) decodes_as (is_dropped (described array) options list) list value
+      (subst (λ (l : Level). put.IsPut chain_decodes (put.is_dropped options l list) list value) serves.level here)
 
   pub puts_as : (list : List Element) (old new : Content) (key : List ℕ) →
-      put.PutsChunk chain_decodes (put.is_dropped options (first_level chain) list) list old new key → PutsElements array options chunk list old new key
+      put.PutsChunk chain_decodes (put.is_dropped options (first_level levels) list) list old new key → PutsElements (described array) options chunk list old new key
   puts_as list old new key puts = record { here = put_as list (new key) puts.here; others = puts.others }
 
   pub may_put_as : (list : List Element) (old new : Content) (key : List ℕ) →
-      put.MayPutChunk chain_decodes (put.is_dropped options (first_level chain) list) list old new key → MayPutElements array options chunk list old new key
+      put.MayPutChunk chain_decodes (put.is_dropped options (first_level levels) list) list old new key → MayPutElements (described array) options chunk list old new key
   may_put_as list old new key puts = record {
     here = ⊎_elim
         (λ (kept : new key ≡ old key). inl kept)
-        (λ (other : put.IsPut chain_decodes (put.is_dropped options (first_level chain) list) list (new key) ⊎ (new key ≡ None)). ⊎_elim
-        (λ (here : put.IsPut chain_decodes (put.is_dropped options (first_level chain) list) list (new key)). inr (inl (put_as list (new key) here)))
+        (λ (other : put.IsPut chain_decodes (put.is_dropped options (first_level levels) list) list (new key) ⊎ (new key ≡ None)). ⊎_elim
+        (λ (here : put.IsPut chain_decodes (put.is_dropped options (first_level levels) list) list (new key)). inr (inl (put_as list (new key) here)))
         (λ (gone : new key ≡ None). inr (inr gone))
         other)
         puts.here;
@@ -110,10 +118,10 @@ module _ {A B C : Type 0} (views : CodecViews A B C) (array : Description) (chai
   said None earlier error none says = none says
   said (Some before) earlier error none says = digest_say (nat_le 32 (length before)) before error says
 
-  bytes_say : (codecs : List C) (value : List ℕ) (error : StorageError) → values.bytes_says (bytes_meaning views) (bytes_says views) options codecs value (codec.StorageError error) → ⊥
+  bytes_say : (codecs : List BasicBytesToBytes) (value : List ℕ) (error : StorageError) → values.bytes_says bytes_meaning bytes_says options codecs value (codec.StorageError error) → ⊥
   bytes_say [] value error says = says
   bytes_say (c ∷ codecs) value error says =
-      said (decode_bytes (byte_codecs (bytes_meaning views) options codecs) value) (values.bytes_says (bytes_meaning views) (bytes_says views) options codecs value) error (bytes_say codecs value error) says
+      said (decode_bytes (byte_codecs bytes_meaning options codecs) value) (values.bytes_says bytes_meaning bytes_says options codecs value) error (bytes_say codecs value error) says
 
   -- nor does an array-to-bytes codec
   plain_say : (plain : Plain) (number : ℕ) (type : DataType) (value : List ℕ) (error : StorageError) → says_by plain number type value (codec.StorageError error) → ⊥
@@ -129,44 +137,44 @@ module _ {A B C : Type 0} (views : CodecViews A B C) (array : Description) (chai
       go rest true true says = rest says
 
   list_say : (before : Option (List ℕ)) (earlier : CodecError → Type 0) (error : StorageError) → (earlier (codec.StorageError error) → ⊥) →
-      values.said_at before earlier ((list_says views) chain.bottom.codec options (above chain.bottom)) (codec.StorageError error) → ⊥
+      values.said_at before earlier (list_says chain.to_bytes options (bottom_level levels)) (codec.StorageError error) → ⊥
   list_say None earlier error none says = none says
-  list_say (Some before) earlier error none says = plain_say (plain_of (views.to_bytes chain.bottom.codec)) (count_of (above chain.bottom).shape) (above chain.bottom).data_type before error says
+  list_say (Some before) earlier error none says = plain_say (plain_of chain.to_bytes) (count_of (bottom_level levels).shape) (bottom_level levels).data_type before error says
 
-  pub chunk_say : (value : Option (List ℕ)) (error : StorageError) → stored.chunk_says (list_says views) (bytes_meaning views) (bytes_says views) chain options value (codec.StorageError error) → ⊥
+  pub chunk_say : (value : Option (List ℕ)) (error : StorageError) → stored.chunk_says list_says bytes_meaning bytes_says chain levels options value (codec.StorageError error) → ⊥
   chunk_say None error says = says
   chunk_say (Some value) error says =
-      list_say (decode_bytes (byte_codecs (bytes_meaning views) options chain.codecs.items) value) (values.bytes_says (bytes_meaning views) (bytes_says views) options chain.codecs.items value) error
-      (bytes_say chain.codecs.items value error) says
+      list_say (decode_bytes (byte_codecs bytes_meaning options chain.byte_codecs.items) value) (values.bytes_says bytes_meaning bytes_says options chain.byte_codecs.items value) error
+      (bytes_say chain.byte_codecs.items value error) says
 
-  damaged : (key : List ℕ) (before now : Shown) (content : Option (List ℕ)) (error : CodecError) → box_content (layout array options) (array.grid.chunk_box chunk) content ≡ None →
-      stored.chunk_says (list_says views) (bytes_meaning views) (bytes_says views) chain options content error →
-      FailsToFetch (box_content (layout array options) (array.grid.chunk_box chunk) content) key before now (chunk_kind key error)
+  damaged : (key : List ℕ) (before now : Shown) (content : Option (List ℕ)) (error : CodecError) → box_content (layout (described array) options) ((described array).grid.chunk_box chunk) content ≡ None →
+      stored.chunk_says list_says bytes_meaning bytes_says chain levels options content error →
+      FailsToFetch (box_content (layout (described array) options) ((described array).grid.chunk_box chunk) content) key before now (chunk_kind key error)
   damaged key before now content error none says =
-      by_kind (λ k kind. FailsToFetch (box_content (layout array options) (array.grid.chunk_box chunk) content) k before now kind) key error
-      (λ fault is. absurd (chunk_say content fault (subst (stored.chunk_says (list_says views) (bytes_meaning views) (bytes_says views) chain options content) is says))) tt (refl, none)
+      by_kind (λ k kind. FailsToFetch (box_content (layout (described array) options) ((described array).grid.chunk_box chunk) content) k before now kind) key error
+      (λ fault is. absurd (chunk_say content fault (subst (stored.chunk_says list_says bytes_meaning bytes_says chain levels options content) is says))) tt (refl, none)
 
   -- why a chunk was not fetched
   fetch_fails : (key : List ℕ) (before now : Shown) (content : Option (List ℕ)) (error : CodecError) →
-      stored.ChunkFails (array_meaning views) (list_meaning views) (bytes_meaning views) (list_says views) (bytes_says views) chain options content before.faults now.faults error →
-      FailsToFetch (box_content (layout array options) (array.grid.chunk_box chunk) content) key before now (chunk_kind key error)
+      ChunkTells (basic_seen chain levels) options content before.faults now.faults error →
+      FailsToFetch (box_content (layout (described array) options) ((described array).grid.chunk_box chunk) content) key before now (chunk_kind key error)
   fetch_fails key before now content error fails = ⊎_elim
       (λ (handle : IsHandleError before.faults now.faults error). ⊎_elim
       (λ (memory : error ≡ codec.OutOfMemory). subst fails_by (sym memory) tt)
       (λ (fault : (error ≡ codec.StorageError storage.Failed) × Rose before.faults now.faults). subst fails_by (sym fault.0) fault.1)
       handle)
-      (λ (none : (stored.chunk_content (array_meaning views) (list_meaning views) (bytes_meaning views) chain options content ≡ None) × stored.chunk_says (list_says views) (bytes_meaning views) (bytes_says views) chain options content error).
+      (λ (none : (stored.chunk_content array_meaning list_meaning bytes_meaning chain levels options content ≡ None) × stored.chunk_says list_says bytes_meaning bytes_says chain levels options content error).
       damaged key before now content error (sym (content_as content) ∙ none.0) none.1)
       fails
     where
       fails_by : CodecError → Type 0
-      fails_by e = FailsToFetch (box_content (layout array options) (array.grid.chunk_box chunk) content) key before now (chunk_kind key e)
+      fails_by e = FailsToFetch (box_content (layout (described array) options) ((described array).grid.chunk_box chunk) content) key before now (chunk_kind key e)
 
-  pub not_fetched : (key : List ℕ) (before now : Shown) (error : CodecError) → key ≡ array.key chunk →
-      stored.ChunkFails (array_meaning views) (list_meaning views) (bytes_meaning views) (list_says views) (bytes_says views) chain options (before.content key) before.faults now.faults error →
-      FailsToFetch (chunk_content (layout array options) before.content chunk) (array.key chunk) before now (chunk_kind key error)
+  pub not_fetched : (key : List ℕ) (before now : Shown) (error : CodecError) → key ≡ (described array).key chunk →
+      ChunkTells (basic_seen chain levels) options (before.content key) before.faults now.faults error →
+      FailsToFetch (chunk_content (layout (described array) options) before.content chunk) ((described array).key chunk) before now (chunk_kind key error)
   not_fetched key before now error its_key fails =
-      subst (λ k. FailsToFetch (box_content (layout array options) (array.grid.chunk_box chunk) (before.content k)) k before now (chunk_kind key error)) its_key
+      subst (λ k. FailsToFetch (box_content (layout (described array) options) ((described array).grid.chunk_box chunk) (before.content k)) k before now (chunk_kind key error)) its_key
       (fetch_fails key before now (before.content key) error fails)
 
 -- what is there
@@ -175,35 +183,24 @@ some_list (Some list) h = refl
 some_list None h = cc
 
 -- the elements of a chunk
-module _ {A B C : Type 0} (views : CodecViews A B C) (array : ArrayParts) (chain : CodecChain A B C) (serves : ServesChunks views (described array) chain) (options : Options) (chunk : List ℕ) (is_chunk : IsChunk (described array).grid chunk) where
+module _ (array : ArrayParts) (chain : BasicChain) (levels : ChunkLevels) (options : Options) (chunk : List ℕ) (serves : ServesShape array (chunk_shape (described array) chunk) chain levels) where
   abbrev box : Region
   box = (described array).grid.chunk_box chunk
 
-  at_level : (bytes : ArrayBytes) → list_at (first_level chain) bytes ≡ meaning (kind (described array)) (count box) bytes
-  at_level bytes = ap (λ (l : Level). meaning (kind_of l.data_type) (count_of l.shape) bytes) (serves.chunks.level chunk is_chunk)
+  at_level : (bytes : ArrayBytes) → list_at (first_level levels) bytes ≡ meaning (kind (described array)) (count box) bytes
+  at_level bytes = ap (λ (l : Level). meaning (kind_of l.data_type) (count_of l.shape) bytes) serves.level
 
-  pub given_mean : (bytes : ArrayBytes) (content : Option (List Element)) → Gives (list_at (first_level chain) bytes) content → has_long_element bytes ≡ false → MeanChunk array chunk bytes
+  pub given_mean : (bytes : ArrayBytes) (content : Option (List Element)) → Gives (list_at (first_level levels) bytes) content → has_long_element bytes ≡ false → MeanChunk array chunk bytes
   given_mean bytes content gives short = record { means = subst IsSome (at_level bytes) gives.there; short = short }
 
   pub fetched_elements : (bytes : ArrayBytes) (key : List ℕ) (before : Shown) → key ≡ (described array).key chunk →
-      Gives (list_at (first_level chain) bytes) (stored.chunk_content (array_meaning views) (list_meaning views) (bytes_meaning views) chain options (before.content key)) →
+      Gives (list_at (first_level levels) bytes) (stored.chunk_content array_meaning list_meaning bytes_meaning chain levels options (before.content key)) →
       chunk_content (layout (described array) options) before.content chunk ≡ Some (chunk_list array chunk bytes)
   fetched_elements bytes key before its_key gives =
       ap (λ k. box_content (layout (described array) options) box (before.content k)) (sym its_key)
-      ∙ (sym (content_as views (described array) chain serves options chunk is_chunk (before.content key))
+      ∙ (sym (content_as array chain levels options chunk serves (before.content key))
       ∙ (sym gives.same ∙ (at_level bytes ∙ some_list (meaning (kind (described array)) (count box) bytes) (subst IsSome (at_level bytes) gives.there))))
 
   -- and bytes that mean as many
-  pub taken_elements : (bytes : ArrayBytes) → MeanChunk array chunk bytes → list_at (first_level chain) bytes ≡ Some (chunk_list array chunk bytes)
+  pub taken_elements : (bytes : ArrayBytes) → MeanChunk array chunk bytes → list_at (first_level levels) bytes ≡ Some (chunk_list array chunk bytes)
   taken_elements bytes mean = at_level bytes ∙ some_list (meaning (kind (described array)) (count box) bytes) mean.means
-
-  -- the fill value's bytes denote the fill, and are not too long to be stored
-  pub has_fill : stored.HasFill chain
-  has_fill = record {
-    denotes =
-        ap (λ (l : Level). fill_element (kind_of l.data_type) (first_fill chain)) (serves.chunks.level chunk is_chunk)
-        ∙ (serves.fill.denotes ∙ ap Some (sym (ap (λ (l : Level). l.fill) (serves.chunks.level chunk is_chunk))));
-    short =
-        ap (λ (l : Level). has_long_element (stored.blank_chunk l (first_fill chain))) (serves.chunks.level chunk is_chunk)
-        ∙ serves.fill.short chunk is_chunk;
-  }

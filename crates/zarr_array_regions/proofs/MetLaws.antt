@@ -40,9 +40,6 @@ module _ (grid : Grid) (region chunks : Region) (listed : tuples chunks ≡ chun
   pub none_met : count chunks ≡ 0 → chunks_meeting grid region ≡ []
   none_met none = nil_from_length (chunks_meeting grid region) (sym (count_met grid region chunks listed) ∙ none)
 
-  pub some_met : (count chunks ≡ 0 → ⊥) → have_chunks grid.grid_shape ≡ true
-  some_met some = some_chunk grid.grid_shape (tuple_at chunks 0) (met_at grid region chunks 0 listed (omega (arith, some))).1
-
 module _ (chunks : RegionChunks) (are : AreMet chunks) where
   -- the number of the last one
   pub num_met : count (region_of_subset chunks.chunks) ≡ length (chunks_meeting (described chunks.array.now).grid (region_of_subset chunks.subset.now))

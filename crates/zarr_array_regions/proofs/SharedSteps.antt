@@ -7,7 +7,7 @@ use Rattle.zarrs_array_subset.specs.Boxes.{overlap_of, moved_back}
 use Rattle.zarrs_codec_bytes.specs.Overlap.{Copied}
 use Rattle.zarrs_codec_bytes.specs.Picking.{size_in}
 use Rattle.zarrs_codec_traits.specs.Words.{list_at, at_box, select}
-use Rattle.zarr_chain.specs.declared.chain.CodecChain.{CodecChain}
+use Rattle.zarr_chain.specs.declared.levels.ChunkLevels.{ChunkLevels}
 use Rattle.zarr_chain.specs.Chain.{first_level}
 use Rattle.zarr_chain_stored.specs.Fetch as stored
 use Rattle.zarr_chain_stored.specs.Regions.{GivesRegion}
@@ -16,11 +16,12 @@ use Rattle.zarr_array_elements.specs.Elements.{list_in}
 use Rattle.zarr_array_elements.specs.SharedBox.{IsSharedBy}
 use Rattle.zarr_array_elements.specs.declared.shared.SharedBox.{SharedBox}
 use Rattle.zarr_array_elements.proofs.ShareLaws.{count-moved, shares_second}
-use Rattle.zarr_array_parts.specs.ChunkChain.{CodecViews, chunk_level}
+use Rattle.zarr_array_parts.specs.Chain.{BasicChain}
+use Rattle.zarr_array_parts.specs.ChunkLevels.{chunk_shape, chunk_level, ServesShape}
 use Rattle.zarr_array_parts.specs.Parts.{described}
 use Rattle.zarr_array_parts.specs.declared.parts.ArrayParts.{ArrayParts}
 use Rattle.zarr_array_parts.proofs.ServedLaws.{described_sound, chunk_counts}
-use Rattle.zarr_array_regions.specs.Codecs.{array_meaning, list_meaning, bytes_meaning, ServesChunks}
+use Rattle.zarr_array_parts.specs.Codecs.{array_meaning, list_meaning, bytes_meaning}
 use Rattle.zarr_array_regions.specs.RegionChunks.{IsPlaceOf}
 use Rattle.zarr_array_regions.specs.Shared.{HasList, IsPartOf, IsHeldShared}
 use Rattle.zarr_array_regions.specs.declared.shared.FetchedChunk.{FetchedChunk}
@@ -28,21 +29,21 @@ use Rattle.zarr_array_regions.proofs.ChunkLaws.{content_as, some_list}
 use Rattle.zarr_array_regions.proofs.SharedLaws.{shared_inside, copied_part, content_long, shared_few}
 
 -- what the chain gives for a box inside a chunk are elements of the chunk
-module _ {A B C : Type 0} (views : CodecViews A B C) (array : ArrayParts) (chain : CodecChain A B C) (serves : ServesChunks views (described array) chain) (options : Options) (chunk : List ℕ) (is_chunk : IsChunk (described array).grid chunk) where
+module _ (array : ArrayParts) (chain : BasicChain) (levels : ChunkLevels) (options : Options) (chunk : List ℕ) (serves : ServesShape array (chunk_shape (described array) chunk) chain levels) where
   abbrev stored_content : Option (List ℕ) → Option (List Element)
-  stored_content value = stored.chunk_content (array_meaning views) (list_meaning views) (bytes_meaning views) chain options value
+  stored_content value = stored.chunk_content array_meaning list_meaning bytes_meaning chain levels options value
 
-  pub within_level : (within : Region) → ends_within within (sizes ((described array).grid.chunk_box chunk)) ≡ true → ends_within within (first_level chain).shape ≡ true
-  within_level within inside = subst (λ (l : Level). ends_within within l.shape ≡ true) (sym (serves.chunks.level chunk is_chunk)) inside
+  pub within_level : (within : Region) → ends_within within (sizes ((described array).grid.chunk_box chunk)) ≡ true → ends_within within (first_level levels).shape ≡ true
+  within_level within inside = subst (λ (l : Level). ends_within within l.shape ≡ true) (sym serves.level) inside
 
-  pub fetched_part : (within : Region) (fetched : Fetched) (key : List ℕ) (before : Shown) → key ≡ (described array).key chunk → IsSome (stored_content (before.content key)) →
-      ((list : List Element) → stored_content (before.content key) ≡ Some list → GivesRegion (first_level chain) within list fetched) → IsPartOf array options chunk within before fetched
-  fetched_part within fetched key before its_key decodes gives = record {
+  pub fetched_part : IsChunk (described array).grid chunk → (within : Region) (fetched : Fetched) (key : List ℕ) (before : Shown) → key ≡ (described array).key chunk → IsSome (stored_content (before.content key)) →
+      ((list : List Element) → stored_content (before.content key) ≡ Some list → GivesRegion (first_level levels) within list fetched) → IsPartOf array options chunk within before fetched
+  fetched_part is_chunk within fetched key before its_key decodes gives = record {
     list = list;
     content = content;
     has = record {
       as_long = content_long (layout (described array) options) before.content chunk list (described_sound array options) is_chunk content;
-      gives = subst (λ (l : Level). GivesRegion l within list fetched) (serves.chunks.level chunk is_chunk) (gives list here);
+      gives = subst (λ (l : Level). GivesRegion l within list fetched) serves.level (gives list here);
     };
   }
     where
@@ -55,7 +56,7 @@ module _ {A B C : Type 0} (views : CodecViews A B C) (array : ArrayParts) (chain
       content : HasList array options chunk before list
       content =
           ap (λ k. box_content (layout (described array) options) ((described array).grid.chunk_box chunk) (before.content k)) (sym its_key)
-          ∙ (sym (content_as views (described array) chain serves options chunk is_chunk (before.content key)) ∙ here)
+          ∙ (sym (content_as array chain levels options chunk serves (before.content key)) ∙ here)
 
 -- what a region shares with a chunk lies inside the chunk
 pub shared_lies : (region box own within : Region) → own ≡ box → within ≡ moved_back (overlap_of region own) (starts own) → share_tuple box region ≡ true → ends_within within (sizes box) ≡ true

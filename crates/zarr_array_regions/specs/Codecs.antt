@@ -1,54 +1,36 @@
--- The codecs of an array with their levels, as those of the array that is described.
-use Rattle.std.specs.Prelude.{ℕ, List, Option}
-use Rattle.zarr_model.specs.Prelude.{count_of, Element, Level, ArrayCodec, Options, Description, decode_array_to_bytes, offset_codec, checksum_codec}
-use Rattle.zarrs_codec_error.specs.declared.error.CodecError.{CodecError}
-use Rattle.zarr_chain.specs.declared.chain.CodecChain.{CodecChain}
-use Rattle.zarr_chain.specs.Levels.{Serving, above}
-use Rattle.zarr_chain.specs.Chain.{IsServed}
-use Rattle.zarr_array_parts.specs.ChunkChain.{CodecViews, DecodesChunks, FillsChunks, HasForms}
-use Rattle.zarr_array_parts.specs.Document.{ArrayDocument, describe}
-use Rattle.zarr_array_parts.specs.kinds.codecs.Sha256.{sha256_says}
-use Rattle.zarr_codecs_numbers.specs.Offset.{offset_unserved}
-use Rattle.zarr_codecs_array_to_bytes.specs.Plain.{codec_of, plain_unserved, says_by, takes_by}
+-- An array's codecs with the levels of a chunk, as contracts see them.
+use Rattle.std.specs.Prelude.{◌==◌, length, None}
+use Rattle.zarr_model.specs.Prelude.{count_of}
+use Rattle.zarr_chain.specs.Chain.{ServesChunks, first_level, bottom_level, decoded}
+use Rattle.zarr_chain.specs.Regions.{Boxing}
+use Rattle.zarr_chain.specs.declared.levels.ChunkLevels.{ChunkLevels}
+use Rattle.zarr_chain_stored.specs.Fetch.{chunk_content, chunk_says}
+use Rattle.zarr_chain_stored.specs.Regions.{Requesting, region_request, stored_request, given_bytes}
+use Rattle.zarr_chain_stored.specs.Seen.{ChainSeen}
+use Rattle.zarr_codecs_array_to_bytes.specs.Plain.{takes_by}
 use Rattle.zarr_codecs_array_to_bytes.specs.Views.{plain_of}
-use Rattle.zarr_array_parts.specs.kinds.Basic.{basic_offset}
+use Rattle.zarr_codecs_array_to_bytes.specs.declared.codecs.BasicArrayToBytes.{BasicArrayToBytes}
+use Rattle.zarr_array_parts.specs.kinds.declared.array_to_array.BasicArrayToArray.{BasicArrayToArray}
+use Rattle.zarr_array_parts.specs.Chain.{BasicChain}
+use Rattle.zarr_array_parts.specs.Codecs.{array_meaning, array_unserved, list_meaning, list_unserved, list_says, bytes_meaning, bytes_says}
 
-module _ {A B C : Type 0} (views : CodecViews A B C) where
-  -- what the codecs of a chain mean, what they do not serve, and which errors tell that they give
-  -- nothing
-  abbrev pub array_meaning : A → ArrayCodec
-  array_meaning codec = offset_codec (basic_offset (views.array codec))
+-- no array-to-bytes codec of these names ranges, and each array-to-array codec keeps places
+abbrev pub list_request : Requesting BasicArrayToBytes
+list_request codec dims type box = None
 
-  abbrev pub array_unserved : Serving A
-  array_unserved codec dims type fill = offset_unserved type
+abbrev pub box_below : Boxing BasicArrayToArray
+box_below codec dims box = box
 
-  abbrev pub list_meaning : B → Options → Level → List ℕ → Option (List Element)
-  list_meaning codec under level value =
-      decode_array_to_bytes under (codec_of (plain_of (views.to_bytes codec))) level value
-
-  abbrev pub list_unserved : Serving B
-  list_unserved codec dims type fill = plain_unserved (plain_of (views.to_bytes codec)) type
-
-  abbrev pub list_says : B → Options → Level → List ℕ → CodecError → Type 0
-  list_says codec under level value e =
-      says_by (plain_of (views.to_bytes codec)) (count_of level.shape) level.data_type value e
-
-  abbrev pub bytes_meaning : C → Options → List ℕ → Option (List ℕ)
-  bytes_meaning codec under value = checksum_codec under.validate_checksums value
-
-  abbrev pub bytes_says : C → Options → List ℕ → CodecError → Type 0
-  bytes_says codec under value e = sha256_says value e
-
-  -- a chain serves the chunks of an array, decodes them as the array does, has its fill value, and
-  -- takes as many elements as a chunk has
-  pub record ServesChunks (array : Description) (chain : CodecChain A B C) : Type 0 where
-    pub served : IsServed array_meaning array_unserved list_unserved chain
-    pub chunks : DecodesChunks array_meaning list_meaning bytes_meaning array chain
-    pub fill : FillsChunks array chain
-    pub takes : takes_by (plain_of (views.to_bytes chain.bottom.codec))
-        (count_of (above chain.bottom).shape)
-
-  -- a chain serves the chunks of a document's array and has the codecs that the document names
-  pub record IsChainOf (document : ArrayDocument) (chain : CodecChain A B C) : Type 0 where
-    pub serves : ServesChunks (describe document) chain
-    pub forms : HasForms views document chain
+abbrev pub basic_seen : BasicChain → ChunkLevels → ChainSeen
+basic_seen chain levels = record {
+  level = first_level levels;
+  decode = decoded array_meaning list_meaning bytes_meaning chain levels;
+  content = chunk_content array_meaning list_meaning bytes_meaning chain levels;
+  says = chunk_says list_says bytes_meaning bytes_says chain levels;
+  given = given_bytes bytes_meaning chain;
+  request = region_request list_request box_below chain levels;
+  stored = stored_request chain;
+  bare = length chain.array_codecs.items == 0;
+  serves = ServesChunks array_meaning array_unserved list_unserved chain levels;
+  takes = takes_by (plain_of chain.to_bytes) (count_of (bottom_level levels).shape);
+}

@@ -5,7 +5,7 @@ use Rattle.zarrs_array_subset.specs.ArraySubset.{region as region_of_subset}
 use Rattle.zarr_chain_stored.specs.Regions.{GivesRegion}
 use Rattle.zarr_chain_stored.specs.declared.fetched.Fetched.{Fetched}
 use Rattle.zarr_array_elements.specs.SharedBox.{IsSharedBy}
-use Rattle.zarr_array_parts.specs.ChunkChain.{chunk_level}
+use Rattle.zarr_array_parts.specs.ChunkLevels.{chunk_level}
 use Rattle.zarr_array_parts.specs.Parts.{described}
 use Rattle.zarr_array_parts.specs.declared.parts.ArrayParts.{ArrayParts}
 use Rattle.zarr_array_regions.specs.declared.shared.FetchedChunk.{FetchedChunk}

@@ -6,7 +6,7 @@ use Rattle.zarr_chain.specs.Values.{said_at}
 use Rattle.zarr_array_parts.specs.kinds.codecs.Sha256.{sha256_says}
 use Rattle.zarr_codecs_array_to_bytes.specs.Plain.{Plain, says_by}
 use Rattle.zarr_array_parts.specs.Document.{ArrayDocument, ArrayToArray, BytesToBytes, checksum, array_codec_of, byte_codec_of, describe}
-use Rattle.zarr_array_parts.specs.ChunkChain.{chunk_level}
+use Rattle.zarr_array_parts.specs.ChunkLevels.{chunk_level}
 use Rattle.zarr_array_regions.specs.declared.error.SessionErrorKind.{SessionErrorKind}
 use Rattle.zarr_array_regions.specs.declared.error.SessionErrorKind.TheVariants.{NotOpened, ChunkDecode, Store, OutOfMemory}
 

@@ -7,13 +7,14 @@ ghost use Rattle.zarrs_codec_array_bytes.specs.Raw.{raw_of};
 ghost use Rattle.zarrs_codec_traits.specs.Views.{options_of};
 ghost use Rattle.zarr_array_parts.specs.Parts.{described};
 ghost use Rattle.zarr_array_regions.specs.Chunk.{chunk_kind};
-ghost use Rattle.zarr_array_regions.specs.RegionChunks.{chunk_at, AreMet};
+ghost use Rattle.zarr_array_regions.specs.RegionChunks.{chunk_at, AreMet, AreLevelsAt, IsPlaceOf};
 ghost use Rattle.zarr_array_regions.specs.Fetch.{HasAsked, chunk_list, MeanChunk, HasElements, NotFetched};
 ghost use Rattle.zarr_array_regions.specs.Store.{StoresElements};
 
 use crate::error::{SessionErrorKind, chunk_error};
 use crate::region_chunks::{ChunkPlace, RegionChunks};
 use std::alloc::Global;
+use zarr_chain::ChunkLevels;
 use zarr_chain_stored::{fetch, put};
 use zarrs_codec_array_bytes::ArrayBytes;
 use zarrs_codec_error::CodecError;
@@ -36,12 +37,14 @@ impl RegionChunks<'_> {
         &self,
         alloc: Global,
         number: u64,
+        levels: &ChunkLevels,
         key: &StoreKey,
         store: &mut S,
         options: &CodecOptions,
     ) -> Result<ArrayBytes<'static>, CodecError>
         requires met { AreMet self.now }
         requires below { number < count (region self.now.chunks) }
+        requires levels { AreLevelsAt self.now number levels.now }
         requires key { key.now ≡ (described self.now.array.now).key (chunk_at self.now number) }
         ensures fetched { MatchResult result
             (λ v. HasAsked (S.shown store.old) (S.shown store.new)
@@ -52,20 +55,25 @@ impl RegionChunks<'_> {
             (chunk_kind key.now error)) }
         ensures kept { S.kept store.old store.new }
     {
-        let bytes = fetch(&self.chain, alloc, key, store, options)?;
+        let chain = self.array.chain();
+        let bytes = fetch(chain, levels, alloc, key, store, options)?;
         Ok(bytes)
     }
 
-    /// The chunk of a number, by one reading call.
+    /// The chunk of a number, which stands at this place, by one reading call.
     pub(crate) fn fetch_chunk<S: Store>(
         &self,
         alloc: Global,
         number: u64,
+        levels: &ChunkLevels,
+        place: ChunkPlace,
         store: &mut S,
         options: &CodecOptions,
     ) -> Result<HeldChunk, SessionErrorKind>
         requires met { AreMet self.now }
         requires below { number < count (region self.now.chunks) }
+        requires levels { AreLevelsAt self.now number levels.now }
+        requires place { IsPlaceOf (described self.now.array.now) (chunk_at self.now number) place }
         ensures { MatchResult result
             (λ held. HasAsked (S.shown store.old) (S.shown store.new)
             × IsHeld self.now.array.now (options_of options.now) (chunk_at self.now number)
@@ -73,8 +81,7 @@ impl RegionChunks<'_> {
             (NotFetched self.now.array.now (options_of options.now) (chunk_at self.now number)
             (S.shown store.old) (S.shown store.new)) }
     {
-        let place = self.place(alloc, number)?;
-        match self.fetch_elements(alloc, number, &place.key, store, options) {
+        match self.fetch_elements(alloc, number, levels, &place.key, store, options) {
             Ok(elements) => Ok(HeldChunk { place, elements }),
             Err(error) => Err(chunk_error(place.key, error)),
         }
@@ -86,6 +93,7 @@ impl RegionChunks<'_> {
         &self,
         alloc: Global,
         number: u64,
+        levels: &ChunkLevels,
         key: &StoreKey,
         elements: ArrayBytes<'static>,
         store: &mut S,
@@ -93,6 +101,7 @@ impl RegionChunks<'_> {
     ) -> Result<(), StorageError>
         requires met { AreMet self.now }
         requires below { number < count (region self.now.chunks) }
+        requires levels { AreLevelsAt self.now number levels.now }
         requires mean { MeanChunk self.now.array.now (chunk_at self.now number)
             (raw_of elements) }
         ensures { let chunk = chunk_at self.now number in StoresElements self.now.array.now
@@ -100,6 +109,7 @@ impl RegionChunks<'_> {
             (chunk_list self.now.array.now chunk (raw_of elements.entry)) key.now
             (S.shown store.old) (S.shown store.new) result }
     {
-        put(&self.chain, alloc, key, elements, store, options)
+        let chain = self.array.chain();
+        put(chain, levels, alloc, key, elements, store, options)
     }
 }

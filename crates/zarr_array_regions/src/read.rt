@@ -1,6 +1,6 @@
 //! Reading a region, chunk by chunk.
 
-ghost use Rattle.std.specs.Prelude.{◌≡◌, ◌+◌, ◌<◌, ◌*◌, ◌^◌, true, length, MatchResult};
+ghost use Rattle.std.specs.Prelude.{◌≡◌, ◌+◌, ◌<◌, ◌*◌, ◌^◌, true, length, MatchResult, IfOk, IfSome};
 ghost use Rattle.zarr_model.specs.Prelude.{count, ends_within, kind, fixed_size};
 ghost use Rattle.zarrs_array_subset.specs.ArraySubset.{region};
 ghost use Rattle.zarrs_codec_bytes.specs.Picking.{size_in};
@@ -8,7 +8,7 @@ ghost use Rattle.zarrs_codec_array_bytes.specs.Raw.{raw_of};
 ghost use Rattle.zarrs_codec_traits.specs.Views.{options_of};
 ghost use Rattle.zarr_array_elements.specs.BoxElements.{list_held};
 ghost use Rattle.zarr_array_parts.specs.Parts.{described};
-ghost use Rattle.zarr_array_regions.specs.RegionChunks.{chunk_at, AreMet, IsPlaceOf};
+ghost use Rattle.zarr_array_regions.specs.RegionChunks.{chunk_at, AreMet, AreLevelsAt, AreInHand, IsPlaceOf};
 ghost use Rattle.zarr_array_regions.specs.Read.{HoldsRegion, ReadsChunk, HasReadList, HasReadRegion, NotReadRegion};
 
 use crate::error::{CommandError, SessionErrorKind, chunk_error};
@@ -16,6 +16,7 @@ use crate::region_chunks::{ChunkPlace, RegionChunks};
 use std::alloc::Global;
 use zarr_array_elements::BoxElements;
 use zarr_array_parts::ArrayParts;
+use zarr_chain::ChunkLevels;
 use zarrs_array_subset::ArraySubset;
 use zarrs_codec_array_bytes::ArrayBytes;
 use zarrs_codec_options::CodecOptions;
@@ -27,6 +28,7 @@ impl RegionChunks<'_> {
         &self,
         alloc: Global,
         number: u64,
+        levels: &ChunkLevels,
         place: ChunkPlace,
         elements: &mut BoxElements<'_>,
         store: &mut S,
@@ -34,6 +36,7 @@ impl RegionChunks<'_> {
     ) -> Result<(), SessionErrorKind>
         requires met { AreMet self.now }
         requires below { number < count (region self.now.chunks) }
+        requires levels { AreLevelsAt self.now number levels.now }
         requires place { IsPlaceOf (described self.now.array.now) (chunk_at self.now number) place }
         requires holds { HoldsRegion self.now.array.now (region self.now.subset.now) elements.old }
         ensures read { ReadsChunk self.now number (options_of options.now) elements.old
@@ -41,7 +44,7 @@ impl RegionChunks<'_> {
         ensures holds { HoldsRegion self.now.array.now (region self.now.subset.now) elements.new }
         ensures kept { S.kept store.old store.new }
     {
-        match self.fetch_elements(alloc, number, &place.key, store, options) {
+        match self.fetch_elements(alloc, number, levels, &place.key, store, options) {
             Ok(chunk) => {
                 elements.put(alloc, &chunk, &place.subset)?;
                 Ok(())
@@ -55,6 +58,7 @@ impl RegionChunks<'_> {
         &self,
         alloc: Global,
         number: u64,
+        levels: &ChunkLevels,
         place: ChunkPlace,
         elements: &mut BoxElements<'_>,
         store: &mut S,
@@ -62,6 +66,7 @@ impl RegionChunks<'_> {
     ) -> Result<(), SessionErrorKind>
         requires met { AreMet self.now }
         requires below { number < count (region self.now.chunks) }
+        requires levels { AreLevelsAt self.now number levels.now }
         requires place { IsPlaceOf (described self.now.array.now) (chunk_at self.now number) place }
         requires holds { HoldsRegion self.now.array.now (region self.now.subset.now) elements.old }
         ensures read { ReadsChunk self.now number (options_of options.now) elements.old
@@ -69,34 +74,40 @@ impl RegionChunks<'_> {
         ensures holds { HoldsRegion self.now.array.now (region self.now.subset.now) elements.new }
         ensures kept { S.kept store.old store.new }
     {
-        let chunk = self.fetch_shared(alloc, number, place, store, options)?;
+        let chunk = self.fetch_shared(alloc, number, levels, place, store, options)?;
         self.put_shared(alloc, number, &chunk, elements)?;
         Ok(())
     }
 
-    // Takes the elements that the chunk of a number shares with the region: all, where it lies inside the region.
+    // Takes the elements that the chunk of a number shares with the region: all, where it lies inside the region. The
+    // levels in hand serve where they are of its shape; the answer is those that served.
     fn read_chunk<S: Store>(
         &self,
         alloc: Global,
         number: u64,
+        hand: Option<ChunkLevels>,
         elements: &mut BoxElements<'_>,
         store: &mut S,
         options: &CodecOptions,
-    ) -> Result<(), SessionErrorKind>
+    ) -> Result<ChunkLevels, SessionErrorKind>
         requires met { AreMet self.now }
         requires below { number < count (region self.now.chunks) }
+        requires hand { IfSome hand (AreInHand self.now.array.now) }
         requires holds { HoldsRegion self.now.array.now (region self.now.subset.now) elements.old }
         ensures read { ReadsChunk self.now number (options_of options.now) elements.old
             elements.new (S.shown store.old) (S.shown store.new) result }
         ensures holds { HoldsRegion self.now.array.now (region self.now.subset.now) elements.new }
+        ensures hand { IfOk result (AreInHand self.now.array.now) }
         ensures kept { S.kept store.old store.new }
     {
         let place = self.place(alloc, number)?;
+        let levels = self.levels(alloc, number, hand, &place)?;
         if place.subset.inbounds(self.subset) {
-            self.read_whole(alloc, number, place, elements, store, options)
+            self.read_whole(alloc, number, &levels, place, elements, store, options)?;
         } else {
-            self.read_shared(alloc, number, place, elements, store, options)
+            self.read_shared(alloc, number, &levels, place, elements, store, options)?;
         }
+        Ok(levels)
     }
 
     // Reads each chunk, once, into the region's elements.
@@ -119,12 +130,16 @@ impl RegionChunks<'_> {
         ensures holds { HoldsRegion self.now.array.now (region self.now.subset.now) elements.new }
         ensures kept { S.kept store.old store.new }
     {
+        let mut hand = None;
         for number in 0..self.num_chunks() {
-            if let Err(kind) = self.read_chunk(alloc, number, elements, store, options) {
-                return Err(CommandError {
-                    chunks_done: number,
-                    kind,
-                });
+            match self.read_chunk(alloc, number, hand, elements, store, options) {
+                Ok(levels) => hand = Some(levels),
+                Err(kind) => {
+                    return Err(CommandError {
+                        chunks_done: number,
+                        kind,
+                    });
+                }
             }
         }
         Ok(())

@@ -5,15 +5,13 @@ ghost use Rattle.zarr_model.specs.Prelude.{count, tuples, ends_within, chunks_me
 ghost use Rattle.zarrs_array_subset.specs.ArraySubset.{region};
 ghost use Rattle.zarr_array_parts.specs.Parts.{described};
 
-use crate::chain::lent_chain;
 use std::alloc::{AllocError, Global};
-use zarr_array_parts::{ArrayParts, LentChain};
-use zarrs_array_subset::ArraySubset;
+use zarr_array_parts::ArrayParts;
+use zarrs_array_subset::{ArrayIndicesTinyVec, ArraySubset};
 use zarrs_chunk_grid_traits::ChunkGridTraits;
 use zarrs_storage::StoreKey;
 
-/// The chunks that a region of an array meets, by their numbers in row-major order, with the chain of the array's
-/// codecs, which is one for all chunks.
+/// The chunks that a region of an array meets, by their numbers in row-major order.
 #[derive(Drop)]
 pub(crate) struct RegionChunks<'a> {
     pub(crate) array: &'a ArrayParts,
@@ -21,12 +19,12 @@ pub(crate) struct RegionChunks<'a> {
     pub(crate) subset: &'a ArraySubset,
     // The indices of its chunks, as a box of the grid's.
     pub(crate) chunks: ArraySubset,
-    pub(crate) chain: LentChain<'a>,
 }
 
-/// Where a chunk lies, and the key that its value stands under.
+/// The indices of a chunk, where it lies, and the key that its value stands under.
 #[derive(Drop)]
 pub(crate) struct ChunkPlace {
+    pub(crate) indices: ArrayIndicesTinyVec,
     pub(crate) subset: ArraySubset,
     pub(crate) key: StoreKey,
 }
@@ -64,12 +62,10 @@ impl<'a> RegionChunks<'a> {
         if chunks.num_elements() == 0 {
             return Ok(None);
         }
-        let chain = lent_chain(array, alloc)?;
         Ok(Some(RegionChunks {
             array,
             subset,
             chunks,
-            chain,
         }))
     }
 

@@ -8,7 +8,7 @@ ghost use Rattle.zarrs_codec_traits.specs.Views.{options_of};
 ghost use Rattle.zarr_array_elements.specs.BoxElements.{list_held};
 ghost use Rattle.zarr_array_parts.specs.Parts.{described};
 ghost use Rattle.zarr_array_regions.specs.Chunk.{chunk_kind};
-ghost use Rattle.zarr_array_regions.specs.RegionChunks.{chunk_at, AreMet, IsPlaceOf};
+ghost use Rattle.zarr_array_regions.specs.RegionChunks.{chunk_at, AreMet, AreLevelsAt, IsPlaceOf};
 ghost use Rattle.zarr_array_regions.specs.Fetch.{HasAsked, NotFetched};
 ghost use Rattle.zarr_array_regions.specs.Read.{HoldsRegion};
 
@@ -16,6 +16,7 @@ use crate::error::{SessionErrorKind, chunk_error};
 use crate::region_chunks::{ChunkPlace, RegionChunks};
 use std::alloc::{AllocError, Global};
 use zarr_array_elements::{BoxElements, SharedBox};
+use zarr_chain::ChunkLevels;
 use zarr_chain_stored::{Fetched, fetch_region};
 use zarrs_array_subset::ArraySubset;
 use zarrs_codec_error::CodecError;
@@ -39,6 +40,7 @@ impl RegionChunks<'_> {
         &self,
         alloc: Global,
         number: u64,
+        levels: &ChunkLevels,
         key: &StoreKey,
         within: &ArraySubset,
         store: &mut S,
@@ -46,6 +48,7 @@ impl RegionChunks<'_> {
     ) -> Result<Fetched, CodecError>
         requires met { AreMet self.now }
         requires below { number < count (region self.now.chunks) }
+        requires levels { AreLevelsAt self.now number levels.now }
         requires key { key.now ≡ (described self.now.array.now).key (chunk_at self.now number) }
         requires inside { ends_within (region within.now)
             (sizes ((described self.now.array.now).grid.chunk_box (chunk_at self.now number)))
@@ -59,7 +62,8 @@ impl RegionChunks<'_> {
             (chunk_kind key.now error)) }
         ensures kept { S.kept store.old store.new }
     {
-        let fetched = fetch_region(&self.chain, alloc, key, within, store, options)?;
+        let chain = self.array.chain();
+        let fetched = fetch_region(chain, levels, alloc, key, within, store, options)?;
         Ok(fetched)
     }
 
@@ -69,12 +73,14 @@ impl RegionChunks<'_> {
         &self,
         alloc: Global,
         number: u64,
+        levels: &ChunkLevels,
         place: ChunkPlace,
         store: &mut S,
         options: &CodecOptions,
     ) -> Result<FetchedChunk, SessionErrorKind>
         requires met { AreMet self.now }
         requires below { number < count (region self.now.chunks) }
+        requires levels { AreLevelsAt self.now number levels.now }
         requires place { IsPlaceOf (described self.now.array.now) (chunk_at self.now number) place }
         ensures fetched { MatchResult result
             (λ held. HasAsked (S.shown store.old) (S.shown store.new)
@@ -85,7 +91,15 @@ impl RegionChunks<'_> {
         ensures kept { S.kept store.old store.new }
     {
         let shared = SharedBox::of(alloc, self.subset, &place.subset)?;
-        match self.fetch_part(alloc, number, &place.key, &shared.within, store, options) {
+        match self.fetch_part(
+            alloc,
+            number,
+            levels,
+            &place.key,
+            &shared.within,
+            store,
+            options,
+        ) {
             Ok(elements) => Ok(FetchedChunk {
                 place,
                 shared,

@@ -1,21 +1,22 @@
 //! Writing to a region, chunk by chunk.
 
-ghost use Rattle.std.specs.Prelude.{◌≡◌, ◌+◌, ◌<◌, ◌^◌, true, MatchResult};
+ghost use Rattle.std.specs.Prelude.{◌≡◌, ◌+◌, ◌<◌, ◌^◌, true, MatchResult, IfOk, IfSome};
 ghost use Rattle.zarr_model.specs.Prelude.{count, ends_within};
 ghost use Rattle.zarrs_array_subset.specs.ArraySubset.{region};
 ghost use Rattle.zarrs_codec_array_bytes.specs.Raw.{raw_of};
 ghost use Rattle.zarrs_codec_traits.specs.Views.{options_of};
 ghost use Rattle.zarr_array_parts.specs.Parts.{described};
-ghost use Rattle.zarr_array_regions.specs.RegionChunks.{chunk_at, AreMet};
+ghost use Rattle.zarr_array_regions.specs.RegionChunks.{chunk_at, AreMet, AreLevelsAt, AreInHand, IsPlaceOf};
 ghost use Rattle.zarr_array_regions.specs.Write.{change_of, IsWritable, HasWrittenChunk, NotWrittenChunk};
 ghost use Rattle.zarr_array_regions.specs.PartWay.{HasWrittenRegion, NotWrittenRegion};
 
 use crate::chunk::HeldChunk;
 use crate::error::{CommandError, SessionErrorKind};
-use crate::region_chunks::RegionChunks;
+use crate::region_chunks::{ChunkPlace, RegionChunks};
 use std::alloc::Global;
 use zarr_array_elements::put_overlap;
 use zarr_array_parts::ArrayParts;
+use zarr_chain::ChunkLevels;
 use zarrs_array_subset::ArraySubset;
 use zarrs_codec_array_bytes::ArrayBytes;
 use zarrs_codec_options::CodecOptions;
@@ -24,16 +25,20 @@ use zarrs_storage::Store;
 impl RegionChunks<'_> {
     // Puts the elements that the region shares with the chunk of a number into the chunk, and stores it anew: the old
     // value is fetched and decoded first, also where the region covers all of it.
-    fn write_chunk<S: Store>(
+    fn write_at<S: Store>(
         &self,
         alloc: Global,
         number: u64,
+        levels: &ChunkLevels,
+        place: ChunkPlace,
         bytes: &ArrayBytes<'_>,
         store: &mut S,
         options: &CodecOptions,
     ) -> Result<(), SessionErrorKind>
         requires met { AreMet self.now }
         requires below { number < count (region self.now.chunks) }
+        requires levels { AreLevelsAt self.now number levels.now }
+        requires place { IsPlaceOf (described self.now.array.now) (chunk_at self.now number) place }
         requires writable { IsWritable self.now.array.now (region self.now.subset.now)
             (raw_of bytes.now) }
         ensures { let change = change_of self.now.array.now (region self.now.subset.now)
@@ -43,7 +48,7 @@ impl RegionChunks<'_> {
             (NotWrittenChunk self.now.array.now (options_of options.now) change
             (chunk_at self.now number) (S.shown store.old) (S.shown store.new)) }
     {
-        let chunk = match self.fetch_chunk(alloc, number, store, options) {
+        let chunk = match self.fetch_chunk(alloc, number, levels, place, store, options) {
             Ok(chunk) => chunk,
             Err(kind) => return Err(kind),
         };
@@ -58,13 +63,45 @@ impl RegionChunks<'_> {
             self.subset,
         ) {
             Ok(elements) => {
-                match self.store_elements(alloc, number, &place.key, elements, store, options) {
+                match self.store_elements(
+                    alloc, number, levels, &place.key, elements, store, options,
+                ) {
                     Ok(()) => Ok(()),
                     Err(error) => Err(SessionErrorKind::from(error)),
                 }
             }
             Err(_) => Err(SessionErrorKind::OutOfMemory),
         }
+    }
+
+    // Writes to the chunk of a number. The levels in hand serve where they are of its shape; the answer is those that
+    // served.
+    fn write_chunk<S: Store>(
+        &self,
+        alloc: Global,
+        number: u64,
+        hand: Option<ChunkLevels>,
+        bytes: &ArrayBytes<'_>,
+        store: &mut S,
+        options: &CodecOptions,
+    ) -> Result<ChunkLevels, SessionErrorKind>
+        requires met { AreMet self.now }
+        requires below { number < count (region self.now.chunks) }
+        requires hand { IfSome hand (AreInHand self.now.array.now) }
+        requires writable { IsWritable self.now.array.now (region self.now.subset.now)
+            (raw_of bytes.now) }
+        ensures written { let change = change_of self.now.array.now (region self.now.subset.now)
+            (raw_of bytes.now) in MatchResult result
+            (λ _. HasWrittenChunk self.now.array.now (options_of options.now) change
+            (chunk_at self.now number) (S.shown store.old) (S.shown store.new))
+            (NotWrittenChunk self.now.array.now (options_of options.now) change
+            (chunk_at self.now number) (S.shown store.old) (S.shown store.new)) }
+        ensures hand { IfOk result (AreInHand self.now.array.now) }
+    {
+        let place = self.place(alloc, number)?;
+        let levels = self.levels(alloc, number, hand, &place)?;
+        self.write_at(alloc, number, &levels, place, bytes, store, options)?;
+        Ok(levels)
     }
 
     // Writes to each chunk, in row-major order.
@@ -86,12 +123,16 @@ impl RegionChunks<'_> {
             (region self.now.subset.now) (raw_of bytes.now) (S.shown store.old)
             (S.shown store.new)) }
     {
+        let mut hand = None;
         for number in 0..self.num_chunks() {
-            if let Err(kind) = self.write_chunk(alloc, number, bytes, store, options) {
-                return Err(CommandError {
-                    chunks_done: number,
-                    kind,
-                });
+            match self.write_chunk(alloc, number, hand, bytes, store, options) {
+                Ok(levels) => hand = Some(levels),
+                Err(kind) => {
+                    return Err(CommandError {
+                        chunks_done: number,
+                        kind,
+                    });
+                }
             }
         }
         Ok(())

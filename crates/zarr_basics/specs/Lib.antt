@@ -4,6 +4,8 @@ pub use Rattle.zarr_basics_grids.specs.GridForms
 pub use Rattle.zarr_basics_grids.specs.GridOf
 pub use Rattle.zarr_basics_grids.specs.BasicGrid
 pub use Rattle.zarr_basics_grids.specs.Limits
+pub use Rattle.zarr_basics_grids.specs.Axes
+pub use Rattle.zarr_basics_grids.specs.BoundaryGrid
 pub mod Keys
 pub mod Configurations
 pub mod Making

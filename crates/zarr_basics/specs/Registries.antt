@@ -5,7 +5,7 @@ use Rattle.zarrs_plugin.specs.Registry.{Names, registry_of}
 use Rattle.zarrs_data_type_names.specs.declared.data_type.kind.DataTypeKind.{DataTypeKind}
 use Rattle.zarr_basics.specs.BuiltinTypes.{builtin_data_types}
 use Rattle.zarr_basics_grids.specs.declared.grid_kind.GridKind.{GridKind}
-use Rattle.zarr_basics_grids.specs.declared.grid_kind.GridKind.TheVariants.{Regular}
+use Rattle.zarr_basics_grids.specs.declared.grid_kind.GridKind.TheVariants.{Regular, Boundary}
 use Rattle.zarr_basics.specs.declared.registries.ChunkKeyKind.{ChunkKeyKind}
 use Rattle.zarr_basics.specs.declared.registries.ChunkKeyKind.TheVariants.{Default, V2}
 use Rattle.zarr_codecs_kinds.specs.declared.codec_kind.CodecKind.{CodecKind}
@@ -31,7 +31,11 @@ names_of r = record {
 abbrev pub builtin_names : KnownNames
 builtin_names = record {
   data_types = record { registered = []; builtin = builtin_data_types };
-  grids = record { registered = []; builtin = (exact (codes "regular"), Regular) ∷ [] };
+  grids = record {
+    registered = [];
+    builtin = (exact (codes "regular"), Regular)
+        ∷ (exact (codes "zarr_basics.boundaries"), Boundary) ∷ [];
+  };
   key_encodings = record {
     registered = [];
     builtin = (exact (codes "default"), Default) ∷ (exact (codes "v2"), V2) ∷ [];

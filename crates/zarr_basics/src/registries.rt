@@ -73,14 +73,20 @@ fn data_types(alloc: Global) -> Result<Vec<(NamePattern, DataTypeKind)>, AllocEr
 }
 
 /// The registries with the built-in names alone: the data types `bool`, `int8` to `int64`, `uint8` to `uint64`,
-/// `string`, `bytes`, also `variable_length_bytes`, `zarrs.optional` and `r` before digits, the grid `regular`, the key
-/// encodings `default` and `v2`, and the codecs `bytes`, `vlen-utf8`, `vlen-bytes`, `zarr_basics.optional`,
-/// `zarr_basics.offset` and `zarr_basics.sha256`.
+/// `string`, `bytes`, also `variable_length_bytes`, `zarrs.optional` and `r` before digits, the grids `regular` and
+/// `zarr_basics.boundaries`, the key encodings `default` and `v2`, and the codecs `bytes`, `vlen-utf8`, `vlen-bytes`,
+/// `zarr_basics.optional`, `zarr_basics.offset` and `zarr_basics.sha256`.
 pub fn builtin_registries(alloc: Global) -> Result<Registries, AllocError>
     ensures { IfOk result (λ r. names_of r ≡ builtin_names) }
 {
     let data_types = data_types(alloc)?;
-    let grids = named(alloc, &[("regular", GridKind::Regular)])?;
+    let grids = named(
+        alloc,
+        &[
+            ("regular", GridKind::Regular),
+            ("zarr_basics.boundaries", GridKind::Boundary),
+        ],
+    )?;
     let keys = named(
         alloc,
         &[("default", ChunkKeyKind::Default), ("v2", ChunkKeyKind::V2)],

@@ -1,7 +1,6 @@
+pub use Rattle.zarr_basics_boundaries.proofs.LimitLaws
 pub mod LengthLaws
 pub mod RegularLaws
 pub mod RegularFacts
-pub mod LimitLaws
-pub mod MakingLaws
+pub mod RegularLimits
 pub mod ConfigurationLaws
-pub mod BasicLaws

@@ -7,7 +7,8 @@ use Rattle.std.proofs.Math.Nat.{suc-mul, mul-le-mul_right, div-add-mod', mod-lt}
 use Rattle.zarr_model.specs.Region.{starts, sizes, whole, contains, is_in}
 use Rattle.zarr_model.specs.Grid.{box_of_axes, regular_axes, regular_grid}
 use Rattle.zarr_model.proofs.RegionLaws.{span_in, first_is}
-use Rattle.zarr_basics_grids.specs.RegularGrid.{nonzeros, quotients, products}
+use Rattle.zarr_basics_boundaries.specs.Lengths.{nonzeros}
+use Rattle.zarr_basics_grids.specs.RegularGrid.{quotients, products}
 
 row_holds : (i p : ℕ) → 0 < p → (i / p * p ≤ i) × (i < i / p * p + p)
 row_holds i p some = (omega (arith, div-add-mod' i p), omega (arith, div-add-mod' i p, mod-lt i some))

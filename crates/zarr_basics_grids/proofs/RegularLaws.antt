@@ -1,5 +1,5 @@
 -- A regular grid in numbers: how many chunks it has, which chunks meet a box, and where each lies.
-use Rattle.std.proofs.Common.{◌≡◌, ℕ, zero, suc, ◌+◌, ◌-◌, ◌*◌, ◌/◌, ◌%◌, ◌<◌, ◌≤◌, ◌^◌, ◌&&◌, Bool, true, false, nat_le, nat_lt, min, max, List, [], ◌∷◌, length, refl, sym, ap, ap₂, ◌∙◌, subst, arith}
+use Rattle.std.proofs.Common.{◌≡◌, ℕ, zero, suc, ◌+◌, ◌-◌, ◌*◌, ◌/◌, ◌%◌, ◌<◌, ◌≤◌, ◌^◌, ◌&&◌, true, false, nat_le, nat_lt, min, max, List, [], ◌∷◌, length, refl, sym, ap, ap₂, ◌∙◌, subst, arith}
 use Rattle.std.specs.declared.num.NonZeroU64.{NonZeroU64}
 use Rattle.std.specs.Int.NonZero.{non_zero_u64_get}
 use Rattle.std.proofs.lemmas.Bool.{and_parts, and_from, leb-true, ltb-true, le-leb, lt-ltb, true≢false}
@@ -10,7 +10,8 @@ use Rattle.zarr_model.proofs.RegionLaws.{span_in, tuples-empty, positive_parts, 
 use Rattle.zarr_model.proofs.MeetingLaws.{AreMeeting, tuples-meeting, chunks_meeting-empty}
 use Rattle.zarr_model.proofs.Choices.{same_test, swap_tests}
 use Rattle.zarrs_array_subset.specs.Boxes.{region_of, is_box, ends}
-use Rattle.zarr_basics_grids.specs.RegularGrid.{nonzeros, quotients_up, quotients, lasts, counts_between, chunk_span, chunk_region}
+use Rattle.zarr_basics_boundaries.specs.Lengths.{nonzeros, counts_between}
+use Rattle.zarr_basics_grids.specs.RegularGrid.{quotients_up, quotients, lasts, chunk_span, chunk_region}
 
 -- the two ways to round a quotient up
 rounded_up : (n p : ℕ) → 0 < p → n / p + min 1 (n % p) ≡ (n + (p - 1)) / p

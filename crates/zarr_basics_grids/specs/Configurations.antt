@@ -1,10 +1,11 @@
--- The form of the configuration of the grid `regular`.
+-- The forms of the configurations of grids: that of the grid `regular`, beside that of boundaries.
 use Rattle.std.specs.Prelude.{ℕ, Bool, ◌==◌, ◌&&◌, nat_le, if◌then◌else◌, List, length, codes, Option, Some, None}
 use Rattle.std.specs.List.{list_all}
 use Rattle.serde_json.specs.Data.{Members, no_members, member}
 use Rattle.zarrs_metadata_values.specs.Configuration.{only_member}
 use Rattle.zarrs_metadata_parts.specs.Reading.{◌>>=◌, whole_numbers}
 use Rattle.zarrs_metadata_parts.specs.Writing.{numbers_data}
+pub use Rattle.zarr_basics_boundaries.specs.Configurations.{lengths_in, lengths_members}
 
 -- a positive length for each dimension of a shape
 abbrev pub are_chunk_lengths : List ℕ → List ℕ → Bool

@@ -1,8 +1,13 @@
+pub use Rattle.zarr_basics_boundaries.specs.Lengths
+pub use Rattle.zarr_basics_boundaries.specs.GridForms
+pub use Rattle.zarr_basics_boundaries.specs.Limits
+pub use Rattle.zarr_basics_boundaries.specs.LimitTests
+pub use Rattle.zarr_basics_boundaries.specs.Largest
+pub use Rattle.zarr_basics_boundaries.specs.Axes
+pub use Rattle.zarr_basics_boundaries.specs.BoundaryGrid
 pub mod RegularGrid
-pub mod GridForms
+pub mod RegularEnds
 pub mod GridOf
 pub mod BasicGrid
-pub mod Limits
-pub mod LimitTests
 pub mod Configurations
 pub mod Making

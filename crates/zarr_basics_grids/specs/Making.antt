@@ -1,22 +1,26 @@
 -- What grids are made of metadata.
-use Rattle.std.specs.Prelude.{ℕ, Bool, if◌then◌else◌, List, codes, bytes_eq, Option, option_map, Result, Ok, Err}
+use Rattle.std.specs.Prelude.{◌≡◌, ℕ, Bool, true, false, ◌||◌, ◌↔◌, if◌then◌else◌, List, codes, bytes_eq, Option, option_map, Result, Err}
 use Rattle.serde_json.specs.Data.{Members}
 use Rattle.zarr_model.specs.Prelude.{Grid}
+use Rattle.zarrs_chunk_grid_traits.proofs.KnownNames.{refuses_names}
+use Rattle.zarrs_chunk_grid_traits.specs.Making.{RefusesNames}
 use Rattle.zarrs_metadata_parts.specs.Making.{or_config}
 use Rattle.zarrs_metadata_parts.specs.MetadataV3.{Extension}
 use Rattle.zarrs_plugin.specs.Making.{Unmade, unsupported}
+use Rattle.zarr_basics_boundaries.specs.GridForms.{ChunkGrid, regular}
+use Rattle.zarr_basics_boundaries.specs.Making as boundary
+pub use Rattle.zarr_basics_boundaries.specs.Making.{over_shape, boundary_form, is_boundaries, boundary_created}
 use Rattle.zarr_basics_grids.specs.Configurations.{chunk_shape_in}
-use Rattle.zarr_basics_grids.specs.GridForms.{ChunkGrid, regular, grid_of}
 use Rattle.zarr_basics_grids.specs.declared.grid_kind.GridKind.{GridKind}
-use Rattle.zarr_basics_grids.specs.declared.grid_kind.GridKind.TheVariants.{Regular}
+use Rattle.zarr_basics_grids.specs.declared.grid_kind.GridKind.TheVariants.{Regular, Boundary}
 
 -- the configurations of each kind, with the grids that they say over a shape
-abbrev pub grid_form : List ℕ → GridKind → Option Members → Option ChunkGrid
-grid_form shape Regular configuration = option_map regular (chunk_shape_in shape configuration)
+abbrev pub regular_form : List ℕ → Option Members → Option ChunkGrid
+regular_form shape configuration = option_map regular (chunk_shape_in shape configuration)
 
-abbrev pub over_shape : List ℕ → Result ChunkGrid Unmade → Result Grid Unmade
-over_shape shape (Ok form) = Ok (grid_of shape form)
-over_shape shape (Err why) = Err why
+abbrev pub grid_form : List ℕ → GridKind → Option Members → Option ChunkGrid
+grid_form shape Regular configuration = regular_form shape configuration
+grid_form shape Boundary configuration = boundary_form shape configuration
 
 -- whether metadata of this name is of the grid `regular`
 abbrev pub is_regular : List ℕ → Bool
@@ -25,5 +29,34 @@ is_regular name = bytes_eq name (codes "regular")
 -- the grid `regular` of metadata, which has to have its name
 abbrev pub regular_created : Extension → List ℕ → Result Grid Unmade
 regular_created e shape = if is_regular e.name
-    then over_shape shape (or_config (grid_form shape Regular e.configuration))
+    then over_shape shape (or_config (regular_form shape e.configuration))
     else Err (unsupported e.name)
+
+-- metadata is refused for its name exactly where that is not `regular`
+pub refuses_others : RefusesNames is_regular regular_created
+refuses_others = refuses_names is_regular
+    (λ e shape. over_shape shape (or_config (regular_form shape e.configuration)))
+    (λ e shape name. boundary.not_for_name shape name (regular_form shape e.configuration))
+
+-- whether a grid goes by this name
+abbrev pub is_basic : List ℕ → Bool
+is_basic name = is_boundaries name || is_regular name
+
+-- the grid of metadata, by its name
+abbrev pub basic_created : Extension → List ℕ → Result Grid Unmade
+basic_created e shape = if is_boundaries e.name then boundary_created e shape
+    else regular_created e shape
+
+-- metadata is refused for its name exactly where that is neither
+pub refuses_unnamed : RefusesNames is_basic basic_created
+refuses_unnamed e shape name = go (is_boundaries e.name) (boundary.refuses_others e shape name)
+    (refuses_others e shape name)
+  where
+    go : (b : Bool)
+        → (boundary_created e shape ≡ Err (unsupported name)) ↔ ((name ≡ e.name) × (b ≡ false))
+        → (regular_created e shape ≡ Err (unsupported name))
+        ↔ ((name ≡ e.name) × (is_regular e.name ≡ false))
+        → ((if b then boundary_created e shape else regular_created e shape)
+        ≡ Err (unsupported name)) ↔ ((name ≡ e.name) × ((b || is_regular e.name) ≡ false))
+    go true first second = first
+    go false first second = second

@@ -1,15 +1,11 @@
--- Chunk shapes, and the numbers that a regular grid makes of them.
+-- The numbers that a regular grid makes of a chunk shape.
 use Rattle.std.specs.Prelude.{ℕ, ◌+◌, ◌-◌, ◌*◌, ◌/◌, ◌%◌, ◌^◌, min, List, [], ◌∷◌, map, zip}
 use Rattle.std.specs.declared.num.NonZeroU64.{NonZeroU64}
 use Rattle.std.specs.Int.NonZero.{non_zero_u64_get}
 use Rattle.zarr_model.specs.Prelude.{Span, Region}
 
--- the lengths of a chunk shape as numbers
-abbrev pub nonzeros : List NonZeroU64 → List ℕ
-nonzeros lengths = map non_zero_u64_get lengths
-
 -- numbers made of two lists, place by place: quotients rounded up and down, those of the last index
--- before each end, products, and how many there are from a first to a last
+-- before each end, and products
 abbrev pub quotients_up : List ℕ → List NonZeroU64 → List ℕ
 quotients_up numbers lengths = map (λ p.
     p.0 / non_zero_u64_get p.1 + min 1 (p.0 % non_zero_u64_get p.1)) (zip numbers lengths)
@@ -23,9 +19,6 @@ lasts ends lengths = map (λ p. (p.0 - 1) / non_zero_u64_get p.1) (zip ends leng
 abbrev pub products : List ℕ → List NonZeroU64 → List ℕ
 products chunk lengths = map (λ p. min (p.0 * non_zero_u64_get p.1) (2 ^ 64 - 1))
     (zip chunk lengths)
-
-abbrev pub counts_between : List ℕ → List ℕ → List ℕ
-counts_between lasts firsts = map (λ p. min (p.0 - p.1 + 1) (2 ^ 64 - 1)) (zip lasts firsts)
 
 -- the chunks that a span meets, where each has this length, and those that a region meets
 abbrev pub chunk_span : NonZeroU64 → Span → Span

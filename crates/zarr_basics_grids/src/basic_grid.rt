@@ -1,10 +1,16 @@
 //! The chunk grids of this library as one type.
 
-ghost use Rattle.std.specs.Prelude.{◌≡◌, ℕ, List, Option};
+ghost use Rattle.std.specs.Prelude.{◌≡◌, IfOk};
+ghost use Rattle.zarrs_chunk_grid_traits.specs.Making.{MakesGrid};
+ghost use Rattle.zarrs_metadata_parts.specs.MetadataV3.{extension_seen};
+ghost use Rattle.zarr_basics_boundaries.specs.Making.{boundary_created};
+ghost use Rattle.zarr_basics_grids.specs.BasicGrid.{basic_shape, basic_grid};
+ghost use Rattle.zarr_basics_grids.specs.Making.{regular_created};
 
 use crate::regular_grid::RegularGrid;
 use std::alloc::{AllocError, Global};
 use std::num::NonZeroU64;
+use zarr_basics_boundaries::BoundaryGrid;
 use zarrs_array_subset::{ArrayIndices, ArraySubset, ChunkShape};
 use zarrs_chunk_grid_traits::{ChunkGridError, ChunkGridTraits};
 use zarrs_metadata_parts::{Configuration, MetadataV3};
@@ -15,23 +21,22 @@ use zarrs_plugin::{ExtensionName, PluginCreateError, ZarrVersion};
 pub enum BasicGrid {
     /// Chunks of one shape.
     Regular(RegularGrid),
+    /// Chunks of lengths of their own, one after another in each dimension.
+    Boundary(BoundaryGrid),
 }
 
 impl BasicGrid {
-    ghost use Rattle.zarr_model.specs.Prelude.{sizes, IsChunk};
-    ghost use Rattle.zarr_basics_grids.specs.BasicGrid.{basic_grid, basic_lengths};
-    ghost use Rattle.zarr_basics_grids.specs.Limits.{has_large_chunk};
-    ghost use Rattle.zarr_basics_grids.specs.RegularGrid.{nonzeros};
+    ghost use Rattle.zarr_basics_boundaries.specs.Largest.{AreLargest};
+    ghost use Rattle.zarr_basics_boundaries.specs.Lengths.{nonzeros};
+    ghost use Rattle.zarr_basics_boundaries.specs.Limits.{has_large_chunk};
 
-    /// The length of each dimension of a chunk, which is the same for all chunks.
-    #[tactic(auto, using(crate::proofs::BasicLaws::basic_sizes))]
-    pub fn chunk_lengths(&self) -> &[NonZeroU64]
-        ensures lengths { nonzeros result.now ≡ basic_lengths self.now }
-        ensures chunks { (chunk : List ℕ) → IsChunk (basic_grid self.now) chunk
-            → sizes ((basic_grid self.now).chunk_box chunk) ≡ nonzeros result.now }
+    /// The lengths of a largest chunk: no chunk has more elements, and where there is a chunk, one has these lengths.
+    pub fn largest_lengths(&self) -> &[NonZeroU64]
+        ensures { AreLargest (basic_grid self.now) (nonzeros result.now) }
     {
         match self {
-            BasicGrid::Regular(grid) => &grid.chunk_shape,
+            BasicGrid::Regular(grid) => grid.largest_lengths(),
+            BasicGrid::Boundary(grid) => grid.largest_lengths(),
         }
     }
 
@@ -42,27 +47,60 @@ impl BasicGrid {
     {
         match self {
             BasicGrid::Regular(grid) => grid.has_large_chunk(size),
+            BasicGrid::Boundary(grid) => grid.has_large_chunk(size),
         }
     }
 }
 
-impl ExtensionName for BasicGrid {
-    ghost use Rattle.std.specs.Prelude.{Some, codes};
+// The grid `regular` that metadata denotes.
+fn regular_of(
+    alloc: Global,
+    metadata: &MetadataV3,
+    array_shape: &[u64],
+) -> Result<BasicGrid, PluginCreateError>
+    ensures made { MakesGrid basic_grid result
+        (regular_created (extension_seen metadata.now) array_shape.now) }
+    ensures over { IfOk result (λ g. basic_shape g ≡ array_shape.now) }
+{
+    match RegularGrid::create(alloc, metadata, array_shape) {
+        Ok(grid) => Ok(BasicGrid::Regular(grid)),
+        Err(error) => Err(error),
+    }
+}
 
-    ghost name_in = { λ _ _. Some (codes "regular") };
+// The grid of boundaries that metadata denotes.
+fn boundaries_of(
+    alloc: Global,
+    metadata: &MetadataV3,
+    array_shape: &[u64],
+) -> Result<BasicGrid, PluginCreateError>
+    ensures made { MakesGrid basic_grid result
+        (boundary_created (extension_seen metadata.now) array_shape.now) }
+    ensures over { IfOk result (λ g. basic_shape g ≡ array_shape.now) }
+{
+    match BoundaryGrid::create(alloc, metadata, array_shape) {
+        Ok(grid) => Ok(BasicGrid::Boundary(grid)),
+        Err(error) => Err(error),
+    }
+}
+
+impl ExtensionName for BasicGrid {
+    ghost use Rattle.std.specs.Prelude.{Some};
+    ghost use Rattle.zarr_basics_grids.specs.BasicGrid.{basic_name};
+
+    ghost name_in = { λ g _. Some (basic_name g) };
 
     fn name(&self, alloc: Global, version: ZarrVersion) -> Result<Option<String>, AllocError> {
         match self {
             BasicGrid::Regular(grid) => grid.name(alloc, version),
+            BasicGrid::Boundary(grid) => grid.name(alloc, version),
         }
     }
 }
 
 impl ChunkGridTraits for BasicGrid {
-    ghost use Rattle.std.specs.Prelude.{refl};
-    ghost use Rattle.zarr_basics_grids.specs.BasicGrid.{basic_shape, basic_grid, basic_members, basic_covers};
-    ghost use Rattle.zarr_basics_grids.specs.GridOf.{refuses_others};
-    ghost use Rattle.zarr_basics_grids.specs.Making.{is_regular, regular_created};
+    ghost use Rattle.zarr_basics_grids.specs.BasicGrid.{basic_members, basic_covers, knows_basic};
+    ghost use Rattle.zarr_basics_grids.specs.Making.{is_basic, basic_created, refuses_unnamed};
 
     ghost shape = { basic_shape };
 
@@ -70,42 +108,46 @@ impl ChunkGridTraits for BasicGrid {
 
     ghost configured = { basic_members };
 
-    ghost is_known = { is_regular };
+    ghost is_known = { is_basic };
 
-    ghost created = { regular_created };
+    ghost created = { basic_created };
 
     ghost covers = { basic_covers };
 
-    ghost knows_own = { λ _. refl };
+    ghost knows_own = { knows_basic };
 
-    ghost refuses = { refuses_others };
+    ghost refuses = { refuses_unnamed };
 
     fn create(
         alloc: Global,
         metadata: &MetadataV3,
         array_shape: &[u64],
     ) -> Result<Self, PluginCreateError> {
-        match RegularGrid::create(alloc, metadata, array_shape) {
-            Ok(grid) => Ok(BasicGrid::Regular(grid)),
-            Err(error) => Err(error),
+        if metadata.name() == "zarr_basics.boundaries" {
+            boundaries_of(alloc, metadata, array_shape)
+        } else {
+            regular_of(alloc, metadata, array_shape)
         }
     }
 
     fn configuration(&self, alloc: Global) -> Result<Configuration, AllocError> {
         match self {
             BasicGrid::Regular(grid) => grid.configuration(alloc),
+            BasicGrid::Boundary(grid) => grid.configuration(alloc),
         }
     }
 
     fn array_shape(&self) -> &[u64] {
         match self {
             BasicGrid::Regular(grid) => grid.array_shape(),
+            BasicGrid::Boundary(grid) => grid.array_shape(),
         }
     }
 
     fn grid_shape(&self) -> &[u64] {
         match self {
             BasicGrid::Regular(grid) => grid.grid_shape(),
+            BasicGrid::Boundary(grid) => grid.grid_shape(),
         }
     }
 
@@ -116,6 +158,7 @@ impl ChunkGridTraits for BasicGrid {
     ) -> Result<Option<ChunkShape>, ChunkGridError> {
         match self {
             BasicGrid::Regular(grid) => grid.chunk_shape(alloc, chunk_indices),
+            BasicGrid::Boundary(grid) => grid.chunk_shape(alloc, chunk_indices),
         }
     }
 
@@ -126,6 +169,7 @@ impl ChunkGridTraits for BasicGrid {
     ) -> Result<Option<ArrayIndices>, ChunkGridError> {
         match self {
             BasicGrid::Regular(grid) => grid.chunk_origin(alloc, chunk_indices),
+            BasicGrid::Boundary(grid) => grid.chunk_origin(alloc, chunk_indices),
         }
     }
 
@@ -136,6 +180,7 @@ impl ChunkGridTraits for BasicGrid {
     ) -> Result<Option<ArrayIndices>, ChunkGridError> {
         match self {
             BasicGrid::Regular(grid) => grid.chunk_indices(alloc, array_indices),
+            BasicGrid::Boundary(grid) => grid.chunk_indices(alloc, array_indices),
         }
     }
 
@@ -146,6 +191,7 @@ impl ChunkGridTraits for BasicGrid {
     ) -> Result<ArraySubset, AllocError> {
         match self {
             BasicGrid::Regular(grid) => grid.chunks_meeting(alloc, array_subset),
+            BasicGrid::Boundary(grid) => grid.chunks_meeting(alloc, array_subset),
         }
     }
 }

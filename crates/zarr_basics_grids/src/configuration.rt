@@ -4,7 +4,7 @@ ghost use Rattle.std.specs.Prelude.{◌≡◌, IsTrue, IfOk, IfSome, IfNone, fal
 ghost use Rattle.std.specs.List.{list_all};
 ghost use Rattle.zarrs_metadata_parts.specs.MetadataV3.{extension_seen};
 ghost use Rattle.zarrs_metadata_parts.specs.Reading.{Reads};
-ghost use Rattle.zarr_basics_grids.specs.RegularGrid.{nonzeros};
+ghost use Rattle.zarr_basics_boundaries.specs.Lengths.{nonzeros};
 ghost use Rattle.zarr_basics_grids.specs.Configurations.{are_chunk_lengths, if_chunk_lengths, chunk_shape_in};
 
 use std::alloc::{AllocError, Global};

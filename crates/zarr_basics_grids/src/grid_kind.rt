@@ -1,51 +1,38 @@
 //! Grids by their metadata.
 
-ghost use Rattle.std.specs.Prelude.{◌≡◌, IfOk, Err};
-ghost use Rattle.zarr_model.specs.Prelude.{Grid};
+ghost use Rattle.std.specs.Prelude.{◌≡◌, IfOk};
 ghost use Rattle.zarrs_chunk_grid_traits.specs.Making.{MakesGrid};
 ghost use Rattle.zarrs_metadata_parts.specs.Configuration.{configuration_seen};
 ghost use Rattle.zarrs_metadata_parts.specs.Making.{or_config};
 ghost use Rattle.zarrs_metadata_parts.specs.MetadataV3.{extension_seen};
-ghost use Rattle.zarrs_plugin.specs.Making.{IsUnmade, unsupported};
-ghost use Rattle.zarrs_plugin.specs.declared.error.PluginKind.TheVariants as kinds;
+ghost use Rattle.zarr_basics_boundaries.specs.Lengths.{nonzeros};
 ghost use Rattle.zarr_basics_grids.specs.BasicGrid.{basic_form, basic_shape};
 ghost use Rattle.zarr_basics_grids.specs.Configurations.{chunk_shape_members};
 ghost use Rattle.zarr_basics_grids.specs.GridOf.{form_of_regular, shape_of_regular};
-ghost use Rattle.zarr_basics_grids.specs.Making.{grid_form};
-ghost use Rattle.zarr_basics_grids.specs.RegularGrid.{nonzeros};
-ghost use Rattle.zarr_basics_grids.specs.declared.grid_kind.GridKind.TheVariants.{Regular};
+ghost use Rattle.zarr_basics_grids.specs.Making.{grid_form, regular_form};
+ghost use Rattle.zarr_basics_grids.specs.declared.grid_kind.GridKind.TheVariants.{Regular, Boundary};
 
 use crate::basic_grid::BasicGrid;
 use crate::configuration::read_chunk_shape;
 use crate::regular_grid::RegularGrid;
-use crate::regular_grid::numbers::numbers;
 use serde_json::Map;
 use std::alloc::{AllocError, Global};
 use std::num::NonZeroU64;
+use zarr_basics_boundaries::boundaries_by;
+use zarr_basics_boundaries::lengths::numbers;
 use zarrs_chunk_grid_traits::GridMaker;
 use zarrs_metadata_parts::making::unmade;
 use zarrs_metadata_parts::writing::numbers_value;
 use zarrs_metadata_parts::{Configuration, MetadataV3};
-use zarrs_plugin::{PluginCreateError, PluginKind, PluginUnsupportedError};
+use zarrs_plugin::PluginCreateError;
 
 /// The kinds of chunk grids.
 #[derive(Clone, Copy, Debug, PartialEq, Eq)]
 pub enum GridKind {
     /// Chunks of one shape.
     Regular,
-}
-
-// The error of a grid whose name is not known.
-pub(crate) fn unsupported_grid(alloc: Global, name: &str) -> PluginCreateError
-    ensures { IsUnmade {Y = Grid} kinds.ChunkGrid result (Err (unsupported name.now)) }
-{
-    match String::from_str(alloc, name) {
-        Ok(name) => PluginCreateError::Unsupported(PluginUnsupportedError::new(
-            name,
-            PluginKind::ChunkGrid,
-        )),
-        Err(_) => PluginCreateError::OutOfMemory,
-    }
+    /// Chunks of lengths of their own, one after another in each dimension.
+    Boundary,
 }
 
 // The configuration of a grid with chunks of this shape.
@@ -71,8 +58,7 @@ pub(crate) fn regular_by(
     array_shape: &[u64],
 ) -> Result<RegularGrid, PluginCreateError>
     ensures made { MakesGrid form_of_regular result
-        (or_config (grid_form array_shape.now Regular
-        (extension_seen metadata.now).configuration)) }
+        (or_config (regular_form array_shape.now (extension_seen metadata.now).configuration)) }
     ensures over { IfOk result (λ grid. shape_of_regular grid ≡ array_shape.now) }
 {
     let chunk_shape = match read_chunk_shape(alloc, array_shape, metadata) {
@@ -85,7 +71,7 @@ pub(crate) fn regular_by(
 }
 
 // The same as a grid of this library.
-fn basic_by(
+fn basic_regular(
     alloc: Global,
     metadata: &MetadataV3,
     array_shape: &[u64],
@@ -97,6 +83,23 @@ fn basic_by(
 {
     match regular_by(alloc, metadata, array_shape) {
         Ok(grid) => Ok(BasicGrid::Regular(grid)),
+        Err(error) => Err(error),
+    }
+}
+
+// The grid of boundaries over an array's shape that a configuration says.
+fn basic_boundaries(
+    alloc: Global,
+    metadata: &MetadataV3,
+    array_shape: &[u64],
+) -> Result<BasicGrid, PluginCreateError>
+    ensures made { MakesGrid basic_form result
+        (or_config (grid_form array_shape.now Boundary
+        (extension_seen metadata.now).configuration)) }
+    ensures over { IfOk result (λ grid. basic_shape grid ≡ array_shape.now) }
+{
+    match boundaries_by(alloc, metadata, array_shape) {
+        Ok(grid) => Ok(BasicGrid::Boundary(grid)),
         Err(error) => Err(error),
     }
 }
@@ -115,7 +118,8 @@ impl GridMaker for GridKind {
         array_shape: &[u64],
     ) -> Result<BasicGrid, PluginCreateError> {
         match self {
-            GridKind::Regular => basic_by(alloc, metadata, array_shape),
+            GridKind::Regular => basic_regular(alloc, metadata, array_shape),
+            GridKind::Boundary => basic_boundaries(alloc, metadata, array_shape),
         }
     }
 }

@@ -4,15 +4,15 @@
 
 ghost use Rattle.std.specs.Prelude.{◌≡◌, length, Option, ℕ, IfOk};
 ghost use Rattle.zarr_model.specs.Prelude.{regular_grid};
-ghost use Rattle.zarr_basics_grids.specs.RegularGrid.{nonzeros};
+ghost use Rattle.zarr_basics_boundaries.specs.Lengths.{nonzeros};
 
 mod chunks;
-mod limits;
-pub(crate) mod numbers;
+mod numbers;
 
-use limits::{are_some, ends_fit, is_too_large};
-use numbers::counts;
+use numbers::{counts, ends_fit};
 use std::alloc::{AllocError, Global};
+use std::num::NonZeroU64;
+use zarr_basics_boundaries::limits::{are_some, is_too_large};
 use zarrs_array_subset::ChunkShape;
 
 /// The regular grid of an array's shape and a chunk shape of the same rank.
@@ -30,8 +30,9 @@ pub struct RegularGrid {
 }
 
 impl RegularGrid {
+    ghost use Rattle.zarr_basics_boundaries.specs.Largest.{AreLargest};
+    ghost use Rattle.zarr_basics_boundaries.specs.Limits.{has_large_chunk};
     ghost use Rattle.zarr_basics_grids.specs.GridOf.{grid_of_regular};
-    ghost use Rattle.zarr_basics_grids.specs.Limits.{has_large_chunk};
 
     /// The grid of an array's shape and a chunk shape of the same rank.
     #[tactic(auto, using(crate::proofs::RegularLaws::counts_grid))]
@@ -50,6 +51,13 @@ impl RegularGrid {
             chunk_shape,
             grid_shape,
         })
+    }
+
+    /// The lengths of a largest chunk, which are those of every chunk.
+    pub fn largest_lengths(&self) -> &[NonZeroU64]
+        ensures { AreLargest (grid_of_regular self.now) (nonzeros result.now) }
+    {
+        self.chunk_shape.as_slice()
     }
 
     /// Whether some chunk is too large for elements of a size: its box ends past `u64`, or the number of its elements

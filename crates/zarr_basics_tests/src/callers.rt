@@ -31,11 +31,17 @@ pub fn box_of_element<G: ChunkGridTraits>(
     }
 }
 
-/// The grid that metadata denotes over an array's shape, if none of its chunks is too large for elements of 8 bytes.
-pub fn small_grid(alloc: Global, metadata: &MetadataV3, shape: &[u64]) -> Option<BasicGrid>
+/// The grid of a kind that metadata denotes over an array's shape, if none of its chunks is too large for elements of
+/// 8 bytes.
+pub fn small_grid(
+    alloc: Global,
+    kind: GridKind,
+    metadata: &MetadataV3,
+    shape: &[u64],
+) -> Option<BasicGrid>
     ensures { IfSome result (λ g. has_large_chunk (basic_grid g) (Some 8) ≡ false) }
 {
-    let grid = GridKind::Regular.make(alloc, metadata, shape).ok()?;
+    let grid = kind.make(alloc, metadata, shape).ok()?;
     if grid.has_large_chunk(Some(8)) {
         return None;
     }

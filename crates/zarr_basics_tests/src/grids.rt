@@ -14,17 +14,30 @@ use zarrs_chunk_grid::{
     ArraySubset, ChunkGridTraits, ChunkGridTraitsIterators, GridMaker, shape_product,
 };
 
-// The grid of a chunk shape over an array's shape.
-fn grid(alloc: Global, chunk_shape: &str, array_shape: &[u64]) -> Result<BasicGrid, Fail> {
-    let text = format!(in alloc;
-        r#"{{"name":"regular","configuration":{{"chunk_shape":{chunk_shape}}}}}"#
-    )?;
+// The grid of a kind that a configuration with one member says over an array's shape.
+fn grid_of(
+    alloc: Global,
+    kind: GridKind,
+    (member, value): (&str, &str),
+    array_shape: &[u64],
+) -> Result<BasicGrid, Fail> {
+    let text = format!(in alloc; r#"{{"name":"g","configuration":{{"{member}":{value}}}}}"#)?;
     let metadata = metadata(alloc, text.as_str())?;
-    let grid = GridKind::Regular
+    let grid = kind
         .make(alloc, &metadata, array_shape)
         .ok()
         .ok_or("a grid")?;
     Ok(grid)
+}
+
+// The grid of a chunk shape over an array's shape.
+fn grid(alloc: Global, chunk_shape: &str, array_shape: &[u64]) -> Result<BasicGrid, Fail> {
+    grid_of(
+        alloc,
+        GridKind::Regular,
+        ("chunk_shape", chunk_shape),
+        array_shape,
+    )
 }
 
 // What is said of chunks by their indices.
@@ -157,7 +170,7 @@ fn lists_chunks<G: ChunkGridTraits>(rt: &impl Abort, alloc: Global, grid: &G)
 }
 
 // All that needs boxes that fit, and chunks that can be counted.
-#[tactic(auto, using(zarr_basics_grids::proofs::LimitLaws::all_fit))]
+#[tactic(auto, using(zarr_basics_boundaries::proofs::LimitLaws::all_fit))]
 fn has_small_chunks(rt: &impl Abort, alloc: Global, grid: &BasicGrid, region: &ArraySubset) {
     if grid.has_large_chunk(Some(8)) {
         return assert!(rt; false, "too large");
@@ -189,6 +202,41 @@ fn is_large(
 ) -> Result<(), Fail> {
     let grid = grid(alloc, chunk_shape, array_shape)?;
     assert_eq!(rt; grid.has_large_chunk(size), want);
+    Ok(())
+}
+
+// The same of a grid of boundaries in one dimension, with its largest lengths.
+fn is_large_by_lengths(
+    rt: &impl Abort,
+    alloc: Global,
+    (lengths, largest): (&str, u64),
+    array_shape: u64,
+    want: bool,
+) -> Result<(), Fail> {
+    let value = ("lengths", lengths);
+    let grid = grid_of(alloc, GridKind::Boundary, value, &[array_shape])?;
+    assert_eq!(rt; grid.has_large_chunk(Some(2)), want);
+    assert_eq!(rt;
+        grid.largest_lengths()
+            .iter()
+            .all(|length| length.get() == largest),
+        true
+    );
+    Ok(())
+}
+
+#[test]
+fn large_chunks_of_boundaries(rt: HostRuntime) -> Result<(), Fail> {
+    let (small, large, half) = (
+        ("[[1,9223372036854775807]]", 9223372036854775807),
+        ("[[1,9223372036854775808]]", 9223372036854775808),
+        9223372036854775808,
+    );
+    is_large_by_lengths(&rt, rt.alloc(), small, half, false)?;
+    is_large_by_lengths(&rt, rt.alloc(), large, half, true)?;
+    let past = ("[[4,18446744073709551615]]", u64::MAX);
+    is_large_by_lengths(&rt, rt.alloc(), past, 5, true)?;
+    is_large_by_lengths(&rt, rt.alloc(), ("[[]]", 1), 0, false)?;
     Ok(())
 }
 

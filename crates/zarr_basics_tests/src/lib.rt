@@ -1,6 +1,8 @@
 //! Worked examples of chunk grids, chunk keys and what kinds of extensions make.
 #![tactic(auto)]
 
+#[cfg(test)]
+mod boundaries;
 pub mod callers;
 #[cfg(test)]
 mod grids;

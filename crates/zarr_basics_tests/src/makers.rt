@@ -72,6 +72,13 @@ fn grids(rt: HostRuntime) -> Result<(), Fail> {
     );
     assert_eq!(rt; created::<BasicGrid>(rt.alloc(), some)?.as_str(), "[3, 1]");
     tells(&rt, rt.alloc(), some, r#"regular {"chunk_shape":[2,4]}"#)?;
+    let bounds = r#"{"name":"zarr_basics.boundaries","configuration":{"lengths":[[2,4],[1,3]]}}"#;
+    assert_eq!(rt;
+        created::<BasicGrid>(rt.alloc(), bounds)?.as_str(),
+        "[2, 2]"
+    );
+    let told = r#"zarr_basics.boundaries {"lengths":[[2,4],[1,3]]}"#;
+    tells(&rt, rt.alloc(), bounds, told)?;
     let none = r#"{"name":"regular","configuration":{"chunk_shape":[2,0]}}"#;
     tells(&rt, rt.alloc(), none, "the configuration is not supported")?;
     let other = "odd is no supported extension of the kind ChunkGrid";

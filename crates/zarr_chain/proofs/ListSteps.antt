@@ -1,7 +1,6 @@
 -- Lists walked from the back, and what codecs make of values one after another.
-use Rattle.std.proofs.Common.{◌≡◌, ℕ, zero, suc, ◌-◌, ◌<◌, ◌≤◌, List, [], ◌∷◌, ◌++◌, map, length, get_or, take, drop, ◌+◌, Option, Some, None, option_and_then, sym, ap, ◌∙◌, arith, inl, inr, ⊎_elim}
+use Rattle.std.proofs.Common.{◌≡◌, ℕ, zero, suc, ◌-◌, ◌<◌, ◌≤◌, List, [], ◌∷◌, ◌++◌, map, length, get_or, take, drop, ◌+◌, Option, Some, None, option_and_then, sym, ap, ◌∙◌, arith, inl, inr, ⊎_elim, subst}
 use Rattle.std.proofs.Math.Seq.{drop-cons, take-suc}
-use Rattle.std.proofs.Common.{subst}
 use Rattle.zarr_model.specs.Codec.{Options, decode_bytes}
 use Rattle.zarrs_codec_traits.specs.Errors.{IsDecodeError}
 use Rattle.zarrs_codec_error.specs.declared.error.CodecError.{CodecError}

@@ -2,21 +2,11 @@
 use Rattle.std.specs.Prelude.{◌≡◌, ◌⊎◌, ℕ, List, [], ◌∷◌, Option, Some, None}
 use Rattle.zarr_model.specs.Element.{DataType, kind_of, fill_element}
 use Rattle.zarr_model.specs.Codec.{Level, ArrayCodec}
-use Rattle.zarrs_data_type_elements.specs.FillValue.{fill_bytes}
 use Rattle.zarrs_codec_error.specs.declared.error.CodecError.{CodecError}
 use Rattle.zarrs_codec_error.specs.declared.error.CodecError.TheVariants as codec
 use Rattle.zarrs_codec_traits.specs.Errors.{Unserved, unserved_error, unserved_at}
-use Rattle.zarrs_codec_traits.specs.Views.{level_of}
 use Rattle.zarrs_codec_traits.specs.Words.{IsFit, AreBytes}
-use Rattle.zarr_chain.specs.declared.representation.ChunkRepresentation.{ChunkRepresentation}
 use Rattle.zarr_chain.specs.Levels.{Serving}
-
--- the level of a shape, a data type and a fill value, and the bytes of the last
-abbrev pub level_at : ChunkRepresentation → Level
-level_at at = level_of at.shape.items at.data_type at.fill_value
-
-abbrev pub fill_at : ChunkRepresentation → List ℕ
-fill_at at = fill_bytes at.fill_value
 
 -- a level's elements can be counted and their bytes be addressed, and its fill value denotes an
 -- element, whose numbers are bytes

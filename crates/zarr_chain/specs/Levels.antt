@@ -11,24 +11,49 @@ use Rattle.zarrs_codec_error.specs.declared.error.CodecError.TheVariants as code
 use Rattle.zarrs_codec_traits.specs.Errors.{Unserved, unserved_at}
 use Rattle.zarrs_codec_traits.specs.Views.{level_of}
 use Rattle.zarrs_codec_traits.specs.Words.{IsFit, AreBytes}
-use Rattle.zarr_chain.specs.declared.level.CodecLevel.{CodecLevel}
+use Rattle.zarr_chain.specs.declared.representation.ChunkRepresentation.{ChunkRepresentation}
+
+-- the level of a shape, a data type and a fill value, and the bytes of the last
+abbrev pub level_at : ChunkRepresentation → Level
+level_at at = level_of at.shape.items at.data_type at.fill_value
+
+abbrev pub fill_at : ChunkRepresentation → List ℕ
+fill_at at = fill_bytes at.fill_value
+
+-- a codec, with what the elements above it are
+pub record Step (A : Type 0) : Type 0 where
+  pub codec : A
+  pub at : ChunkRepresentation
+
+abbrev pub step : {A : Type 0} → A → ChunkRepresentation → Step A
+step codec at = record { codec = codec; at = at }
+
+-- codecs, each with what stands above it
+abbrev pub steps_of : {A : Type 0} → List A → List ChunkRepresentation → List (Step A)
+steps_of (codec ∷ codecs) (at ∷ levels) = step codec at ∷ steps_of codecs levels
+steps_of codecs levels = []
+
+-- the first of some levels over a bottom level
+abbrev pub first_of : List ChunkRepresentation → Level → Level
+first_of [] bottom = bottom
+first_of (at ∷ levels) bottom = level_at at
+
+-- the bytes of its fill value
+abbrev pub first_fill_of : List ChunkRepresentation → List ℕ → List ℕ
+first_fill_of [] bottom = bottom
+first_fill_of (at ∷ levels) bottom = fill_at at
 
 -- the level above a codec
-abbrev pub above : {A : Type 0} → CodecLevel A → Level
-above step = level_of step.shape.items step.data_type step.fill_value
+abbrev pub above : {A : Type 0} → Step A → Level
+above step = level_at step.at
 
 -- the first level of some codecs over a bottom level
-abbrev pub top : {A : Type 0} → List (CodecLevel A) → Level → Level
+abbrev pub top : {A : Type 0} → List (Step A) → Level → Level
 top [] bottom = bottom
 top (step ∷ steps) bottom = above step
 
--- the bytes of its fill value
-abbrev pub top_fill : {A : Type 0} → List (CodecLevel A) → List ℕ → List ℕ
-top_fill [] bottom = bottom
-top_fill (step ∷ steps) bottom = fill_bytes step.fill_value
-
 -- each level's elements can be counted and their bytes be addressed
-abbrev pub AreFit : {A : Type 0} → List (CodecLevel A) → Type 0
+abbrev pub AreFit : {A : Type 0} → List (Step A) → Type 0
 AreFit [] = Unit {0}
 AreFit (step ∷ steps) = IsFit (above step).shape (above step).data_type × AreFit steps
 
@@ -39,25 +64,25 @@ Serving A = A → Option (List ℕ) → Option DataType → Option (List ℕ) �
 -- a codec serves its level, whose fill value denotes an element, and the level below it is the
 -- next one's
 pub record IsLink {A : Type 0} (meaning : A → ArrayCodec) (unserved : Serving A)
-    (step : CodecLevel A) (next : Level) : Type 0 where
-  pub served : unserved_at (unserved step.codec) (above step) (fill_bytes step.fill_value) ≡ None
-  pub denotes : fill_element (kind_of (above step).data_type) (fill_bytes step.fill_value)
+    (step : Step A) (next : Level) : Type 0 where
+  pub served : unserved_at (unserved step.codec) (above step) (fill_at step.at) ≡ None
+  pub denotes : fill_element (kind_of (above step).data_type) (fill_at step.at)
       ≡ Some (above step).fill
   pub proper : AreBytes (above step).fill
   pub below : (meaning step.codec).level_below (above step) ≡ next
 
-abbrev pub AreLinked : {A : Type 0} → (A → ArrayCodec) → Serving A → List (CodecLevel A) → Level
+abbrev pub AreLinked : {A : Type 0} → (A → ArrayCodec) → Serving A → List (Step A) → Level
     → Type 0
 AreLinked meaning unserved [] bottom = Unit {0}
 AreLinked meaning unserved (step ∷ steps) bottom =
     IsLink meaning unserved step (top steps bottom) × AreLinked meaning unserved steps bottom
 
 -- the codecs of some levels, as the model has them
-abbrev pub array_codecs : {A : Type 0} → (A → ArrayCodec) → List (CodecLevel A) → List ArrayCodec
+abbrev pub array_codecs : {A : Type 0} → (A → ArrayCodec) → List (Step A) → List ArrayCodec
 array_codecs meaning steps = map (λ step. meaning step.codec) steps
 
 -- what the bottom's elements decode to at the first level
-abbrev pub elements_above : {A : Type 0} → (A → ArrayCodec) → List (CodecLevel A)
+abbrev pub elements_above : {A : Type 0} → (A → ArrayCodec) → List (Step A)
     → Option (List Element) → Option (List Element)
 elements_above meaning [] below = below
 elements_above meaning (step ∷ steps) below =

@@ -5,15 +5,14 @@ use Rattle.zarr_model.specs.Region.{Region, count_of}
 use Rattle.zarr_model.specs.Element.{Element}
 use Rattle.zarr_model.specs.Codec.{Level, ArrayCodec}
 use Rattle.zarrs_codec_traits.specs.Words.{list_at, at_box, select}
-use Rattle.zarr_chain.specs.declared.level.CodecLevel.{CodecLevel}
-use Rattle.zarr_chain.specs.Levels.{above, top, elements_above}
+use Rattle.zarr_chain.specs.Levels.{Step, above, top, elements_above}
 
 -- the box below a codec that a region of a shape needs
 abbrev pub Boxing : Type 0 → Type 0
 Boxing A = A → List ℕ → Region → Region
 
 -- the box below each codec, the first one first
-abbrev pub boxes_below : {A : Type 0} → Boxing A → List (CodecLevel A) → Region → List Region
+abbrev pub boxes_below : {A : Type 0} → Boxing A → List (Step A) → Region → List Region
 boxes_below region_below [] region = []
 boxes_below region_below (step ∷ steps) region =
     let box = region_below step.codec (above step).shape region in
@@ -25,11 +24,11 @@ last_item [] other = other
 last_item (item ∷ items) other = last_item items item
 
 -- the box at the bottom
-abbrev pub bottom_box : {A : Type 0} → Boxing A → List (CodecLevel A) → Region → Region
+abbrev pub bottom_box : {A : Type 0} → Boxing A → List (Step A) → Region → Region
 bottom_box region_below steps region = last_item (boxes_below region_below steps region) region
 
 -- array bytes are the box of what the bottom's elements decode to at the first level, if they do
-abbrev pub HoldsBox : {A : Type 0} → (A → ArrayCodec) → List (CodecLevel A) → Level
+abbrev pub HoldsBox : {A : Type 0} → (A → ArrayCodec) → List (Step A) → Level
     → Option (List Element) → Region → ArrayBytes → Type 0
 HoldsBox meaning steps bottom below box bytes = (xs : List Element)
     → elements_above meaning steps below ≡ Some xs

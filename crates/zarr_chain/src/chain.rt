@@ -1,22 +1,23 @@
-//! A chain of codecs, each with its level.
+//! A chain of codecs.
 
-ghost use Rattle.std.specs.Prelude.{◌≡◌, List, Some, None, IfOk, IfErr, MatchResult, IsSome, false, option_and_then};
+ghost use Rattle.std.specs.Prelude.{◌≡◌, ◌<◌, ◌^◌, List, Some, None, IfOk, IfErr, MatchResult, IsSome, false, option_and_then};
 ghost use Rattle.zarr_model.specs.Element.{Element};
 ghost use Rattle.zarr_model.specs.Codec.{Options, decode_bytes};
 ghost use Rattle.zarr_model.specs.Command.{has_long_element};
+ghost use Rattle.zarr_model.specs.Region.{count_of};
 ghost use Rattle.zarrs_codec_array_bytes.specs.Raw.{raw_of};
 ghost use Rattle.zarrs_codec_error.specs.declared.error.CodecError.TheVariants as codec;
 ghost use Rattle.zarrs_codec_traits.specs.Errors.{IsDecodeError};
 ghost use Rattle.zarrs_codec_traits.specs.Views.{options_of};
 ghost use Rattle.zarrs_codec_traits.specs.Words.{list_at, Gives};
-ghost use Rattle.zarr_chain.specs.Levels.{above, SaysInvalid};
-ghost use Rattle.zarr_chain.specs.Chain.{IsServed, first_level, decoded, chain_says};
+ghost use Rattle.zarr_chain.specs.Levels.{SaysInvalid};
+ghost use Rattle.zarr_chain.specs.Chain.{IsServed, first_level, bottom_level, steps, decoded, chain_says};
 ghost use Rattle.zarr_chain.specs.Values.{byte_codecs};
 ghost use Rattle.zarr_chain.specs.Encoding.{AnswersBelow};
 
 use crate::decode::{decode_through, decode_up};
 use crate::encode::{encode_down, encode_through};
-use crate::level::CodecLevel;
+use crate::levels::ChunkLevels;
 use std::alloc::Global;
 use zarrs_codec_array_bytes::ArrayBytes;
 use zarrs_codec_error::CodecError;
@@ -25,15 +26,15 @@ use zarrs_codec_traits::{
     ArrayToArrayCodecTraits, ArrayToBytesCodecTraits, BytesToBytesCodecTraits,
 };
 
-/// The codecs of an array in the order of encoding, each with its level.
+/// The codecs of an array in the order of encoding.
 #[derive(Drop)]
 pub struct CodecChain<A, B, C> {
     /// The array-to-array codecs.
-    pub levels: Vec<CodecLevel<A>>,
+    pub array_codecs: Vec<A>,
     /// The array-to-bytes codec.
-    pub bottom: CodecLevel<B>,
+    pub to_bytes: B,
     /// The bytes-to-bytes codecs.
-    pub codecs: Vec<C>,
+    pub byte_codecs: Vec<C>,
 }
 
 impl<A: ArrayToArrayCodecTraits, B: ArrayToBytesCodecTraits, C: BytesToBytesCodecTraits> CodecChain<
@@ -48,19 +49,21 @@ impl<A: ArrayToArrayCodecTraits, B: ArrayToBytesCodecTraits, C: BytesToBytesCode
     pub fn decode(
         &self,
         alloc: Global,
+        levels: &ChunkLevels,
         value: Vec<u8>,
         options: &CodecOptions,
     ) -> Result<ArrayBytes<'static>, CodecError>
-        requires { IsServed A.meaning A.unserved B.unserved self.now }
-        ensures value { IfOk result (λ v. Gives (list_at (first_level self.now) (raw_of v))
-            (decoded A.meaning B.meaning C.meaning self.now (options_of options.now) value.items)) }
+        requires { IsServed A.meaning A.unserved B.unserved self.now levels.now }
+        ensures value { IfOk result (λ v. Gives (list_at (first_level levels.now) (raw_of v))
+            (decoded A.meaning B.meaning C.meaning self.now levels.now (options_of options.now)
+            value.items)) }
         ensures failed { let under = options_of options.now in IfErr result (IsDecodeError
-            (decoded A.meaning B.meaning C.meaning self.now under value.items)
-            (chain_says B.says C.meaning C.says self.now under value.items)) }
+            (decoded A.meaning B.meaning C.meaning self.now levels.now under value.items)
+            (chain_says B.says C.meaning C.says self.now levels.now under value.items)) }
         ensures short { IfOk result (λ v. has_long_element (raw_of v) ≡ false) }
     {
-        let below = self.decode_bottom(alloc, value, options)?;
-        decode_up(alloc, &self.levels, below, options)
+        let below = self.decode_bottom(alloc, levels, value, options)?;
+        decode_up(alloc, &self.array_codecs, &levels.above, below, options)
     }
 
     /// The elements of a chunk at the bottom, below all array-to-array codecs, that its value decodes to.
@@ -70,22 +73,24 @@ impl<A: ArrayToArrayCodecTraits, B: ArrayToBytesCodecTraits, C: BytesToBytesCode
     pub fn decode_bottom(
         &self,
         alloc: Global,
+        levels: &ChunkLevels,
         value: Vec<u8>,
         options: &CodecOptions,
     ) -> Result<ArrayBytes<'static>, CodecError>
-        requires { IsServed A.meaning A.unserved B.unserved self.now }
-        ensures value { let under = options_of options.now in let bottom = self.now.bottom in
-            IfOk result (λ v. Gives (list_at (above bottom) (raw_of v))
-            (option_and_then (B.meaning bottom.codec under (above bottom))
-            (decode_bytes (byte_codecs C.meaning under self.now.codecs.items) value.items))) }
+        requires { IsServed A.meaning A.unserved B.unserved self.now levels.now }
+        ensures value { let under = options_of options.now in
+            let bottom = bottom_level levels.now in
+            IfOk result (λ v. Gives (list_at bottom (raw_of v))
+            (option_and_then (B.meaning self.now.to_bytes under bottom)
+            (decode_bytes (byte_codecs C.meaning under self.now.byte_codecs.items) value.items))) }
         ensures failed { let under = options_of options.now in IfErr result (IsDecodeError
-            (decoded A.meaning B.meaning C.meaning self.now under value.items)
-            (chain_says B.says C.meaning C.says self.now under value.items)) }
+            (decoded A.meaning B.meaning C.meaning self.now levels.now under value.items)
+            (chain_says B.says C.meaning C.says self.now levels.now under value.items)) }
         ensures short { IfOk result (λ v. has_long_element (raw_of v) ≡ false) }
     {
-        let bytes = decode_through(alloc, &self.codecs, value, options)?;
-        let bottom = &self.bottom;
-        bottom.codec.decode(
+        let bytes = decode_through(alloc, &self.byte_codecs, value, options)?;
+        let bottom = &levels.bottom;
+        self.to_bytes.decode(
             alloc,
             bytes,
             &bottom.shape,
@@ -104,29 +109,30 @@ impl<A: ArrayToArrayCodecTraits, B: ArrayToBytesCodecTraits, C: BytesToBytesCode
     pub fn encode(
         &self,
         alloc: Global,
+        levels: &ChunkLevels,
         bytes: ArrayBytes<'static>,
         options: &CodecOptions,
     ) -> Result<Vec<u8>, CodecError>
-        requires { IsServed A.meaning A.unserved B.unserved self.now }
+        requires { IsServed A.meaning A.unserved B.unserved self.now levels.now }
         ensures value { (list : List Element)
-            → list_at (first_level self.now) (raw_of bytes.entry) ≡ Some list
+            → list_at (first_level levels.now) (raw_of bytes.entry) ≡ Some list
             → IfOk result (λ v. (under : Options)
-            → decoded A.meaning B.meaning C.meaning self.now under v.items ≡ Some list) }
-        ensures refused { list_at (first_level self.now) (raw_of bytes.entry) ≡ None
+            → decoded A.meaning B.meaning C.meaning self.now levels.now under v.items ≡ Some list) }
+        ensures refused { list_at (first_level levels.now) (raw_of bytes.entry) ≡ None
             → MatchResult result (λ v. ⊥)
-            (SaysInvalid (first_level self.now) (raw_of bytes.entry)) }
-        ensures memory { IsSome (list_at (first_level self.now) (raw_of bytes.entry))
+            (SaysInvalid (first_level levels.now) (raw_of bytes.entry)) }
+        ensures memory { IsSome (list_at (first_level levels.now) (raw_of bytes.entry))
             → has_long_element (raw_of bytes.entry) ≡ false
-            → B.takes self.now.bottom.codec (above self.now.bottom)
+            → B.takes self.now.to_bytes (bottom_level levels.now)
             → IfErr result (λ e. e ≡ codec.OutOfMemory) }
         ensures beyond { (list : List Element)
-            → list_at (first_level self.now) (raw_of bytes.entry) ≡ Some list
-            → AnswersBelow A.meaning (B.beyond self.now.bottom.codec (above self.now.bottom))
-            self.now.levels.items (above self.now.bottom) list (raw_of bytes.entry) result }
+            → list_at (first_level levels.now) (raw_of bytes.entry) ≡ Some list
+            → AnswersBelow A.meaning (B.beyond self.now.to_bytes (bottom_level levels.now))
+            (steps self.now levels.now) (bottom_level levels.now) list (raw_of bytes.entry) result }
     {
-        let below = encode_down(alloc, &self.levels, bytes, options)?;
-        let bottom = &self.bottom;
-        let value = bottom.codec.encode(
+        let below = encode_down(alloc, &self.array_codecs, &levels.above, bytes, options)?;
+        let bottom = &levels.bottom;
+        let value = self.to_bytes.encode(
             alloc,
             below,
             &bottom.shape,
@@ -134,6 +140,13 @@ impl<A: ArrayToArrayCodecTraits, B: ArrayToBytesCodecTraits, C: BytesToBytesCode
             &bottom.fill_value,
             options,
         )?;
-        encode_through(alloc, &self.codecs, value, options)
+        encode_through(alloc, &self.byte_codecs, value, options)
     }
+
+    /// No codec above the bottom adds elements, so a chunk of fewer than 2^32 has all its short elements taken there.
+    pub fn takes_few(&self, levels: &ChunkLevels)
+        requires { IsServed A.meaning A.unserved B.unserved self.now levels.now }
+        ensures { count_of (first_level levels.now).shape < 2 ^ 32
+            → B.takes self.now.to_bytes (bottom_level levels.now) }
+    {}
 }

@@ -1,6 +1,6 @@
 //! What a stored value decodes to through a chain.
 
-ghost use Rattle.std.specs.Prelude.{◌≡◌, ℕ, List, Some, MatchResult, IfOk, IfErr, false};
+ghost use Rattle.std.specs.Prelude.{◌≡◌, ℕ, List, length, Some, MatchResult, IfOk, IfErr, false};
 ghost use Rattle.zarr_model.specs.Command.{has_long_element};
 ghost use Rattle.zarr_model.specs.Element.{Element};
 ghost use Rattle.zarr_model.specs.Codec.{Level, decode_bytes};
@@ -9,10 +9,10 @@ ghost use Rattle.zarrs_codec_error.specs.declared.error.CodecError.TheVariants a
 ghost use Rattle.zarrs_codec_traits.specs.Errors.{IsDecodeError};
 ghost use Rattle.zarrs_codec_traits.specs.Views.{options_of};
 ghost use Rattle.zarrs_codec_traits.specs.Words.{list_at, Gives};
-ghost use Rattle.zarr_chain.specs.Levels.{top, AreFit, AreLinked, elements_above};
+ghost use Rattle.zarr_chain.specs.Levels.{steps_of, top, AreFit, AreLinked, elements_above};
 ghost use Rattle.zarr_chain.specs.Values.{byte_codecs, bytes_says};
 
-use crate::level::CodecLevel;
+use crate::representation::ChunkRepresentation;
 use std::alloc::Global;
 use zarrs_codec_array_bytes::ArrayBytes;
 use zarrs_codec_error::CodecError;
@@ -36,18 +36,13 @@ pub fn decode_through<C: BytesToBytesCodecTraits>(
         (decode_bytes (byte_codecs C.meaning (options_of options.now) codecs.now) value.items)
         (bytes_says C.meaning C.says (options_of options.now) codecs.now value.items)) }
 {
-    let mut decoded = value;
+    let mut opened = value;
     let mut left = codecs.len();
     while left > 0 {
         left -= 1;
-        decoded = codecs[left].decode(
-            alloc,
-            decoded,
-            &BytesRepresentation::UnboundedSize,
-            options,
-        )?;
+        opened = codecs[left].decode(alloc, opened, &BytesRepresentation::UnboundedSize, options)?;
     }
-    Ok(decoded)
+    Ok(opened)
 }
 
 /// The elements of the first level from those of the bottom, the last codec first.
@@ -56,25 +51,28 @@ pub fn decode_through<C: BytesToBytesCodecTraits>(
 /// Of valid elements at levels that are served only [`CodecError::OutOfMemory`]; else those of the codecs.
 pub fn decode_up<A: ArrayToArrayCodecTraits>(
     alloc: Global,
-    levels: &[CodecLevel<A>],
+    codecs: &[A],
+    levels: &[ChunkRepresentation],
     bytes: ArrayBytes<'static>,
     options: &CodecOptions,
 ) -> Result<ArrayBytes<'static>, CodecError>
-    requires fit { AreFit levels.now }
+    requires count { length codecs.now ≡ length levels.now }
+    requires fit { AreFit (steps_of codecs.now levels.now) }
     ensures value { (bottom : Level) (list : List Element)
-        → AreLinked A.meaning A.unserved levels.now bottom
+        → AreLinked A.meaning A.unserved (steps_of codecs.now levels.now) bottom
         → list_at bottom (raw_of bytes.entry) ≡ Some list → MatchResult result
-        (λ v. Gives (list_at (top levels.now bottom) (raw_of v))
-        (elements_above A.meaning levels.now (Some list))) (λ e. e ≡ codec.OutOfMemory) }
+        (λ v. Gives (list_at (top (steps_of codecs.now levels.now) bottom) (raw_of v))
+        (elements_above A.meaning (steps_of codecs.now levels.now) (Some list)))
+        (λ e. e ≡ codec.OutOfMemory) }
     ensures short { has_long_element (raw_of bytes.entry) ≡ false
         → IfOk result (λ v. has_long_element (raw_of v) ≡ false) }
 {
     let mut decoded = bytes;
-    let mut left = levels.len();
+    let mut left = codecs.len();
     while left > 0 {
         left -= 1;
         let level = &levels[left];
-        decoded = level.codec.decode(
+        decoded = codecs[left].decode(
             alloc,
             decoded,
             &level.shape,

@@ -1,16 +1,16 @@
 //! The value that elements are encoded to through a chain.
 
-ghost use Rattle.std.specs.Prelude.{◌≡◌, List, [], Some, None, MatchResult, IfOk, false};
+ghost use Rattle.std.specs.Prelude.{◌≡◌, List, [], length, Some, None, MatchResult, IfOk, false};
 ghost use Rattle.zarr_model.specs.Command.{has_long_element};
 ghost use Rattle.zarr_model.specs.Element.{Element};
 ghost use Rattle.zarr_model.specs.Codec.{Level, Options, decode_bytes};
 ghost use Rattle.zarrs_codec_array_bytes.specs.Raw.{raw_of};
 ghost use Rattle.zarrs_codec_error.specs.declared.error.CodecError.TheVariants as codec;
 ghost use Rattle.zarrs_codec_traits.specs.Words.{list_at};
-ghost use Rattle.zarr_chain.specs.Levels.{top, AreFit, AreLinked, elements_above, SaysInvalid};
+ghost use Rattle.zarr_chain.specs.Levels.{steps_of, top, AreFit, AreLinked, elements_above, SaysInvalid};
 ghost use Rattle.zarr_chain.specs.Values.{byte_codecs};
 
-use crate::level::CodecLevel;
+use crate::representation::ChunkRepresentation;
 use std::alloc::Global;
 use zarrs_codec_array_bytes::ArrayBytes;
 use zarrs_codec_error::CodecError;
@@ -24,27 +24,33 @@ use zarrs_codec_traits::{ArrayToArrayCodecTraits, BytesToBytesCodecTraits};
 /// or where memory runs out.
 pub fn encode_down<A: ArrayToArrayCodecTraits>(
     alloc: Global,
-    levels: &[CodecLevel<A>],
+    codecs: &[A],
+    levels: &[ChunkRepresentation],
     bytes: ArrayBytes<'static>,
     options: &CodecOptions,
 ) -> Result<ArrayBytes<'static>, CodecError>
-    requires fit { AreFit levels.now }
+    requires count { length codecs.now ≡ length levels.now }
+    requires fit { AreFit (steps_of codecs.now levels.now) }
     ensures value { (bottom : Level) (list : List Element)
-        → AreLinked A.meaning A.unserved levels.now bottom
-        → list_at (top levels.now bottom) (raw_of bytes.entry) ≡ Some list → MatchResult result
-        (λ v. elements_above A.meaning levels.now (list_at bottom (raw_of v)) ≡ Some list)
+        → AreLinked A.meaning A.unserved (steps_of codecs.now levels.now) bottom
+        → list_at (top (steps_of codecs.now levels.now) bottom) (raw_of bytes.entry) ≡ Some list
+        → MatchResult result (λ v. elements_above A.meaning (steps_of codecs.now levels.now)
+        (list_at bottom (raw_of v)) ≡ Some list)
         (λ e. e ≡ codec.OutOfMemory) }
-    ensures refused { (bottom : Level) → AreLinked A.meaning A.unserved levels.now bottom
-        → list_at (top levels.now bottom) (raw_of bytes.entry) ≡ None → MatchResult result
-        (λ v. (levels.now ≡ []) × (raw_of v ≡ raw_of bytes.entry))
-        (SaysInvalid (top levels.now bottom) (raw_of bytes.entry)) }
+    ensures refused { (bottom : Level)
+        → AreLinked A.meaning A.unserved (steps_of codecs.now levels.now) bottom
+        → list_at (top (steps_of codecs.now levels.now) bottom) (raw_of bytes.entry) ≡ None
+        → MatchResult result
+        (λ v. (codecs.now ≡ []) × (raw_of v ≡ raw_of bytes.entry))
+        (SaysInvalid (top (steps_of codecs.now levels.now) bottom) (raw_of bytes.entry)) }
     ensures short { has_long_element (raw_of bytes.entry) ≡ false
         → IfOk result (λ v. has_long_element (raw_of v) ≡ false) }
-    ensures none { levels.now ≡ [] → IfOk result (λ v. raw_of v ≡ raw_of bytes.entry) }
+    ensures none { codecs.now ≡ [] → IfOk result (λ v. raw_of v ≡ raw_of bytes.entry) }
 {
     let mut encoded = bytes;
-    for level in levels {
-        encoded = level.codec.encode(
+    for (index, codec) in codecs.iter().enumerate() {
+        let level = &levels[index];
+        encoded = codec.encode(
             alloc,
             encoded,
             &level.shape,

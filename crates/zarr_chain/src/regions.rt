@@ -8,11 +8,11 @@ ghost use Rattle.zarrs_array_subset.specs.ArraySubset.{region as box_of};
 ghost use Rattle.zarrs_codec_array_bytes.specs.Raw.{raw_of};
 ghost use Rattle.zarrs_codec_error.specs.declared.error.CodecError.TheVariants as codec;
 ghost use Rattle.zarrs_codec_traits.specs.Words.{list_at, at_box};
-ghost use Rattle.zarr_chain.specs.Levels.{above};
-ghost use Rattle.zarr_chain.specs.Chain.{IsServed, first_level};
+ghost use Rattle.zarr_chain.specs.Chain.{IsServed, first_level, bottom_level, steps};
 ghost use Rattle.zarr_chain.specs.Regions.{boxes_below, bottom_box, last_item, HoldsBox, IsCounted};
 
 use crate::chain::CodecChain;
+use crate::levels::ChunkLevels;
 use std::alloc::{AllocError, Global};
 use zarrs_array_subset::ArraySubset;
 use zarrs_codec_array_bytes::ArrayBytes;
@@ -45,18 +45,19 @@ impl<A: ArrayToArrayCodecTraits, B: ArrayToBytesCodecTraits, C: BytesToBytesCode
     pub fn boxes_down(
         &self,
         alloc: Global,
+        levels: &ChunkLevels,
         region: &ArraySubset,
     ) -> Result<Vec<ArraySubset>, CodecError>
-        requires served { IsServed A.meaning A.unserved B.unserved self.now }
-        requires inside { ends_within (box_of region.now) (first_level self.now).shape ≡ true }
+        requires served { IsServed A.meaning A.unserved B.unserved self.now levels.now }
+        requires inside { ends_within (box_of region.now) (first_level levels.now).shape ≡ true }
         ensures { MatchResult result (λ boxes. map box_of boxes.items
-            ≡ boxes_below A.region_below self.now.levels.items (box_of region.now))
+            ≡ boxes_below A.region_below (steps self.now levels.now) (box_of region.now))
             (λ e. e ≡ codec.OutOfMemory) }
     {
         let mut boxes: Vec<ArraySubset> = Vec::new(alloc);
-        for level in &self.levels {
+        for (index, codec) in self.array_codecs.iter().enumerate() {
             let above = last_or(&boxes, region);
-            let below = level.codec.inner_subset(alloc, above, &level.shape)?;
+            let below = codec.inner_subset(alloc, above, &levels.above[index].shape)?;
             boxes.push(below).map_err(AllocError::from)?;
         }
         Ok(boxes)
@@ -69,37 +70,38 @@ impl<A: ArrayToArrayCodecTraits, B: ArrayToBytesCodecTraits, C: BytesToBytesCode
     pub fn decode_boxes_up(
         &self,
         alloc: Global,
+        levels: &ChunkLevels,
         bytes: ArrayBytes<'static>,
         boxes: &[ArraySubset],
         region: &ArraySubset,
         options: &CodecOptions,
     ) -> Result<ArrayBytes<'static>, CodecError>
-        requires served { IsServed A.meaning A.unserved B.unserved self.now }
-        requires inside { ends_within (box_of region.now) (first_level self.now).shape ≡ true }
+        requires served { IsServed A.meaning A.unserved B.unserved self.now levels.now }
+        requires inside { ends_within (box_of region.now) (first_level levels.now).shape ≡ true }
         requires boxes { map box_of boxes.now
-            ≡ boxes_below A.region_below self.now.levels.items (box_of region.now) }
+            ≡ boxes_below A.region_below (steps self.now levels.now) (box_of region.now) }
         requires valid { IsSome (list_at (at_box
-            (bottom_box A.region_below self.now.levels.items (box_of region.now))
-            (above self.now.bottom)) (raw_of bytes)) }
-        ensures value { let bottom = above self.now.bottom in (below : Option (List Element))
+            (bottom_box A.region_below (steps self.now levels.now) (box_of region.now))
+            (bottom_level levels.now)) (raw_of bytes)) }
+        ensures value { let bottom = bottom_level levels.now in (below : Option (List Element))
             → IsCounted bottom below → HoldsBox A.meaning [] bottom below
-            (bottom_box A.region_below self.now.levels.items (box_of region.now))
+            (bottom_box A.region_below (steps self.now levels.now) (box_of region.now))
             (raw_of bytes.entry)
-            → IfOk result (λ v. HoldsBox A.meaning self.now.levels.items bottom below
+            → IfOk result (λ v. HoldsBox A.meaning (steps self.now levels.now) bottom below
             (box_of region.now) (raw_of v)) }
         ensures valid { MatchResult result
-            (λ v. IsSome (list_at (at_box (box_of region.now) (first_level self.now)) (raw_of v)))
+            (λ v. IsSome (list_at (at_box (box_of region.now) (first_level levels.now)) (raw_of v)))
             (λ e. e ≡ codec.OutOfMemory) }
         ensures short { has_long_element (raw_of bytes.entry) ≡ false
             → IfOk result (λ v. has_long_element (raw_of v) ≡ false) }
     {
         let mut decoded = bytes;
-        let mut left = self.levels.len();
+        let mut left = self.array_codecs.len();
         while left > 0 {
             left -= 1;
-            let level = &self.levels[left];
+            let level = &levels.above[left];
             let above = last_or(&boxes[..left], region);
-            decoded = level.codec.decode_region(
+            decoded = self.array_codecs[left].decode_region(
                 alloc,
                 decoded,
                 above,

@@ -24,7 +24,7 @@ pub struct ChunkRepresentation {
 }
 
 impl ChunkRepresentation {
-    ghost use Rattle.zarr_chain.specs.Building.{level_at, fill_at};
+    ghost use Rattle.zarr_chain.specs.Levels.{level_at, fill_at};
 
     /// Copies of these.
     ///

@@ -1,5 +1,5 @@
 -- The chunk that has the fill value everywhere.
-use Rattle.std.proofs.Common.{◌≡◌, ◌⊎◌, ℕ, Bool, true, false, List, replicate, Some, IsSome, Result, Ok, Err, IfOk, MatchResult, refl, subst, length, subst₂, sym, ◌<◌, ◌^◌}
+use Rattle.std.proofs.Common.{◌≡◌, ℕ, false, List, replicate, Some, IsSome, Result, Ok, Err, IfOk, MatchResult, refl, subst, length, subst₂, sym, ◌<◌, ◌^◌}
 use Rattle.std.specs.declared.num.NonZeroU64.{NonZeroU64}
 use Rattle.zarr_model.specs.Region.{count_of}
 use Rattle.zarr_model.specs.Element.{Element, Kind, fixed, variable, optional, kind_of, fill_element, fixed_size}
@@ -21,9 +21,8 @@ use Rattle.zarrs_codec_traits.specs.Views.{lengths, level_of}
 use Rattle.zarrs_codec_traits.specs.Words.{list_at}
 use Rattle.zarr_model.specs.Command.{has_long_element}
 use Rattle.zarr_model.proofs.ElementLaws.{denoted}
-use Rattle.zarr_chain.specs.declared.chain.CodecChain.{CodecChain}
-use Rattle.zarr_chain.specs.Chain.{first_level, first_fill}
-use Rattle.zarr_chain_stored.specs.Fetch.{blank_chunk, HasFill}
+use Rattle.zarr_chain.specs.declared.levels.ChunkLevels.{ChunkLevels}
+use Rattle.zarr_chain.specs.Chain.{first_level, first_fill, blank_chunk, HasFill}
 
 pub filled_gives : (level : Level) (number : ℕ) (fill : List ℕ) (r : Result code.ArrayBytes CodecError) → number ≡ count_of level.shape → fill_element (kind_of level.data_type) fill ≡ Some level.fill →
     Answers (fill_answer (has_size (kind_of level.data_type) fill)) r →
@@ -42,9 +41,9 @@ filled_value shape data_type value number r same there answers filled =
     filled_gives (level_of shape data_type value) number (fill_bytes value) r same (denoted _ there) answers filled
 
 -- what is asked of the fill value of a chain, by its first level
-pub has_fill : {A B C : Type 0} (chain : CodecChain A B C) (level : Level) (fill : List ℕ) → first_level chain ≡ level → first_fill chain ≡ fill → fill_element (kind_of level.data_type) fill ≡ Some level.fill →
-    length (innermost_fill (kind_of level.data_type) fill) < 2 ^ 32 → HasFill chain
-has_fill chain level fill same under denotes short = record {
+pub has_fill : (levels : ChunkLevels) (level : Level) (fill : List ℕ) → first_level levels ≡ level → first_fill levels ≡ fill → fill_element (kind_of level.data_type) fill ≡ Some level.fill →
+    length (innermost_fill (kind_of level.data_type) fill) < 2 ^ 32 → HasFill levels
+has_fill levels level fill same under denotes short = record {
   denotes = subst₂ (λ l f. fill_element (kind_of l.data_type) f ≡ Some l.fill) (sym same) (sym under) denotes;
   short = subst₂ (λ l f. has_long_element (blank_chunk l f) ≡ false) (sym same) (sym under) (filled_short (kind_of level.data_type) (count_of level.shape) fill short);
 }

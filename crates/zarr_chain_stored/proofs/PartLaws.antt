@@ -1,15 +1,13 @@
 -- Regions of a chunk by the ranges that its array-to-bytes codec asks for.
-use Rattle.std.proofs.Common.{◌≡◌, ◌⊎◌, ⊎_elim, inl, inr, ℕ, ◌≤◌, Bool, true, false, if◌then◌else◌, List, [], ◌∷◌, length, Option, Some, None, option_map, option_and_then, Result, Ok, Err, IfOk, IfErr, MatchResult, Vec, Global, refl, sym, ap, ◌∙◌, subst}
+use Rattle.std.proofs.Common.{◌≡◌, ◌⊎◌, ⊎_elim, inl, inr, ℕ, Bool, true, false, if◌then◌else◌, List, [], ◌∷◌, length, map, Option, Some, None, option_map, option_and_then, Result, Ok, Err, IfOk, IfErr, OnOk, MatchResult, Vec, Global, refl, sym, ap, ◌∙◌, subst}
 use Rattle.std.proofs.lemmas.List.{length-map}
 use Rattle.zarr_model.specs.Element.{Element}
-use Rattle.zarr_model.specs.Region.{Region}
 use Rattle.zarr_model.specs.Codec.{Level, ArrayCodec, Options, decode_bytes, decode_levels}
-use Rattle.zarr_model.specs.Shown.{Shown}
 use Rattle.zarr_model.specs.Cost.{counted}
 use Rattle.zarr_model.proofs.Choices.{always_ok}
 use Rattle.zarrs_storage.specs.declared.byte_range.ByteRange.{ByteRange}
 use Rattle.zarrs_storage.specs.ByteRange.{is_valid, first_invalid, slice_of, slices_of, parts_of}
-use Rattle.zarrs_storage.specs.Store.{SameContent, invalid_range}
+use Rattle.zarrs_storage.specs.Store.{invalid_range}
 use Rattle.zarrs_codec_error.specs.declared.error.CodecError.{CodecError}
 use Rattle.zarrs_codec_error.specs.declared.error.CodecError.TheVariants as codec
 use Rattle.zarrs_codec_array_bytes.specs.Refusals.{fine}
@@ -19,15 +17,16 @@ use Rattle.zarrs_codec_held.specs.Held.{Held, value_part}
 use Rattle.zarrs_codec_held.specs.Reads.{AreParts, IsHandleError, TellsRangeOf}
 use Rattle.zarrs_codec_held.specs.Through.{through}
 use Rattle.zarrs_codec_held.proofs.PartLaws.{slices_given}
-use Rattle.zarrs_codec_partial_bytes.specs.Stored.{taken_of}
 use Rattle.zarr_chain.specs.declared.chain.CodecChain.{CodecChain}
-use Rattle.zarr_chain.specs.Levels.{above, Serving, AreLinked, array_codecs}
+use Rattle.zarr_chain.specs.declared.levels.ChunkLevels.{ChunkLevels}
+use Rattle.zarr_chain.specs.Levels.{Serving, AreLinked}
 use Rattle.zarr_chain.specs.Values.{byte_codecs, bytes_says, said_at}
-use Rattle.zarr_chain.specs.Chain.{Listing, Opening, first_level, decoded, chain_says}
+use Rattle.zarr_chain.specs.Chain.{Listing, Opening, bottom_level, steps, first_level, decoded, chain_says}
 use Rattle.zarr_chain.proofs.LevelLaws.{chain-none}
 use Rattle.zarrs_codec_partial_traits.proofs.SliceLaws.{parts_sliced}
-use Rattle.zarr_chain_stored.specs.Fetch.{chunk_says}
-use Rattle.zarr_chain_stored.specs.Regions.{stored_request, given_bytes, first_outside, IsGiven, AreGivenParts, IsAlike, GivesAlike, parts_say, range_says, AsksOnce, RegionFails, ReadsRegion, FetchesRegion}
+use Rattle.zarr_chain.proofs.ChainLaws.{decoded_as}
+use Rattle.zarr_chain_stored.specs.Fetch.{chunk_content, chunk_says}
+use Rattle.zarr_chain_stored.specs.Regions.{given_bytes, first_outside, IsGiven, AreGivenParts, IsAlike, parts_say, range_says, AsksOnce}
 
 -- parts that are given of bytes lie within these
 all_valid : (value : List ℕ) (ranges : List ByteRange) (given : List (List ℕ)) → AreParts (value_part (Some value)) ranges given → first_invalid (length value) ranges ≡ None
@@ -88,125 +87,95 @@ asks_any before now (Ok v) once = once
 asks_any before now (Err e) once = inl once
 
 module _ {A B C : Type 0} (array : A → ArrayCodec) (unserved : Serving A) (to_list : Listing B)
-    (list_says : B → Options → Level → List ℕ → CodecError → Type 0) (opens : Opening C) (says : C → Options → List ℕ → CodecError → Type 0) (chain : CodecChain A B C) (under : Options) where
-  abbrev decode : List ℕ → Option (List ℕ)
-  decode = decode_bytes (byte_codecs opens under chain.codecs.items)
+    (list_says : B → Options → Level → List ℕ → CodecError → Type 0) (opens : Opening C) (says : C → Options → List ℕ → CodecError → Type 0) (chain : CodecChain A B C) (levels : ChunkLevels) (under : Options) where
+  abbrev opened_by : List ℕ → Option (List ℕ)
+  opened_by = decode_bytes (byte_codecs opens under chain.byte_codecs.items)
 
   -- the parts of a value that the bytes-to-bytes codecs refuse, or that does not have them
   pub value_parts_fail : (ranges : List ByteRange) (stored : Option (List ℕ)) (value : List ℕ) (e : CodecError) → Some value ≡ stored →
-      (e ≡ codec.OutOfMemory) ⊎ parts_say ranges (through decode (Some (Some value))) (bytes_says opens says under chain.codecs.items value) e →
-      (e ≡ codec.OutOfMemory) ⊎ parts_say ranges (given_bytes opens chain under stored) (chunk_says list_says opens says chain under stored) e
+      (e ≡ codec.OutOfMemory) ⊎ parts_say ranges (through opened_by (Some (Some value))) (bytes_says opens says under chain.byte_codecs.items value) e →
+      (e ≡ codec.OutOfMemory) ⊎ parts_say ranges (given_bytes opens chain under stored) (chunk_says list_says opens says chain levels under stored) e
   value_parts_fail ranges stored value e is cause =
-      subst (λ (s : Option (List ℕ)). (e ≡ codec.OutOfMemory) ⊎ parts_say ranges (given_bytes opens chain under s) (chunk_says list_says opens says chain under s) e) is
+      subst (λ (s : Option (List ℕ)). (e ≡ codec.OutOfMemory) ⊎ parts_say ranges (given_bytes opens chain under s) (chunk_says list_says opens says chain levels under s) e) is
       (⊎_elim (λ (m : e ≡ codec.OutOfMemory). inl m)
-      (λ (told : parts_say ranges (through decode (Some (Some value))) (bytes_says opens says under chain.codecs.items value) e). inr (go (decode value) told)) cause)
+      (λ (told : parts_say ranges (through opened_by (Some (Some value))) (bytes_says opens says under chain.byte_codecs.items value) e). inr (go (opened_by value) told)) cause)
     where
-      go : (o : Option (List ℕ)) → parts_say ranges (option_map Some o) (bytes_says opens says under chain.codecs.items value) e →
-          parts_say ranges (option_map Some o) (said_at o (bytes_says opens says under chain.codecs.items value) (list_says chain.bottom.codec under (above chain.bottom))) e
+      go : (o : Option (List ℕ)) → parts_say ranges (option_map Some o) (bytes_says opens says under chain.byte_codecs.items value) e →
+          parts_say ranges (option_map Some o) (said_at o (bytes_says opens says under chain.byte_codecs.items value) (list_says chain.to_bytes under (bottom_level levels))) e
       go None told = told
       go (Some bytes) told = told
 
+module _ {A B C : Type 0} (array : A → ArrayCodec) (unserved : Serving A) (to_list : Listing B)
+    (list_says : B → Options → Level → List ℕ → CodecError → Type 0) (opens : Opening C) (says : C → Options → List ℕ → CodecError → Type 0) (chain : CodecChain A B C) (levels : ChunkLevels) (count : length chain.array_codecs.items ≡ length levels.above.items) (under : Options) where
+  abbrev decode : List ℕ → Option (List ℕ)
+  decode = decode_bytes (byte_codecs opens under chain.byte_codecs.items)
+
+  -- why a region of a chunk has no elements
+  abbrev RegionFails : Option (List ByteRange) → Option (List ℕ) → ℕ → ℕ → CodecError → Type 0
+  RegionFails asked value before now e = IsHandleError before now e ⊎ ((chunk_content array to_list opens chain levels under value ≡ None)
+      × range_says (first_outside asked (given_bytes opens chain under value)) asked (given_bytes opens chain under value) (chunk_says list_says opens says chain levels under value) e)
+
   -- a value that decodes does so at the bottom
-  pub bottom_there : (value bytes : List ℕ) (list : List Element) → AreLinked array unserved chain.levels.items (above chain.bottom) → decode value ≡ Some bytes → decoded array to_list opens chain under value ≡ Some list →
-      (xs : List Element) × (to_list chain.bottom.codec under (above chain.bottom) bytes ≡ Some xs)
-  bottom_there value bytes list links first is = go (to_list chain.bottom.codec under (above chain.bottom) bytes) refl
+  pub bottom_there : (value bytes : List ℕ) (list : List Element) → AreLinked array unserved (steps chain levels) (bottom_level levels) → decode value ≡ Some bytes → decoded array to_list opens chain levels under value ≡ Some list →
+      (xs : List Element) × (to_list chain.to_bytes under (bottom_level levels) bytes ≡ Some xs)
+  bottom_there value bytes list links first is = go (to_list chain.to_bytes under (bottom_level levels) bytes) refl
     where
-      nothing : decoded array to_list opens chain under value ≡ None → ⊥
+      nothing : decoded array to_list opens chain levels under value ≡ None → ⊥
       nothing none = cc
 
-      go : (o : Option (List Element)) → to_list chain.bottom.codec under (above chain.bottom) bytes ≡ o → (xs : List Element) × (o ≡ Some xs)
-      go None here = absurd (nothing (chain-none array unserved (above chain.bottom) chain.levels.items (to_list chain.bottom.codec under) (byte_codecs opens under chain.codecs.items) value bytes links first here))
+      go : (o : Option (List Element)) → to_list chain.to_bytes under (bottom_level levels) bytes ≡ o → (xs : List Element) × (o ≡ Some xs)
+      go None here = absurd (nothing (decoded_as array unserved to_list list_says opens says chain levels count under value ∙ chain-none array unserved (bottom_level levels) (steps chain levels) (to_list chain.to_bytes under) (byte_codecs opens under chain.byte_codecs.items) value bytes links first here))
       go (Some xs) here = (xs, refl)
 
   -- a value that the bytes-to-bytes codecs refuse does not decode
-  none_opened : (value : List ℕ) → decode value ≡ None → decoded array to_list opens chain under value ≡ None
-  none_opened value none = ap (option_and_then (decode_levels (array_codecs array chain.levels.items) (to_list chain.bottom.codec under) (first_level chain))) none
+  none_opened : (value : List ℕ) → decode value ≡ None → decoded array to_list opens chain levels under value ≡ None
+  none_opened value none = ap (option_and_then (decode_levels (map array chain.array_codecs.items) (to_list chain.to_bytes under) (first_level levels))) none
 
-  module _ (ranges : List ByteRange) (links : AreLinked array unserved chain.levels.items (above chain.bottom))
-      (asks : (bytes : List ℕ) → ¬ (first_invalid (length bytes) ranges ≡ None) → to_list chain.bottom.codec under (above chain.bottom) bytes ≡ None) where
+  module _ (ranges : List ByteRange) (links : AreLinked array unserved (steps chain levels) (bottom_level levels))
+      (asks : (bytes : List ℕ) → ¬ (first_invalid (length bytes) ranges ≡ None) → to_list chain.to_bytes under (bottom_level levels) bytes ≡ None) where
     -- where parts are not given, the region has no elements
-    pub parts_region_fails : (stored : Option (List ℕ)) (before now : ℕ) (e : CodecError) → IsHandleError before now e ⊎ parts_say ranges (given_bytes opens chain under stored) (chunk_says list_says opens says chain under stored) e →
-        RegionFails array to_list list_says opens says chain under (Some ranges) stored before now e
+    pub parts_region_fails : (stored : Option (List ℕ)) (before now : ℕ) (e : CodecError) → IsHandleError before now e ⊎ parts_say ranges (given_bytes opens chain under stored) (chunk_says list_says opens says chain levels under stored) e →
+        RegionFails (Some ranges) stored before now e
     parts_region_fails stored before now e (inl handle) = inl handle
     parts_region_fails None before now e (inr told) = absurd (told.0 refl)
     parts_region_fails (Some value) before now e (inr told) = inr (go (decode value) refl told)
       where
         outside : (bytes : List ℕ) (first : Option ByteRange) → ¬ (first ≡ None) → TellsRangeOf (Some ranges) (Some bytes) e →
-            range_says first (Some ranges) (Some (Some bytes)) (chunk_says list_says opens says chain under (Some value)) e
+            range_says first (Some ranges) (Some (Some bytes)) (chunk_says list_says opens says chain levels under (Some value)) e
         outside bytes None some tells = absurd (some refl)
         outside bytes (Some range) some tells = tells
 
-        go : (o : Option (List ℕ)) → decode value ≡ o → parts_say ranges (option_map Some o) (chunk_says list_says opens says chain under (Some value)) e →
-            (decoded array to_list opens chain under value ≡ None) × range_says (first_outside (Some ranges) (option_map Some o)) (Some ranges) (option_map Some o) (chunk_says list_says opens says chain under (Some value)) e
+        go : (o : Option (List ℕ)) → decode value ≡ o → parts_say ranges (option_map Some o) (chunk_says list_says opens says chain levels under (Some value)) e →
+            (decoded array to_list opens chain levels under value ≡ None) × range_says (first_outside (Some ranges) (option_map Some o)) (Some ranges) (option_map Some o) (chunk_says list_says opens says chain levels under (Some value)) e
         go None is told = (none_opened value is, told)
         go (Some bytes) is told = (
-          chain-none array unserved (above chain.bottom) chain.levels.items (to_list chain.bottom.codec under) (byte_codecs opens under chain.codecs.items) value bytes links is (asks bytes told.0),
+          decoded_as array unserved to_list list_says opens says chain levels count under value ∙ chain-none array unserved (bottom_level levels) (steps chain levels) (to_list chain.to_bytes under) (byte_codecs opens under chain.byte_codecs.items) value bytes links is (asks bytes told.0),
           outside bytes (first_invalid (length bytes) ranges) told.0 told.1,
         )
 
-    pub parts_not_read : {T : Type 0} (key : List ℕ) (before now : Shown) (e : CodecError) → IsHandleError before.faults now.faults e ⊎ parts_say ranges (given_bytes opens chain under (before.content key)) (chunk_says list_says opens says chain under (before.content key)) e →
-        SameContent before now → before.faults ≤ now.faults → now.asks ≡ counted before.asks 1 → ReadsRegion array to_list list_says opens says {T = T} chain under (Some ranges) key before now (Err e)
-    parts_not_read key before now e cause same later once = record {
-      decodes = λ none. tt;
-      given = tt;
-      failed = parts_region_fails (before.content key) before.faults now.faults e cause;
-      same = same;
-      later = later;
-      asks = inl once;
-      taken = tt;
-    }
+  -- where parts are given, the ranges lie within what they are ranges of
+  parts_there : (ranges : List ByteRange) (stored : Option (List ℕ)) (items : List (List ℕ)) → (are : AreOpened decode ranges stored items) → given_bytes opens chain under stored ≡ Some (Some are.bytes)
+  parts_there ranges stored items are = ap (λ (s : Option (List ℕ)). through decode (Some s)) are.there ∙ ap (option_map Some) are.first
 
-  -- where parts are given, the codecs decode them or tell why the chunk does not decode
-  pub parts_read : {T : Type 0} (ranges : List ByteRange) (key : List ℕ) (before now : Shown) (items : List (List ℕ)) (r : Result T CodecError) → (are : AreOpened decode ranges (before.content key) items) →
-      IfErr r (IsDecodeError (decoded array to_list opens chain under are.value) (chain_says list_says opens says chain under are.value)) →
-      SameContent before now → before.faults ≤ now.faults → now.asks ≡ counted before.asks 1 → now.taken ≡ counted before.taken (taken_of (stored_request chain (Some ranges)) (before.content key)) →
-      ReadsRegion array to_list list_says opens says chain under (Some ranges) key before now r
-  parts_read {T} ranges key before now items r are fails same later once took = record {
-    decodes = λ none. absurd (never none);
-    given = always_ok r (subst (IsGiven (Some ranges)) (sym given_is) (record { there = refl; within = are.valid }));
-    failed = go r fails;
-    same = same;
-    later = later;
-    asks = asks_any before.asks now.asks r once;
-    taken = always_ok r took;
-  }
+  pub ranges_given : {T : Type 0} (ranges : List ByteRange) (stored : Option (List ℕ)) (items : List (List ℕ)) (r : Result T CodecError) → AreOpened decode ranges stored items → OnOk r (IsGiven (Some ranges) (given_bytes opens chain under stored))
+  ranges_given ranges stored items r are = always_ok r (subst (IsGiven (Some ranges)) (sym (parts_there ranges stored items are)) (record { there = refl; within = are.valid }))
+
+  -- and the codecs decode them or tell why the chunk does not decode
+  pub parts_fail : {T : Type 0} (ranges : List ByteRange) (stored : Option (List ℕ)) (items : List (List ℕ)) (before now : ℕ) (r : Result T CodecError) → (are : AreOpened decode ranges stored items) →
+      IfErr r (IsDecodeError (decoded array to_list opens chain levels under are.value) (chain_says list_says opens says chain levels under are.value)) → IfErr r (RegionFails (Some ranges) stored before now)
+  parts_fail {T} ranges stored items before now r are fails = go r fails
     where
-      never : Some ranges ≡ None → ⊥
-      never e = cc
-
-      given_is : given_bytes opens chain under (before.content key) ≡ Some (Some are.bytes)
-      given_is = ap (λ (s : Option (List ℕ)). through decode (Some s)) are.there ∙ ap (option_map Some) are.first
-
-      fails_so : (e : CodecError) → IsDecodeError (decoded array to_list opens chain under are.value) (chain_says list_says opens says chain under are.value) e →
-          RegionFails array to_list list_says opens says chain under (Some ranges) (Some are.value) before.faults now.faults e
+      fails_so : (e : CodecError) → IsDecodeError (decoded array to_list opens chain levels under are.value) (chain_says list_says opens says chain levels under are.value) e → RegionFails (Some ranges) (Some are.value) before now e
       fails_so e (inl memory) = inl (inl memory)
       fails_so e (inr told) = inr (
         told.0,
-        subst (λ (g : Option (List ℕ)). range_says (first_outside (Some ranges) (option_map Some g)) (Some ranges) (option_map Some g) (chain_says list_says opens says chain under are.value) e) (sym are.first)
-            (subst (λ (f : Option ByteRange). range_says f (Some ranges) (Some (Some are.bytes)) (chain_says list_says opens says chain under are.value) e) (sym are.valid) told.1),
+        subst (λ (g : Option (List ℕ)). range_says (first_outside (Some ranges) (option_map Some g)) (Some ranges) (option_map Some g) (chain_says list_says opens says chain levels under are.value) e) (sym are.first)
+            (subst (λ (f : Option ByteRange). range_says f (Some ranges) (Some (Some are.bytes)) (chain_says list_says opens says chain levels under are.value) e) (sym are.valid) told.1),
       )
 
-      go : (r : Result T CodecError) → IfErr r (IsDecodeError (decoded array to_list opens chain under are.value) (chain_says list_says opens says chain under are.value)) →
-          IfErr r (RegionFails array to_list list_says opens says chain under (Some ranges) (before.content key) before.faults now.faults)
+      go : (r : Result T CodecError) → IfErr r (IsDecodeError (decoded array to_list opens chain levels under are.value) (chain_says list_says opens says chain levels under are.value)) → IfErr r (RegionFails (Some ranges) stored before now)
       go (Ok v) fails = tt
-      go (Err e) fails = subst (λ (s : Option (List ℕ)). RegionFails array to_list list_says opens says chain under (Some ranges) s before.faults now.faults e) (sym are.there) (fails_so e fails)
-
-  -- what was fetched by a read, and then cut, which only want of memory ends
-  pub cut_reads : {T X : Type 0} (asked : Option (List ByteRange)) (key : List ℕ) (before now : Shown) (fetched : X) (P : T → Type 0) (r : Result T CodecError) → MatchResult r P (λ e. e ≡ codec.OutOfMemory) →
-      ReadsRegion array to_list list_says opens says {T = X} chain under asked key before now (Ok fetched) → ReadsRegion array to_list list_says opens says chain under asked key before now r
-  cut_reads {T} asked key before now fetched P r cut read = record {
-    decodes = λ none. always_ok r (read.decodes none);
-    given = always_ok r read.given;
-    failed = go r cut;
-    same = read.same;
-    later = read.later;
-    asks = asks_any before.asks now.asks r read.asks;
-    taken = always_ok r read.taken;
-  }
-    where
-      go : (r : Result T CodecError) → MatchResult r P (λ e. e ≡ codec.OutOfMemory) → IfErr r (RegionFails array to_list list_says opens says chain under asked (before.content key) before.faults now.faults)
-      go (Ok v) cut = tt
-      go (Err e) cut = inl (inl cut)
+      go (Err e) fails = subst (λ (s : Option (List ℕ)). RegionFails (Some ranges) s before now e) (sym are.there) (fails_so e fails)
 
   -- parts that are not given of bytes that have the ranges
   pub parts_wanting : (ranges : List ByteRange) (given : Held) (bytes : List ℕ) (said : CodecError → Type 0) (Handle : Type 0) (e : CodecError) → given ≡ Some (Some bytes) → invalid_range ranges (Some bytes) ≡ None →
@@ -221,39 +190,16 @@ module _ {A B C : Type 0} (array : A → ArrayCodec) (unserved : Serving A) (to_
   alike_parts request ranges bytes items other (Some found) asked slices is alike =
       (found, is, subst (λ (r : Option (List ByteRange)). parts.AreParts r found items) (sym asked) (slices ∙ sym alike))
 
-  pub alike_given : {T : Type 0} (gives : T → Type 0) (Handle : CodecError → Type 0) (other : List ℕ) (list : List Element) (r : Result T CodecError) → decoded array to_list opens chain under other ≡ Some list →
-      ((e : CodecError) → e ≡ codec.OutOfMemory → Handle e) → IfOk r gives → IfErr r (IsDecodeError (decoded array to_list opens chain under other) (chain_says list_says opens says chain under other)) → MatchResult r gives Handle
+  pub alike_given : {T : Type 0} (gives : T → Type 0) (Handle : CodecError → Type 0) (other : List ℕ) (list : List Element) (r : Result T CodecError) → decoded array to_list opens chain levels under other ≡ Some list →
+      ((e : CodecError) → e ≡ codec.OutOfMemory → Handle e) → IfOk r gives → IfErr r (IsDecodeError (decoded array to_list opens chain levels under other) (chain_says list_says opens says chain levels under other)) → MatchResult r gives Handle
   alike_given gives Handle other list (Ok v) is memory ok err = ok
   alike_given gives Handle other list (Err e) is memory ok (inl m) = memory e m
   alike_given gives Handle other list (Err e) is memory ok (inr told) = absurd (never told.0)
     where
-      never : decoded array to_list opens chain under other ≡ None → ⊥
+      never : decoded array to_list opens chain levels under other ≡ None → ⊥
       never none = cc
 
   pub same_given : (bytes found : List ℕ) (stored : Option (List ℕ)) (value : List ℕ) → stored ≡ Some value → decode value ≡ Some found → given_bytes opens chain under stored ≡ Some (Some bytes) → found ≡ bytes
   same_given bytes found stored value there first given =
       let both : Some (Some found) ≡ Some (Some bytes) = sym (ap (λ (s : Option (List ℕ)). through decode (Some s)) there ∙ ap (option_map Some) first) ∙ given in
       cc
-
-  pub cut_alike : {T X : Type 0} (asked : Option (List ByteRange)) (value : Option (List ℕ)) (before now : ℕ) (fetched : X) (Gives : List Element → X → Type 0) (Cut : List Element → T → Type 0) (r : Result T CodecError) →
-      ((list : List Element) → Gives list fetched → MatchResult r (Cut list) (λ e. e ≡ codec.OutOfMemory)) →
-      GivesAlike array to_list list_says opens says {T = X} Gives chain under asked value before now (Ok fetched) → GivesAlike array to_list list_says opens says {T = T} Cut chain under asked value before now r
-  cut_alike None value before now fetched Gives Cut r cut alike = tt
-  cut_alike {T} (Some ranges) value before now fetched Gives Cut r cut alike = λ bytes other list given valid same is. go r list (cut list (alike bytes other list given valid same is))
-    where
-      go : (r : Result T CodecError) (list : List Element) → MatchResult r (Cut list) (λ e. e ≡ codec.OutOfMemory) → MatchResult r (Cut list) (IsHandleError before now)
-      go (Ok v) list cut = cut
-      go (Err e) list cut = inl cut
-
-  -- a part that was not read gives nothing for its region
-  pub not_fetched : {T : Type 0} (Gives : List Element → T → Type 0) (region : Region) (asked : Option (List ByteRange)) (ranges : List ByteRange) (key : List ℕ) (before now : Shown) (e : CodecError) → asked ≡ Some ranges →
-      GivesAlike array to_list list_says opens says {T = T} Gives chain under (Some ranges) (before.content key) before.faults now.faults (Err e) →
-      ReadsRegion array to_list list_says opens says {T = T} chain under (Some ranges) key before now (Err e) → FetchesRegion array to_list list_says opens says chain under region asked key before now (Err e)
-  not_fetched Gives region asked ranges key before now e is alike read = subst (λ (a : Option (List ByteRange)). FetchesRegion array to_list list_says opens says chain under region a key before now (Err e)) (sym is) (record {
-    elements = λ list has. tt;
-    alike = alike;
-    valid = tt;
-    short = tt;
-    which = tt;
-    read = record { decodes = read.decodes; given = read.given; failed = read.failed; same = read.same; later = read.later; asks = read.asks; taken = read.taken };
-  })

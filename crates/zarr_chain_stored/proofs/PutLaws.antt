@@ -1,5 +1,5 @@
 -- When a chunk is blank, and what a value that was set leaves of one.
-use Rattle.std.proofs.Common.{◌≡◌, ◌↔◌, ◌⊎◌, inl, inr, ⊎_elim, ℕ, zero, suc, ◌*◌, ◌<◌, ◌≤◌, Bool, false, true, List, [], ◌∷◌, length, replicate, Some, None, Result, Ok, Err, OnOk, OnErr, refl, sym, ap, ◌∙◌, subst₂, IsTrue}
+use Rattle.std.proofs.Common.{◌≡◌, ◌↔◌, ◌⊎◌, inl, inr, ⊎_elim, ℕ, ◌<◌, Bool, false, true, List, [], ◌∷◌, length, replicate, Some, None, Result, Ok, Err, OnOk, OnErr, refl, sym, ap, ◌∙◌, subst₂, IsTrue}
 use Rattle.std.specs.List.{list_all}
 use Rattle.zarr_model.specs.Region.{count_of}
 use Rattle.zarr_model.specs.Element.{Element, same_element}
@@ -8,8 +8,8 @@ use Rattle.zarr_model.specs.Store.{Content}
 use Rattle.zarr_model.specs.Outside.{PutsKey, MayPutKey}
 use Rattle.zarr_model.proofs.ElementLaws.{each_same, all_same}
 use Rattle.zarrs_codec_traits.proofs.CountLaws.{lengths_some}
-use Rattle.zarr_chain.specs.declared.level.CodecLevel.{CodecLevel}
-use Rattle.zarr_chain.specs.Levels.{above, top}
+use Rattle.zarr_chain.specs.declared.representation.ChunkRepresentation.{ChunkRepresentation}
+use Rattle.zarr_chain.specs.Levels.{level_at, first_of}
 use Rattle.zarr_chain_stored.specs.Put.{Decoding, IsPut, PutsChunk, MayPutChunk}
 
 pub blank_is : (answer : Bool) (number : ℕ) (x : Element) (xs : List Element) → length xs ≡ number → (IsTrue answer ↔ (xs ≡ replicate number x)) → answer ≡ list_all (same_element x) xs
@@ -21,9 +21,9 @@ blank_is false number x xs long tells = go (list_all (same_element x) xs) refl
     go false is = refl
 
 -- a chunk has an element
-pub chunk_some : {A B : Type 0} (steps : List (CodecLevel A)) (bottom : CodecLevel B) → 0 < count_of (top steps (above bottom)).shape
+pub chunk_some : (levels : List ChunkRepresentation) (bottom : ChunkRepresentation) → 0 < count_of (first_of levels (level_at bottom)).shape
 chunk_some [] bottom = lengths_some bottom.shape.items
-chunk_some (step ∷ steps) bottom = lengths_some step.shape.items
+chunk_some (at ∷ levels) bottom = lengths_some at.shape.items
 
 -- a chunk that is not dropped was put where its value was set
 module _ (decode : Decoding) (answer drops : Bool) (list : List Element) (value : List ℕ) (tells : answer ≡ drops) (kept : answer ≡ false) (decodes : (under : Options) → decode under value ≡ Some list) (old new : Content) (key : List ℕ) where

@@ -1,5 +1,5 @@
 -- The box of a list at the bottom, and results.
-use Rattle.std.proofs.Common.{◌≡◌, ℕ, Bool, true, List, [], Option, Some, IsSome, Result, Ok, Err, IfOk, IfErr, MatchResult, refl, sym, ap, ◌∙◌, subst}
+use Rattle.std.proofs.Common.{◌≡◌, List, [], length, Option, Some, IsSome, Result, Ok, Err, IfOk, IfErr, MatchResult, refl, sym, ap, ◌∙◌, subst}
 use Rattle.std.proofs.lemmas.Option.{same_Some}
 use Rattle.zarr_model.specs.Element.{Element}
 use Rattle.zarr_model.specs.ArrayBytes.{ArrayBytes}
@@ -10,8 +10,9 @@ use Rattle.zarrs_codec_array_bytes.specs.declared.array_bytes.ArrayBytes as code
 use Rattle.zarrs_codec_array_bytes.specs.Raw.{raw_of}
 use Rattle.zarr_model.specs.Codec.{Level, ArrayCodec}
 use Rattle.zarrs_codec_traits.specs.Words.{list_at, at_box, select}
-use Rattle.zarr_chain.specs.declared.level.CodecLevel.{CodecLevel}
-use Rattle.zarr_chain.specs.Levels.{top, elements_above}
+use Rattle.zarr_chain.specs.Levels.{steps_of, first_of, elements_above}
+use Rattle.zarr_chain.specs.declared.representation.ChunkRepresentation.{ChunkRepresentation}
+use Rattle.zarr_chain.proofs.StepLaws.{top_is}
 use Rattle.zarr_chain.specs.Regions.{HoldsBox}
 
 -- a fact that stands without a result
@@ -25,11 +26,12 @@ pub box_of_list : {A : Type 0} (array : A → ArrayCodec) (bottom : Level) (xs :
 box_of_list array bottom xs box raw part ys same = part ∙ ap (λ list. Some (select bottom.shape box list)) (same_Some xs ys same)
 
 -- and what it decodes to
-pub held_of : {A : Type 0} (array : A → ArrayCodec) (steps : List (CodecLevel A)) (bottom : Level) (xs list : List Element) (box : Region) (r : Result code.ArrayBytes CodecError) →
-    elements_above array steps (Some xs) ≡ Some list → IfOk r (λ v. HoldsBox array steps bottom (Some xs) box (raw_of v)) →
-    IfOk r (λ v. list_at (at_box box (top steps bottom)) (raw_of v) ≡ Some (select (top steps bottom).shape box list))
-held_of array steps bottom xs list box (Ok v) is holds = holds list is
-held_of array steps bottom xs list box (Err e) is holds = tt
+pub held_of : {A : Type 0} (array : A → ArrayCodec) (codecs : List A) (levels : List ChunkRepresentation) (count : length codecs ≡ length levels) (bottom : Level) (xs list : List Element) (box : Region) (r : Result code.ArrayBytes CodecError) →
+    elements_above array (steps_of codecs levels) (Some xs) ≡ Some list → IfOk r (λ v. HoldsBox array (steps_of codecs levels) bottom (Some xs) box (raw_of v)) →
+    IfOk r (λ v. list_at (at_box box (first_of levels bottom)) (raw_of v) ≡ Some (select (first_of levels bottom).shape box list))
+held_of array codecs levels count bottom xs list box (Ok v) is holds =
+    subst (λ (level : Level). list_at (at_box box level) (raw_of v) ≡ Some (select level.shape box list)) (top_is codecs levels bottom count) (holds list is)
+held_of array codecs levels count bottom xs list box (Err e) is holds = tt
 
 -- a step that only want of memory ends
 pub ok_half : {T E : Type 0} (P : T → Type 0) (Q : E → Type 0) (r : Result T E) → MatchResult r P Q → IfOk r P

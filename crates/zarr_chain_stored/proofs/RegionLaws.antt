@@ -20,7 +20,7 @@ use Rattle.zarrs_data_type_names.specs.declared.data_type.DataType as names
 use Rattle.zarrs_codec_traits.specs.Views.{lengths, level_of}
 use Rattle.zarrs_codec_traits.specs.Words.{list_at, at_box, select}
 use Rattle.zarrs_codec_traits.proofs.SelectLaws.{select-replicate}
-use Rattle.zarr_chain_stored.specs.Fetch.{blank_chunk}
+use Rattle.zarr_chain.specs.Chain.{blank_chunk}
 
 -- fewer elements of a fill value that is not long are not long
 steps_fewer : (few many place : ℕ) (fill : List ℕ) → few ≤ many → has_long_step (place ∷ ends_from place (replicate many fill)) ≡ false → has_long_step (place ∷ ends_from place (replicate few fill)) ≡ false

@@ -1,5 +1,5 @@
 -- An update of array bytes that are valid is refused for want of memory alone.
-use Rattle.std.proofs.Common.{◌≡◌, ⊎_elim, ℕ, ◌+◌, ◌*◌, ◌==◌, Bool, true, false, List, [], ◌∷◌, length, Option, Some, None, is_some, Result, Ok, Err, IfOk, MatchResult, refl, sym, ap, ap₂, ◌∙◌}
+use Rattle.std.proofs.Common.{◌≡◌, ⊎_elim, ℕ, ◌+◌, ◌*◌, ◌==◌, Bool, true, List, length, Option, Some, None, is_some, Result, Ok, Err, IfOk, MatchResult, refl, sym, ap, ap₂, ◌∙◌}
 use Rattle.std.proofs.lemmas.Bool.{and_parts}
 use Rattle.zarr_model.specs.Element.{Element, Kind, fixed, variable, optional, fixed_size}
 use Rattle.zarr_model.specs.ArrayBytes.{ArrayBytes, fixed_bytes, variable_bytes, optional_bytes, meaning, is_mask, are_offsets}

@@ -1,11 +1,10 @@
 //! The elements of a chunk in a store.
 
-ghost use Rattle.std.specs.Prelude.{◌≡◌, ◌≤◌, false, Some, None, IsSome, replicate, IfOk, IfErr, OnOk, MatchResult};
+ghost use Rattle.std.specs.Prelude.{◌≡◌, false, Some, IsSome, replicate, IfOk, IfErr, MatchResult};
 ghost use Rattle.zarr_model.specs.Command.{has_long_element};
 ghost use Rattle.zarr_model.specs.Element.{fill_element, kind_of};
 ghost use Rattle.zarr_model.specs.Region.{count_of};
-ghost use Rattle.zarr_model.specs.Cost.{counted};
-ghost use Rattle.zarrs_storage.specs.Store.{SameContent, value_bytes};
+ghost use Rattle.zarrs_storage.specs.Store.{value_bytes};
 ghost use Rattle.zarrs_data_type_elements.specs.FillValue.{fill_bytes};
 ghost use Rattle.zarrs_data_type_names.specs.DataType.{type_of};
 ghost use Rattle.zarrs_codec_error.specs.declared.error.CodecError.TheVariants as codec;
@@ -13,13 +12,13 @@ ghost use Rattle.zarrs_codec_array_bytes.specs.Raw.{raw_of};
 ghost use Rattle.zarrs_codec_traits.specs.Errors.{IsDecodeError};
 ghost use Rattle.zarrs_codec_traits.specs.Views.{lengths, level_of, options_of};
 ghost use Rattle.zarrs_codec_traits.specs.Words.{list_at, Gives, IsFit};
-ghost use Rattle.zarrs_codec_partial_bytes.specs.Stored.{taken_of};
-ghost use Rattle.zarr_chain.specs.Chain.{IsServed, first_level};
-ghost use Rattle.zarr_chain_stored.specs.Fetch.{blank_chunk, HasFill, chunk_content, chunk_says, ChunkFails};
+ghost use Rattle.zarr_chain.specs.Chain.{IsServed, first_level, blank_chunk, HasFill};
+ghost use Rattle.zarr_chain_stored.specs.Seen.{chain_seen, FetchesChunk};
+ghost use Rattle.zarr_chain_stored.specs.Fetch.{chunk_content, chunk_says};
 
 use std::alloc::Global;
 use std::num::NonZeroU64;
-use zarr_chain::CodecChain;
+use zarr_chain::{ChunkLevels, CodecChain};
 use zarrs_codec_array_bytes::ArrayBytes;
 use zarrs_codec_error::CodecError;
 use zarrs_codec_options::CodecOptions;
@@ -52,41 +51,43 @@ fn filled_chunk(
 }
 
 // The same of a chain's chunks.
-pub(crate) fn blank<
-    A: ArrayToArrayCodecTraits,
-    B: ArrayToBytesCodecTraits,
-    C: BytesToBytesCodecTraits,
->(chain: &CodecChain<A, B, C>, alloc: Global) -> Result<ArrayBytes<'static>, CodecError>
-    requires served { IsServed A.meaning A.unserved B.unserved chain.now }
-    requires fill { HasFill chain.now }
-    ensures value { let level = first_level chain.now in MatchResult result
+pub(crate) fn blank(levels: &ChunkLevels, alloc: Global) -> Result<ArrayBytes<'static>, CodecError>
+    requires fits { IsFit (first_level levels.now).shape (first_level levels.now).data_type }
+    requires fill { HasFill levels.now }
+    ensures value { let level = first_level levels.now in MatchResult result
         (λ v. list_at level (raw_of v) ≡ Some (replicate (count_of level.shape) level.fill))
         (λ e. e ≡ codec.OutOfMemory) }
     ensures short { IfOk result (λ v. has_long_element (raw_of v) ≡ false) }
 {
-    filled_chunk(alloc, chain.shape(), chain.data_type(), chain.fill_value())
+    filled_chunk(
+        alloc,
+        levels.shape(),
+        levels.data_type(),
+        levels.fill_value(),
+    )
 }
 
 // The elements of a chunk, by its value.
 fn elements_of<A: ArrayToArrayCodecTraits, B: ArrayToBytesCodecTraits, C: BytesToBytesCodecTraits>(
     chain: &CodecChain<A, B, C>,
+    levels: &ChunkLevels,
     alloc: Global,
     value: Option<Vec<u8>>,
     options: &CodecOptions,
 ) -> Result<ArrayBytes<'static>, CodecError>
-    requires served { IsServed A.meaning A.unserved B.unserved chain.now }
-    requires fill { HasFill chain.now }
-    ensures value { IfOk result (λ v. Gives (list_at (first_level chain.now) (raw_of v))
-        (chunk_content A.meaning B.meaning C.meaning chain.now (options_of options.now)
+    requires served { IsServed A.meaning A.unserved B.unserved chain.now levels.now }
+    requires fill { HasFill levels.now }
+    ensures value { IfOk result (λ v. Gives (list_at (first_level levels.now) (raw_of v))
+        (chunk_content A.meaning B.meaning C.meaning chain.now levels.now (options_of options.now)
         (value_bytes value))) }
     ensures failed { let under = options_of options.now in IfErr result (IsDecodeError
-        (chunk_content A.meaning B.meaning C.meaning chain.now under (value_bytes value))
-        (chunk_says B.says C.meaning C.says chain.now under (value_bytes value))) }
+        (chunk_content A.meaning B.meaning C.meaning chain.now levels.now under (value_bytes value))
+        (chunk_says B.says C.meaning C.says chain.now levels.now under (value_bytes value))) }
     ensures short { IfOk result (λ v. has_long_element (raw_of v) ≡ false) }
 {
     match value {
-        Some(value) => chain.decode(alloc, value, options),
-        None => blank(chain, alloc),
+        Some(value) => chain.decode(alloc, levels, value, options),
+        None => blank(levels, alloc),
     }
 }
 
@@ -102,27 +103,21 @@ pub fn fetch<
     C: BytesToBytesCodecTraits,
 >(
     chain: &CodecChain<A, B, C>,
+    levels: &ChunkLevels,
     alloc: Global,
     key: &StoreKey,
     store: &mut S,
     options: &CodecOptions,
 ) -> Result<ArrayBytes<'static>, CodecError>
-    requires served { IsServed A.meaning A.unserved B.unserved chain.now }
-    requires fill { HasFill chain.now }
-    ensures value { IfOk result (λ v. Gives (list_at (first_level chain.now) (raw_of v))
-        (chunk_content A.meaning B.meaning C.meaning chain.now (options_of options.now)
-        ((S.shown store.old).content key.now))) }
-    ensures failed { IfErr result (ChunkFails A.meaning B.meaning C.meaning B.says C.says chain.now
-        (options_of options.now) ((S.shown store.old).content key.now)
-        (S.shown store.old).faults (S.shown store.new).faults) }
-    ensures short { IfOk result (λ v. has_long_element (raw_of v) ≡ false) }
-    ensures same { SameContent (S.shown store.old) (S.shown store.new) }
-    ensures asks { (S.shown store.new).asks ≡ counted (S.shown store.old).asks 1 }
-    ensures taken { OnOk result ((S.shown store.new).taken ≡ counted (S.shown store.old).taken
-        (taken_of None ((S.shown store.old).content key.now))) }
-    ensures later { (S.shown store.old).faults ≤ (S.shown store.new).faults }
+    requires { (chain_seen A.ArrayCodecTraits.own A.ArrayToArrayCodecTraits.own
+        B.ArrayCodecTraits.own B.ArrayToBytesCodecTraits.own C.BytesToBytesCodecTraits.own
+        chain.now levels.now).serves }
+    ensures fetches { FetchesChunk (chain_seen A.ArrayCodecTraits.own A.ArrayToArrayCodecTraits.own
+        B.ArrayCodecTraits.own B.ArrayToBytesCodecTraits.own C.BytesToBytesCodecTraits.own
+        chain.now levels.now) (options_of options.now) key.now (S.shown store.old)
+        (S.shown store.new) result }
     ensures kept { S.kept store.old store.new }
 {
     let value = store.get(alloc, key)?;
-    elements_of(chain, alloc, value, options)
+    elements_of(chain, levels, alloc, value, options)
 }

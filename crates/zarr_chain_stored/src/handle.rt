@@ -1,30 +1,15 @@
 //! A chain that is owned, over one key of a store.
 
-ghost use Rattle.std.specs.Prelude.{◌≡◌, ◌≤◌, true, false, List, Some, None, IsSome, option_map, IfOk, IfErr, OnOk, OnErr};
-ghost use Rattle.zarr_model.specs.Command.{has_long_element};
-ghost use Rattle.zarr_model.specs.Cost.{counted};
-ghost use Rattle.zarr_model.specs.Element.{Element};
-ghost use Rattle.zarr_model.specs.Outside.{PutsKey, MayPutKey};
-ghost use Rattle.zarr_model.specs.Region.{ends_within};
+ghost use Rattle.std.specs.Prelude.{◌≡◌};
 ghost use Rattle.zarrs_array_subset.specs.ArraySubset.{region as box_of};
-ghost use Rattle.zarrs_storage.specs.Store.{SameContent};
 ghost use Rattle.zarrs_codec_array_bytes.specs.Raw.{raw_of};
 ghost use Rattle.zarrs_codec_traits.specs.Views.{options_of};
-ghost use Rattle.zarrs_codec_traits.specs.Words.{list_at, at_box, select};
-ghost use Rattle.zarrs_codec_held.specs.Reads.{IsFault};
-ghost use Rattle.zarrs_codec_held.specs.Writes.{UnlessFault};
-ghost use Rattle.zarrs_codec_partial_bytes.specs.Stored.{taken_of};
-ghost use Rattle.zarr_chain.specs.Levels.{above};
-ghost use Rattle.zarr_chain.specs.Chain.{IsServed, first_level, decoded};
-ghost use Rattle.zarr_chain_stored.specs.Fetch.{HasFill, chunk_content, ChunkFails};
-ghost use Rattle.zarr_chain_stored.specs.Regions.{is_whole_chunk, region_request, ReadsRegion, GivesAlike};
-ghost use Rattle.zarr_chain_stored.specs.Put.{is_dropped};
-ghost use Rattle.zarr_chain_stored.specs.Update.{with_box, UpdatesChunk, MayUpdateChunk};
+ghost use Rattle.zarr_chain_stored.specs.Seen.{chain_seen, CanRead, ReadsPart, CanWrite, WritesRegion};
 
 use crate::reading::read;
 use crate::updating::write;
 use std::alloc::Global;
-use zarr_chain::CodecChain;
+use zarr_chain::{ChunkLevels, CodecChain};
 use zarrs_array_subset::ArraySubset;
 use zarrs_codec_array_bytes::ArrayBytes;
 use zarrs_codec_error::CodecError;
@@ -34,10 +19,11 @@ use zarrs_codec_traits::{
 };
 use zarrs_storage::{Store, StoreKey};
 
-/// A chain of codecs over the chunk under one key of a store.
+/// A chain of codecs, with the levels of a chunk, over the chunk under one key of a store.
 #[derive(Drop)]
 pub struct ChainHandle<'s, S, A, B, C> {
     chain: CodecChain<A, B, C>,
+    levels: ChunkLevels,
     storage: &'s mut S,
     key: StoreKey,
 }
@@ -49,15 +35,22 @@ impl<
     B: ArrayToBytesCodecTraits + Drop,
     C: BytesToBytesCodecTraits + Drop,
 > ChainHandle<'s, S, A, B, C> {
+    ghost use Rattle.zarr_chain_stored.specs.Handle.{HasParts, KeepsHandle, ReadsHandle, ErasesKey};
+
     /// A handle on the chunk under this key.
-    pub fn from_parts(chain: CodecChain<A, B, C>, storage: &'s mut S, key: StoreKey) -> Self
+    pub fn from_parts(
+        chain: CodecChain<A, B, C>,
+        levels: ChunkLevels,
+        storage: &'s mut S,
+        key: StoreKey,
+    ) -> Self
         ensures same_reference { result.storage.ghost_name ≡ storage.entry.ghost_name }
         ensures value { result.storage.now ≡ storage.old }
-        ensures key { result.key ≡ key }
-        ensures chain { result.chain ≡ chain }
+        ensures parts { HasParts result chain levels key }
     {
         ChainHandle {
             chain,
+            levels,
             storage,
             key,
         }
@@ -73,38 +66,25 @@ impl<
         region: &ArraySubset,
         options: &CodecOptions,
     ) -> Result<ArrayBytes<'static>, CodecError>
-        requires served { IsServed A.meaning A.unserved B.unserved self.old.chain }
-        requires fill { HasFill self.old.chain }
-        requires inside { ends_within (box_of region.now) (first_level self.old.chain).shape
-            ≡ true }
-        ensures elements { let level = first_level self.old.chain in (list : List Element)
-            → chunk_content A.meaning B.meaning C.meaning self.old.chain (options_of options.now)
-            ((S.shown self.old.storage.now).content self.old.key) ≡ Some list
-            → IfOk result (λ v. list_at (at_box (box_of region.now) level) (raw_of v)
-            ≡ Some (select level.shape (box_of region.now) list)) }
-        ensures alike { let level = first_level self.old.chain in let box = box_of region.now in
-            GivesAlike A.meaning B.meaning B.says C.meaning C.says
-            (λ list v. list_at (at_box box level) (raw_of v)
-            ≡ Some (select level.shape box list)) self.old.chain (options_of options.now)
-            (region_request B.request A.region_below self.old.chain box)
-            ((S.shown self.old.storage.now).content self.old.key)
-            (S.shown self.old.storage.now).faults (S.shown self.new.storage.now).faults result }
-        ensures valid { IfOk result (λ v. IsSome (list_at (at_box (box_of region.now)
-            (first_level self.old.chain)) (raw_of v))) }
-        ensures short { IfOk result (λ v. has_long_element (raw_of v) ≡ false) }
-        ensures read { ReadsRegion A.meaning B.meaning B.says C.meaning C.says self.old.chain
-            (options_of options.now)
-            (region_request B.request A.region_below self.old.chain (box_of region.now))
-            self.old.key (S.shown self.old.storage.now) (S.shown self.new.storage.now) result }
-        ensures whole { is_whole_chunk (first_level self.old.chain) (box_of region.now) ≡ true
-            → (S.shown self.new.storage.now).asks
-            ≡ counted (S.shown self.old.storage.now).asks 1 }
-        ensures kept { S.kept self.old.storage.now self.new.storage.now }
-        ensures chain { self.new.chain ≡ self.old.chain }
-        ensures key { self.new.key ≡ self.old.key }
-        ensures same_reference { self.new.storage.ghost_name ≡ self.old.storage.ghost_name }
+        requires { CanRead (chain_seen A.ArrayCodecTraits.own A.ArrayToArrayCodecTraits.own
+            B.ArrayCodecTraits.own B.ArrayToBytesCodecTraits.own C.BytesToBytesCodecTraits.own
+            self.old.chain self.old.levels) (box_of region.now) }
+        ensures reads { ReadsPart (chain_seen A.ArrayCodecTraits.own
+            A.ArrayToArrayCodecTraits.own B.ArrayCodecTraits.own B.ArrayToBytesCodecTraits.own
+            C.BytesToBytesCodecTraits.own self.old.chain self.old.levels)
+            (options_of options.now) (box_of region.now) self.old.key
+            (S.shown self.old.storage.now) (S.shown self.new.storage.now) result }
+        ensures keeps { ReadsHandle S.kept self.old self.new }
     {
-        read(&self.chain, alloc, &self.key, region, self.storage, options)
+        read(
+            &self.chain,
+            &self.levels,
+            alloc,
+            &self.key,
+            region,
+            self.storage,
+            options,
+        )
     }
 
     /// Replaces the elements of a region of the chunk. What it takes is as of `write`.
@@ -118,51 +98,19 @@ impl<
         bytes: &ArrayBytes<'_>,
         options: &CodecOptions,
     ) -> Result<(), CodecError>
-        requires served { IsServed A.meaning A.unserved B.unserved self.old.chain }
-        requires takes { B.takes self.old.chain.bottom.codec (above self.old.chain.bottom) }
-        requires fill { HasFill self.old.chain }
-        requires inside { ends_within (box_of region.now) (first_level self.old.chain).shape
-            ≡ true }
-        requires means { IsSome (list_at (at_box (box_of region.now)
-            (first_level self.old.chain)) (raw_of bytes.now)) }
-        requires short { has_long_element (raw_of bytes.now) ≡ false }
-        ensures ok { let level = first_level self.old.chain in
-            let under = options_of options.now in (new : List Element)
-            → list_at (at_box (box_of region.now) level) (raw_of bytes.now) ≡ Some new
-            → OnOk result (UpdatesChunk (decoded A.meaning B.meaning C.meaning self.old.chain)
-            (is_dropped under level) (option_map (with_box level.shape (box_of region.now) new)
-            (chunk_content A.meaning B.meaning C.meaning self.old.chain under
-            ((S.shown self.old.storage.now).content self.old.key)))
-            (S.shown self.old.storage.now).content (S.shown self.new.storage.now).content
-            self.old.key) }
-        ensures failed { let level = first_level self.old.chain in
-            let under = options_of options.now in (new : List Element)
-            → list_at (at_box (box_of region.now) level) (raw_of bytes.now) ≡ Some new
-            → OnErr result (MayUpdateChunk (decoded A.meaning B.meaning C.meaning self.old.chain)
-            (is_dropped under level) (option_map (with_box level.shape (box_of region.now) new)
-            (chunk_content A.meaning B.meaning C.meaning self.old.chain under
-            ((S.shown self.old.storage.now).content self.old.key)))
-            (S.shown self.old.storage.now).content (S.shown self.new.storage.now).content
-            self.old.key) }
-        ensures unchanged { UnlessFault result
-            (SameContent (S.shown self.old.storage.now) (S.shown self.new.storage.now)) }
-        ensures cause { IfErr result (ChunkFails A.meaning B.meaning C.meaning B.says C.says
-            self.old.chain (options_of options.now)
-            ((S.shown self.old.storage.now).content self.old.key)
-            (S.shown self.old.storage.now).faults (S.shown self.new.storage.now).faults) }
-        ensures asks { (S.shown self.new.storage.now).asks
-            ≡ counted (S.shown self.old.storage.now).asks 1 }
-        ensures taken { OnOk result ((S.shown self.new.storage.now).taken
-            ≡ counted (S.shown self.old.storage.now).taken
-            (taken_of None ((S.shown self.old.storage.now).content self.old.key))) }
-        ensures later { (S.shown self.old.storage.now).faults
-            ≤ (S.shown self.new.storage.now).faults }
-        ensures chain { self.new.chain ≡ self.old.chain }
-        ensures key { self.new.key ≡ self.old.key }
-        ensures same_reference { self.new.storage.ghost_name ≡ self.old.storage.ghost_name }
+        requires { CanWrite (chain_seen A.ArrayCodecTraits.own A.ArrayToArrayCodecTraits.own
+            B.ArrayCodecTraits.own B.ArrayToBytesCodecTraits.own C.BytesToBytesCodecTraits.own
+            self.old.chain self.old.levels) (box_of region.now) (raw_of bytes.now) }
+        ensures writes { WritesRegion (chain_seen A.ArrayCodecTraits.own
+            A.ArrayToArrayCodecTraits.own B.ArrayCodecTraits.own B.ArrayToBytesCodecTraits.own
+            C.BytesToBytesCodecTraits.own self.old.chain self.old.levels)
+            (options_of options.now) (box_of region.now) (raw_of bytes.now) self.old.key
+            (S.shown self.old.storage.now) (S.shown self.new.storage.now) result }
+        ensures keeps { KeepsHandle self.old self.new }
     {
         write(
             &self.chain,
+            &self.levels,
             alloc,
             &self.key,
             region,
@@ -177,21 +125,9 @@ impl<
     /// # Errors
     /// [`CodecError::StorageError`] where the store fails.
     pub fn erase(&mut self) -> Result<(), CodecError>
-        ensures ok { OnOk result (PutsKey (S.shown self.old.storage.now).content
-            (S.shown self.new.storage.now).content self.old.key None) }
-        ensures failed { OnErr result (MayPutKey (S.shown self.old.storage.now).content
-            (S.shown self.new.storage.now).content self.old.key None) }
-        ensures cause { IfErr result (IsFault (S.shown self.old.storage.now).faults
-            (S.shown self.new.storage.now).faults) }
-        ensures asks { (S.shown self.new.storage.now).asks
-            ≡ (S.shown self.old.storage.now).asks }
-        ensures taken { (S.shown self.new.storage.now).taken
-            ≡ (S.shown self.old.storage.now).taken }
-        ensures later { (S.shown self.old.storage.now).faults
-            ≤ (S.shown self.new.storage.now).faults }
-        ensures chain { self.new.chain ≡ self.old.chain }
-        ensures key { self.new.key ≡ self.old.key }
-        ensures same_reference { self.new.storage.ghost_name ≡ self.old.storage.ghost_name }
+        ensures erases { ErasesKey self.old.key (S.shown self.old.storage.now)
+            (S.shown self.new.storage.now) result }
+        ensures keeps { KeepsHandle self.old self.new }
     {
         self.storage.erase(&self.key)?;
         Ok(())
@@ -204,6 +140,7 @@ impl<
     {
         let ChainHandle {
             chain: _,
+            levels: _,
             storage,
             key: _,
         } = self;

@@ -19,16 +19,16 @@ ghost use Rattle.zarrs_codec_traits.specs.Words.{list_at, at_box, select};
 ghost use Rattle.zarrs_codec_held.specs.Reads.{IsHandleError};
 ghost use Rattle.zarrs_codec_held.specs.Through.{through};
 ghost use Rattle.zarrs_codec_partial_bytes.specs.Stored.{taken_of};
-ghost use Rattle.zarr_chain.specs.Levels.{above};
-ghost use Rattle.zarr_chain.specs.Chain.{IsServed, first_level, decoded, chain_says};
+ghost use Rattle.zarr_chain.specs.Chain.{bottom_level, steps, IsServed, first_level, decoded, chain_says};
 ghost use Rattle.zarr_chain.specs.Regions.{boxes_below, bottom_box};
 ghost use Rattle.zarr_chain.specs.Values.{byte_codecs, bytes_says};
-ghost use Rattle.zarr_chain_stored.specs.Fetch.{HasFill, chunk_content, chunk_says};
-ghost use Rattle.zarr_chain_stored.specs.Regions.{bottom_request, stored_request, given_bytes, AreGivenParts, parts_say, ReadsRegion, GivesAlike};
+ghost use Rattle.zarr_chain_stored.specs.Fetch.{chunk_says};
+ghost use Rattle.zarr_chain_stored.specs.Seen.{chain_seen, CanRead, ReadsBy};
+ghost use Rattle.zarr_chain_stored.specs.Regions.{bottom_request, stored_request, given_bytes, AreGivenParts, parts_say};
 
 use crate::region::blank_region;
 use std::alloc::Global;
-use zarr_chain::{CodecChain, decode_through, last_or};
+use zarr_chain::{ChunkLevels, CodecChain, decode_through, last_or};
 use zarrs_array_subset::ArraySubset;
 use zarrs_codec_array_bytes::ArrayBytes;
 use zarrs_codec_error::CodecError;
@@ -50,20 +50,21 @@ pub(crate) fn byte_request<
     C: BytesToBytesCodecTraits,
 >(
     chain: &CodecChain<A, B, C>,
+    levels: &ChunkLevels,
     alloc: Global,
     boxes: &[ArraySubset],
     region: &ArraySubset,
 ) -> Result<Option<Vec<ByteRange>>, CodecError>
-    requires served { IsServed A.meaning A.unserved B.unserved chain.now }
-    requires inside { ends_within (box_of region.now) (first_level chain.now).shape ≡ true }
+    requires served { IsServed A.meaning A.unserved B.unserved chain.now levels.now }
+    requires inside { ends_within (box_of region.now) (first_level levels.now).shape ≡ true }
     requires boxes { map box_of boxes.now
-        ≡ boxes_below A.region_below chain.now.levels.items (box_of region.now) }
+        ≡ boxes_below A.region_below (steps chain.now levels.now) (box_of region.now) }
     ensures { MatchResult result (λ r. ranges_of r
-        ≡ bottom_request B.request A.region_below chain.now (box_of region.now))
+        ≡ bottom_request B.request A.region_below chain.now levels.now (box_of region.now))
         (λ e. e ≡ codec.OutOfMemory) }
 {
-    let bottom = &chain.bottom;
-    bottom.codec.byte_request(
+    let bottom = &levels.bottom;
+    chain.to_bytes.byte_request(
         alloc,
         last_or(boxes, region),
         &bottom.shape,
@@ -102,6 +103,7 @@ fn fetch_parts<
     C: BytesToBytesCodecTraits,
 >(
     chain: &CodecChain<A, B, C>,
+    levels: &ChunkLevels,
     alloc: Global,
     key: &StoreKey,
     ranges: &[ByteRange],
@@ -116,7 +118,8 @@ fn fetch_parts<
         IfErr result (λ e.
         IsHandleError (S.shown store.old).faults (S.shown store.new).faults e
         ⊎ parts_say ranges.now given
-        (chunk_says B.says C.meaning C.says chain.now (options_of options.now) content) e) }
+        (chunk_says B.says C.meaning C.says chain.now levels.now (options_of options.now) content)
+        e) }
     ensures same { SameContent (S.shown store.old) (S.shown store.new) }
     ensures asks { (S.shown store.new).asks ≡ counted (S.shown store.old).asks 1 }
     ensures taken { OnOk result ((S.shown store.new).taken ≡ counted (S.shown store.old).taken
@@ -125,13 +128,13 @@ fn fetch_parts<
     ensures later { (S.shown store.old).faults ≤ (S.shown store.new).faults }
     ensures kept { S.kept store.old store.new }
 {
-    if chain.codecs.is_empty() {
+    if chain.byte_codecs.is_empty() {
         let parts = store.get_partial_many(alloc, key, ranges)?;
         return Ok(parts);
     }
     match store.get(alloc, key)? {
         Some(value) => {
-            let parts = parts_through(&chain.codecs, alloc, value, ranges, options)?;
+            let parts = parts_through(&chain.byte_codecs, alloc, value, ranges, options)?;
             Ok(Some(parts))
         }
         None => Ok(None),
@@ -145,39 +148,42 @@ fn bottom_of_parts<
     C: BytesToBytesCodecTraits,
 >(
     chain: &CodecChain<A, B, C>,
+    levels: &ChunkLevels,
     alloc: Global,
     parts: Vec<Vec<u8>>,
     boxes: &[ArraySubset],
     region: &ArraySubset,
     options: &CodecOptions,
 ) -> Result<ArrayBytes<'static>, CodecError>
-    requires served { IsServed A.meaning A.unserved B.unserved chain.now }
-    requires inside { ends_within (box_of region.now) (first_level chain.now).shape ≡ true }
+    requires served { IsServed A.meaning A.unserved B.unserved chain.now levels.now }
+    requires inside { ends_within (box_of region.now) (first_level levels.now).shape ≡ true }
     requires boxes { map box_of boxes.now
-        ≡ boxes_below A.region_below chain.now.levels.items (box_of region.now) }
-    requires answered { IsAnswer (bottom_request B.request A.region_below chain.now
+        ≡ boxes_below A.region_below (steps chain.now levels.now) (box_of region.now) }
+    requires answered { IsAnswer (bottom_request B.request A.region_below chain.now levels.now
         (box_of region.now)) (parts_of parts) }
-    ensures value { let bottom = above chain.now.bottom in
-        let box = bottom_box A.region_below chain.now.levels.items (box_of region.now) in
+    ensures value { let bottom = bottom_level levels.now in
+        let box = bottom_box A.region_below (steps chain.now levels.now) (box_of region.now) in
         (bytes : List ℕ) (xs : List Element)
-        → AreParts (bottom_request B.request A.region_below chain.now (box_of region.now)) bytes
+        → AreParts
+        (bottom_request B.request A.region_below chain.now levels.now (box_of region.now)) bytes
         (parts_of parts)
-        → B.meaning chain.now.bottom.codec (options_of options.now) bottom bytes ≡ Some xs
+        → B.meaning chain.now.to_bytes (options_of options.now) bottom bytes ≡ Some xs
         → MatchResult result (λ v. list_at (at_box box bottom) (raw_of v)
         ≡ Some (select bottom.shape box xs)) (λ e. e ≡ codec.OutOfMemory) }
-    ensures failed { let bottom = above chain.now.bottom in
-        let asked = bottom_request B.request A.region_below chain.now (box_of region.now) in
+    ensures failed { let bottom = bottom_level levels.now in
+        let asked = bottom_request B.request A.region_below chain.now levels.now
+        (box_of region.now) in
         (bytes : List ℕ) → AreParts asked bytes (parts_of parts)
         → request_answer asked (parts_of parts) ≡ fine → IfErr result (IsDecodeError
-        (B.meaning chain.now.bottom.codec (options_of options.now) bottom bytes)
-        (B.says chain.now.bottom.codec (options_of options.now) bottom bytes)) }
+        (B.meaning chain.now.to_bytes (options_of options.now) bottom bytes)
+        (B.says chain.now.to_bytes (options_of options.now) bottom bytes)) }
     ensures valid { IfOk result (λ v. IsSome (list_at (at_box
-        (bottom_box A.region_below chain.now.levels.items (box_of region.now))
-        (above chain.now.bottom)) (raw_of v))) }
+        (bottom_box A.region_below (steps chain.now levels.now) (box_of region.now))
+        (bottom_level levels.now)) (raw_of v))) }
     ensures short { IfOk result (λ v. has_long_element (raw_of v) ≡ false) }
 {
-    let bottom = &chain.bottom;
-    bottom.codec.decode_parts(
+    let bottom = &levels.bottom;
+    chain.to_bytes.decode_parts(
         alloc,
         parts,
         last_or(boxes, region),
@@ -195,40 +201,43 @@ fn region_of_parts<
     C: BytesToBytesCodecTraits,
 >(
     chain: &CodecChain<A, B, C>,
+    levels: &ChunkLevels,
     alloc: Global,
     parts: Vec<Vec<u8>>,
     boxes: &[ArraySubset],
     region: &ArraySubset,
     options: &CodecOptions,
 ) -> Result<ArrayBytes<'static>, CodecError>
-    requires served { IsServed A.meaning A.unserved B.unserved chain.now }
-    requires inside { ends_within (box_of region.now) (first_level chain.now).shape ≡ true }
+    requires served { IsServed A.meaning A.unserved B.unserved chain.now levels.now }
+    requires inside { ends_within (box_of region.now) (first_level levels.now).shape ≡ true }
     requires boxes { map box_of boxes.now
-        ≡ boxes_below A.region_below chain.now.levels.items (box_of region.now) }
-    requires answered { IsAnswer (bottom_request B.request A.region_below chain.now
+        ≡ boxes_below A.region_below (steps chain.now levels.now) (box_of region.now) }
+    requires answered { IsAnswer (bottom_request B.request A.region_below chain.now levels.now
         (box_of region.now)) (parts_of parts) }
-    ensures elements { let level = first_level chain.now in
+    ensures elements { let level = first_level levels.now in
         let under = options_of options.now in (value bytes : List ℕ) (list : List Element)
-        → decode_bytes (byte_codecs C.meaning under chain.now.codecs.items) value ≡ Some bytes
-        → AreParts (bottom_request B.request A.region_below chain.now (box_of region.now)) bytes
+        → decode_bytes (byte_codecs C.meaning under chain.now.byte_codecs.items) value ≡ Some bytes
+        → AreParts
+        (bottom_request B.request A.region_below chain.now levels.now (box_of region.now)) bytes
         (parts_of parts)
-        → decoded A.meaning B.meaning C.meaning chain.now under value ≡ Some list
+        → decoded A.meaning B.meaning C.meaning chain.now levels.now under value ≡ Some list
         → IfOk result (λ v. list_at (at_box (box_of region.now) level) (raw_of v)
         ≡ Some (select level.shape (box_of region.now) list)) }
     ensures failed { let under = options_of options.now in
-        let asked = bottom_request B.request A.region_below chain.now (box_of region.now) in
+        let asked = bottom_request B.request A.region_below chain.now levels.now
+        (box_of region.now) in
         (value bytes : List ℕ)
-        → decode_bytes (byte_codecs C.meaning under chain.now.codecs.items) value ≡ Some bytes
+        → decode_bytes (byte_codecs C.meaning under chain.now.byte_codecs.items) value ≡ Some bytes
         → AreParts asked bytes (parts_of parts)
         → request_answer asked (parts_of parts) ≡ fine → IfErr result (IsDecodeError
-        (decoded A.meaning B.meaning C.meaning chain.now under value)
-        (chain_says B.says C.meaning C.says chain.now under value)) }
+        (decoded A.meaning B.meaning C.meaning chain.now levels.now under value)
+        (chain_says B.says C.meaning C.says chain.now levels.now under value)) }
     ensures valid { IfOk result (λ v. IsSome (list_at (at_box (box_of region.now)
-        (first_level chain.now)) (raw_of v))) }
+        (first_level levels.now)) (raw_of v))) }
     ensures short { IfOk result (λ v. has_long_element (raw_of v) ≡ false) }
 {
-    let part = bottom_of_parts(chain, alloc, parts, boxes, region, options)?;
-    chain.decode_boxes_up(alloc, part, boxes, region, options)
+    let part = bottom_of_parts(chain, levels, alloc, parts, boxes, region, options)?;
+    chain.decode_boxes_up(alloc, levels, part, boxes, region, options)
 }
 
 /// The elements of a region of a chunk, with the boxes that the region is taken down to, by the ranges that the
@@ -240,6 +249,7 @@ pub(crate) fn fetch_by_parts<
     C: BytesToBytesCodecTraits,
 >(
     chain: &CodecChain<A, B, C>,
+    levels: &ChunkLevels,
     alloc: Global,
     key: &StoreKey,
     ranges: &[ByteRange],
@@ -248,34 +258,21 @@ pub(crate) fn fetch_by_parts<
     store: &mut S,
     options: &CodecOptions,
 ) -> Result<ArrayBytes<'static>, CodecError>
-    requires served { IsServed A.meaning A.unserved B.unserved chain.now }
-    requires fill { HasFill chain.now }
-    requires inside { ends_within (box_of region.now) (first_level chain.now).shape ≡ true }
+    requires can { CanRead (chain_seen A.ArrayCodecTraits.own A.ArrayToArrayCodecTraits.own
+        B.ArrayCodecTraits.own B.ArrayToBytesCodecTraits.own C.BytesToBytesCodecTraits.own
+        chain.now levels.now) (box_of region.now) }
     requires boxes { map box_of boxes.now
-        ≡ boxes_below A.region_below chain.now.levels.items (box_of region.now) }
-    requires asked { bottom_request B.request A.region_below chain.now (box_of region.now)
-        ≡ Some ranges.now }
-    ensures elements { let level = first_level chain.now in (list : List Element)
-        → chunk_content A.meaning B.meaning C.meaning chain.now (options_of options.now)
-        ((S.shown store.old).content key.now) ≡ Some list
-        → IfOk result (λ v. list_at (at_box (box_of region.now) level) (raw_of v)
-        ≡ Some (select level.shape (box_of region.now) list)) }
-    ensures alike { let level = first_level chain.now in let box = box_of region.now in
-        GivesAlike A.meaning B.meaning B.says C.meaning C.says
-        (λ list v. list_at (at_box box level) (raw_of v) ≡ Some (select level.shape box list))
-        chain.now (options_of options.now) (Some ranges.now)
-        ((S.shown store.old).content key.now) (S.shown store.old).faults
-        (S.shown store.new).faults result }
-    ensures valid { IfOk result (λ v. IsSome (list_at (at_box (box_of region.now)
-        (first_level chain.now)) (raw_of v))) }
-    ensures short { IfOk result (λ v. has_long_element (raw_of v) ≡ false) }
-    ensures read { ReadsRegion A.meaning B.meaning B.says C.meaning C.says chain.now
-        (options_of options.now) (Some ranges.now) key.now (S.shown store.old)
-        (S.shown store.new) result }
+        ≡ boxes_below A.region_below (steps chain.now levels.now) (box_of region.now) }
+    requires asked { bottom_request B.request A.region_below chain.now levels.now
+        (box_of region.now) ≡ Some ranges.now }
+    ensures reads { ReadsBy (chain_seen A.ArrayCodecTraits.own A.ArrayToArrayCodecTraits.own
+        B.ArrayCodecTraits.own B.ArrayToBytesCodecTraits.own C.BytesToBytesCodecTraits.own
+        chain.now levels.now) (options_of options.now) (box_of region.now) (Some ranges.now)
+        key.now (S.shown store.old) (S.shown store.new) result }
     ensures kept { S.kept store.old store.new }
 {
-    match fetch_parts(chain, alloc, key, ranges, store, options)? {
-        Some(parts) => region_of_parts(chain, alloc, parts, boxes, region, options),
-        None => blank_region(chain, alloc, region),
+    match fetch_parts(chain, levels, alloc, key, ranges, store, options)? {
+        Some(parts) => region_of_parts(chain, levels, alloc, parts, boxes, region, options),
+        None => blank_region(levels, alloc, region),
     }
 }

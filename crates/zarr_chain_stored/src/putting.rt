@@ -1,20 +1,16 @@
 //! A chunk put into a store.
 
-ghost use Rattle.std.specs.Prelude.{◌≡◌, false, List, Some, IsSome, IfErr, OnOk, OnErr, IsErrOf};
-ghost use Rattle.zarr_model.specs.Command.{has_long_element};
+ghost use Rattle.std.specs.Prelude.{◌≡◌, List, Some};
 ghost use Rattle.zarr_model.specs.Element.{Element};
-ghost use Rattle.zarr_model.specs.Outside.{HasCause};
-ghost use Rattle.zarrs_storage.specs.Store.{IsFault, IsPlain, SameContent};
 ghost use Rattle.zarrs_codec_array_bytes.specs.Raw.{raw_of};
 ghost use Rattle.zarrs_codec_traits.specs.Views.{options_of};
 ghost use Rattle.zarrs_codec_traits.specs.Words.{list_at};
-ghost use Rattle.zarr_chain.specs.Levels.{above};
-ghost use Rattle.zarr_chain.specs.Chain.{IsServed, first_level, decoded};
-ghost use Rattle.zarr_chain_stored.specs.Fetch.{HasFill};
-ghost use Rattle.zarr_chain_stored.specs.Put.{is_blank, is_dropped, PutsChunk, MayPutChunk};
+ghost use Rattle.zarr_chain.specs.Chain.{first_level, HasFill};
+ghost use Rattle.zarr_chain_stored.specs.Put.{is_blank, is_dropped};
+ghost use Rattle.zarr_chain_stored.specs.Seen.{chain_seen, CanPut, StoresChunk};
 
 use std::alloc::Global;
-use zarr_chain::CodecChain;
+use zarr_chain::{ChunkLevels, CodecChain};
 use zarrs_codec_array_bytes::ArrayBytes;
 use zarrs_codec_options::CodecOptions;
 use zarrs_codec_traits::{
@@ -23,31 +19,23 @@ use zarrs_codec_traits::{
 use zarrs_storage::{StorageError, Store, StoreKey};
 
 // Whether each element of a chunk is the fill value.
-fn is_blank_chunk<
-    A: ArrayToArrayCodecTraits,
-    B: ArrayToBytesCodecTraits,
-    C: BytesToBytesCodecTraits,
->(chain: &CodecChain<A, B, C>, chunk: &ArrayBytes<'_>) -> bool
-    requires fill { HasFill chain.now }
+fn is_blank_chunk(levels: &ChunkLevels, chunk: &ArrayBytes<'_>) -> bool
+    requires fill { HasFill levels.now }
     ensures { (list : List Element)
-        → list_at (first_level chain.now) (raw_of chunk.now) ≡ Some list
-        → result ≡ is_blank (first_level chain.now) list }
+        → list_at (first_level levels.now) (raw_of chunk.now) ≡ Some list
+        → result ≡ is_blank (first_level levels.now) list }
 {
-    chunk.is_fill_value(chain.fill_value())
+    chunk.is_fill_value(levels.fill_value())
 }
 
 // Whether a chunk is not stored.
-fn is_left_out<A: ArrayToArrayCodecTraits, B: ArrayToBytesCodecTraits, C: BytesToBytesCodecTraits>(
-    chain: &CodecChain<A, B, C>,
-    chunk: &ArrayBytes<'_>,
-    options: &CodecOptions,
-) -> bool
-    requires fill { HasFill chain.now }
+fn is_left_out(levels: &ChunkLevels, chunk: &ArrayBytes<'_>, options: &CodecOptions) -> bool
+    requires fill { HasFill levels.now }
     ensures { (list : List Element)
-        → list_at (first_level chain.now) (raw_of chunk.now) ≡ Some list
-        → result ≡ is_dropped (options_of options.now) (first_level chain.now) list }
+        → list_at (first_level levels.now) (raw_of chunk.now) ≡ Some list
+        → result ≡ is_dropped (options_of options.now) (first_level levels.now) list }
 {
-    !options.store_empty_chunks() && is_blank_chunk(chain, chunk)
+    !options.store_empty_chunks() && is_blank_chunk(levels, chunk)
 }
 
 /// Stores a chunk by one call, or erases its key where all elements are the fill value and such chunks are not stored.
@@ -62,38 +50,25 @@ pub fn put<
     C: BytesToBytesCodecTraits,
 >(
     chain: &CodecChain<A, B, C>,
+    levels: &ChunkLevels,
     alloc: Global,
     key: &StoreKey,
     chunk: ArrayBytes<'static>,
     store: &mut S,
     options: &CodecOptions,
 ) -> Result<(), StorageError>
-    requires served { IsServed A.meaning A.unserved B.unserved chain.now }
-    requires takes { B.takes chain.now.bottom.codec (above chain.now.bottom) }
-    requires fill { HasFill chain.now }
-    requires means { IsSome (list_at (first_level chain.now) (raw_of chunk)) }
-    requires short { has_long_element (raw_of chunk) ≡ false }
-    ensures ok { (list : List Element)
-        → list_at (first_level chain.now) (raw_of chunk.entry) ≡ Some list
-        → OnOk result (PutsChunk (decoded A.meaning B.meaning C.meaning chain.now)
-        (is_dropped (options_of options.now) (first_level chain.now) list) list
-        (S.shown store.old).content (S.shown store.new).content key.now) }
-    ensures failed { (list : List Element)
-        → list_at (first_level chain.now) (raw_of chunk.entry) ≡ Some list
-        → OnErr result (MayPutChunk (decoded A.meaning B.meaning C.meaning chain.now)
-        (is_dropped (options_of options.now) (first_level chain.now) list) list
-        (S.shown store.old).content (S.shown store.new).content key.now) }
-    ensures memory { IsErrOf result StorageError.OutOfMemory
-        → SameContent (S.shown store.old) (S.shown store.new) }
-    ensures plain { IfErr result IsPlain }
-    ensures asks { (S.shown store.new).asks ≡ (S.shown store.old).asks }
-    ensures taken { (S.shown store.new).taken ≡ (S.shown store.old).taken }
-    ensures cause { HasCause IsFault (S.shown store.old).faults (S.shown store.new).faults result }
+    requires { CanPut (chain_seen A.ArrayCodecTraits.own A.ArrayToArrayCodecTraits.own
+        B.ArrayCodecTraits.own B.ArrayToBytesCodecTraits.own C.BytesToBytesCodecTraits.own
+        chain.now levels.now) (raw_of chunk) }
+    ensures { StoresChunk (chain_seen A.ArrayCodecTraits.own A.ArrayToArrayCodecTraits.own
+        B.ArrayCodecTraits.own B.ArrayToBytesCodecTraits.own C.BytesToBytesCodecTraits.own
+        chain.now levels.now) (options_of options.now) (raw_of chunk.entry) key.now
+        (S.shown store.old) (S.shown store.new) result }
 {
-    if is_left_out(chain, &chunk, options) {
+    if is_left_out(levels, &chunk, options) {
         return store.erase(key);
     }
-    match chain.encode(alloc, chunk, options) {
+    match chain.encode(alloc, levels, chunk, options) {
         Ok(value) => store.set(alloc, key, &value),
         Err(_) => Err(StorageError::OutOfMemory),
     }

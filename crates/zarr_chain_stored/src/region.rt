@@ -12,14 +12,12 @@ ghost use Rattle.zarrs_codec_error.specs.declared.error.CodecError.TheVariants a
 ghost use Rattle.zarrs_codec_array_bytes.specs.Raw.{raw_of};
 ghost use Rattle.zarrs_codec_traits.specs.Views.{lengths, level_of};
 ghost use Rattle.zarrs_codec_traits.specs.Words.{list_at, at_box, select, IsFit};
-ghost use Rattle.zarr_chain.specs.Levels.{above};
-ghost use Rattle.zarr_chain.specs.Chain.{IsServed, first_level};
+ghost use Rattle.zarr_chain.specs.Chain.{bottom_level, steps, IsServed, first_level, HasFill};
 ghost use Rattle.zarr_chain.specs.Regions.{boxes_below, bottom_box};
-ghost use Rattle.zarr_chain_stored.specs.Fetch.{HasFill};
 
 use std::alloc::Global;
 use std::num::NonZeroU64;
-use zarr_chain::{CodecChain, last_or};
+use zarr_chain::{ChunkLevels, CodecChain, last_or};
 use zarrs_array_subset::ArraySubset;
 use zarrs_codec_array_bytes::ArrayBytes;
 use zarrs_codec_error::CodecError;
@@ -31,26 +29,22 @@ use zarrs_data_type_elements::FillValue;
 use zarrs_data_type_names::DataType;
 
 // The elements of a region of a chunk.
-pub(crate) fn part_of<
-    A: ArrayToArrayCodecTraits,
-    B: ArrayToBytesCodecTraits,
-    C: BytesToBytesCodecTraits,
->(
-    chain: &CodecChain<A, B, C>,
+pub(crate) fn part_of(
+    levels: &ChunkLevels,
     alloc: Global,
     whole: &ArrayBytes<'_>,
     region: &ArraySubset,
 ) -> Result<ArrayBytes<'static>, CodecError>
-    requires served { IsServed A.meaning A.unserved B.unserved chain.now }
-    requires inside { ends_within (box_of region.now) (first_level chain.now).shape ≡ true }
-    ensures value { let level = first_level chain.now in (list : List Element)
+    requires fits { IsFit (first_level levels.now).shape (first_level levels.now).data_type }
+    requires inside { ends_within (box_of region.now) (first_level levels.now).shape ≡ true }
+    ensures value { let level = first_level levels.now in (list : List Element)
         → list_at level (raw_of whole.now) ≡ Some list
         → MatchResult result (λ v. list_at (at_box (box_of region.now) level) (raw_of v)
         ≡ Some (select level.shape (box_of region.now) list)) (λ e. e ≡ codec.OutOfMemory) }
     ensures short { has_long_element (raw_of whole.now) ≡ false
         → IfOk result (λ v. has_long_element (raw_of v) ≡ false) }
 {
-    extracted(alloc, whole, region, chain.shape(), chain.data_type())
+    extracted(alloc, whole, region, levels.shape(), levels.data_type())
 }
 
 // The elements of the box at the bottom that a region of a chunk needs, out of all that stand there.
@@ -60,24 +54,25 @@ pub(crate) fn bottom_part<
     C: BytesToBytesCodecTraits,
 >(
     chain: &CodecChain<A, B, C>,
+    levels: &ChunkLevels,
     alloc: Global,
     below: &ArrayBytes<'_>,
     boxes: &[ArraySubset],
     region: &ArraySubset,
 ) -> Result<ArrayBytes<'static>, CodecError>
-    requires served { IsServed A.meaning A.unserved B.unserved chain.now }
-    requires inside { ends_within (box_of region.now) (first_level chain.now).shape ≡ true }
+    requires served { IsServed A.meaning A.unserved B.unserved chain.now levels.now }
+    requires inside { ends_within (box_of region.now) (first_level levels.now).shape ≡ true }
     requires boxes { map box_of boxes.now
-        ≡ boxes_below A.region_below chain.now.levels.items (box_of region.now) }
-    ensures value { let bottom = above chain.now.bottom in
-        let box = bottom_box A.region_below chain.now.levels.items (box_of region.now) in
+        ≡ boxes_below A.region_below (steps chain.now levels.now) (box_of region.now) }
+    ensures value { let bottom = bottom_level levels.now in
+        let box = bottom_box A.region_below (steps chain.now levels.now) (box_of region.now) in
         (list : List Element) → list_at bottom (raw_of below.now) ≡ Some list
         → MatchResult result (λ v. list_at (at_box box bottom) (raw_of v)
         ≡ Some (select bottom.shape box list)) (λ e. e ≡ codec.OutOfMemory) }
     ensures short { has_long_element (raw_of below.now) ≡ false
         → IfOk result (λ v. has_long_element (raw_of v) ≡ false) }
 {
-    let bottom = &chain.bottom;
+    let bottom = &levels.bottom;
     extracted(
         alloc,
         below,
@@ -110,19 +105,15 @@ fn filled_region(
 }
 
 // The same of a region of a chain's chunk.
-pub(crate) fn blank_region<
-    A: ArrayToArrayCodecTraits,
-    B: ArrayToBytesCodecTraits,
-    C: BytesToBytesCodecTraits,
->(
-    chain: &CodecChain<A, B, C>,
+pub(crate) fn blank_region(
+    levels: &ChunkLevels,
     alloc: Global,
     region: &ArraySubset,
 ) -> Result<ArrayBytes<'static>, CodecError>
-    requires served { IsServed A.meaning A.unserved B.unserved chain.now }
-    requires fill { HasFill chain.now }
-    requires inside { ends_within (box_of region.now) (first_level chain.now).shape ≡ true }
-    ensures value { let level = first_level chain.now in
+    requires fits { IsFit (first_level levels.now).shape (first_level levels.now).data_type }
+    requires fill { HasFill levels.now }
+    requires inside { ends_within (box_of region.now) (first_level levels.now).shape ≡ true }
+    ensures value { let level = first_level levels.now in
         MatchResult result (λ v. list_at (at_box (box_of region.now) level) (raw_of v)
         ≡ Some (select level.shape (box_of region.now)
         (replicate (count_of level.shape) level.fill))) (λ e. e ≡ codec.OutOfMemory) }
@@ -130,9 +121,9 @@ pub(crate) fn blank_region<
 {
     filled_region(
         alloc,
-        chain.shape(),
-        chain.data_type(),
-        chain.fill_value(),
+        levels.shape(),
+        levels.data_type(),
+        levels.fill_value(),
         region,
     )
 }

@@ -1,31 +1,25 @@
 //! A region of a chunk in a store, replaced.
 
-ghost use Rattle.std.specs.Prelude.{◌≡◌, ◌≤◌, true, false, List, Some, None, IsSome, option_map, IfOk, IfErr, OnOk, OnErr, MatchResult};
+ghost use Rattle.std.specs.Prelude.{◌≡◌, true, false, List, Some, IfOk, MatchResult};
 ghost use Rattle.zarr_model.specs.Command.{has_long_element};
-ghost use Rattle.zarr_model.specs.Cost.{counted};
 ghost use Rattle.zarr_model.specs.ArrayBytes.{meaning};
 ghost use Rattle.zarr_model.specs.Element.{Element, kind_of};
 ghost use Rattle.zarr_model.specs.Region.{count, count_of, ends_within};
 ghost use Rattle.zarrs_array_subset.specs.ArraySubset.{region as box_of};
-ghost use Rattle.zarrs_storage.specs.Store.{SameContent};
 ghost use Rattle.zarrs_data_type_names.specs.DataType.{type_of};
 ghost use Rattle.zarrs_codec_error.specs.declared.error.CodecError.TheVariants as codec;
 ghost use Rattle.zarrs_codec_array_bytes.specs.Raw.{raw_of};
 ghost use Rattle.zarrs_codec_traits.specs.Views.{lengths, options_of};
 ghost use Rattle.zarrs_codec_traits.specs.Words.{list_at, at_box, IsFit};
-ghost use Rattle.zarrs_codec_held.specs.Writes.{UnlessFault};
-ghost use Rattle.zarrs_codec_partial_bytes.specs.Stored.{taken_of};
-ghost use Rattle.zarr_chain.specs.Levels.{above};
-ghost use Rattle.zarr_chain.specs.Chain.{IsServed, first_level, decoded};
-ghost use Rattle.zarr_chain_stored.specs.Fetch.{HasFill, chunk_content, ChunkFails};
-ghost use Rattle.zarr_chain_stored.specs.Put.{is_dropped};
-ghost use Rattle.zarr_chain_stored.specs.Update.{with_box, UpdatesChunk, MayUpdateChunk};
+ghost use Rattle.zarr_chain.specs.Chain.{first_level};
+ghost use Rattle.zarr_chain_stored.specs.Seen.{chain_seen, CanWrite, WritesRegion};
+ghost use Rattle.zarr_chain_stored.specs.Update.{with_box};
 
 use crate::fetching::fetch;
 use crate::putting::put;
 use std::alloc::Global;
 use std::num::NonZeroU64;
-use zarr_chain::CodecChain;
+use zarr_chain::{ChunkLevels, CodecChain};
 use zarrs_array_subset::ArraySubset;
 use zarrs_codec_array_bytes::ArrayBytes;
 use zarrs_codec_array_bytes_update::update_array_bytes;
@@ -63,16 +57,16 @@ fn with_region(
 }
 
 // A chunk with the elements of a region replaced.
-fn updated<A: ArrayToArrayCodecTraits, B: ArrayToBytesCodecTraits, C: BytesToBytesCodecTraits>(
-    chain: &CodecChain<A, B, C>,
+fn updated(
+    levels: &ChunkLevels,
     alloc: Global,
     whole: &ArrayBytes<'_>,
     region: &ArraySubset,
     bytes: &ArrayBytes<'_>,
 ) -> Result<ArrayBytes<'static>, CodecError>
-    requires served { IsServed A.meaning A.unserved B.unserved chain.now }
-    requires inside { ends_within (box_of region.now) (first_level chain.now).shape ≡ true }
-    ensures value { let level = first_level chain.now in (old new : List Element)
+    requires fits { IsFit (first_level levels.now).shape (first_level levels.now).data_type }
+    requires inside { ends_within (box_of region.now) (first_level levels.now).shape ≡ true }
+    ensures value { let level = first_level levels.now in (old new : List Element)
         → list_at level (raw_of whole.now) ≡ Some old
         → list_at (at_box (box_of region.now) level) (raw_of bytes.now) ≡ Some new
         → MatchResult result (λ v. list_at level (raw_of v)
@@ -84,8 +78,8 @@ fn updated<A: ArrayToArrayCodecTraits, B: ArrayToBytesCodecTraits, C: BytesToByt
     with_region(
         alloc,
         whole,
-        chain.shape(),
-        chain.data_type(),
+        levels.shape(),
+        levels.data_type(),
         region,
         bytes,
     )
@@ -104,6 +98,7 @@ pub fn write<
     C: BytesToBytesCodecTraits,
 >(
     chain: &CodecChain<A, B, C>,
+    levels: &ChunkLevels,
     alloc: Global,
     key: &StoreKey,
     region: &ArraySubset,
@@ -111,40 +106,16 @@ pub fn write<
     store: &mut S,
     options: &CodecOptions,
 ) -> Result<(), CodecError>
-    requires served { IsServed A.meaning A.unserved B.unserved chain.now }
-    requires takes { B.takes chain.now.bottom.codec (above chain.now.bottom) }
-    requires fill { HasFill chain.now }
-    requires inside { ends_within (box_of region.now) (first_level chain.now).shape ≡ true }
-    requires means { IsSome (list_at (at_box (box_of region.now) (first_level chain.now))
-        (raw_of bytes.now)) }
-    requires short { has_long_element (raw_of bytes.now) ≡ false }
-    ensures ok { let level = first_level chain.now in let under = options_of options.now in
-        (new : List Element)
-        → list_at (at_box (box_of region.now) level) (raw_of bytes.now) ≡ Some new
-        → OnOk result (UpdatesChunk (decoded A.meaning B.meaning C.meaning chain.now)
-        (is_dropped under level) (option_map (with_box level.shape (box_of region.now) new)
-        (chunk_content A.meaning B.meaning C.meaning chain.now under
-        ((S.shown store.old).content key.now)))
-        (S.shown store.old).content (S.shown store.new).content key.now) }
-    ensures failed { let level = first_level chain.now in let under = options_of options.now in
-        (new : List Element)
-        → list_at (at_box (box_of region.now) level) (raw_of bytes.now) ≡ Some new
-        → OnErr result (MayUpdateChunk (decoded A.meaning B.meaning C.meaning chain.now)
-        (is_dropped under level) (option_map (with_box level.shape (box_of region.now) new)
-        (chunk_content A.meaning B.meaning C.meaning chain.now under
-        ((S.shown store.old).content key.now)))
-        (S.shown store.old).content (S.shown store.new).content key.now) }
-    ensures unchanged { UnlessFault result (SameContent (S.shown store.old) (S.shown store.new)) }
-    ensures cause { IfErr result (ChunkFails A.meaning B.meaning C.meaning B.says C.says chain.now
-        (options_of options.now) ((S.shown store.old).content key.now)
-        (S.shown store.old).faults (S.shown store.new).faults) }
-    ensures asks { (S.shown store.new).asks ≡ counted (S.shown store.old).asks 1 }
-    ensures taken { OnOk result ((S.shown store.new).taken ≡ counted (S.shown store.old).taken
-        (taken_of None ((S.shown store.old).content key.now))) }
-    ensures later { (S.shown store.old).faults ≤ (S.shown store.new).faults }
+    requires { CanWrite (chain_seen A.ArrayCodecTraits.own A.ArrayToArrayCodecTraits.own
+        B.ArrayCodecTraits.own B.ArrayToBytesCodecTraits.own C.BytesToBytesCodecTraits.own
+        chain.now levels.now) (box_of region.now) (raw_of bytes.now) }
+    ensures { WritesRegion (chain_seen A.ArrayCodecTraits.own A.ArrayToArrayCodecTraits.own
+        B.ArrayCodecTraits.own B.ArrayToBytesCodecTraits.own C.BytesToBytesCodecTraits.own
+        chain.now levels.now) (options_of options.now) (box_of region.now)
+        (raw_of bytes.now) key.now (S.shown store.old) (S.shown store.new) result }
 {
-    let whole = fetch(chain, alloc, key, store, options)?;
-    let chunk = updated(chain, alloc, &whole, region, bytes)?;
-    put(chain, alloc, key, chunk, store, options)?;
+    let whole = fetch(chain, levels, alloc, key, store, options)?;
+    let chunk = updated(levels, alloc, &whole, region, bytes)?;
+    put(chain, levels, alloc, key, chunk, store, options)?;
     Ok(())
 }

@@ -10,15 +10,16 @@ ghost use Rattle.zarrs_codec_array_bytes.specs.Raw.{raw_of};
 ghost use Rattle.zarrs_codec_traits.specs.Errors.{IsDecodeError};
 ghost use Rattle.zarrs_codec_traits.specs.Views.{options_of};
 ghost use Rattle.zarrs_codec_traits.specs.Words.{list_at, at_box, select};
-ghost use Rattle.zarr_chain.specs.Chain.{IsServed, first_level, decoded, chain_says};
+ghost use Rattle.zarr_chain.specs.Chain.{IsServed, first_level, steps, decoded, chain_says, HasFill};
 ghost use Rattle.zarr_chain.specs.Regions.{boxes_below};
-ghost use Rattle.zarr_chain_stored.specs.Fetch.{HasFill, chunk_content, chunk_says};
-ghost use Rattle.zarr_chain_stored.specs.Regions.{GivesRegion, gives_chunk, fetched_bytes, is_whole_chunk, FetchesRegion};
+ghost use Rattle.zarr_chain_stored.specs.Fetch.{chunk_content, chunk_says};
+ghost use Rattle.zarr_chain_stored.specs.Regions.{GivesRegion, gives_chunk, fetched_bytes, is_whole_chunk};
+ghost use Rattle.zarr_chain_stored.specs.Seen.{chain_seen, CanRead, FetchesBy};
 
 use crate::fetched::Fetched;
 use crate::region::{blank_region, bottom_part};
 use std::alloc::Global;
-use zarr_chain::CodecChain;
+use zarr_chain::{ChunkLevels, CodecChain};
 use zarrs_array_subset::ArraySubset;
 use zarrs_codec_array_bytes::ArrayBytes;
 use zarrs_codec_error::CodecError;
@@ -36,31 +37,33 @@ fn region_of_value<
     C: BytesToBytesCodecTraits,
 >(
     chain: &CodecChain<A, B, C>,
+    levels: &ChunkLevels,
     alloc: Global,
     value: Vec<u8>,
     boxes: &[ArraySubset],
     region: &ArraySubset,
     options: &CodecOptions,
 ) -> Result<ArrayBytes<'static>, CodecError>
-    requires served { IsServed A.meaning A.unserved B.unserved chain.now }
-    requires inside { ends_within (box_of region.now) (first_level chain.now).shape ≡ true }
+    requires served { IsServed A.meaning A.unserved B.unserved chain.now levels.now }
+    requires inside { ends_within (box_of region.now) (first_level levels.now).shape ≡ true }
     requires boxes { map box_of boxes.now
-        ≡ boxes_below A.region_below chain.now.levels.items (box_of region.now) }
-    ensures elements { let level = first_level chain.now in (list : List Element)
-        → decoded A.meaning B.meaning C.meaning chain.now (options_of options.now) value.items
-        ≡ Some list
+        ≡ boxes_below A.region_below (steps chain.now levels.now) (box_of region.now) }
+    ensures elements { let level = first_level levels.now in (list : List Element)
+        → decoded A.meaning B.meaning C.meaning chain.now levels.now (options_of options.now)
+        value.items ≡ Some list
         → IfOk result (λ v. list_at (at_box (box_of region.now) level) (raw_of v)
         ≡ Some (select level.shape (box_of region.now) list)) }
     ensures decodes { IfOk result (λ _. IsSome
-        (decoded A.meaning B.meaning C.meaning chain.now (options_of options.now) value.items)) }
+        (decoded A.meaning B.meaning C.meaning chain.now levels.now (options_of options.now)
+        value.items)) }
     ensures failed { let under = options_of options.now in IfErr result (IsDecodeError
-        (decoded A.meaning B.meaning C.meaning chain.now under value.items)
-        (chain_says B.says C.meaning C.says chain.now under value.items)) }
+        (decoded A.meaning B.meaning C.meaning chain.now levels.now under value.items)
+        (chain_says B.says C.meaning C.says chain.now levels.now under value.items)) }
     ensures short { IfOk result (λ v. has_long_element (raw_of v) ≡ false) }
 {
-    let below = chain.decode_bottom(alloc, value, options)?;
-    let part = bottom_part(chain, alloc, &below, boxes, region)?;
-    chain.decode_boxes_up(alloc, part, boxes, region, options)
+    let below = chain.decode_bottom(alloc, levels, value, options)?;
+    let part = bottom_part(chain, levels, alloc, &below, boxes, region)?;
+    chain.decode_boxes_up(alloc, levels, part, boxes, region, options)
 }
 
 // Elements of a chunk for a region of it, by its value: all of them where the chain has no array-to-array codec, and
@@ -71,33 +74,35 @@ fn fetched_of_value<
     C: BytesToBytesCodecTraits,
 >(
     chain: &CodecChain<A, B, C>,
+    levels: &ChunkLevels,
     alloc: Global,
     value: Vec<u8>,
     boxes: &[ArraySubset],
     region: &ArraySubset,
     options: &CodecOptions,
 ) -> Result<Fetched, CodecError>
-    requires served { IsServed A.meaning A.unserved B.unserved chain.now }
-    requires inside { ends_within (box_of region.now) (first_level chain.now).shape ≡ true }
+    requires served { IsServed A.meaning A.unserved B.unserved chain.now levels.now }
+    requires inside { ends_within (box_of region.now) (first_level levels.now).shape ≡ true }
     requires boxes { map box_of boxes.now
-        ≡ boxes_below A.region_below chain.now.levels.items (box_of region.now) }
+        ≡ boxes_below A.region_below (steps chain.now levels.now) (box_of region.now) }
     ensures elements { let under = options_of options.now in (list : List Element)
-        → decoded A.meaning B.meaning C.meaning chain.now under value.items ≡ Some list
-        → IfOk result (GivesRegion (first_level chain.now) (box_of region.now) list) }
+        → decoded A.meaning B.meaning C.meaning chain.now levels.now under value.items ≡ Some list
+        → IfOk result (GivesRegion (first_level levels.now) (box_of region.now) list) }
     ensures decodes { IfOk result (λ _. IsSome
-        (decoded A.meaning B.meaning C.meaning chain.now (options_of options.now) value.items)) }
+        (decoded A.meaning B.meaning C.meaning chain.now levels.now (options_of options.now)
+        value.items)) }
     ensures failed { let under = options_of options.now in IfErr result (IsDecodeError
-        (decoded A.meaning B.meaning C.meaning chain.now under value.items)
-        (chain_says B.says C.meaning C.says chain.now under value.items)) }
+        (decoded A.meaning B.meaning C.meaning chain.now levels.now under value.items)
+        (chain_says B.says C.meaning C.says chain.now levels.now under value.items)) }
     ensures short { IfOk result (λ v. has_long_element (fetched_bytes v) ≡ false) }
     ensures which { IfOk result
-        (λ v. gives_chunk v ≡ (length chain.now.levels.items == 0)) }
+        (λ v. gives_chunk v ≡ (length chain.now.array_codecs.items == 0)) }
 {
-    if chain.levels.is_empty() {
-        let chunk = chain.decode(alloc, value, options)?;
+    if chain.array_codecs.is_empty() {
+        let chunk = chain.decode(alloc, levels, value, options)?;
         Ok(Fetched::Chunk(chunk))
     } else {
-        let part = region_of_value(chain, alloc, value, boxes, region, options)?;
+        let part = region_of_value(chain, levels, alloc, value, boxes, region, options)?;
         Ok(Fetched::Region(part))
     }
 }
@@ -105,35 +110,36 @@ fn fetched_of_value<
 // The same by what stands under its key: the region's, where that is nothing.
 fn fetched_of<A: ArrayToArrayCodecTraits, B: ArrayToBytesCodecTraits, C: BytesToBytesCodecTraits>(
     chain: &CodecChain<A, B, C>,
+    levels: &ChunkLevels,
     alloc: Global,
     value: Option<Vec<u8>>,
     boxes: &[ArraySubset],
     region: &ArraySubset,
     options: &CodecOptions,
 ) -> Result<Fetched, CodecError>
-    requires served { IsServed A.meaning A.unserved B.unserved chain.now }
-    requires fill { HasFill chain.now }
-    requires inside { ends_within (box_of region.now) (first_level chain.now).shape ≡ true }
+    requires served { IsServed A.meaning A.unserved B.unserved chain.now levels.now }
+    requires fill { HasFill levels.now }
+    requires inside { ends_within (box_of region.now) (first_level levels.now).shape ≡ true }
     requires boxes { map box_of boxes.now
-        ≡ boxes_below A.region_below chain.now.levels.items (box_of region.now) }
+        ≡ boxes_below A.region_below (steps chain.now levels.now) (box_of region.now) }
     ensures elements { let under = options_of options.now in (list : List Element)
-        → chunk_content A.meaning B.meaning C.meaning chain.now under (value_bytes value)
+        → chunk_content A.meaning B.meaning C.meaning chain.now levels.now under (value_bytes value)
         ≡ Some list
-        → IfOk result (GivesRegion (first_level chain.now) (box_of region.now) list) }
+        → IfOk result (GivesRegion (first_level levels.now) (box_of region.now) list) }
     ensures decodes { IfOk result
-        (λ _. IsSome (chunk_content A.meaning B.meaning C.meaning chain.now
+        (λ _. IsSome (chunk_content A.meaning B.meaning C.meaning chain.now levels.now
         (options_of options.now) (value_bytes value))) }
     ensures failed { let under = options_of options.now in IfErr result (IsDecodeError
-        (chunk_content A.meaning B.meaning C.meaning chain.now under (value_bytes value))
-        (chunk_says B.says C.meaning C.says chain.now under (value_bytes value))) }
+        (chunk_content A.meaning B.meaning C.meaning chain.now levels.now under (value_bytes value))
+        (chunk_says B.says C.meaning C.says chain.now levels.now under (value_bytes value))) }
     ensures short { IfOk result (λ v. has_long_element (fetched_bytes v) ≡ false) }
     ensures which { IfOk result (λ v. gives_chunk v
-        ≡ ((length chain.now.levels.items == 0) && is_some (value_bytes value))) }
+        ≡ ((length chain.now.array_codecs.items == 0) && is_some (value_bytes value))) }
 {
     match value {
-        Some(value) => fetched_of_value(chain, alloc, value, boxes, region, options),
+        Some(value) => fetched_of_value(chain, levels, alloc, value, boxes, region, options),
         None => {
-            let part = blank_region(chain, alloc, region)?;
+            let part = blank_region(levels, alloc, region)?;
             Ok(Fetched::Region(part))
         }
     }
@@ -148,6 +154,7 @@ pub(crate) fn fetch_by_value<
     C: BytesToBytesCodecTraits,
 >(
     chain: &CodecChain<A, B, C>,
+    levels: &ChunkLevels,
     alloc: Global,
     key: &StoreKey,
     boxes: &[ArraySubset],
@@ -155,17 +162,18 @@ pub(crate) fn fetch_by_value<
     store: &mut S,
     options: &CodecOptions,
 ) -> Result<Fetched, CodecError>
-    requires served { IsServed A.meaning A.unserved B.unserved chain.now }
-    requires fill { HasFill chain.now }
-    requires inside { ends_within (box_of region.now) (first_level chain.now).shape ≡ true }
+    requires can { CanRead (chain_seen A.ArrayCodecTraits.own A.ArrayToArrayCodecTraits.own
+        B.ArrayCodecTraits.own B.ArrayToBytesCodecTraits.own C.BytesToBytesCodecTraits.own
+        chain.now levels.now) (box_of region.now) }
     requires boxes { map box_of boxes.now
-        ≡ boxes_below A.region_below chain.now.levels.items (box_of region.now) }
-    requires part { is_whole_chunk (first_level chain.now) (box_of region.now) ≡ false }
-    ensures fetched { FetchesRegion A.meaning B.meaning B.says C.meaning C.says chain.now
-        (options_of options.now) (box_of region.now) None key.now (S.shown store.old)
-        (S.shown store.new) result }
+        ≡ boxes_below A.region_below (steps chain.now levels.now) (box_of region.now) }
+    requires part { is_whole_chunk (first_level levels.now) (box_of region.now) ≡ false }
+    ensures fetches { FetchesBy (chain_seen A.ArrayCodecTraits.own A.ArrayToArrayCodecTraits.own
+        B.ArrayCodecTraits.own B.ArrayToBytesCodecTraits.own C.BytesToBytesCodecTraits.own
+        chain.now levels.now) (options_of options.now) (box_of region.now) None key.now
+        (S.shown store.old) (S.shown store.new) result }
     ensures kept { S.kept store.old store.new }
 {
     let value = store.get(alloc, key)?;
-    fetched_of(chain, alloc, value, boxes, region, options)
+    fetched_of(chain, levels, alloc, value, boxes, region, options)
 }

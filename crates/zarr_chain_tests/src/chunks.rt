@@ -4,15 +4,14 @@ ghost use Rattle.std.specs.Prelude.{◌≡◌, ◌*◌, true, List, [], ◌∷�
 ghost use Rattle.zarr_model.specs.Region.{count, ends_within};
 ghost use Rattle.zarr_model.specs.Element.{uint_type};
 ghost use Rattle.zarrs_array_subset.specs.ArraySubset.{region as box_of};
-ghost use Rattle.zarr_chain.specs.Chain.{IsServed, first_level};
-ghost use Rattle.zarr_chain_stored.specs.Fetch.{HasFill};
+ghost use Rattle.zarr_chain.specs.Chain.{IsServed, first_level, HasFill};
 
 use crate::texts::{is_text, told as told_elements};
 use std::alloc::{AllocError, Global};
 use std::borrow::CowSlice;
 use std::num::NonZeroU64;
 use std::process::Abort;
-use zarr_chain::CodecChain;
+use zarr_chain::{ChunkLevels, CodecChain};
 use zarr_chain_stored::ChainHandle;
 use zarr_codecs::{BytesCodec, Sha256Codec};
 use zarr_codecs_offset::OffsetCodec;
@@ -28,13 +27,21 @@ use zarrs_storage::{MemoryStore, Store, StoreKey};
 
 type Numbers = CodecChain<OffsetCodec, BytesCodec, Sha256Codec>;
 
-// Two rows of three numbers of two bytes, 7 where nothing is written. One is put on each, the greater byte comes first,
-// and a digest is last.
-fn numbers(rt: &impl Abort, alloc: Global) -> Numbers
+// One is put on each number, the greater byte comes first, and a digest is last.
+fn numbers(rt: &impl Abort, alloc: Global) -> Numbers {
+    CodecChain {
+        array_codecs: vec![in alloc; OffsetCodec::new(1)].expect(rt, "memory"),
+        to_bytes: BytesCodec::new(Some(Endianness::Big)),
+        byte_codecs: vec![in alloc; Sha256Codec::new()].expect(rt, "memory"),
+    }
+}
+
+// Two rows of three numbers of two bytes, 7 where nothing is written.
+fn levels(rt: &impl Abort, alloc: Global, chain: &Numbers) -> ChunkLevels
     ensures served { IsServed
         ⟦<OffsetCodec as ArrayToArrayCodecTraits>⟧.meaning
         ⟦<OffsetCodec as ArrayCodecTraits>⟧.unserved
-        ⟦<BytesCodec as ArrayCodecTraits>⟧.unserved result }
+        ⟦<BytesCodec as ArrayCodecTraits>⟧.unserved chain.now result }
     ensures fill { HasFill result }
     ensures first { ((first_level result).shape ≡ 2 ∷ 3 ∷ [])
         × ((first_level result).data_type ≡ uint_type 2) }
@@ -42,16 +49,7 @@ fn numbers(rt: &impl Abort, alloc: Global) -> Numbers
     let two = NonZeroU64::new(2).expect(rt, "two");
     let three = NonZeroU64::new(3).expect(rt, "three");
     let fill = FillValue::new([7, 0].as_slice().to_vec(alloc).expect(rt, "memory"));
-    CodecChain::build(
-        alloc,
-        vec![in alloc; OffsetCodec::new(1)].expect(rt, "memory"),
-        BytesCodec::new(Some(Endianness::Big)),
-        vec![in alloc; Sha256Codec::new()].expect(rt, "memory"),
-        &[two, three],
-        &DataType::UInt16,
-        &fill,
-    )
-    .expect(rt, "a chain")
+    ChunkLevels::of(alloc, chain, &[two, three], &DataType::UInt16, &fill).expect(rt, "levels")
 }
 
 fn key(rt: &impl Abort, alloc: Global) -> StoreKey {
@@ -68,7 +66,9 @@ fn part(
 ) -> Result<String, AllocError>
     requires { ends_within (box_of region.now) (2 ∷ 3 ∷ []) ≡ true }
 {
-    let mut handle = ChainHandle::from_parts(numbers(rt, alloc), store, key(rt, alloc));
+    let chain = numbers(rt, alloc);
+    let levels = levels(rt, alloc, &chain);
+    let mut handle = ChainHandle::from_parts(chain, levels, store, key(rt, alloc));
     let made = handle.partial_decode(alloc, region, &CodecOptions::default());
     let _store = handle.into_storage();
     told_elements(alloc, made)
@@ -86,14 +86,18 @@ fn write(
     requires as_long { length bytes.now ≡ count (box_of region.now) * 2 }
 {
     let elements = ArrayBytes::new_flen(CowSlice::Borrowed(bytes));
-    let mut handle = ChainHandle::from_parts(numbers(rt, alloc), store, key(rt, alloc));
+    let chain = numbers(rt, alloc);
+    let levels = levels(rt, alloc, &chain);
+    let mut handle = ChainHandle::from_parts(chain, levels, store, key(rt, alloc));
     let done = handle.partial_encode(alloc, region, &elements, &CodecOptions::default());
     let _store = handle.into_storage();
     done.ok().expect(rt, "a write");
 }
 
 fn erase(rt: &impl Abort, alloc: Global, store: &mut MemoryStore) {
-    let mut handle = ChainHandle::from_parts(numbers(rt, alloc), store, key(rt, alloc));
+    let chain = numbers(rt, alloc);
+    let levels = levels(rt, alloc, &chain);
+    let mut handle = ChainHandle::from_parts(chain, levels, store, key(rt, alloc));
     let done = handle.erase();
     let _store = handle.into_storage();
     done.ok().expect(rt, "an erase");
@@ -111,9 +115,11 @@ fn from_bottom(
     requires as_long { length bytes.now ≡ count (box_of region.now) * 2 }
 {
     let chain = numbers(rt, alloc);
+    let levels = levels(rt, alloc, &chain);
     let elements = ArrayBytes::new_flen(CowSlice::Borrowed(bytes));
-    let boxes = chain.boxes_down(alloc, region).expect(rt, "boxes");
-    let made = chain.decode_boxes_up(alloc, elements, &boxes, region, &CodecOptions::default());
+    let boxes = chain.boxes_down(alloc, &levels, region).expect(rt, "boxes");
+    let options = CodecOptions::default();
+    let made = chain.decode_boxes_up(alloc, &levels, elements, &boxes, region, &options);
     let text = told_elements(alloc, made).expect(rt, "memory");
     format!(in alloc; "{}: {text}", boxes.len())
 }

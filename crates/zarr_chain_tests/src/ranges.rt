@@ -3,14 +3,13 @@
 ghost use Rattle.std.specs.Prelude.{◌≡◌, true, [], ◌∷◌};
 ghost use Rattle.zarr_model.specs.Region.{ends_within};
 ghost use Rattle.zarrs_array_subset.specs.ArraySubset.{region as box_of};
-ghost use Rattle.zarr_chain.specs.Chain.{IsServed, first_level};
-ghost use Rattle.zarr_chain_stored.specs.Fetch.{HasFill};
+ghost use Rattle.zarr_chain.specs.Chain.{IsServed, first_level, HasFill};
 
 use crate::texts::{is_text, told as told_elements};
 use std::alloc::{AllocError, Global};
 use std::num::NonZeroU64;
 use std::process::Abort;
-use zarr_chain::CodecChain;
+use zarr_chain::{ChunkLevels, CodecChain};
 use zarr_chain_stored::ChainHandle;
 use zarr_codecs::Sha256Codec;
 use zarr_codecs_offset::OffsetCodec;
@@ -24,28 +23,28 @@ use zarrs_storage::{MemoryStore, Store, StoreKey};
 
 type Singles = CodecChain<OffsetCodec, SingleBytesCodec, Sha256Codec>;
 
-// Two rows of three numbers of one byte, 7 where nothing is written. One is put on each.
-fn singles(rt: &impl Abort, alloc: Global, codecs: Vec<Sha256Codec>) -> Singles
+// One is put on each number.
+fn singles(rt: &impl Abort, alloc: Global, codecs: Vec<Sha256Codec>) -> Singles {
+    CodecChain {
+        array_codecs: vec![in alloc; OffsetCodec::new(1)].expect(rt, "memory"),
+        to_bytes: SingleBytesCodec,
+        byte_codecs: codecs,
+    }
+}
+
+// Two rows of three numbers of one byte, 7 where nothing is written.
+fn levels(rt: &impl Abort, alloc: Global, chain: &Singles) -> ChunkLevels
     ensures served { IsServed
         ⟦<OffsetCodec as ArrayToArrayCodecTraits>⟧.meaning
         ⟦<OffsetCodec as ArrayCodecTraits>⟧.unserved
-        ⟦<SingleBytesCodec as ArrayCodecTraits>⟧.unserved result }
+        ⟦<SingleBytesCodec as ArrayCodecTraits>⟧.unserved chain.now result }
     ensures fill { HasFill result }
     ensures first { (first_level result).shape ≡ 2 ∷ 3 ∷ [] }
 {
     let two = NonZeroU64::new(2).expect(rt, "two");
     let three = NonZeroU64::new(3).expect(rt, "three");
     let fill = FillValue::new([7].as_slice().to_vec(alloc).expect(rt, "memory"));
-    CodecChain::build(
-        alloc,
-        vec![in alloc; OffsetCodec::new(1)].expect(rt, "memory"),
-        SingleBytesCodec,
-        codecs,
-        &[two, three],
-        &DataType::UInt8,
-        &fill,
-    )
-    .expect(rt, "a chain")
+    ChunkLevels::of(alloc, chain, &[two, three], &DataType::UInt8, &fill).expect(rt, "levels")
 }
 
 // The elements of a region of a chunk with this value, and how many bytes of it were taken.
@@ -57,12 +56,7 @@ fn read_of(
     value: Option<&[u8]>,
     options: &CodecOptions,
 ) -> Result<String, AllocError>
-    requires served { IsServed
-        ⟦<OffsetCodec as ArrayToArrayCodecTraits>⟧.meaning
-        ⟦<OffsetCodec as ArrayCodecTraits>⟧.unserved
-        ⟦<SingleBytesCodec as ArrayCodecTraits>⟧.unserved chain }
-    requires fill { HasFill chain }
-    requires inside { ends_within (box_of region.now) (first_level chain).shape ≡ true }
+    requires { ends_within (box_of region.now) (2 ∷ 3 ∷ []) ≡ true }
 {
     let text = String::from_str(alloc, "c/0/0").expect(rt, "memory");
     let key = StoreKey::new(text).ok().expect(rt, "a key");
@@ -70,7 +64,8 @@ fn read_of(
     if let Some(value) = value {
         store.set(alloc, &key, value).ok().expect(rt, "a value");
     }
-    let mut handle = ChainHandle::from_parts(chain, &mut store, key);
+    let levels = levels(rt, alloc, &chain);
+    let mut handle = ChainHandle::from_parts(chain, levels, &mut store, key);
     let made = handle.partial_decode(alloc, region, options);
     let store = handle.into_storage();
     let text = told_elements(alloc, made)?;

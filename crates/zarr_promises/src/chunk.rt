@@ -1,6 +1,6 @@
 //! A region of one chunk, read and replaced through a handle on its key.
 
-ghost use Rattle.std.specs.Prelude.{◌≡◌, ℕ, List, true, false, Some, IsSome, IfOk, OnOk};
+ghost use Rattle.std.specs.Prelude.{◌≡◌, List, true, false, Some, IsSome, IfOk, OnOk};
 ghost use Rattle.zarr_model.specs.Prelude.{Element, IsChunk, ends_within, chunk_content, layout, has_long_element};
 ghost use Rattle.zarrs_array_subset.specs.ArraySubset.{region as region_of_subset};
 ghost use Rattle.zarrs_storage.specs.Store.{SameContent};
@@ -9,8 +9,7 @@ ghost use Rattle.zarrs_codec_traits.specs.Views.{options_of};
 ghost use Rattle.zarrs_codec_traits.specs.Words.{list_at, at_box, select};
 ghost use Rattle.zarrs_codec_held.specs.Writes.{UnlessFault};
 ghost use Rattle.zarr_chain_stored.specs.Update.{with_box};
-ghost use Rattle.zarr_array_parts.specs.ChunkChain.{chunk_level};
-ghost use Rattle.zarr_array_parts.specs.Sizes.{have_chunks};
+ghost use Rattle.zarr_array_parts.specs.ChunkLevels.{chunk_level};
 ghost use Rattle.zarr_array_regions.specs.Chunk.{PutsElements};
 ghost use Rattle.zarr_array.specs.OpenArray.{described};
 
@@ -28,26 +27,26 @@ use zarrs_storage::{Store, StoreKey};
 pub fn region_of_chunk<S: Store>(
     alloc: Global,
     array: &OpenArray,
+    chunk: &[u64],
     store: &mut S,
     key: StoreKey,
     region: &ArraySubset,
     options: &CodecOptions,
 ) -> Result<ArrayBytes<'static>, CodecError>
-    requires some { have_chunks (described array.now).grid.grid_shape ≡ true }
-    requires inside { (chunk : List ℕ) → IsChunk (described array.now).grid chunk →
-        ends_within (region_of_subset region.now) (chunk_level (described array.now) chunk).shape
-        ≡ true }
-    ensures elements { (chunk : List ℕ) (list : List Element) →
-        IsChunk (described array.now).grid chunk → key ≡ (described array.now).key chunk →
+    requires chunk { IsChunk (described array.now).grid chunk.now }
+    requires inside { ends_within (region_of_subset region.now)
+        (chunk_level (described array.now) chunk.now).shape ≡ true }
+    ensures elements { (list : List Element) → key ≡ (described array.now).key chunk.now →
         chunk_content (layout (described array.now) (options_of options.now))
-        (S.shown store.old).content chunk ≡ Some list →
-        let level = chunk_level (described array.now) chunk in
+        (S.shown store.old).content chunk.now ≡ Some list →
+        let level = chunk_level (described array.now) chunk.now in
         IfOk result (λ v. list_at (at_box (region_of_subset region.now) level) (raw_of v)
         ≡ Some (select level.shape (region_of_subset region.now) list)) }
     ensures same { SameContent (S.shown store.old) (S.shown store.new) }
 {
-    let chain = array.chain(alloc)?;
-    let mut handle = ChainHandle::from_parts(chain, store, key);
+    let chain = array.copied_chain(alloc)?;
+    let levels = array.levels(alloc, &chain, chunk)?;
+    let mut handle = ChainHandle::from_parts(chain, levels, store, key);
     let result = handle.partial_decode(alloc, region, options);
     let _store = handle.into_storage();
     result
@@ -60,33 +59,32 @@ pub fn region_of_chunk<S: Store>(
 pub fn change_region_of_chunk<S: Store>(
     alloc: Global,
     array: &OpenArray,
+    chunk: &[u64],
     store: &mut S,
     key: StoreKey,
     region: &ArraySubset,
     bytes: &ArrayBytes<'_>,
     options: &CodecOptions,
 ) -> Result<(), CodecError>
-    requires some { have_chunks (described array.now).grid.grid_shape ≡ true }
-    requires inside { (chunk : List ℕ) → IsChunk (described array.now).grid chunk →
-        ends_within (region_of_subset region.now) (chunk_level (described array.now) chunk).shape
-        ≡ true }
-    requires means { (chunk : List ℕ) → IsChunk (described array.now).grid chunk →
-        IsSome (list_at (at_box (region_of_subset region.now)
-        (chunk_level (described array.now) chunk)) (raw_of bytes.now)) }
+    requires chunk { IsChunk (described array.now).grid chunk.now }
+    requires inside { ends_within (region_of_subset region.now)
+        (chunk_level (described array.now) chunk.now).shape ≡ true }
+    requires means { IsSome (list_at (at_box (region_of_subset region.now)
+        (chunk_level (described array.now) chunk.now)) (raw_of bytes.now)) }
     requires short { has_long_element (raw_of bytes.now) ≡ false }
-    ensures replaced { let under = options_of options.now in
-        (chunk : List ℕ) (old new : List Element) →
-        IsChunk (described array.now).grid chunk → key ≡ (described array.now).key chunk →
-        chunk_content (layout (described array.now) under) (S.shown store.old).content chunk
-        ≡ Some old → let level = chunk_level (described array.now) chunk in
+    ensures replaced { let under = options_of options.now in (old new : List Element) →
+        key ≡ (described array.now).key chunk.now →
+        chunk_content (layout (described array.now) under) (S.shown store.old).content chunk.now
+        ≡ Some old → let level = chunk_level (described array.now) chunk.now in
         list_at (at_box (region_of_subset region.now) level) (raw_of bytes.now) ≡ Some new →
-        OnOk result (PutsElements (described array.now) under chunk
+        OnOk result (PutsElements (described array.now) under chunk.now
         (with_box level.shape (region_of_subset region.now) new old)
         (S.shown store.old).content (S.shown store.new).content key) }
     ensures unchanged { UnlessFault result (SameContent (S.shown store.old) (S.shown store.new)) }
 {
-    let chain = array.chain(alloc)?;
-    let mut handle = ChainHandle::from_parts(chain, store, key);
+    let chain = array.copied_chain(alloc)?;
+    let levels = array.levels(alloc, &chain, chunk)?;
+    let mut handle = ChainHandle::from_parts(chain, levels, store, key);
     let result = handle.partial_encode(alloc, region, bytes, options);
     let _store = handle.into_storage();
     result

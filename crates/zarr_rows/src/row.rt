@@ -13,6 +13,15 @@ const BEFORE: [&str; 5] = [
     ",\"codecs\":",
 ];
 
+// The same of `! boundaries`, of an array whose grid is one of boundaries.
+const BEFORE_BOUNDARIES: [&str; 5] = [
+    "{\"zarr_format\":3,\"node_type\":\"array\",\"shape\":",
+    ",\"data_type\":",
+    ",\"chunk_grid\":{\"name\":\"zarr_basics.boundaries\",\"configuration\":{\"lengths\":",
+    "}},\"chunk_key_encoding\":\"default\",\"fill_value\":",
+    ",\"codecs\":",
+];
+
 const AFTER: &str = "}\n";
 
 // What a row tries.
@@ -43,8 +52,8 @@ impl Row {
     }
 
     // Appends the line of an array's document, of which these are the values, with spaces between.
-    fn add_array(&mut self, values: &str) -> Result<(), AllocError> {
-        for (before, value) in BEFORE.iter().zip(values.split(' ')) {
+    fn add_array(&mut self, before: &[&str], values: &str) -> Result<(), AllocError> {
+        for (before, value) in before.iter().zip(values.split(' ')) {
             self.run.input.extend_from_slice(before.as_bytes())?;
             self.run.input.extend_from_slice(value.as_bytes())?;
         }
@@ -53,7 +62,9 @@ impl Row {
 
     fn set(&mut self, setting: &str) -> Result<(), AllocError> {
         if let Some(values) = setting.strip_prefix("array ") {
-            self.add_array(values)?;
+            self.add_array(&BEFORE, values)?;
+        } else if let Some(values) = setting.strip_prefix("boundaries ") {
+            self.add_array(&BEFORE_BOUNDARIES, values)?;
         } else if let Some(call) = setting.strip_prefix("read ") {
             self.run.failing_reads.push(call.parse().unwrap_or(0))?;
         } else if let Some(call) = setting.strip_prefix("write ") {

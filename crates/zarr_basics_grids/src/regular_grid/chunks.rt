@@ -1,17 +1,18 @@
 //! The chunks of a regular grid.
 
-ghost use Rattle.std.specs.Prelude.{◌≡◌, ◌≢◌, ◌<◌, length, IfOk};
+ghost use Rattle.std.specs.Prelude.{◌≡◌, ◌<◌, length, IfOk};
 ghost use Rattle.zarr_model.specs.Prelude.{count};
 ghost use Rattle.zarrs_array_subset.specs.ArraySubset.{region};
-ghost use Rattle.zarrs_chunk_grid_traits.specs.ChunkGridErrors.{IsRankRefusal};
 ghost use Rattle.zarr_basics_grids.specs.RegularGrid.{chunk_region};
 
 use super::RegularGrid;
-use super::numbers::{counts_between, lasts, products, quotients};
-use crate::grid_kind::{chunk_shape_configuration, regular_by, unsupported_grid};
+use super::numbers::{lasts, products, quotients};
+use crate::grid_kind::{chunk_shape_configuration, regular_by};
 use std::alloc::{AllocError, Global};
 use std::num::NonZeroU64;
-use zarrs_array_subset::{ArrayIndices, ArraySubset, ChunkShape, IncompatibleDimensionalityError};
+use zarr_basics_boundaries::lengths::counts_between;
+use zarr_basics_boundaries::refusal::{other_rank, unsupported_grid};
+use zarrs_array_subset::{ArrayIndices, ArraySubset, ChunkShape};
 use zarrs_chunk_grid_traits::{ChunkGridError, ChunkGridTraits, are_below};
 use zarrs_metadata_parts::{Configuration, MetadataV3};
 use zarrs_plugin::{ExtensionName, PluginCreateError, ZarrVersion};
@@ -35,14 +36,6 @@ fn chunks_of(
     }
 }
 
-// The refusal of another number of dimensions.
-fn other_rank(got: usize, expected: usize) -> ChunkGridError
-    requires { got ≢ expected }
-    ensures { IsRankRefusal got expected result }
-{
-    ChunkGridError::IncompatibleDimensionality(IncompatibleDimensionalityError::new(got, expected))
-}
-
 impl ExtensionName for RegularGrid {
     ghost use Rattle.std.specs.Prelude.{Some, codes};
 
@@ -56,10 +49,10 @@ impl ExtensionName for RegularGrid {
 
 impl ChunkGridTraits for RegularGrid {
     ghost use Rattle.std.specs.Prelude.{refl};
+    ghost use Rattle.zarr_basics_boundaries.specs.Lengths.{nonzeros};
     ghost use Rattle.zarr_basics_grids.specs.Configurations.{chunk_shape_members};
-    ghost use Rattle.zarr_basics_grids.specs.GridOf.{shape_of_regular, grid_of_regular, covers_regular, refuses_others};
-    ghost use Rattle.zarr_basics_grids.specs.Making.{is_regular, regular_created};
-    ghost use Rattle.zarr_basics_grids.specs.RegularGrid.{nonzeros};
+    ghost use Rattle.zarr_basics_grids.specs.GridOf.{shape_of_regular, grid_of_regular, covers_regular};
+    ghost use Rattle.zarr_basics_grids.specs.Making.{is_regular, regular_created, refuses_others};
 
     ghost shape = { shape_of_regular };
 
@@ -77,7 +70,7 @@ impl ChunkGridTraits for RegularGrid {
 
     ghost refuses = { refuses_others };
 
-    #[tactic(auto, using(crate::proofs::MakingLaws::made_over))]
+    #[tactic(auto, using(zarr_basics_boundaries::proofs::MakingLaws::made_over))]
     fn create(
         alloc: Global,
         metadata: &MetadataV3,

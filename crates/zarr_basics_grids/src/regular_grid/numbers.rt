@@ -1,13 +1,16 @@
 //! Numbers of a regular grid, made of two lists place by place.
 
 ghost use Rattle.std.specs.Prelude.{◌≡◌, IfOk};
-ghost use Rattle.zarr_basics_grids.specs.RegularGrid.{nonzeros, quotients_up, quotients, lasts, products, counts_between};
+ghost use Rattle.zarr_basics_boundaries.specs.Lengths.{nonzeros};
+ghost use Rattle.zarr_basics_grids.specs.RegularEnds.{ends_fit};
+ghost use Rattle.zarr_basics_grids.specs.RegularGrid.{quotients_up, quotients, lasts, products};
 
 use std::alloc::{AllocError, Global};
 use std::num::NonZeroU64;
+use zarr_basics_boundaries::limits::product;
 
 // How many chunks cover each length.
-pub(crate) fn counts(
+pub(super) fn counts(
     alloc: Global,
     shape: &[u64],
     lengths: &[NonZeroU64],
@@ -22,7 +25,7 @@ pub(crate) fn counts(
 }
 
 // The chunk of each index.
-pub(crate) fn quotients(
+pub(super) fn quotients(
     alloc: Global,
     indices: &[u64],
     lengths: &[NonZeroU64],
@@ -37,7 +40,7 @@ pub(crate) fn quotients(
 }
 
 // The last chunk before each end.
-pub(crate) fn lasts(
+pub(super) fn lasts(
     alloc: Global,
     ends: &[u64],
     lengths: &[NonZeroU64],
@@ -51,7 +54,7 @@ pub(crate) fn lasts(
 }
 
 // Where each chunk starts.
-pub(crate) fn products(
+pub(super) fn products(
     alloc: Global,
     chunk: &[u64],
     lengths: &[NonZeroU64],
@@ -65,24 +68,20 @@ pub(crate) fn products(
         .collect(alloc)
 }
 
-// The lengths as numbers.
-pub(crate) fn numbers(alloc: Global, lengths: &[NonZeroU64]) -> Result<Vec<u64>, AllocError>
-    ensures { IfOk result (λ v. v.items ≡ nonzeros lengths.now) }
+// Whether the last chunk of each dimension ends within `u64`.
+pub(super) fn ends_fit(counts: &[u64], lengths: &[NonZeroU64]) -> bool
+    ensures { result ≡ ends_fit counts.now (nonzeros lengths.now) }
 {
-    lengths.iter().map(|p| p.get()).collect(alloc)
-}
-
-// How many chunks there are from the first to the last.
-pub(crate) fn counts_between(
-    alloc: Global,
-    lasts: &[u64],
-    firsts: &[u64],
-) -> Result<Vec<u64>, AllocError>
-    ensures { IfOk result (λ v. v.items ≡ counts_between lasts.now firsts.now) }
-{
-    lasts
-        .iter()
-        .zip(firsts)
-        .map(|(last, first)| last.saturating_sub(*first).saturating_add(1))
-        .collect(alloc)
+    match counts {
+        [] => true,
+        [count, counts @ ..] => match lengths {
+            [] => true,
+            [length, lengths @ ..] => {
+                if product(*count, length.get()).is_none() {
+                    return false;
+                }
+                ends_fit(counts, lengths)
+            }
+        },
+    }
 }

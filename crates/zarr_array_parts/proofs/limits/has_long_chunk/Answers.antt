@@ -7,14 +7,15 @@ pub returns-then-not-has_chunks : goal.returns-then-not-has_chunks
 returns-then-not-has_chunks c = long_of_none c.args.grid.now c.args.fill.now c.has_chunks.result c.has_chunks.ensures c.if-not-has_chunks.true
 
 pub num_elements-requires : goal.num_elements-requires
-num_elements-requires c = count_of_some c.args.grid.now (lengths c.chunk_lengths.result.now) c.has_chunks.result c.has_chunks.ensures c.if-not-has_chunks.false c.requires c.chunk_lengths.ensures.lengths
+num_elements-requires c =
+    count_of_some c.args.grid.now c.args.fill.now (lengths c.largest_lengths.result.now) c.largest_lengths.ensures c.has_chunks.result c.has_chunks.ensures c.if-not-has_chunks.false c.requires
 
 pub returns-then-num_elements-ge-LONG : goal.returns-then-num_elements-ge-LONG
 returns-then-num_elements-ge-LONG c =
-    long_by_count c.args.grid.now c.args.fill.now (lengths c.chunk_lengths.result.now) c.num_elements.result c.has_chunks.result c.has_chunks.ensures c.if-not-has_chunks.false c.chunk_lengths.ensures.lengths c.num_elements.ensures
+    long_by_count c.args.grid.now c.args.fill.now (lengths c.largest_lengths.result.now) c.largest_lengths.ensures c.has_chunks.result c.has_chunks.ensures c.num_elements.result c.num_elements.ensures c.if-not-has_chunks.false
     (search rules)
 
 pub returns-else-num_elements-ge-LONG : goal.returns-else-num_elements-ge-LONG
 returns-else-num_elements-ge-LONG c =
-    long_by_fill c.args.grid.now c.args.fill.now (lengths c.chunk_lengths.result.now) c.num_elements.result c.has_chunks.result c.has_chunks.ensures c.if-not-has_chunks.false c.chunk_lengths.ensures.lengths c.num_elements.ensures
+    long_by_fill c.args.grid.now c.args.fill.now (lengths c.largest_lengths.result.now) c.largest_lengths.ensures c.has_chunks.result c.has_chunks.ensures c.num_elements.result c.num_elements.ensures c.if-not-has_chunks.false
     (search rules)

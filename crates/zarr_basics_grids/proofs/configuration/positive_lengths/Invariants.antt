@@ -1,5 +1,5 @@
 use Rattle.std.proofs.Common.{◌≡◌, take}
-use Rattle.zarr_basics_grids.specs.RegularGrid.{nonzeros}
+use Rattle.zarr_basics_boundaries.specs.Lengths.{nonzeros}
 use Rattle.zarr_basics_grids.proofs.configuration.positive_lengths.Given as goal
 
 abbrev pub invariant-loop-length : goal.invariant-loop-length

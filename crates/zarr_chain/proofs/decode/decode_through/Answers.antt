@@ -12,15 +12,15 @@ loop-left-preserved g c =
     let some : 0 < c.loop-left.left = omega arith in
     record {
       within = omega arith;
-      decoded = decode-step f c.args.codecs.now c.loop-left.left c.index-codecs-left.result _ _ some c.loop-left.invariant.within c.index-codecs-left.is c.loop-left.invariant.decoded ∙ c.in_ok-decoded.ensures;
+      decoded = decode-step f c.args.codecs.now c.loop-left.left c.index-codecs-left.result _ _ some c.loop-left.invariant.within c.index-codecs-left.is c.loop-left.invariant.decoded ∙ c.in_ok-opened.ensures;
     }
 
-pub returns-in_err-decoded-clause-failed : goal.returns-in_err-decoded-clause-failed
-returns-in_err-decoded-clause-failed g c =
+pub returns-in_err-opened-clause-failed : goal.returns-in_err-opened-clause-failed
+returns-in_err-opened-clause-failed g c =
     let under = options_of c.args.options.now in
     let meaning = g.C.BytesToBytesCodecTraits.meaning in
     let says = g.C.BytesToBytesCodecTraits.says in
     let some : 0 < c.loop-left.left = omega arith in
-    let cause = decode-error meaning says under c.args.codecs.now c.loop-left.left c.index-codecs-left.result _ _ c.in_err-decoded.field-0.0 some c.loop-left.invariant.within c.index-codecs-left.is c.loop-left.invariant.decoded c.in_err-decoded.ensures in
-    let is : c.from_residual.result ≡ Err c.in_err-decoded.field-0.0 = search rules in
+    let cause = decode-error meaning says under c.args.codecs.now c.loop-left.left c.index-codecs-left.result _ _ c.in_err-opened.field-0.0 some c.loop-left.invariant.within c.index-codecs-left.is c.loop-left.invariant.decoded c.in_err-opened.ensures in
+    let is : c.from_residual.result ≡ Err c.in_err-opened.field-0.0 = search rules in
     subst (λ r. IfErr r (IsDecodeError (decode_bytes (byte_codecs meaning under c.args.codecs.now) c.args.value.items) (bytes_says meaning says under c.args.codecs.now c.args.value.items))) (sym is) cause

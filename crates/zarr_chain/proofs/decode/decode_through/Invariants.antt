@@ -7,7 +7,7 @@ use Rattle.zarr_chain.proofs.decode.decode_through.Given as goal
 abbrev pub invariant-loop-left : goal.invariant-loop-left
 invariant-loop-left g l = record {
   within : l.left ≤ length l.codecs;
-  decoded : decode_bytes (byte_codecs g.C.BytesToBytesCodecTraits.meaning (options_of l.options) (drop l.left l.codecs)) l.fn.value.items ≡ Some l.decoded.items;
+  decoded : decode_bytes (byte_codecs g.C.BytesToBytesCodecTraits.meaning (options_of l.options) (drop l.left l.codecs)) l.fn.value.items ≡ Some l.opened.items;
 }
 
 abbrev pub decreases-loop-left : goal.decreases-loop-left

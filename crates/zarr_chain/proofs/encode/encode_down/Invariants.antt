@@ -4,15 +4,18 @@ use Rattle.zarr_model.specs.Codec.{Level}
 use Rattle.zarr_model.specs.Command.{has_long_element}
 use Rattle.zarrs_codec_array_bytes.specs.Raw.{raw_of}
 use Rattle.zarrs_codec_traits.specs.Words.{list_at}
-use Rattle.zarr_chain.specs.Levels.{top, AreLinked, elements_above}
+use Rattle.zarr_chain.specs.Levels.{steps_of, top, AreLinked, elements_above}
 use Rattle.zarr_chain.proofs.encode.encode_down.Given as goal
 
-abbrev pub invariant-loop-level : goal.invariant-loop-level
-invariant-loop-level g l = record {
-  value : (bottom : Level) (list : List Element) → AreLinked g.A.ArrayToArrayCodecTraits.meaning g.A.ArrayCodecTraits.unserved l.levels bottom → list_at (top l.levels bottom) (raw_of l.fn.bytes) ≡ Some list →
-      elements_above g.A.ArrayToArrayCodecTraits.meaning (take l.level-index l.levels) (list_at (top (drop l.level-index l.levels) bottom) (raw_of l.encoded)) ≡ Some list;
-  started : (bottom : Level) → AreLinked g.A.ArrayToArrayCodecTraits.meaning g.A.ArrayCodecTraits.unserved l.levels bottom → list_at (top l.levels bottom) (raw_of l.fn.bytes) ≡ None →
-      (l.level-index ≡ 0) × (raw_of l.encoded ≡ raw_of l.fn.bytes);
-  none : l.levels ≡ [] → raw_of l.encoded ≡ raw_of l.fn.bytes;
-  short : has_long_element (raw_of l.fn.bytes) ≡ false → has_long_element (raw_of l.encoded) ≡ false;
-}
+abbrev pub invariant-loop-index : goal.invariant-loop-index
+invariant-loop-index g l =
+    let steps = steps_of l.codecs l.levels in
+    let n = l.index in
+    record {
+      value : (bottom : Level) (list : List Element) → AreLinked g.A.ArrayToArrayCodecTraits.meaning g.A.ArrayCodecTraits.unserved steps bottom → list_at (top steps bottom) (raw_of l.fn.bytes) ≡ Some list →
+          elements_above g.A.ArrayToArrayCodecTraits.meaning (take n steps) (list_at (top (drop n steps) bottom) (raw_of l.encoded)) ≡ Some list;
+      started : (bottom : Level) → AreLinked g.A.ArrayToArrayCodecTraits.meaning g.A.ArrayCodecTraits.unserved steps bottom → list_at (top steps bottom) (raw_of l.fn.bytes) ≡ None →
+          (n ≡ 0) × (raw_of l.encoded ≡ raw_of l.fn.bytes);
+      none : l.codecs ≡ [] → raw_of l.encoded ≡ raw_of l.fn.bytes;
+      short : has_long_element (raw_of l.fn.bytes) ≡ false → has_long_element (raw_of l.encoded) ≡ false;
+    }

@@ -1,6 +1,7 @@
+use Rattle.zarr_chain.proofs.StepLaws.{inside_top}
+use Rattle.zarr_chain.specs.Chain.{bottom_level, steps}
 use Rattle.std.proofs.Common.{◌∙◌, sym, ap}
 use Rattle.zarrs_array_subset.specs.ArraySubset.{region as box_of}
-use Rattle.zarr_chain.specs.Levels.{above}
 use Rattle.zarr_chain.specs.Regions.{last_item}
 use Rattle.zarr_chain.proofs.RegionLaws.{inside-bottom, map_last}
 use Rattle.zarr_chain_stored.proofs.parts.bottom_of_parts.Goals as goal
@@ -8,10 +9,11 @@ use Rattle.zarr_chain_stored.proofs.parts.bottom_of_parts.Goals as goal
 pub decode_parts-requires-clause-inside : goal.decode_parts-requires-clause-inside
 decode_parts-requires-clause-inside g c =
     let chain = c.args.chain.now in
+    let levels = c.args.levels.now in
     let array = g.A.ArrayToArrayCodecTraits in
     let here = ap box_of c.last_or.ensures ∙ (sym (map_last box_of c.args.boxes.now c.args.region.now) ∙ ap (λ boxes. last_item boxes (box_of c.args.region.now)) c.requires.boxes) in
-    rw (here, c.deref.ensures.value) (inside-bottom array.meaning g.A.ArrayCodecTraits.unserved array.region_below (above chain.bottom) g.met.A.ArrayToArrayCodecTraits.region_inside
-    chain.levels.items (box_of c.args.region.now) c.requires.served.linked c.requires.inside)
+    rw (here, c.deref.ensures.value) (inside-bottom array.meaning g.A.ArrayCodecTraits.unserved array.region_below (bottom_level levels) g.met.A.ArrayToArrayCodecTraits.region_inside
+    (steps chain levels) (box_of c.args.region.now) c.requires.served.linked (inside_top chain.array_codecs.items levels.above.items (bottom_level levels) (box_of c.args.region.now) c.requires.served.count c.requires.inside))
 
 pub decode_parts-requires-clause-answered : goal.decode_parts-requires-clause-answered
 decode_parts-requires-clause-answered g c =

@@ -1,10 +1,10 @@
+use Rattle.zarr_chain.specs.Chain.{bottom_level, steps}
 use Rattle.std.proofs.Common.{◌∙◌, sym, ap, length, Some, option_and_then}
 use Rattle.std.proofs.lemmas.Option.{same_Some}
 use Rattle.std.proofs.lemmas.Result.{err_from_is_err_and}
 use Rattle.zarrs_array_subset.specs.ArraySubset.{region as box_of}
 use Rattle.zarrs_codec_array_bytes.specs.Raw.{raw_of}
 use Rattle.zarrs_codec_traits.specs.Views.{options_of}
-use Rattle.zarr_chain.specs.Levels.{above}
 use Rattle.zarr_chain.specs.Regions.{bottom_box}
 use Rattle.zarr_chain.proofs.ChainLaws.{decoded-is, below_fails}
 use Rattle.zarr_chain_stored.proofs.ReadLaws.{box_of_list, held_of}
@@ -15,20 +15,21 @@ pub returns-in_err-part-clause-failed : goal.returns-in_err-part-clause-failed
 returns-in_err-part-clause-failed g c = λ value bytes first are long.
     let p = err_from_is_err_and c.from_residual.result c.from_residual.ensures.1 in
     rw (p.1, p.2) (below_fails g.A.ArrayToArrayCodecTraits.meaning g.A.ArrayCodecTraits.unserved g.B.ArrayToBytesCodecTraits.meaning g.B.ArrayToBytesCodecTraits.says g.C.BytesToBytesCodecTraits.meaning g.C.BytesToBytesCodecTraits.says
-    c.args.chain.now (options_of c.args.options.now) value bytes _ c.requires.served.linked first (c.in_err-part.ensures.failed bytes are long))
+    c.args.chain.now c.args.levels.now c.requires.served.count (options_of c.args.options.now) value bytes _ c.requires.served.linked first (c.in_err-part.ensures.failed bytes are long))
 
 pub returns-clause-elements : goal.returns-clause-elements
 returns-clause-elements g c = λ value bytes list first are is.
     let chain = c.args.chain.now in
-    let bottom = above chain.bottom in
+    let levels = c.args.levels.now in
+    let bottom = bottom_level levels in
     let under = options_of c.args.options.now in
     let array = g.A.ArrayToArrayCodecTraits in
     let to_list = g.B.ArrayToBytesCodecTraits in
     let codecs = g.C.BytesToBytesCodecTraits in
-    let (xs, here) = bottom_there array.meaning g.A.ArrayCodecTraits.unserved to_list.meaning to_list.says codecs.meaning codecs.says chain under value bytes list c.requires.served.linked first is in
+    let (xs, here) = bottom_there array.meaning g.A.ArrayCodecTraits.unserved to_list.meaning to_list.says codecs.meaning codecs.says chain levels c.requires.served.count under value bytes list c.requires.served.linked first is in
     let part = c.in_ok-part.ensures.value bytes xs are here in
-    let all = decoded-is array.meaning g.A.ArrayCodecTraits.unserved to_list.meaning to_list.says codecs.meaning codecs.says chain under value xs c.requires.served.linked
-    (ap (option_and_then (to_list.meaning chain.bottom.codec under bottom)) first ∙ here) in
-    held_of array.meaning chain.levels.items bottom xs list (box_of c.args.region.now) c.decode_boxes_up.result (sym all ∙ is)
-    (c.decode_boxes_up.ensures.value (Some xs) (λ ys same. ap length (sym (same_Some xs ys same)) ∙ g.met.B.ArrayToBytesCodecTraits.counted chain.bottom.codec under bottom bytes xs here)
-    (box_of_list array.meaning bottom xs (bottom_box array.region_below chain.levels.items (box_of c.args.region.now)) (raw_of c.in_ok-part.part) part))
+    let all = decoded-is array.meaning g.A.ArrayCodecTraits.unserved to_list.meaning to_list.says codecs.meaning codecs.says chain levels c.requires.served.count under value xs c.requires.served.linked
+    (ap (option_and_then (to_list.meaning chain.to_bytes under bottom)) first ∙ here) in
+    held_of array.meaning chain.array_codecs.items levels.above.items c.requires.served.count bottom xs list (box_of c.args.region.now) c.decode_boxes_up.result (sym all ∙ is)
+    (c.decode_boxes_up.ensures.value (Some xs) (λ ys same. ap length (sym (same_Some xs ys same)) ∙ g.met.B.ArrayToBytesCodecTraits.counted chain.to_bytes under bottom bytes xs here)
+    (box_of_list array.meaning bottom xs (bottom_box array.region_below (steps chain levels) (box_of c.args.region.now)) (raw_of c.in_ok-part.part) part))

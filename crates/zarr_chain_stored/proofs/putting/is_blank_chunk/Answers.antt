@@ -8,11 +8,11 @@ use Rattle.zarr_chain_stored.proofs.PutLaws.{blank_is, chunk_some}
 use Rattle.zarr_chain_stored.proofs.putting.is_blank_chunk.Goals as goal
 
 pub returns : goal.returns
-returns g c = λ list means.
-    let chain = c.args.chain.now in
-    let level = first_level chain in
+returns c = λ list means.
+    let levels = c.args.levels.now in
+    let level = first_level levels in
     let kind = kind_of level.data_type in
     let number = count_of level.shape in
     let denotes = ap (fill_element kind) c.fill_value.ensures ∙ c.requires.fill.denotes in
     blank_is c.is_fill_value.result number level.fill list (length-meaning kind number (raw_of c.args.chunk.now) list means)
-    (c.is_fill_value.ensures.elements kind number list level.fill means (chunk_some chain.levels.items chain.bottom) denotes)
+    (c.is_fill_value.ensures.elements kind number list level.fill means (chunk_some levels.above.items levels.bottom) denotes)

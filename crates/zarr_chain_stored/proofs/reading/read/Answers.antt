@@ -1,52 +1,50 @@
-use Rattle.std.proofs.Common.{◌≡◌, Ok, Some, IsSome, subst}
+use Rattle.std.proofs.Common.{rules, Ok, IsSome, subst}
 use Rattle.zarrs_array_subset.specs.ArraySubset.{region as box_of}
 use Rattle.zarrs_codec_array_bytes.specs.Raw.{raw_of}
 use Rattle.zarrs_codec_traits.specs.Views.{options_of}
-use Rattle.zarrs_codec_traits.specs.Words.{list_at, at_box, select}
+use Rattle.zarrs_codec_traits.specs.Words.{list_at, at_box}
 use Rattle.zarr_chain.specs.Chain.{first_level}
 use Rattle.zarr_chain.proofs.ChainLaws.{some_of}
-use Rattle.zarr_chain_stored.specs.Regions.{GivesRegion, fetched_list, region_request}
-use Rattle.zarr_chain_stored.proofs.PartLaws.{cut_reads, cut_alike}
+use Rattle.zarr_chain_stored.specs.Regions.{GivesPart, GivesRegion, fetched_list}
+use Rattle.zarr_chain_stored.specs.Seen.{chain_seen}
+use Rattle.zarr_chain_stored.proofs.SeenLaws.{cut_asks, cut_alike}
 use Rattle.zarr_chain_stored.proofs.ReadLaws.{ok_half, ok_there}
 use Rattle.zarr_chain_stored.proofs.reading.read.Goals as goal
 
-pub returns-in-Ok-Chunk-clause-elements : goal.returns-in-Ok-Chunk-clause-elements
-returns-in-Ok-Chunk-clause-elements g c = λ list is.
-    let here = subst (GivesRegion (first_level c.args.chain.now) (box_of c.args.region.now) list) c.in-Ok-Chunk.field-0-is (c.in-Ok-Chunk.ensures.fetched.elements list is) in
-    ok_half _ _ c.part_of.result (c.part_of.ensures.value list here)
-
-pub returns-in-Ok-Chunk-clause-valid : goal.returns-in-Ok-Chunk-clause-valid
-returns-in-Ok-Chunk-clause-valid g c =
-    let level = first_level c.args.chain.now in
+pub returns-in-Ok-Chunk-clause-reads : goal.returns-in-Ok-Chunk-clause-reads
+returns-in-Ok-Chunk-clause-reads g c =
+    let seen = chain_seen g.A.ArrayCodecTraits g.A.ArrayToArrayCodecTraits g.B.ArrayCodecTraits g.B.ArrayToBytesCodecTraits g.C.BytesToBytesCodecTraits c.args.chain.now c.args.levels.now in
+    let under = options_of c.args.options.now in
+    let level = first_level c.args.levels.now in
     let box = box_of c.args.region.now in
-    let (list, here) = some_of _ (subst (λ f. IsSome (fetched_list level box f)) c.in-Ok-Chunk.field-0-is c.in-Ok-Chunk.ensures.fetched.valid) in
-    ok_there (λ v. list_at (at_box box level) (raw_of v)) _ _ c.part_of.result (c.part_of.ensures.value list here)
+    let before = g.S.Store.shown c.args.store.now in
+    let after = g.S.Store.shown c.fetch_region.new.store in
+    let fetched = c.in-Ok-Chunk.ensures.fetches in
+    let (list, here) = some_of _ (subst (λ f. IsSome (fetched_list level box f)) c.in-Ok-Chunk.field-0-is fetched.valid) in
+    let cut = c.part_of.ensures.value list here in
+    record {
+      elements = λ all is. ok_half _ _ c.part_of.result (c.part_of.ensures.value all (subst (GivesRegion level box all) c.in-Ok-Chunk.field-0-is (fetched.elements all is)));
+      alike = cut_alike seen under (seen.request box) (before.content c.args.key.now) before.faults after.faults _ (GivesRegion level box) (GivesPart level box) c.part_of.result
+          (λ all gives. c.part_of.ensures.value all (subst (GivesRegion level box all) c.in-Ok-Chunk.field-0-is gives)) fetched.alike;
+      valid = ok_there (λ v. list_at (at_box box level) (raw_of v)) _ _ c.part_of.result cut;
+      short = search rules;
+      asked = cut_asks seen under box (seen.request box) c.args.key.now before after _ _ c.part_of.result cut fetched.asked;
+    }
 
-pub returns-in-Ok-Chunk-clause-read : goal.returns-in-Ok-Chunk-clause-read
-returns-in-Ok-Chunk-clause-read g c =
-    let level = first_level c.args.chain.now in
+pub returns-in-Ok-Region-clause-reads : goal.returns-in-Ok-Region-clause-reads
+returns-in-Ok-Region-clause-reads g c =
+    let seen = chain_seen g.A.ArrayCodecTraits g.A.ArrayToArrayCodecTraits g.B.ArrayCodecTraits g.B.ArrayToBytesCodecTraits g.C.BytesToBytesCodecTraits c.args.chain.now c.args.levels.now in
+    let under = options_of c.args.options.now in
+    let level = first_level c.args.levels.now in
     let box = box_of c.args.region.now in
-    let (list, here) = some_of _ (subst (λ f. IsSome (fetched_list level box f)) c.in-Ok-Chunk.field-0-is c.in-Ok-Chunk.ensures.fetched.valid) in
-    cut_reads g.A.ArrayToArrayCodecTraits.meaning g.A.ArrayCodecTraits.unserved g.B.ArrayToBytesCodecTraits.meaning g.B.ArrayToBytesCodecTraits.says g.C.BytesToBytesCodecTraits.meaning g.C.BytesToBytesCodecTraits.says
-    c.args.chain.now (options_of c.args.options.now) (region_request g.B.ArrayToBytesCodecTraits.request g.A.ArrayToArrayCodecTraits.region_below c.args.chain.now box) c.args.key.now
-    (g.S.Store.shown c.args.store.now) (g.S.Store.shown c.fetch_region.new.store) _ _ c.part_of.result (c.part_of.ensures.value list here) c.in-Ok-Chunk.ensures.fetched.read
-
-pub returns-in-Ok-Chunk-clause-alike : goal.returns-in-Ok-Chunk-clause-alike
-returns-in-Ok-Chunk-clause-alike g c =
-    let level = first_level c.args.chain.now in
-    let box = box_of c.args.region.now in
-    cut_alike g.A.ArrayToArrayCodecTraits.meaning g.A.ArrayCodecTraits.unserved g.B.ArrayToBytesCodecTraits.meaning g.B.ArrayToBytesCodecTraits.says g.C.BytesToBytesCodecTraits.meaning g.C.BytesToBytesCodecTraits.says
-    c.args.chain.now (options_of c.args.options.now) (region_request g.B.ArrayToBytesCodecTraits.request g.A.ArrayToArrayCodecTraits.region_below c.args.chain.now box)
-    ((g.S.Store.shown c.args.store.now).content c.args.key.now) (g.S.Store.shown c.args.store.now).faults (g.S.Store.shown c.fetch_region.new.store).faults
-    _ (GivesRegion level box) (λ list v. list_at (at_box box level) (raw_of v) ≡ Some (select level.shape box list)) c.part_of.result
-    (λ list gives. c.part_of.ensures.value list (subst (GivesRegion level box list) c.in-Ok-Chunk.field-0-is gives)) c.in-Ok-Chunk.ensures.fetched.alike
-
-pub returns-in-Ok-Region-clause-alike : goal.returns-in-Ok-Region-clause-alike
-returns-in-Ok-Region-clause-alike g c =
-    let level = first_level c.args.chain.now in
-    let box = box_of c.args.region.now in
-    cut_alike g.A.ArrayToArrayCodecTraits.meaning g.A.ArrayCodecTraits.unserved g.B.ArrayToBytesCodecTraits.meaning g.B.ArrayToBytesCodecTraits.says g.C.BytesToBytesCodecTraits.meaning g.C.BytesToBytesCodecTraits.says
-    c.args.chain.now (options_of c.args.options.now) (region_request g.B.ArrayToBytesCodecTraits.request g.A.ArrayToArrayCodecTraits.region_below c.args.chain.now box)
-    ((g.S.Store.shown c.args.store.now).content c.args.key.now) (g.S.Store.shown c.args.store.now).faults (g.S.Store.shown c.fetch_region.new.store).faults
-    _ (GivesRegion level box) (λ list v. list_at (at_box box level) (raw_of v) ≡ Some (select level.shape box list)) (Ok c.in-Ok-Region.part)
-    (λ list gives. subst (GivesRegion level box list) c.in-Ok-Region.field-0-is gives) c.in-Ok-Region.ensures.fetched.alike
+    let before = g.S.Store.shown c.args.store.now in
+    let after = g.S.Store.shown c.fetch_region.new.store in
+    let fetched = c.in-Ok-Region.ensures.fetches in
+    record {
+      elements = λ all is. subst (GivesRegion level box all) c.in-Ok-Region.field-0-is (fetched.elements all is);
+      alike = cut_alike seen under (seen.request box) (before.content c.args.key.now) before.faults after.faults _ (GivesRegion level box) (GivesPart level box) (Ok c.in-Ok-Region.part)
+          (λ all gives. subst (GivesRegion level box all) c.in-Ok-Region.field-0-is gives) fetched.alike;
+      valid = search rules;
+      short = search rules;
+      asked = search rules;
+    }

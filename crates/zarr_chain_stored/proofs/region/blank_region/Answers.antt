@@ -12,15 +12,15 @@ use Rattle.zarr_chain_stored.proofs.RegionLaws.{filled_selects, filled_less, lev
 use Rattle.zarr_chain_stored.proofs.region.blank_region.Goals as goal
 
 pub returns-clause-value : goal.returns-clause-value
-returns-clause-value g c =
-    let level = first_level c.args.chain.now in
+returns-clause-value c =
+    let level = first_level c.args.levels.now in
     let box = box_of c.args.region.now in
-    let same = level_same c.shape.result.now c.data_type.result.now c.fill_value.result.now level (first_fill c.args.chain.now) c.shape.ensures c.data_type.ensures c.fill_value.ensures c.requires.fill.denotes in
+    let same = level_same c.shape.result.now c.data_type.result.now c.fill_value.result.now level (first_fill c.args.levels.now) c.shape.ensures c.data_type.ensures c.fill_value.ensures c.requires.fill.denotes in
     filled_selects level box c.filled_region.result c.requires.inside
     (subst (λ (l : Level). MatchResult c.filled_region.result (λ v. list_at (at_box box l) (raw_of v) ≡ Some (replicate (count box) l.fill)) (λ e. e ≡ codec.OutOfMemory)) same c.filled_region.ensures.value)
 
 pub returns-clause-short : goal.returns-clause-short
-returns-clause-short g c =
+returns-clause-short c =
     let box = box_of c.args.region.now in
-    filled_less (first_level c.args.chain.now) (first_fill c.args.chain.now) box c.filled_region.result c.requires.inside c.requires.fill.short
+    filled_less (first_level c.args.levels.now) (first_fill c.args.levels.now) box c.filled_region.result c.requires.inside c.requires.fill.short
     (subst₂ (λ (t : DataType) (f : List ℕ). IfOk c.filled_region.result (λ v. raw_of v ≡ filled_with (kind_of t) (count box) f)) c.data_type.ensures c.fill_value.ensures c.filled_region.ensures.bytes)

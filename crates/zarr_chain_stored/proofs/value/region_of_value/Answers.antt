@@ -1,3 +1,4 @@
+use Rattle.zarr_chain.specs.Chain.{bottom_level, steps}
 use Rattle.std.proofs.Common.{◌∙◌, sym, ap, subst, length, Some, IsSome, inl, refl, rules}
 use Rattle.std.proofs.lemmas.Option.{same_Some}
 use Rattle.zarr_model.specs.Element.{kind_of}
@@ -7,7 +8,6 @@ use Rattle.zarrs_array_subset.specs.ArraySubset.{region as box_of}
 use Rattle.zarrs_codec_array_bytes.specs.Raw.{raw_of}
 use Rattle.zarrs_codec_traits.specs.Views.{options_of}
 use Rattle.zarrs_codec_traits.specs.Words.{list_at}
-use Rattle.zarr_chain.specs.Levels.{above}
 use Rattle.zarr_chain.specs.Regions.{bottom_box}
 use Rattle.zarr_chain.proofs.LevelLaws.{some-list}
 use Rattle.zarr_chain.proofs.RegionLaws.{all-decode}
@@ -18,7 +18,8 @@ use Rattle.zarr_chain_stored.proofs.value.region_of_value.Goals as goal
 pub decode_boxes_up-requires : goal.decode_boxes_up-requires
 decode_boxes_up-requires g c =
     let chain = c.args.chain.now in
-    let (xs, here, next) = some-list g.A.ArrayToArrayCodecTraits.meaning g.A.ArrayCodecTraits.unserved (above chain.bottom) (list_at (above chain.bottom) (raw_of c.in_ok-below.below)) _ c.in_ok-below.ensures.value in
+    let levels = c.args.levels.now in
+    let (xs, here, next) = some-list g.A.ArrayToArrayCodecTraits.meaning g.A.ArrayCodecTraits.unserved (bottom_level levels) (list_at (bottom_level levels) (raw_of c.in_ok-below.below)) _ c.in_ok-below.ensures.value in
     let part = c.in_ok-part.ensures.value xs here in
     record {
       served = c.requires.served;
@@ -30,29 +31,31 @@ decode_boxes_up-requires g c =
 pub returns-clause-elements : goal.returns-clause-elements
 returns-clause-elements g c = λ list is.
     let chain = c.args.chain.now in
-    let bottom = above chain.bottom in
+    let levels = c.args.levels.now in
+    let bottom = bottom_level levels in
     let array = g.A.ArrayToArrayCodecTraits in
     let to_list = g.B.ArrayToBytesCodecTraits in
     let bytes = g.C.BytesToBytesCodecTraits in
     let (xs, here, next) = some-list array.meaning g.A.ArrayCodecTraits.unserved bottom (list_at bottom (raw_of c.in_ok-below.below)) _ c.in_ok-below.ensures.value in
     let part = c.in_ok-part.ensures.value xs here in
-    let all = decoded-is array.meaning g.A.ArrayCodecTraits.unserved to_list.meaning to_list.says bytes.meaning bytes.says chain (options_of c.args.options.now) c.args.value.items xs c.requires.served.linked next in
-    held_of array.meaning chain.levels.items bottom xs list (box_of c.args.region.now) c.decode_boxes_up.result (sym all ∙ is)
+    let all = decoded-is array.meaning g.A.ArrayCodecTraits.unserved to_list.meaning to_list.says bytes.meaning bytes.says chain levels c.requires.served.count (options_of c.args.options.now) c.args.value.items xs c.requires.served.linked next in
+    held_of array.meaning chain.array_codecs.items levels.above.items c.requires.served.count bottom xs list (box_of c.args.region.now) c.decode_boxes_up.result (sym all ∙ is)
     (c.decode_boxes_up.ensures.value (Some xs) (λ ys same. ap length (sym (same_Some xs ys same)) ∙ length-meaning (kind_of bottom.data_type) (count_of bottom.shape) (raw_of c.in_ok-below.below) xs here)
-    (box_of_list array.meaning bottom xs (bottom_box array.region_below chain.levels.items (box_of c.args.region.now)) (raw_of c.in_ok-part.part) part))
+    (box_of_list array.meaning bottom xs (bottom_box array.region_below (steps chain levels) (box_of c.args.region.now)) (raw_of c.in_ok-part.part) part))
 
 pub returns-clause-decodes : goal.returns-clause-decodes
 returns-clause-decodes g c =
     let chain = c.args.chain.now in
-    let bottom = above chain.bottom in
+    let levels = c.args.levels.now in
+    let bottom = bottom_level levels in
     let array = g.A.ArrayToArrayCodecTraits in
     let to_list = g.B.ArrayToBytesCodecTraits in
     let bytes = g.C.BytesToBytesCodecTraits in
     let laws = g.met.A.ArrayToArrayCodecTraits in
     let (xs, here, next) = some-list array.meaning g.A.ArrayCodecTraits.unserved bottom (list_at bottom (raw_of c.in_ok-below.below)) _ c.in_ok-below.ensures.value in
-    let all = decoded-is array.meaning g.A.ArrayCodecTraits.unserved to_list.meaning to_list.says bytes.meaning bytes.says chain (options_of c.args.options.now) c.args.value.items xs c.requires.served.linked next in
+    let all = decoded-is array.meaning g.A.ArrayCodecTraits.unserved to_list.meaning to_list.says bytes.meaning bytes.says chain levels c.requires.served.count (options_of c.args.options.now) c.args.value.items xs c.requires.served.linked next in
     ok_all _ c.decode_boxes_up.result (subst IsSome (sym all)
-    (all-decode array.meaning g.A.ArrayCodecTraits.unserved array.region_below bottom laws.counted laws.decodes chain.levels.items xs c.requires.served.linked
+    (all-decode array.meaning g.A.ArrayCodecTraits.unserved array.region_below bottom laws.counted laws.decodes (steps chain levels) xs c.requires.served.linked
     (length-meaning (kind_of bottom.data_type) (count_of bottom.shape) (raw_of c.in_ok-below.below) xs here)))
 
 pub returns-clause-failed : goal.returns-clause-failed

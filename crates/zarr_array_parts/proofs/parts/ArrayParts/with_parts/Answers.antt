@@ -8,9 +8,8 @@ use Rattle.zarr_array_parts.proofs.parts.ArrayParts.with_parts.Goals as goal
 
 pub is_large-requires : goal.is_large-requires
 is_large-requires c =
-    let codecs = c.args.codecs in
     record {
-      served = (chain_serves (chain_form codecs.array_codecs.items codecs.to_bytes codecs.byte_codecs.items) (type_of c.args.data_type) c.in_ok-expect_chain.ensures).bytes;
+      served = (chain_serves (chain_form c.args.chain) (type_of c.args.data_type) c.in_ok-expect_chain.ensures).bytes;
     }
 
 pub invariant_of-result : goal.invariant_of-result

@@ -6,5 +6,5 @@ use Rattle.zarr_array_regions.proofs.region_chunks.RegionChunks.place.Goals as g
 
 pub place_of-requires : goal.place_of-requires
 place_of-requires c =
-    subst (IsChunk (described c.args.self.now.array.now).grid) (sym (c.as_slice.ensures ∙ c.in_ok-indices.ensures))
+    subst (IsChunk (described c.args.self.now.array.now).grid) (sym c.in_ok-indices.ensures)
     (met_chunk c.args.self.now c.requires.met c.args.number c.requires.below)

@@ -5,7 +5,7 @@ use Rattle.zarrs_codec_bytes.specs.Picking.{size_in}
 use Rattle.zarrs_codec_array_bytes.specs.Raw.{raw_of}
 use Rattle.zarr_chain_stored.specs.Regions.{GivesRegion}
 use Rattle.zarr_array_elements.specs.BoxElements.{kind_held, box_held, list_held}
-use Rattle.zarr_array_parts.specs.ChunkChain.{chunk_level}
+use Rattle.zarr_array_parts.specs.ChunkLevels.{chunk_level}
 use Rattle.zarr_array_parts.specs.Parts.{described}
 use Rattle.zarr_array_parts.proofs.ServedLaws.{chunk_counts}
 use Rattle.zarr_array_regions.specs.RegionChunks.{chunk_at}

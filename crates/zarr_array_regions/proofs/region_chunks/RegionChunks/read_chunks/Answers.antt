@@ -16,6 +16,7 @@ loop-number-init g c =
       none_read met.array.now (options_of c.args.options.now) (region met.subset.now) (list_held c.args.elements.now) (g.S.Store.shown c.args.store.now) c.requires.as_long
           (g.met.S.Store.counts_fit c.args.store.now).1,
       g.met.S.Store.kept_self c.args.store.now,
+      tt,
     )
 
 pub returns-in-Err-clause-read : goal.returns-in-Err-clause-read
@@ -33,8 +34,9 @@ loop-number-preserved g c =
       c.read_chunk.ensures.holds,
       one_read met.array.now (options_of c.args.options.now) (region met.subset.now) c.loop-number.number (chunk_at met c.loop-number.number) (list_held c.loop-number.elements) (list_held c.read_chunk.new.elements)
           (g.S.Store.shown c.args.store.now) (g.S.Store.shown c.loop-number.store) (g.S.Store.shown c.read_chunk.new.store)
-          (met_here met c.requires.met c.loop-number.number below) (met_chunk met c.requires.met c.loop-number.number below) c.loop-number.invariant.1 c.in_default.ensures.read,
+          (met_here met c.requires.met c.loop-number.number below) (met_chunk met c.requires.met c.loop-number.number below) c.loop-number.invariant.1 c.in-Ok.ensures.read,
       g.met.S.Store.kept_twice c.args.store.now c.loop-number.store c.read_chunk.new.store c.loop-number.invariant.2 c.read_chunk.ensures.kept,
+      c.in-Ok.ensures.hand,
     )
 
 pub returns-clause-read : goal.returns-clause-read

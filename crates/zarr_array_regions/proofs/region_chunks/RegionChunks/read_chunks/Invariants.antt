@@ -1,7 +1,9 @@
+use Rattle.std.specs.Prelude.{IfSome}
 use Rattle.zarrs_array_subset.specs.ArraySubset.{region}
 use Rattle.zarrs_codec_traits.specs.Views.{options_of}
 use Rattle.zarr_array_elements.specs.BoxElements.{list_held}
 use Rattle.zarr_array_regions.specs.Read.{HoldsRegion}
+use Rattle.zarr_array_regions.specs.RegionChunks.{AreInHand}
 use Rattle.zarr_array_regions.proofs.ReadSteps.{HasReadSome}
 use Rattle.zarr_array_regions.proofs.region_chunks.RegionChunks.read_chunks.Given as goal
 
@@ -10,3 +12,4 @@ invariant-loop-number g l =
     HoldsRegion l.self.array.now (region l.self.subset.now) l.elements
     × HasReadSome l.self.array.now (options_of l.options) (region l.self.subset.now) l.number (list_held l.elements) (g.S.Store.shown l.fn.store) (g.S.Store.shown l.store)
     × g.S.Store.kept l.fn.store l.store
+    × IfSome l.hand (AreInHand l.self.array.now)

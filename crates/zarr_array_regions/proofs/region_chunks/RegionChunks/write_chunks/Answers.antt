@@ -14,7 +14,7 @@ use Rattle.zarr_array_regions.proofs.region_chunks.RegionChunks.write_chunks.Goa
 pub loop-number-init : goal.loop-number-init
 loop-number-init g c =
     let met = c.args.self.now in
-    none_written met.array.now (options_of c.args.options.now) (region met.subset.now) (raw_of c.args.bytes.now) (g.S.Store.shown c.args.store.now) (g.met.S.Store.counts_fit c.args.store.now).1
+    (none_written met.array.now (options_of c.args.options.now) (region met.subset.now) (raw_of c.args.bytes.now) (g.S.Store.shown c.args.store.now) (g.met.S.Store.counts_fit c.args.store.now).1, tt)
 
 pub returns-in-Err : goal.returns-in-Err
 returns-in-Err g c =
@@ -22,15 +22,17 @@ returns-in-Err g c =
     let below : c.loop-number.number < count (region c.args.self.now.chunks) = omega arith in
     stops_written met.array.now (options_of c.args.options.now) (region met.subset.now) (raw_of c.args.bytes.now) c.loop-number.number (chunk_at met c.loop-number.number)
     (g.S.Store.shown c.args.store.now) (g.S.Store.shown c.loop-number.store) (g.S.Store.shown c.write_chunk.new.store) c.in-Err.kind
-    (met_here met c.requires.met c.loop-number.number below) c.loop-number.invariant c.in-Err.ensures
+    (met_here met c.requires.met c.loop-number.number below) c.loop-number.invariant.0 c.in-Err.ensures.written
 
 pub loop-number-preserved : goal.loop-number-preserved
 loop-number-preserved g c =
     let met = c.args.self.now in
-    let below : c.loop-number.number < count (region c.args.self.now.chunks) = omega arith in
-    one_written met.array.now (options_of c.args.options.now) (region met.subset.now) (raw_of c.args.bytes.now) c.loop-number.number (chunk_at met c.loop-number.number)
-    (g.S.Store.shown c.args.store.now) (g.S.Store.shown c.loop-number.store) (g.S.Store.shown c.write_chunk.new.store)
-    (met_here met c.requires.met c.loop-number.number below) c.loop-number.invariant c.in_default.ensures
+    let below : c.loop-number.number < count (region c.args.self.now.chunks) = omega arith in (
+      one_written met.array.now (options_of c.args.options.now) (region met.subset.now) (raw_of c.args.bytes.now) c.loop-number.number (chunk_at met c.loop-number.number)
+          (g.S.Store.shown c.args.store.now) (g.S.Store.shown c.loop-number.store) (g.S.Store.shown c.write_chunk.new.store)
+          (met_here met c.requires.met c.loop-number.number below) c.loop-number.invariant.0 c.in-Ok.ensures.written,
+      c.in-Ok.ensures.hand,
+    )
 
 pub returns : goal.returns
 returns g c =
@@ -38,4 +40,4 @@ returns g c =
     let num = num_met met c.requires.met in
     let all : c.loop-number.number ≡ length (chunks_meeting (described c.args.self.now.array.now).grid (region c.args.self.now.subset.now)) = omega (arith, num) in
     subst (λ n. ChangedSome (described met.array.now) (options_of c.args.options.now) (change_of met.array.now (region met.subset.now) (raw_of c.args.bytes.now))
-    (chunks_meeting (described met.array.now).grid (region met.subset.now)) n (g.S.Store.shown c.args.store.now) (g.S.Store.shown c.loop-number.store)) all c.loop-number.invariant
+    (chunks_meeting (described met.array.now).grid (region met.subset.now)) n (g.S.Store.shown c.args.store.now) (g.S.Store.shown c.loop-number.store)) all c.loop-number.invariant.0

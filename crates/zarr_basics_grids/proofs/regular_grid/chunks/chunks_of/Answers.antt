@@ -1,7 +1,8 @@
 use Rattle.std.proofs.Common.{◌≡◌, arith, length, ap, ◌∙◌, ap₂}
 use Rattle.zarrs_array_subset.specs.Boxes.{region_of}
 use Rattle.zarrs_array_subset.proofs.BoxLaws.{length_region, starts_region}
-use Rattle.zarr_basics_grids.specs.RegularGrid.{quotients, lasts, counts_between}
+use Rattle.zarr_basics_boundaries.specs.Lengths.{counts_between}
+use Rattle.zarr_basics_grids.specs.RegularGrid.{quotients, lasts}
 use Rattle.zarr_basics_grids.proofs.RegularLaws.{chunks_box, chunks_are}
 use Rattle.zarr_basics_grids.proofs.regular_grid.chunks.chunks_of.Goals as goal
 

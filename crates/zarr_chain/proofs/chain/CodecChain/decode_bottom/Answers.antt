@@ -9,7 +9,7 @@ returns-clause-value g c =
     let bytes = g.C.BytesToBytesCodecTraits in
     let first = rw c.deref.ensures.value at c.in_ok-bytes.ensures.value in
     let answers = (rw c.deref-2.ensures.value at c.decode.ensures.value) c.requires.served in
-    gives_through g.A.ArrayToArrayCodecTraits.meaning g.A.ArrayCodecTraits.unserved list.meaning list.says bytes.meaning bytes.says self (options_of c.args.options.now)
+    gives_through g.A.ArrayToArrayCodecTraits.meaning g.A.ArrayCodecTraits.unserved list.meaning list.says bytes.meaning bytes.says self c.args.levels.now c.requires.count (options_of c.args.options.now)
     c.args.value.items c.in_ok-bytes.bytes.items c.decode.result first answers
 
 pub returns-clause-failed : goal.returns-clause-failed
@@ -19,5 +19,5 @@ returns-clause-failed g c =
     let bytes = g.C.BytesToBytesCodecTraits in
     let first = rw c.deref.ensures.value at c.in_ok-bytes.ensures.value in
     let answers = (rw c.deref-2.ensures.value at c.decode.ensures.value) c.requires.served in
-    fails_through g.A.ArrayToArrayCodecTraits.meaning g.A.ArrayCodecTraits.unserved list.meaning list.says bytes.meaning bytes.says self (options_of c.args.options.now)
+    fails_through g.A.ArrayToArrayCodecTraits.meaning g.A.ArrayCodecTraits.unserved list.meaning list.says bytes.meaning bytes.says self c.args.levels.now c.requires.count (options_of c.args.options.now)
     c.args.value.items c.in_ok-bytes.bytes.items c.decode.result c.requires.linked first answers

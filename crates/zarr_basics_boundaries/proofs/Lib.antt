@@ -1,0 +1,9 @@
+pub mod SizeLaws
+pub mod LimitLaws
+pub mod MakingLaws
+pub mod Taken
+pub mod AxisFacts
+pub mod LargeChunks
+pub mod RegionFacts
+pub mod MadeAxes
+pub mod WrittenLengths
