@@ -1,6 +1,7 @@
 //! Callers that name one front door alone.
 
-ghost use Rattle.std.specs.Prelude.{◌≡◌, true, MatchResult};
+ghost use Rattle.std.specs.Prelude.{◌≡◌, None, IfSome, MatchResult};
+ghost use Rattle.zarr_model.specs.Outside.{Rose};
 ghost use Rattle.zarrs_codec.specs.codec_error.declared.error.CodecError.TheVariants as error;
 
 use std::alloc::Global;
@@ -24,12 +25,14 @@ pub fn there_and_back<C: BytesToBytesCodecTraits>(
     codec.decode(alloc, encoded, representation, options)
 }
 
-/// Whether a handle's value is certainly there.
-pub fn is_there<H: BytesPartialDecoderTraits>(handle: &mut H) -> bool
-    ensures { result ≡ true → (H.seen handle.old).there ≡ true }
+/// Whether a handle's value is there, or None where its store fails.
+pub fn is_there<H: BytesPartialDecoderTraits>(handle: &mut H) -> Option<bool>
+    ensures there { IfSome result (λ there. there ≡ (H.seen handle.old).there) }
+    ensures failed { result ≡ None
+        → Rose (H.seen handle.old).shown.faults (H.seen handle.new).shown.faults }
 {
     match handle.exists() {
-        Ok(there) => there,
-        Err(_) => false,
+        Ok(there) => Some(there),
+        Err(_) => None,
     }
 }

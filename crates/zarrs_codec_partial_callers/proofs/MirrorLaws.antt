@@ -1,42 +1,27 @@
 -- Elements of a list that is turned round.
-use Rattle.std.proofs.Common.{◌≡◌, ◌⊎◌, ℕ, ◌-◌, ◌<◌, List, length, get_or, Bool, true, false, Option, Some, None, IsSome, is_some, option_map, Result, Ok, Err, IfOk, refl, sym, ap, ◌∙◌, subst, arith}
+use Rattle.std.proofs.Common.{◌≡◌, ℕ, ◌-◌, ◌<◌, List, length, get_or, true, false, Option, Some, None, IsSome, option_map, Result, Ok, Err, IfOk, refl, sym, ap, ◌∙◌, subst, arith}
 use Rattle.std.specs.Prelude.{reverse}
 use Rattle.std.proofs.lemmas.List.{length-map, get_or-map, get_or-reverse, length-reverse}
 use Rattle.std.proofs.lemmas.Simd.{map-map}
 use Rattle.zarr_model.specs.Region.{Region, count, count_of, sizes, whole, tuples, place, linear_index, ends_within}
-use Rattle.zarr_model.specs.Element.{Element, null, Kind, fixed_size, fill_element}
+use Rattle.zarr_model.specs.Element.{Element, null, Kind, fixed_size}
 use Rattle.zarr_model.specs.ArrayBytes.{ArrayBytes, meaning}
 use Rattle.zarr_model.specs.Command.{has_long_element}
 use Rattle.zarr_model.proofs.RegionLaws.{length-tuples, sizes_whole}
-use Rattle.zarr_model.proofs.BytesLaws.{length-meaning, refusal-meaning}
+use Rattle.zarr_model.proofs.BytesLaws.{length-meaning}
 use Rattle.zarrs_chunk_grid_iterators.proofs.BoxFacts.{box_inside}
 use Rattle.zarrs_codec_bytes.specs.Picking.{AllBelow, gathered, picked, size_in}
-use Rattle.zarrs_codec_bytes.specs.Filling.{has_size}
 use Rattle.zarrs_codec_bytes.proofs.LeafLaws.{map_below}
 use Rattle.zarrs_codec_bytes.proofs.GatherLaws.{extract_means}
-use Rattle.zarrs_codec_bytes.proofs.FilledLaws.{element_fits}
 use Rattle.zarrs_codec_bytes.proofs.RowLaws.{indices_below}
 use Rattle.zarrs_codec_error.specs.declared.error.CodecError.{CodecError}
-use Rattle.zarrs_codec_error.specs.declared.error.CodecError.TheVariants as codec
 use Rattle.zarrs_codec_array_bytes.specs.Selection.{linear}
-use Rattle.zarrs_codec_array_bytes.specs.Refusals.{fine, fill_answer, lengths_refusal, told_by, validity, Answers}
-use Rattle.zarrs_codec_array_bytes.proofs.CheckLaws.{sized_fine, still_short, below_twice}
-use Rattle.zarrs_codec_array_bytes.proofs.ToldLaws.{fill_memory}
-use Rattle.zarrs_codec_array_bytes.proofs.ExtractLaws.{lengths_kept}
+use Rattle.zarrs_codec_array_bytes.specs.Refusals.{fine, validity, Answers}
+use Rattle.zarrs_codec_array_bytes.proofs.CheckLaws.{still_short, below_twice}
+use Rattle.zarrs_codec_array_bytes.proofs.ExtractLaws.{valid_list, valid_long}
 use Rattle.zarrs_codec_traits.specs.Words.{Gives, select}
 use Rattle.zarrs_codec_traits.proofs.SelectLaws.{listed}
 use Rattle.zarrs_codec_partial_callers.specs.Turned.{mirrored, turned_part}
-
--- array bytes that are valid mean a list
-valid_list : (kind : Kind) (number : ℕ) (raw : ArrayBytes) → validity kind number raw ≡ fine → (xs : List Element) × (meaning kind number raw ≡ Some xs)
-valid_list kind number raw valid = go (meaning kind number raw) refl ((refusal-meaning kind number raw).0 (sized_fine _ _ _ valid))
-  where
-    go : (o : Option (List Element)) → meaning kind number raw ≡ o → is_some (meaning kind number raw) ≡ true → (xs : List Element) × (meaning kind number raw ≡ Some xs)
-    go (Some xs) is there = (xs, is)
-    go None is there = absurd (let no : is_some (meaning kind number raw) ≡ false = ap is_some is in cc)
-
-pub valid_long : (kind : Kind) (number : ℕ) (raw : ArrayBytes) → validity kind number raw ≡ fine → lengths_refusal (size_in (fixed_size kind)) number raw ≡ None
-valid_long kind number raw valid = let means = valid_list kind number raw valid in lengths_kept kind number raw means.0 means.1
 
 -- places below a limit are so from the other end too
 mirrored_below : (n : ℕ) (places : List ℕ) → AllBelow n places → AllBelow n (mirrored n places)
@@ -120,11 +105,3 @@ part_gives kind shape box raw (Ok v) seen list xs gives long turned is =
 
 pub whole_answers : {T : Type 0} (kind : Kind) (shape : List ℕ) (raw : ArrayBytes) (r : Result T CodecError) → Answers (validity kind (count_of shape) raw) r → Answers (validity kind (count_of (sizes (whole shape))) raw) r
 whole_answers kind shape raw r answers = subst (λ s. Answers (validity kind (count_of s) raw) r) (sym (sizes_whole shape)) answers
-
--- a fill value that denotes an element is refused for want of memory alone
-pub denoted_err : (kind : Kind) (fill : List ℕ) (e : CodecError) → (e ≡ codec.OutOfMemory) ⊎ (told_by e ≡ fill_answer (has_size kind fill)) → IsSome (fill_element kind fill) → e ≡ codec.OutOfMemory
-denoted_err kind fill e answers there = go (fill_element kind fill) refl there
-  where
-    go : (o : Option Element) → fill_element kind fill ≡ o → IsSome o → e ≡ codec.OutOfMemory
-    go (Some x) is there = fill_memory (has_size kind fill) e (element_fits kind fill x is) answers
-    go None is there = cc

@@ -3,7 +3,7 @@
 ghost use Rattle.std.specs.Prelude.{Some, None, false, refl};
 ghost use Rattle.zarr_model.specs.Region.{count_of, whole};
 
-use crate::turning::{same_fill, turned, turned_region};
+use crate::turning::{turned, turned_region};
 use std::alloc::{AllocError, Global};
 use std::num::NonZeroU64;
 use zarrs_array_subset::{ArraySubset, ChunkShape};
@@ -14,7 +14,7 @@ use zarrs_codec_options::{
     RecommendedConcurrency,
 };
 use zarrs_codec_traits::{
-    ArrayCodecTraits, ArrayToArrayCodecTraits, CodecTraits, same_shape, whole_box,
+    ArrayCodecTraits, ArrayToArrayCodecTraits, CodecTraits, same_fill, same_shape, whole_box,
 };
 use zarrs_data_type_elements::FillValue;
 use zarrs_data_type_names::DataType;

@@ -1,20 +1,16 @@
 //! Elements of a list that is turned round.
 
-ghost use Rattle.std.specs.Prelude.{◌≡◌, ◌<◌, ◌^◌, true, false, reverse, IsSome, IfOk, IfErr, MatchResult, option_map};
+ghost use Rattle.std.specs.Prelude.{◌≡◌, ◌<◌, ◌^◌, true, false, reverse, IfOk, IfErr, option_map};
 ghost use Rattle.zarr_model.specs.Region.{count, count_of, tuples, ends_within};
-ghost use Rattle.zarr_model.specs.Element.{fill_element};
 ghost use Rattle.zarr_model.specs.ArrayBytes.{meaning};
 ghost use Rattle.zarr_model.specs.Command.{has_long_element};
 ghost use Rattle.zarrs_array_subset.specs.ArraySubset.{region as box_of};
-ghost use Rattle.zarrs_data_type_elements.specs.FillValue.{fill_bytes};
 ghost use Rattle.zarrs_data_type_names.specs.DataType.{type_of};
-ghost use Rattle.zarrs_codec_bytes.specs.Filling.{has_size};
 ghost use Rattle.zarrs_codec_error.specs.declared.error.CodecError.TheVariants as codec;
 ghost use Rattle.zarrs_codec_array_bytes.specs.Raw.{raw_of};
 ghost use Rattle.zarrs_codec_array_bytes.specs.Refusals.{validity, Answers};
 ghost use Rattle.zarrs_codec_array_bytes.specs.Selection.{linear};
 ghost use Rattle.zarrs_codec_array_bytes.specs.Steps.{kind_seen};
-ghost use Rattle.zarrs_codec_traits.specs.Errors.{FillAnswers};
 ghost use Rattle.zarrs_codec_traits.specs.Views.{lengths};
 ghost use Rattle.zarrs_codec_traits.specs.Words.{Gives, IsFit};
 ghost use Rattle.zarrs_codec_partial_callers.specs.Turned.{mirrored, turned_part};
@@ -28,7 +24,6 @@ use zarrs_codec_array_bytes::array_bytes::gather::select;
 use zarrs_codec_array_bytes::array_bytes::step::element_size;
 use zarrs_codec_error::CodecError;
 use zarrs_codec_traits::{num_elements, shape_numbers, whole_box};
-use zarrs_data_type_elements::FillValue;
 use zarrs_data_type_names::DataType;
 
 // Each place, counted from the other end of so many.
@@ -113,45 +108,4 @@ pub fn turned(
         Ok(all) => turned_region(alloc, bytes, &all, shape, data_type),
         Err(error) => Err(error),
     }
-}
-
-// Whether a fill value has the size of the type's.
-fn expect_size(
-    alloc: Global,
-    data_type: &DataType,
-    fill_value: &FillValue,
-) -> Result<(), CodecError>
-    ensures exact { FillAnswers (has_size (kind_seen data_type.now) (fill_bytes fill_value.now))
-        result }
-    ensures sized { IfOk result
-        (λ _. has_size (kind_seen data_type.now) (fill_bytes fill_value.now) ≡ true) }
-    ensures memory { IsSome (fill_element (kind_seen data_type.now) (fill_bytes fill_value.now))
-        → IfErr result (λ e. e ≡ codec.OutOfMemory) }
-{
-    match ArrayBytes::new_fill_value(alloc, data_type, 0, fill_value) {
-        Ok(_) => Ok(()),
-        Err(error) => Err(error),
-    }
-}
-
-/// The same fill value, where it has the size of the type's.
-///
-/// # Errors
-/// `DataTypeFillValueError` exactly where the fill value has another size; or where memory runs out.
-pub fn same_fill(
-    alloc: Global,
-    data_type: &DataType,
-    fill_value: &FillValue,
-) -> Result<FillValue, CodecError>
-    ensures exact { FillAnswers (has_size (kind_seen data_type.now) (fill_bytes fill_value.now))
-        result }
-    ensures sized { IfOk result
-        (λ _. has_size (kind_seen data_type.now) (fill_bytes fill_value.now) ≡ true) }
-    ensures value { IsSome (fill_element (kind_seen data_type.now) (fill_bytes fill_value.now))
-        → MatchResult result (λ r. fill_bytes r ≡ fill_bytes fill_value.now)
-        (λ e. e ≡ codec.OutOfMemory) }
-{
-    expect_size(alloc, data_type, fill_value)?;
-    let copy = fill_value.try_clone(alloc)?;
-    Ok(copy)
 }

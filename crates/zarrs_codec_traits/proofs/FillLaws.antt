@@ -1,8 +1,14 @@
 -- The element that a fill value denotes.
-use Rattle.std.proofs.Common.{◌≡◌, ℕ, zero, suc, ◌<◌, Bool, true, false, ◌==◌, if◌then◌else◌, List, [], ◌∷◌, length, take, Option, Some, None, option_map, slice_index, refl, subst}
+use Rattle.std.proofs.Common.{◌≡◌, ◌⊎◌, ℕ, zero, suc, ◌<◌, Bool, true, false, ◌==◌, if◌then◌else◌, List, [], ◌∷◌, length, take, Option, Some, None, IsSome, option_map, slice_index, refl, subst}
 use Rattle.std.specs.List.{AllByRecursion}
 use Rattle.zarr_model.specs.Element.{Element, of_bytes, null, some, Kind, fixed, variable, optional, fill_element, optional_fill}
 use Rattle.zarr_model.proofs.ListLaws.{bytes-take}
+use Rattle.zarrs_codec_bytes.specs.Filling.{has_size}
+use Rattle.zarrs_codec_bytes.proofs.FilledLaws.{element_fits}
+use Rattle.zarrs_codec_error.specs.declared.error.CodecError.{CodecError}
+use Rattle.zarrs_codec_error.specs.declared.error.CodecError.TheVariants as codec
+use Rattle.zarrs_codec_array_bytes.specs.Refusals.{fill_answer, told_by}
+use Rattle.zarrs_codec_array_bytes.proofs.ToldLaws.{fill_memory}
 use Rattle.zarrs_codec_traits.specs.Words.{AreBytes}
 
 -- the element that bytes denote has bytes in it
@@ -25,3 +31,11 @@ element_bytes (optional kind) [] x small is = cc
 element_bytes (optional kind) (b ∷ value) x small is =
     optional_bytes (slice_index (b ∷ value) (length value)) (fill_element kind (take (length value) (b ∷ value))) x
     (λ y inner. element_bytes kind (take (length value) (b ∷ value)) y (bytes-take (length value) (b ∷ value) small) inner) is
+
+-- a fill value that denotes an element is refused for want of memory alone
+pub denoted_err : (kind : Kind) (fill : List ℕ) (e : CodecError) → (e ≡ codec.OutOfMemory) ⊎ (told_by e ≡ fill_answer (has_size kind fill)) → IsSome (fill_element kind fill) → e ≡ codec.OutOfMemory
+denoted_err kind fill e answers there = go (fill_element kind fill) refl there
+  where
+    go : (o : Option Element) → fill_element kind fill ≡ o → IsSome o → e ≡ codec.OutOfMemory
+    go (Some x) is there = fill_memory (has_size kind fill) e (element_fits kind fill x is) answers
+    go None is there = cc

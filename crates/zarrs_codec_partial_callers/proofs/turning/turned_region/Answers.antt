@@ -4,7 +4,8 @@ use Rattle.zarrs_array_subset.specs.ArraySubset.{region as box_of}
 use Rattle.zarrs_codec_array_bytes.specs.Raw.{raw_of}
 use Rattle.zarrs_codec_array_bytes.specs.Steps.{kind_seen}
 use Rattle.zarrs_codec_traits.specs.Views.{lengths}
-use Rattle.zarrs_codec_partial_callers.proofs.MirrorLaws.{valid_long, places_below, region_turned, region_short}
+use Rattle.zarrs_codec_array_bytes.proofs.ExtractLaws.{valid_long}
+use Rattle.zarrs_codec_partial_callers.proofs.MirrorLaws.{places_below, region_turned, region_short}
 use Rattle.zarrs_codec_partial_callers.proofs.turning.turned_region.Goals as goal
 
 pub select-requires-clause-within : goal.select-requires-clause-within
