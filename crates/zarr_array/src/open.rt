@@ -35,11 +35,11 @@ impl OpenArray {
 
     /// Opens the array that a document describes, by the names of some registries.
     ///
-    /// Served are all data types, at any rank and of any length, under any chain of `zarr_basics.offset`, which serves
-    /// whole numbers, then the codec of the elements, then `zarr_basics.sha256`: `bytes`, which has an order where
-    /// components have several bytes, for booleans, whole numbers and raw bits, `vlen-utf8` for texts, `vlen-bytes` for
-    /// byte strings, and `zarr_basics.optional` over one of them for optional types. Attributes, dimension names and
-    /// fields that need not be understood are read and left alone.
+    /// Served are all data types, at any rank and of any length, under any chain of `transpose`, whose order has the
+    /// array's rank, and `zarr_basics.offset`, which serves whole numbers, then the codec of the elements, then
+    /// `zarr_basics.sha256`: `bytes`, which has an order where components have several bytes, for booleans, whole numbers
+    /// and raw bits, `vlen-utf8` for texts, `vlen-bytes` for byte strings, and `zarr_basics.optional` over one of them for
+    /// optional types. Attributes, dimension names and fields that need not be understood are read and left alone.
     ///
     /// # Errors
     /// The first of [`OpenError`] that applies, or `OutOfMemory`.

@@ -100,7 +100,7 @@ fn a_chunk_is_read_erased_and_written(rt: HostRuntime) {
     assert_eq!(rt; value.as_deref(), Some(AFTER.as_slice()));
 }
 
-// Six elements in chunks of two and of four.
+// Five elements in chunks of two and of four, the last place of which lies past them.
 const BOUNDED: &str =
     r#"{"zarr_format":3,"node_type":"array","shape":[5],"data_type":"uint8","chunk_grid":{"name":"zarr_basics.boundaries","configuration":{"lengths":[[2,4]]}},"chunk_key_encoding":"default","fill_value":9,"codecs":["bytes"]}"#;
 
@@ -141,4 +141,46 @@ fn a_handle_has_the_shape_of_its_chunk(rt: HostRuntime) {
     let value = store.get(alloc, &key_of(&rt, alloc, "c/1"));
     let value = value.ok().expect(&rt, "a value");
     assert_eq!(rt; value.as_deref(), Some([9, 6, 7, 9].as_slice()));
+}
+
+// Two rows of three elements, stored by columns.
+const MOVED: &str =
+    r#"{"zarr_format":3,"node_type":"array","shape":[2,3],"data_type":"uint8","chunk_grid":{"name":"regular","configuration":{"chunk_shape":[2,3]}},"chunk_key_encoding":"default","fill_value":0,"codecs":[{"name":"transpose","configuration":{"order":[1,0]}},"bytes"]}"#;
+
+// The elements of a region of a chunk, if it has the region, by a handle that is built for the chunk.
+fn read_chunk(
+    rt: &impl Abort,
+    alloc: Global,
+    document: &str,
+    chunk: &[u64],
+    region: &ArraySubset,
+    store: &mut MemoryStore,
+) -> Option<ArrayBytes<'static>> {
+    let array = opened(rt, alloc, document);
+    let shape = array.chunk_shape(alloc, chunk).ok().expect(rt, "a shape")?;
+    let shape = numbers(alloc, &shape).expect(rt, "memory");
+    if !array.grid().has_chunk(chunk) || !region.inbounds_shape(&shape) {
+        return None;
+    }
+    let key = array.chunk_key(alloc, chunk).expect(rt, "memory");
+    let mut handle = ChainHandle::build(alloc, &array, chunk, store, key).expect(rt, "memory");
+    let part = handle.partial_decode(alloc, region, &CodecOptions::default());
+    let _store = handle.into_storage();
+    part.ok()
+}
+
+#[test]
+fn a_handle_is_built_for_a_chunk(rt: HostRuntime) {
+    let alloc = rt.alloc();
+    let mut store = MemoryStore::new(alloc);
+    put(&rt, alloc, &mut store, "c/1", &[5, 6, 7, 8]);
+    put(&rt, alloc, &mut store, "c/0/0", &[1, 4, 2, 5, 3, 6]);
+    let middle = region(&rt, alloc, &[1..3]);
+    let part = read_chunk(&rt, alloc, BOUNDED, &[1], &middle, &mut store);
+    assert_eq!(rt; are_elements(part, &[6, 7]), true);
+    let past = read_chunk(&rt, alloc, BOUNDED, &[2], &middle, &mut store);
+    assert_eq!(rt; past.is_none(), true);
+    let column = region(&rt, alloc, &[0..2, 1..2]);
+    let part = read_chunk(&rt, alloc, MOVED, &[0, 0], &column, &mut store);
+    assert_eq!(rt; are_elements(part, &[2, 5]), true);
 }

@@ -1,5 +1,6 @@
 -- The chain of an array's codecs is the one that its document describes, and its levels serve each chunk.
-use Rattle.std.proofs.Common.{◌≡◌, ℕ, ◌+◌, ◌*◌, ◌^◌, ◌<◌, Bool, true, false, List, [], ◌∷◌, length, map, Option, Some, None, is_some, IsSome, unwrap_or, refl, sym, ap, ◌∙◌, subst}
+use Rattle.std.proofs.Common.{◌≡◌, ℕ, ◌+◌, ◌*◌, ◌^◌, ◌<◌, ◌≤◌, Bool, true, false, List, [], ◌∷◌, length, map, Option, Some, None, is_some, IsSome, unwrap_or, refl, sym, ap, ◌∙◌, subst, arith}
+use Rattle.std.proofs.lemmas.List.{length-map}
 use Rattle.zarr_model.specs.Prelude.{count, count_of, Element, null, kind, kind_of, fixed_size, fill_element, has_long_element, Options, Level, Chain, ArrayCodec, decode_chain, decode_array_to_bytes, IsChunk}
 use Rattle.zarrs_data_type_elements.specs.FillValue.{fill_bytes}
 use Rattle.zarrs_data_type_names.specs.DataType.{type_of}
@@ -7,37 +8,36 @@ use Rattle.zarrs_codec_bytes.specs.Filling.{innermost_fill, filled_with}
 use Rattle.zarrs_codec_bytes.specs.Picking.{size_in}
 use Rattle.zarrs_codec_traits.specs.Words.{IsFit}
 use Rattle.zarr_chain.specs.Chain.{IsServed, HasFill, blank_chunk, first_level, first_fill, bottom_level, steps, chain_of}
-use Rattle.zarr_chain.specs.Levels.{Step, AreLinked, top}
 use Rattle.zarr_chain.specs.Values.{byte_codecs}
 use Rattle.zarr_chain.specs.declared.levels.ChunkLevels.{ChunkLevels}
+use Rattle.zarr_chain.proofs.LevelLaws.{fewer_below}
 use Rattle.zarr_chain.proofs.StepLaws.{top_is}
 use Rattle.zarr_codecs_array_to_bytes.specs.Plain.{codec_of, unserved_by, stores_lengths, takes_by}
 use Rattle.zarr_codecs_array_to_bytes.specs.Views.{plain_of}
-use Rattle.zarr_basics.specs.kinds.declared.array_to_array.BasicArrayToArray.{BasicArrayToArray}
+use Rattle.zarr_basics.specs.kinds.array_to_array.ArrayToArray.{array_codec_of}
+use Rattle.zarr_basics.specs.kinds.array_to_array.Laws.{count_below}
+use Rattle.zarr_basics.specs.kinds.array_to_array.Views.{array_form}
+use Rattle.zarr_basics.specs.kinds.array_to_array.declared.array_to_array.BasicArrayToArray.{BasicArrayToArray}
+use Rattle.zarr_basics.specs.kinds.BytesToBytes.{byte_codec_of, byte_form}
 use Rattle.zarr_basics.specs.kinds.declared.bytes_to_bytes.BasicBytesToBytes.{BasicBytesToBytes}
-use Rattle.zarr_basics.specs.kinds.declared.bytes_to_bytes.BasicBytesToBytes.TheVariants.{Sha256}
-use Rattle.zarr_array_parts.specs.Document.{ChainForm, array_codec_of, byte_codec_of}
-use Rattle.zarr_array_parts.specs.Chain.{array_form, byte_form, BasicChain, chain_form}
+use Rattle.zarr_array_parts.specs.Document.{ChainForm}
+use Rattle.zarr_array_parts.specs.Chain.{all_ranked, BasicChain, chain_form}
 use Rattle.zarr_array_parts.specs.Codecs.{array_meaning, array_unserved, list_meaning, list_unserved, bytes_meaning}
 use Rattle.zarr_array_parts.specs.ChunkLevels.{shape_level, chunk_shape, ServesShape}
 use Rattle.zarr_array_parts.specs.Parts.{described}
 use Rattle.zarr_array_parts.specs.declared.parts.ArrayParts.{ArrayParts}
 use Rattle.zarr_array_parts.proofs.SizeLaws.{unstored_sized, taken, short_fill}
 use Rattle.zarr_array_parts.proofs.ServingLaws.{is_served-serves}
-use Rattle.zarr_array_parts.proofs.ServedLaws.{chunk_counts, chunk_short}
+use Rattle.zarr_array_parts.proofs.ServedLaws.{described_covers, chunk_counts, chunk_short}
 
 -- the codecs mean what their names do
 arrays_mean : (codecs : List BasicArrayToArray) → map array_meaning codecs ≡ map array_codec_of (map array_form codecs)
 arrays_mean [] = refl
 arrays_mean (codec ∷ codecs) = ap (λ l. array_meaning codec ∷ l) (arrays_mean codecs)
 
-byte_codec_means : (options : Options) (codec : BasicBytesToBytes) → bytes_meaning codec options ≡ byte_codec_of options (byte_form codec)
-byte_codec_means options (Sha256 codec) = refl
-
 pub byte_codecs_mean : (options : Options) (codecs : List BasicBytesToBytes) → byte_codecs bytes_meaning options codecs ≡ map (byte_codec_of options) (map byte_form codecs)
 byte_codecs_mean options [] = refl
-byte_codecs_mean options (codec ∷ codecs) =
-    ap (λ f. f ∷ byte_codecs bytes_meaning options codecs) (byte_codec_means options codec) ∙ ap (λ l. byte_codec_of options (byte_form codec) ∷ l) (byte_codecs_mean options codecs)
+byte_codecs_mean options (codec ∷ codecs) = ap (λ l. byte_codec_of options (byte_form codec) ∷ l) (byte_codecs_mean options codecs)
 
 -- a chain means what its names do
 abbrev chain_with : List ArrayCodec → (Level → List ℕ → Option (List Element)) → List (List ℕ → Option (List ℕ)) → Chain
@@ -67,7 +67,13 @@ fill_denotes array = denoted (fill_element (kind_of (type_of array.data_type)) (
 pub fill_denotes_some : (array : ArrayParts) → IsSome (fill_element (kind_of (type_of array.data_type)) (fill_bytes array.fill))
 fill_denotes_some array = subst IsSome (sym (fill_denotes array)) refl
 
--- the shape of a chunk can be counted and addressed
+-- the shape of a chunk has the array's rank, and can be counted and addressed
+pub shape_ranked : (array : ArrayParts) (chunk dims : List ℕ) → IsChunk (described array).grid chunk → dims ≡ chunk_shape (described array) chunk → all_ranked (length dims) (map array_form array.chain.array_codecs.items) ≡ true
+shape_ranked array chunk dims is_chunk is =
+    ap (λ rank. all_ranked rank (map array_form array.chain.array_codecs.items))
+    (ap length is ∙ length-map ((described array).grid.chunk_box chunk) (λ span. span.size) ∙ (described_covers array).box_rank chunk is_chunk)
+    ∙ array.ranked
+
 pub shape_fits : (array : ArrayParts) (chunk dims : List ℕ) → IsChunk (described array).grid chunk → dims ≡ chunk_shape (described array) chunk → IsFit dims (type_of array.data_type)
 shape_fits array chunk dims is_chunk is =
     let counts = chunk_counts array chunk is_chunk in
@@ -99,22 +105,23 @@ has_fill array chunk levels is_chunk level filled = record {
       ∙ short_fill (kind (described array)) (count ((described array).grid.chunk_box chunk)) (fill_bytes array.fill) (λ unsized. fill_short array chunk is_chunk unsized));
 }
 
--- array-to-array codecs keep the shape, so the last level has a chunk's number of elements
-same_shape : (below : List (Step BasicArrayToArray)) (bottom : Level) → AreLinked array_meaning array_unserved below bottom → (top below bottom).shape ≡ bottom.shape
-same_shape [] bottom linked = refl
-same_shape (step ∷ below) bottom linked = ap (λ (l : Level). l.shape) linked.0.below ∙ same_shape below bottom linked.1
-
 module _ (array : ArrayParts) (chain : BasicChain) (forms : chain_form chain ≡ chain_form array.chain) where
-  -- which is taken
+  -- no level has more elements than the chunk, so the array-to-bytes codec takes those of the last one
+  few_below : (levels : ChunkLevels) → IsServed array_meaning array_unserved list_unserved chain levels → count_of (bottom_level levels).shape ≤ count_of (first_level levels).shape
+  few_below levels served =
+      subst (λ (l : Level). count_of (bottom_level levels).shape ≤ count_of l.shape) (top_is chain.array_codecs.items levels.above.items (bottom_level levels) served.count)
+      (fewer_below array_meaning array_unserved (λ codec level fill serves. count_below codec level serves) (steps chain levels) (bottom_level levels) served.linked)
+
   chunk_taken : (chunk : List ℕ) (levels : ChunkLevels) → IsChunk (described array).grid chunk → IsServed array_meaning array_unserved list_unserved chain levels →
       first_level levels ≡ shape_level (described array) (chunk_shape (described array) chunk) → takes_by (plain_of chain.to_bytes) (count_of (bottom_level levels).shape)
-  chunk_taken chunk levels is_chunk served level =
-      let bottom : chunk_shape (described array) chunk ≡ (bottom_level levels).shape =
-      sym (ap (λ (l : Level). l.shape) level)
-      ∙ (sym (ap (λ (l : Level). l.shape) (top_is chain.array_codecs.items levels.above.items (bottom_level levels) served.count))
-      ∙ same_shape (steps chain levels) (bottom_level levels) served.linked) in
-      taken (plain_of chain.to_bytes) (count_of (bottom_level levels).shape)
-      (λ stores. subst (λ s. count_of s < 2 ^ 32) bottom (chunk_short array chunk is_chunk (ap (λ (f : ChainForm). stores_lengths f.to_bytes) (sym forms) ∙ stores)).0)
+  chunk_taken chunk levels is_chunk served level = taken (plain_of chain.to_bytes) (count_of (bottom_level levels).shape) few
+    where
+      few : stores_lengths (plain_of chain.to_bytes) ≡ true → count_of (bottom_level levels).shape < 2 ^ 32
+      few stores =
+          let short : count ((described array).grid.chunk_box chunk) < 2 ^ 32 = (chunk_short array chunk is_chunk (ap (λ (f : ChainForm). stores_lengths f.to_bytes) (sym forms) ∙ stores)).0 in
+          let first : count_of (first_level levels).shape < 2 ^ 32 = subst (λ (l : Level). count_of l.shape < 2 ^ 32) (sym level) short in
+          let below = few_below levels served in
+          omega (arith, first, below)
 
   -- so levels of a chunk's shape are the array's
   pub serves_shape : (chunk dims : List ℕ) (levels : ChunkLevels) → IsChunk (described array).grid chunk → dims ≡ chunk_shape (described array) chunk →

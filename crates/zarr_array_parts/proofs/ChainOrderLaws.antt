@@ -4,13 +4,13 @@ use Rattle.std.proofs.lemmas.List.{map-append, at_drop_more, append_assoc, appen
 use Rattle.std.proofs.Math.Seq.{drop-length}
 use Rattle.zarrs_codec_traits.specs.declared.codec.Codec.{Codec}
 use Rattle.zarrs_codec_traits.specs.declared.codec.Codec.TheVariants as code
-use Rattle.zarr_basics.specs.kinds.CodecForm.{CodecForm, sha256, form_of}
-use Rattle.zarr_basics.specs.kinds.declared.array_to_array.BasicArrayToArray.{BasicArrayToArray}
+use Rattle.zarr_basics.specs.kinds.array_to_array.Views.{array_form}
+use Rattle.zarr_basics.specs.kinds.array_to_array.declared.array_to_array.BasicArrayToArray.{BasicArrayToArray}
+use Rattle.zarr_basics.specs.kinds.BytesToBytes.{BytesToBytes, byte_form}
+use Rattle.zarr_basics.specs.kinds.CodecForm.{CodecForm, form_of}
 use Rattle.zarr_codecs_array_to_bytes.specs.declared.codecs.BasicArrayToBytes.{BasicArrayToBytes}
 use Rattle.zarr_basics.specs.kinds.declared.bytes_to_bytes.BasicBytesToBytes.{BasicBytesToBytes}
-use Rattle.zarr_basics.specs.kinds.declared.bytes_to_bytes.BasicBytesToBytes.TheVariants.{Sha256}
-use Rattle.zarr_array_parts.specs.Document.{BytesToBytes}
-use Rattle.zarr_array_parts.specs.Chain.{leading, behind, all_byte_codecs, array_form, byte_form}
+use Rattle.zarr_array_parts.specs.Chain.{leading, behind, all_byte_codecs}
 use Rattle.zarr_array_parts.specs.Opening.{chain_order, or_refused}
 
 abbrev pub Code : Type 0
@@ -25,16 +25,17 @@ pub record AreLeading (all : List Code) (at : ℕ) (first : List BasicArrayToArr
 pub none_lead : (all : List Code) → AreLeading all 0 []
 none_lead all = record { arrays = refl; others = refl; long = refl }
 
-pub one_more_leads : (all : List Code) (at : ℕ) (first : List BasicArrayToArray) (x : Code) (codec : BasicArrayToArray) → AreLeading all at first → at < length all
-    → x ≡ get_or all at x → x ≡ code.ArrayToArray codec → AreLeading all (at + 1) (first ++ codec ∷ [])
-one_more_leads all at first x codec lead less item is = record {
+pub one_more_leads : (all : List Code) (at : ℕ) (first : List BasicArrayToArray) (x : Code) (codec copy : BasicArrayToArray) → AreLeading all at first → at < length all
+    → x ≡ get_or all at x → x ≡ code.ArrayToArray codec → array_form copy ≡ array_form codec → AreLeading all (at + 1) (first ++ copy ∷ [])
+one_more_leads all at first x codec copy lead less item is same = record {
   arrays =
-      ap (λ l. l ++ leading (map form_of (drop (at + 1) all))) (map-append array_form first (codec ∷ []))
-      ∙ append_assoc (map array_form first) (array_form codec ∷ []) (leading (map form_of (drop (at + 1) all)))
+      ap (λ l. l ++ leading (map form_of (drop (at + 1) all))) (map-append array_form first (copy ∷ []))
+      ∙ append_assoc (map array_form first) (array_form copy ∷ []) (leading (map form_of (drop (at + 1) all)))
+      ∙ ap (λ form. map array_form first ++ form ∷ leading (map form_of (drop (at + 1) all))) same
       ∙ ap (λ l. map array_form first ++ l) (sym (at_drop_more (λ l. leading (map form_of l)) all at x less ∙ ap (λ y. leading (form_of y ∷ map form_of (drop (at + 1) all))) (sym item ∙ is)))
       ∙ lead.arrays;
   others = sym (at_drop_more (λ l. behind (map form_of l)) all at x less ∙ ap (λ y. behind (form_of y ∷ map form_of (drop (at + 1) all))) (sym item ∙ is)) ∙ lead.others;
-  long = length-append first (codec ∷ []) ∙ ap (λ n. n + 1) lead.long;
+  long = length-append first (copy ∷ []) ∙ ap (λ n. n + 1) lead.long;
 }
 
 -- which are all of them where another one follows, or none
@@ -88,16 +89,13 @@ front_more : (front : List BytesToBytes) (codec : BytesToBytes) (o : Option (Lis
 front_more front codec None = refl
 front_more front codec (Some others) = ap Some (append_assoc front (codec ∷ []) others)
 
-byte_codec_first : (codec : BasicBytesToBytes) (rest : List CodecForm) → all_byte_codecs (sha256 ∷ rest) ≡ option_map (λ others. byte_form codec ∷ others) (all_byte_codecs rest)
-byte_codec_first (Sha256 codec) rest = refl
-
 pub one_more_byte_codec : (all : List Code) (at : ℕ) (front : List BasicBytesToBytes) (x : Code) (codec : BasicBytesToBytes) → AreByteCodecs all at front → at < length all
     → x ≡ get_or all at x → x ≡ code.BytesToBytes codec → AreByteCodecs all (at + 1) (front ++ codec ∷ [])
 one_more_byte_codec all at front x codec so_far less item is =
     ap (λ l. with_front l (all_byte_codecs (map form_of (drop (at + 1) all)))) (map-append byte_form front (codec ∷ []))
     ∙ front_more (map byte_form front) (byte_form codec) (all_byte_codecs (map form_of (drop (at + 1) all)))
     ∙ ap (with_front (map byte_form front)) (sym (at_drop_more (λ l. all_byte_codecs (map form_of l)) all at x less
-    ∙ ap (λ y. all_byte_codecs (form_of y ∷ map form_of (drop (at + 1) all))) (sym item ∙ is) ∙ byte_codec_first codec (map form_of (drop (at + 1) all))))
+    ∙ ap (λ y. all_byte_codecs (form_of y ∷ map form_of (drop (at + 1) all))) (sym item ∙ is)))
     ∙ so_far
 
 no_byte_codec : (x : Code) (rest : List CodecForm) → ((codec : BasicBytesToBytes) → x ≡ code.BytesToBytes codec → ⊥) → all_byte_codecs (form_of x ∷ rest) ≡ None
@@ -115,3 +113,23 @@ pub all_byte : (all : List Code) (at : ℕ) (front : List BasicBytesToBytes) →
 all_byte all at front so_far end =
     ap (or_refused chain_order) (sym so_far ∙ ap (λ l. with_front (map byte_form front) (all_byte_codecs (map form_of l))) (ap (λ n. drop n all) end ∙ drop-length all)
     ∙ ap Some (append-nil (map byte_form front)))
+
+-- the codecs up to a place, copied
+abbrev pub AreCopies : List BasicArrayToArray → ℕ → List BasicArrayToArray → Type 0
+AreCopies all at copies = map array_form copies ++ map array_form (drop at all) ≡ map array_form all
+
+pub none_copied : (all : List BasicArrayToArray) → AreCopies all 0 []
+none_copied all = refl
+
+pub one_more_copied : (all : List BasicArrayToArray) (at : ℕ) (copies : List BasicArrayToArray) (codec copy : BasicArrayToArray) → AreCopies all at copies → at < length all
+    → codec ≡ get_or all at codec → array_form copy ≡ array_form codec → AreCopies all (at + 1) (copies ++ copy ∷ [])
+one_more_copied all at copies codec copy so_far less item same =
+    ap (λ l. l ++ map array_form (drop (at + 1) all)) (map-append array_form copies (copy ∷ []))
+    ∙ append_assoc (map array_form copies) (array_form copy ∷ []) (map array_form (drop (at + 1) all))
+    ∙ ap (λ form. map array_form copies ++ form ∷ map array_form (drop (at + 1) all)) same
+    ∙ ap (λ l. map array_form copies ++ l) (sym (at_drop_more (λ l. map array_form l) all at codec less ∙ ap (λ y. array_form y ∷ map array_form (drop (at + 1) all)) (sym item)))
+    ∙ so_far
+
+pub all_copied : (all : List BasicArrayToArray) (at : ℕ) (copies : List BasicArrayToArray) → AreCopies all at copies → at ≡ length all → map array_form copies ≡ map array_form all
+all_copied all at copies so_far end =
+    sym (append-nil (map array_form copies)) ∙ ap (λ l. map array_form copies ++ map array_form l) (sym (ap (λ n. drop n all) end ∙ drop-length all)) ∙ so_far

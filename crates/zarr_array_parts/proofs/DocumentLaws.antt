@@ -7,7 +7,8 @@ use Rattle.zarr_model.proofs.ChainLaws.{decode_chain-counted, array_to_bytes-cou
 use Rattle.zarr_basics.specs.Keys.{IsCountable}
 use Rattle.zarr_codecs_array_to_bytes.specs.Plain.{codec_of}
 use Rattle.zarr_array_parts.specs.Sizes.{are_countable}
-use Rattle.zarr_array_parts.specs.Document.{ArrayDocument, ArrayToArray, offset, transpose, array_codec_of, describe}
+use Rattle.zarr_basics.specs.kinds.array_to_array.ArrayToArray.{ArrayToArray, offset, transpose, array_codec_of}
+use Rattle.zarr_array_parts.specs.Document.{ArrayDocument, describe}
 use Rattle.zarr_array_parts.specs.Opening.{opened, not_opened, OpenRefusal}
 
 -- each number of chunks has a u64's range

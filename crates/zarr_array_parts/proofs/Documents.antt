@@ -17,16 +17,19 @@ use Rattle.zarr_basics_grids.specs.GridForms.{regular}
 use Rattle.zarr_basics.specs.Configurations.{given_separator}
 use Rattle.zarr_basics.specs.kinds.codecs.BytesCodec.{given_order}
 use Rattle.zarr_basics.specs.kinds.offset.Offset.{offset_in}
+use Rattle.zarr_basics.specs.kinds.transpose.Configuration.{order_in}
+use Rattle.zarr_basics.specs.kinds.array_to_array.ArrayToArray.{ArrayToArray, offset, transpose}
+use Rattle.zarr_basics.specs.kinds.BytesToBytes.{BytesToBytes, checksum}
 use Rattle.zarr_model.specs.declared.endianness.Endianness.{Endianness}
 use Rattle.zarr_model.specs.declared.endianness.Endianness.TheVariants.{Little, Big}
 use Rattle.zarr_codecs_array_to_bytes.specs.Plain.{Plain, plain_bytes, plain_vlen, plain_optional}
 use Rattle.zarr_codecs_array_to_bytes.specs.Inner.{inner_in}
-use Rattle.zarr_array_parts.specs.Document.{ArrayDocument, ArrayToArray, offset, BytesToBytes, checksum, ChainForm, document_with}
+use Rattle.zarr_array_parts.specs.Document.{ArrayDocument, ChainForm, document_with}
 use Rattle.zarr_array_parts.specs.Opening.{opened, not_opened, invalid_json, float_number, invalid_metadata, unsupported_version, unsupported_field, plugin_unsupported, plugin_create, invalid_fill, chain_order, unsupported_data_type, endianness_missing, chunk_too_large, document_of, open_builtin}
 
 -- what opening a text computes by
 unfoldable pub opening : ⊤
-unfolding serde_json_on_literals object_or_empty whole_numbers is_number is_text object_extension extension_of extensions_of is_array_key dimension_names extensions_or_none is_array named_fields required_fields optional_fields with_optional_fields array_members chunk_shape_in given_separator given_order offset_in inner_in document_of
+unfolding serde_json_on_literals object_or_empty whole_numbers is_number is_text object_extension extension_of extensions_of is_array_key dimension_names extensions_or_none is_array named_fields required_fields optional_fields with_optional_fields array_members chunk_shape_in given_separator given_order offset_in order_in inner_in document_of
 opening = tt
 
 -- a document line of a shape, a chunk shape and a fill
@@ -145,6 +148,39 @@ codecs_refused : (open_builtin (codecs_text (codes "\"bool\"") (codes "true") (c
     × (open_builtin (codecs_text (codes "\"uint8\"") (codes "0") (codes "[\"bytes\",{\"name\":\"zarr_basics.sha256\",\"configuration\":{\"x\":1}}]")) ≡ not_opened plugin_create)
 unfolding opening digits
 codecs_refused = (refl, refl, refl, refl, refl, refl, refl)
+
+-- an order of dimensions; a document of these lengths, each a chunk's too, with these codecs; and what it describes
+abbrev order_text : List ℕ → List ℕ
+order_text order = codes "{\"name\":\"transpose\",\"configuration\":{\"order\":" ++ (order ++ codes "}}")
+
+abbrev ordered_text : List ℕ → List ℕ → List ℕ
+ordered_text dims codecs =
+    codes "{\"zarr_format\":3,\"node_type\":\"array\",\"shape\":" ++ (dims ++ (codes ",\"data_type\":\"uint8\",\"chunk_grid\":{\"name\":\"regular\",\"configuration\":{\"chunk_shape\":" ++ (dims
+    ++ (codes "}},\"chunk_key_encoding\":\"default\",\"fill_value\":0,\"codecs\":[" ++ (codecs ++ codes "]}")))))
+
+abbrev ordered_document : List ℕ → List ArrayToArray → ArrayDocument
+ordered_document dims array_codecs =
+    document_with (default_keys 47) (record { array_codecs = array_codecs; to_bytes = plain_bytes None; byte_codecs = [] }) (uint_type 1) dims (regular dims) (0 ∷ [])
+
+-- the one order of no dimensions, and two dimensions exchanged; over an offset; two orders
+orders_open : (open_builtin (ordered_text (codes "[]") (order_text (codes "[]") ++ codes ",\"bytes\"")) ≡ opened (ordered_document [] (transpose [] ∷ [])))
+    × (open_builtin (ordered_text (codes "[2,3]") (order_text (codes "[1,0]") ++ codes ",\"bytes\"")) ≡ opened (ordered_document (2 ∷ 3 ∷ []) (transpose (1 ∷ 0 ∷ []) ∷ [])))
+    × (open_builtin (ordered_text (codes "[2,3]") (order_text (codes "[1,0]") ++ (codes "," ++ (offset_text ++ codes ",\"bytes\"")))) ≡ opened (ordered_document (2 ∷ 3 ∷ []) (transpose (1 ∷ 0 ∷ []) ∷ offset (pos 7) ∷ [])))
+    × (open_builtin (ordered_text (codes "[2,3]") (order_text (codes "[1,0]") ++ (codes "," ++ (order_text (codes "[0,1]") ++ codes ",\"bytes\"")))) ≡ opened (ordered_document (2 ∷ 3 ∷ []) (transpose (1 ∷ 0 ∷ []) ∷ transpose (0 ∷ 1 ∷ []) ∷ [])))
+unfolding opening
+orders_open = (refl, refl, refl, refl)
+
+-- a dimension twice, one that is none, an order of another rank, one that is no list of numbers, and none; the rank before the next codec's name, behind that of the codec before, and before the order of the chain
+order_refused : (open_builtin (ordered_text (codes "[2,3]") (order_text (codes "[0,0]") ++ codes ",\"bytes\"")) ≡ not_opened plugin_create)
+    × (open_builtin (ordered_text (codes "[2,3]") (order_text (codes "[0,2]") ++ codes ",\"bytes\"")) ≡ not_opened plugin_create)
+    × (open_builtin (ordered_text (codes "[2,3]") (order_text (codes "[0]") ++ codes ",\"bytes\"")) ≡ not_opened plugin_create)
+    × (open_builtin (ordered_text (codes "[2,3]") (order_text (codes "\"C\"") ++ codes ",\"bytes\"")) ≡ not_opened plugin_create)
+    × (open_builtin (ordered_text (codes "[2,3]") (codes "\"transpose\",\"bytes\"")) ≡ not_opened plugin_create)
+    × (open_builtin (ordered_text (codes "[2,3]") (order_text (codes "[0]") ++ codes ",\"zstd\"")) ≡ not_opened plugin_create)
+    × (open_builtin (ordered_text (codes "[2,3]") (codes "\"zstd\"," ++ order_text (codes "[0]"))) ≡ not_opened plugin_unsupported)
+    × (open_builtin (ordered_text (codes "[2,3]") (codes "\"bytes\",\"bytes\"," ++ order_text (codes "[0]"))) ≡ not_opened plugin_create)
+unfolding opening
+order_refused = (refl, refl, refl, refl, refl, refl, refl, refl)
 
 -- a document of texts, byte strings or optional elements, with its array-to-bytes codec
 abbrev variable_document : DataType → List ℕ → Plain → ArrayDocument

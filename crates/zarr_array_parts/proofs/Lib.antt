@@ -1,10 +1,10 @@
 pub use Rattle.zarr_basics.proofs.KeysApart
 pub mod OpeningLaws
+pub mod RankLaws
 pub mod FieldLaws
 pub mod SizeLaws
 pub mod ServingLaws
 pub mod ChainOrderLaws
-pub mod ChunkLaws
 pub mod ChainLaws
 pub mod DocumentLaws
 pub mod LimitLaws

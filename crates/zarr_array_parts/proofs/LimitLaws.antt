@@ -9,7 +9,6 @@ use Rattle.zarr_basics_grids.specs.Largest.{AreLargest, Grows}
 use Rattle.zarr_basics_grids.proofs.LimitLaws.{decided, largest_is_small}
 use Rattle.zarr_basics_grids.proofs.LimitLaws as limits
 use Rattle.zarr_array_parts.specs.Sizes.{have_chunks, is_long_chunk, has_long_chunk}
-use Rattle.zarr_array_parts.proofs.ChunkLaws.{some_chunk}
 
 -- a test that a number does not pass
 pub not_above : (limit n : ℕ) → nat_le limit n ≡ false → n < limit
@@ -20,11 +19,6 @@ not_above limit n h = below_or_above
 
     below_or_above : n < limit
     below_or_above = omega (arith, no)
-
--- where there is no chunk, none is long
-pub none_long : (grid : BasicGrid) (filler : List ℕ) → have_chunks (basic_grid grid).grid_shape ≡ false → has_long_chunk (basic_grid grid) filler ≡ false
-none_long grid filler none = limits.no_chunk (basic_grid grid) (is_long_chunk (basic_grid grid) filler)
-    (λ chunk inside. absurd (true≢false (sym (some_chunk (basic_grid grid).grid_shape chunk inside) ∙ none)))
 
 few_of : (n : ℕ) → is_too_large None n ≡ false → n < 2 ^ 64
 few_of n h = let few = not_above (2 ^ 64) (n + 1) h in omega (arith, few)
@@ -74,5 +68,6 @@ module _ (grid : BasicGrid) (filler lengths : List ℕ) (largest : AreLargest (b
   long_by_fill number counts some e =
       sym (by_tests ∙ (ap (λ some. some && is_long filler (count_of lengths)) some ∙ (ap (is_long filler) (sym counts) ∙ ap (λ t. t || nat_le (2 ^ 32) (length filler)) e)))
 
+-- where there is no chunk, none is long
 pub long_of_none : (grid : BasicGrid) (filler : List ℕ) (b : Bool) → b ≡ have_chunks (basic_grid grid).grid_shape → b ≡ false → false ≡ has_long_chunk (basic_grid grid) filler
-long_of_none grid filler b is none = sym (none_long grid filler (sym is ∙ none))
+long_of_none grid filler b is none = sym (limits.none_holds (basic_grid grid) (is_long_chunk (basic_grid grid) filler) (sym is ∙ none))

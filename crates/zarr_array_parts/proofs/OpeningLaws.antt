@@ -24,7 +24,7 @@ use Rattle.zarr_array_parts.specs.Sizes.{are_countable}
 use Rattle.zarr_basics.specs.kinds.CodecForm.{CodecForm}
 use Rattle.zarr_basics.specs.kinds.declared.codec_kind.CodecKind.{CodecKind}
 use Rattle.zarr_array_parts.specs.Document.{ArrayDocument}
-use Rattle.zarr_array_parts.specs.Opening.{OpenRefusal, open_answer, ◌>>=◌, codec_by, codecs_by}
+use Rattle.zarr_array_parts.specs.Opening.{OpenRefusal, open_answer, ◌>>=◌, codec_at, codecs_by}
 use Rattle.zarr_array_parts.specs.OpenError.{open_refusal_of, IsRefusedBy}
 use Rattle.zarr_array_parts.specs.Parts.{documented, StopsBy, Opens, OpensAs}
 use Rattle.zarr_array_parts.specs.declared.parts.ArrayParts.{ArrayParts}
@@ -45,38 +45,43 @@ opens_as (Err error) expected fails = refused (open_refusal_of error) expected f
     refused (Some why) expected fails = ap open_answer fails
 
 -- one more codec of a list, and one that is refused
-abbrev codecs_are : List CodecForm → Result (List CodecForm) OpenRefusal
+abbrev pub codecs_are : List CodecForm → Result (List CodecForm) OpenRefusal
 codecs_are cs = Ok cs
 
-bind_ok : {A B : Type 0} (o : Result A OpenRefusal) (f : A → Result B OpenRefusal) (y : B) → (o >>= f) ≡ Ok y → (x : A) × (o ≡ Ok x) × (f x ≡ Ok y)
+pub bind_ok : {A B : Type 0} (o : Result A OpenRefusal) (f : A → Result B OpenRefusal) (y : B) → (o >>= f) ≡ Ok y → (x : A) × (o ≡ Ok x) × (f x ≡ Ok y)
 bind_ok (Ok x) f y e = (x, refl, e)
 bind_ok (Err why) f y e = absurd cc
 
-more : (names : Names CodecKind) (ms : List MetadataV3) (i : ℕ) (m : MetadataV3) (cs : List CodecForm) (c : CodecForm) → i < length ms → m ≡ get_or ms i m
-    → codecs_by names (extensions_seen (take i ms)) ≡ Ok cs → codec_by names (extension_seen m) ≡ Ok c → codecs_by names (extensions_seen (take (suc i) ms)) ≡ Ok (cs ++ c ∷ [])
-more names [] i m cs c lt is front here = absurd (omega arith)
-more names (n ∷ ms) zero m [] c lt is front here = let it : codec_by names (extension_seen n) ≡ Ok c = rw (← is) here in rw it refl
-more names (n ∷ ms) zero m (d ∷ cs) c lt is front here = absurd cc
-more names (n ∷ ms) (suc i) m cs c lt is front here =
-    let a = bind_ok (codec_by names (extension_seen n)) (λ z. codecs_by names (extensions_seen (take i ms)) >>= λ zs. Ok (z ∷ zs)) cs front in
-    let b = bind_ok (codecs_by names (extensions_seen (take i ms))) (λ zs. Ok (a.0 ∷ zs)) cs a.2 in
-    let e : codecs_are (a.0 ∷ b.0) ≡ codecs_are cs = b.2 in
-    let whole : a.0 ∷ b.0 ≡ cs = cc in
-    rw (a.1, more names ms i m b.0 c (omega arith) is b.1 here) (ap (λ (o : List CodecForm). codecs_are (o ++ c ∷ [])) whole)
+module _ (rank : ℕ) (names : Names CodecKind) where
+  -- the codecs behind one
+  abbrev pub joined : List Extension → CodecForm → Result (List CodecForm) OpenRefusal
+  joined es c = codecs_by rank names es >>= λ cs. Ok (c ∷ cs)
 
-pub codecs_push : (names : Names CodecKind) (ms : List MetadataV3) (i : ℕ) (m : MetadataV3) (cs : List CodecForm) (c : CodecForm) → i < length ms → m ≡ get_or ms i m
-    → codecs_by names (extensions_seen (take i ms)) ≡ Ok cs → codec_by names (extension_seen m) ≡ Ok c → codecs_by names (extensions_seen (take (i + 1) ms)) ≡ Ok (cs ++ c ∷ [])
-codecs_push names ms i m cs c lt is front here = rw add-one (more names ms i m cs c lt is front here)
+  more : (ms : List MetadataV3) (i : ℕ) (m : MetadataV3) (cs : List CodecForm) (c : CodecForm) → i < length ms → m ≡ get_or ms i m
+      → codecs_by rank names (extensions_seen (take i ms)) ≡ Ok cs → codec_at rank names (extension_seen m) ≡ Ok c → codecs_by rank names (extensions_seen (take (suc i) ms)) ≡ Ok (cs ++ c ∷ [])
+  more [] i m cs c lt is front here = absurd (omega arith)
+  more (n ∷ ms) zero m [] c lt is front here = let it : codec_at rank names (extension_seen n) ≡ Ok c = rw (← is) here in rw it refl
+  more (n ∷ ms) zero m (d ∷ cs) c lt is front here = absurd cc
+  more (n ∷ ms) (suc i) m cs c lt is front here =
+      let a = bind_ok (codec_at rank names (extension_seen n)) (joined (extensions_seen (take i ms))) cs front in
+      let b = bind_ok (codecs_by rank names (extensions_seen (take i ms))) (λ zs. Ok (a.0 ∷ zs)) cs a.2 in
+      let e : codecs_are (a.0 ∷ b.0) ≡ codecs_are cs = b.2 in
+      let whole : a.0 ∷ b.0 ≡ cs = cc in
+      rw (a.1, more ms i m b.0 c (omega arith) is b.1 here) (ap (λ (o : List CodecForm). codecs_are (o ++ c ∷ [])) whole)
 
-pub codecs_fail : (names : Names CodecKind) (ms : List MetadataV3) (i : ℕ) (m : MetadataV3) (cs : List CodecForm) (why : Option OpenRefusal) → i < length ms → m ≡ get_or ms i m
-    → codecs_by names (extensions_seen (take i ms)) ≡ Ok cs → StopsBy why (codec_by names (extension_seen m)) → StopsBy why (codecs_by names (extensions_seen ms))
-codecs_fail names [] i m cs why lt is front fails = absurd (omega arith)
-codecs_fail names (n ∷ ms) zero m cs why lt is front fails =
-    fails_after why (codec_by names (extension_seen n)) (λ z. codecs_by names (extensions_seen ms) >>= λ zs. Ok (z ∷ zs)) (rw (← is) fails)
-codecs_fail names (n ∷ ms) (suc i) m cs why lt is front fails =
-    let a = bind_ok (codec_by names (extension_seen n)) (λ z. codecs_by names (extensions_seen (take i ms)) >>= λ zs. Ok (z ∷ zs)) cs front in
-    let b = bind_ok (codecs_by names (extensions_seen (take i ms))) (λ zs. Ok (a.0 ∷ zs)) cs a.2 in
-    rw a.1 (fails_after why (codecs_by names (extensions_seen ms)) (λ zs. Ok (a.0 ∷ zs)) (codecs_fail names ms i m b.0 why (omega arith) is b.1 fails))
+  pub codecs_push : (ms : List MetadataV3) (i : ℕ) (m : MetadataV3) (cs : List CodecForm) (c : CodecForm) → i < length ms → m ≡ get_or ms i m
+      → codecs_by rank names (extensions_seen (take i ms)) ≡ Ok cs → codec_at rank names (extension_seen m) ≡ Ok c → codecs_by rank names (extensions_seen (take (i + 1) ms)) ≡ Ok (cs ++ c ∷ [])
+  codecs_push ms i m cs c lt is front here = rw add-one (more ms i m cs c lt is front here)
+
+  pub codecs_fail : (ms : List MetadataV3) (i : ℕ) (m : MetadataV3) (cs : List CodecForm) (why : Option OpenRefusal) → i < length ms → m ≡ get_or ms i m
+      → codecs_by rank names (extensions_seen (take i ms)) ≡ Ok cs → StopsBy why (codec_at rank names (extension_seen m)) → StopsBy why (codecs_by rank names (extensions_seen ms))
+  codecs_fail [] i m cs why lt is front fails = absurd (omega arith)
+  codecs_fail (n ∷ ms) zero m cs why lt is front fails =
+      fails_after why (codec_at rank names (extension_seen n)) (joined (extensions_seen ms)) (rw (← is) fails)
+  codecs_fail (n ∷ ms) (suc i) m cs why lt is front fails =
+      let a = bind_ok (codec_at rank names (extension_seen n)) (joined (extensions_seen (take i ms))) cs front in
+      let b = bind_ok (codecs_by rank names (extensions_seen (take i ms))) (λ zs. Ok (a.0 ∷ zs)) cs a.2 in
+      rw a.1 (fails_after why (codecs_by rank names (extensions_seen ms)) (λ zs. Ok (a.0 ∷ zs)) (codecs_fail ms i m b.0 why (omega arith) is b.1 fails))
 
 -- numbers of 64 bits are countable
 pub counts_fit : (counts : List ℕ) → ((i : ℕ) → Fits w64 (get_or counts i 0)) → are_countable counts ≡ true

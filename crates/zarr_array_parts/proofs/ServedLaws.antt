@@ -1,5 +1,5 @@
 -- What the parts of an array say of the array that its document describes.
-use Rattle.std.proofs.Common.{◌≡◌, ℕ, ◌+◌, ◌*◌, ◌^◌, ◌<◌, ◌||◌, ◌&&◌, not, nat_le, Bool, true, false, List, length, Option, Some, None, refl, sym, ap, ◌∙◌, arith, ◌==◌}
+use Rattle.std.proofs.Common.{◌≡◌, ℕ, ◌+◌, ◌*◌, ◌^◌, ◌<◌, ◌&&◌, not, nat_le, Bool, true, false, List, length, Option, Some, None, refl, sym, ap, ◌∙◌, arith, ◌==◌}
 use Rattle.std.proofs.lemmas.Bool.{or_parts}
 use Rattle.zarr_model.specs.Prelude.{Region, count, starts, sizes, ends_within, IsChunk, CoversShape, Options, IsSound, layout, kind, fixed_size, is_too_large, region_refusal, refused_if, or_then, incompatible_dimensionality, subset_out_of_bounds, region_too_large}
 use Rattle.zarrs_array_subset.specs.Boxes.{is_box}

@@ -1,25 +1,29 @@
 -- What an array's codecs mean, what they do not serve, and which errors tell that they give
 -- nothing.
-use Rattle.std.specs.Prelude.{ℕ, List, Option}
-use Rattle.zarr_model.specs.Prelude.{count_of, Level, ArrayCodec, Options, decode_array_to_bytes, offset_codec, checksum_codec}
+use Rattle.std.specs.Prelude.{ℕ, List}
+use Rattle.zarr_model.specs.Prelude.{count_of, Level, ArrayCodec, Options, decode_array_to_bytes}
 use Rattle.zarrs_codec_error.specs.declared.error.CodecError.{CodecError}
-use Rattle.zarr_codecs_numbers.specs.Offset.{offset_unserved}
 use Rattle.zarr_codecs_array_to_bytes.specs.Plain.{codec_of, plain_unserved, says_by}
 use Rattle.zarr_codecs_array_to_bytes.specs.Views.{plain_of}
 use Rattle.zarr_codecs_array_to_bytes.specs.declared.codecs.BasicArrayToBytes.{BasicArrayToBytes}
-use Rattle.zarr_basics.specs.kinds.Basic.{basic_offset}
-use Rattle.zarr_basics.specs.kinds.codecs.Sha256.{sha256_says}
-use Rattle.zarr_basics.specs.kinds.declared.array_to_array.BasicArrayToArray.{BasicArrayToArray}
+use Rattle.zarr_basics.specs.kinds.array_to_array.ArrayToArray.{array_codec_of, array_unserved_by, fill_below_by}
+use Rattle.zarr_basics.specs.kinds.array_to_array.Views.{array_form}
+use Rattle.zarr_basics.specs.kinds.array_to_array.declared.array_to_array.BasicArrayToArray.{BasicArrayToArray}
+use Rattle.zarr_basics.specs.kinds.BytesToBytes.{byte_codec_of, byte_says_by, byte_form}
 use Rattle.zarr_basics.specs.kinds.declared.bytes_to_bytes.BasicBytesToBytes.{BasicBytesToBytes}
+use Rattle.zarr_chain.specs.Building.{Filling}
 use Rattle.zarr_chain.specs.Chain.{Listing, Opening}
 use Rattle.zarr_chain.specs.Levels.{Serving}
 
 -- of array-to-array codecs
 abbrev pub array_meaning : BasicArrayToArray → ArrayCodec
-array_meaning codec = offset_codec (basic_offset codec)
+array_meaning codec = array_codec_of (array_form codec)
 
 abbrev pub array_unserved : Serving BasicArrayToArray
-array_unserved codec dims type fill = offset_unserved type
+array_unserved codec dims type fill = array_unserved_by (array_form codec) dims type
+
+abbrev pub array_fill_below : Filling BasicArrayToArray
+array_fill_below codec type fill = fill_below_by (array_form codec) fill
 
 -- of array-to-bytes codecs
 abbrev pub list_meaning : Listing BasicArrayToBytes
@@ -35,7 +39,7 @@ list_says codec under level value e =
 
 -- of bytes-to-bytes codecs
 abbrev pub bytes_meaning : Opening BasicBytesToBytes
-bytes_meaning codec under value = checksum_codec under.validate_checksums value
+bytes_meaning codec under value = byte_codec_of under (byte_form codec) value
 
 abbrev pub bytes_says : BasicBytesToBytes → Options → List ℕ → CodecError → Type 0
-bytes_says codec under value e = sha256_says value e
+bytes_says codec under value e = byte_says_by (byte_form codec) value e

@@ -1,18 +1,11 @@
 -- What an array document says, by the names of this project's grids, keys and codecs, and the array
 -- that it describes.
-use Rattle.std.specs.Prelude.{ℕ, ℤ, List, map, Option, unwrap_or}
-use Rattle.zarr_model.specs.Prelude.{Element, null, DataType, kind_of, fill_element, KeyEncoding, chunk_key, Options, ArrayCodec, decode_array_to_bytes, offset_codec, transpose_codec, checksum_codec, Description, finds_part}
+use Rattle.std.specs.Prelude.{ℕ, List, map, unwrap_or}
+use Rattle.zarr_model.specs.Prelude.{Element, null, DataType, kind_of, fill_element, KeyEncoding, chunk_key, decode_array_to_bytes, Description, finds_part}
 use Rattle.zarr_codecs_array_to_bytes.specs.Plain.{Plain, codec_of}
 use Rattle.zarr_basics_grids.specs.GridForms.{ChunkGrid, grid_of}
-
--- the array-to-array codecs by name: an offset, or an order of dimensions
-pub data ArrayToArray : Type 0 where
-  offset : ℤ → ArrayToArray
-  transpose : List ℕ → ArrayToArray
-
--- the bytes-to-bytes codecs by name
-pub data BytesToBytes : Type 0 where
-  checksum : BytesToBytes
+use Rattle.zarr_basics.specs.kinds.array_to_array.ArrayToArray.{ArrayToArray, array_codec_of}
+use Rattle.zarr_basics.specs.kinds.BytesToBytes.{BytesToBytes, byte_codec_of}
 
 -- the codecs of a chain, in the order of encoding
 pub record ChainForm : Type 0 where
@@ -30,14 +23,6 @@ pub record ArrayDocument : Type 0 where
   pub array_codecs : List ArrayToArray
   pub to_bytes : Plain
   pub byte_codecs : List BytesToBytes
-
--- what the names mean
-abbrev pub array_codec_of : ArrayToArray → ArrayCodec
-array_codec_of (offset number) = offset_codec number
-array_codec_of (transpose order) = transpose_codec order
-
-abbrev pub byte_codec_of : Options → BytesToBytes → List ℕ → Option (List ℕ)
-byte_codec_of options checksum value = checksum_codec options.validate_checksums value
 
 -- the array that a document describes
 abbrev pub describe : ArrayDocument → Description

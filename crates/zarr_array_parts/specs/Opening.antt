@@ -1,10 +1,10 @@
 -- Opening a document: what its text describes by the names that some registries know, or the first
 -- reason why it is refused.
-use Rattle.std.specs.Prelude.{ℕ, ⊤, codes, Bool, true, false, ◌||◌, ◌&&◌, if◌then◌else◌, List, [], ◌∷◌, Option, Some, None, Result, Ok, Err}
+use Rattle.std.specs.Prelude.{ℕ, ⊤, codes, Bool, true, false, ◌||◌, ◌&&◌, if◌then◌else◌, List, [], ◌∷◌, length, Option, Some, None, Result, Ok, Err}
 use Rattle.serde_json.specs.Data.{Data}
 use Rattle.serde_json.specs.Read.{read as read_json}
 use Rattle.serde_json.specs.Written.{has_float}
-use Rattle.zarr_model.specs.Prelude.{DataType, bool_type, int_type, uint_type, raw_type, string_type, bytes_type, optional_type, kind_of, fixed_size, KeyEncoding, Grid}
+use Rattle.zarr_model.specs.Prelude.{DataType, kind_of, fixed_size, KeyEncoding, Grid}
 use Rattle.zarrs_plugin.specs.Registry.{Names, find}
 use Rattle.zarrs_metadata_parts.specs.AdditionalField.{AdditionalField}
 use Rattle.zarrs_metadata_parts.specs.MetadataV3.{Extension}
@@ -24,9 +24,10 @@ use Rattle.zarrs_codec_bytes.specs.Filling.{innermost_fill}
 use Rattle.zarrs_codec_traits.specs.Errors.{Unserved}
 use Rattle.zarrs_codec_traits.specs.Errors as reason
 use Rattle.zarr_codecs_array_to_bytes.specs.Plain.{Plain, unserved_by, stores_lengths}
-use Rattle.zarr_basics.specs.kinds.CodecForm.{CodecForm, codec_named}
+use Rattle.zarr_basics.specs.kinds.array_to_array.ArrayToArray.{ArrayToArray, array_unserved_by, array_has_rank, type_below_by}
+use Rattle.zarr_basics.specs.kinds.CodecForm.{CodecForm, array_codec, to_bytes, byte_codec, codec_named}
 use Rattle.zarr_basics.specs.kinds.declared.codec_kind.CodecKind.{CodecKind}
-use Rattle.zarr_array_parts.specs.Document.{ArrayDocument, ArrayToArray, offset, transpose, ChainForm, document_with}
+use Rattle.zarr_array_parts.specs.Document.{ArrayDocument, ChainForm, document_with}
 use Rattle.zarr_array_parts.specs.Chain.{chain_in}
 use Rattle.zarr_array_parts.specs.Sizes.{has_long_chunk}
 
@@ -126,39 +127,31 @@ grid_by names dims e = made (find e.name names) (λ kind. grid_form dims kind e.
 abbrev pub keys_by : Names ChunkKeyKind → Extension → Result KeyEncoding OpenRefusal
 keys_by names e = made (find e.name names) (λ kind. keys_form kind e.configuration)
 
--- a codec by its name, with the codecs inside by theirs, and the codecs of a document in its order
+-- a codec by its name, with the codecs inside by theirs
 abbrev pub codec_by : Names CodecKind → Extension → Result CodecForm OpenRefusal
 codec_by names e = or_unmade (codec_named names e)
 
-abbrev pub codecs_by : Names CodecKind → List Extension → Result (List CodecForm) OpenRefusal
-codecs_by names [] = Ok []
-codecs_by names (e ∷ es) =
-    codec_by names e >>= λ codec. codecs_by names es >>= λ codecs. Ok (codec ∷ codecs)
+-- an array-to-array codec serves shapes of the array's rank
+abbrev pub has_rank : ℕ → CodecForm → Bool
+has_rank rank (array_codec codec) = array_has_rank rank codec
+has_rank rank (to_bytes codec) = true
+has_rank rank (byte_codec codec) = true
 
--- an offset serves whole numbers, and an order of dimensions any elements
-abbrev pub is_whole_number : DataType → Bool
-is_whole_number bool_type = false
-is_whole_number (int_type n) = true
-is_whole_number (uint_type n) = true
-is_whole_number (raw_type n) = false
-is_whole_number string_type = false
-is_whole_number bytes_type = false
-is_whole_number (optional_type inner) = false
+abbrev pub if_ranked : ℕ → CodecForm → Result CodecForm OpenRefusal
+if_ranked rank codec = if has_rank rank codec then Ok codec else Err plugin_create
 
-abbrev pub serves_type : ArrayToArray → DataType → Bool
-serves_type (offset number) type = is_whole_number type
-serves_type (transpose order) type = true
+-- which is tested once the codec is made, before the next one's name
+abbrev pub codec_at : ℕ → Names CodecKind → Extension → Result CodecForm OpenRefusal
+codec_at rank names e = codec_by names e >>= if_ranked rank
 
--- the data type below an array-to-array codec that serves the one above: both codecs keep it
-abbrev pub type_below : ArrayToArray → DataType → Result DataType OpenRefusal
-type_below codec type = if serves_type codec type then Ok type else Err unsupported_data_type
+-- the codecs of a document in its order
+abbrev pub codecs_by : ℕ → Names CodecKind → List Extension →
+    Result (List CodecForm) OpenRefusal
+codecs_by rank names [] = Ok []
+codecs_by rank names (e ∷ es) =
+    codec_at rank names e >>= λ codec. codecs_by rank names es >>= λ codecs. Ok (codec ∷ codecs)
 
--- the data type that comes to the array-to-bytes codec
-abbrev pub bottom_type : List ArrayToArray → DataType → Result DataType OpenRefusal
-bottom_type [] type = Ok type
-bottom_type (codec ∷ codecs) type = type_below codec type >>= bottom_type codecs
-
--- an array-to-bytes codec serves a type; the first reason why the innermost codec does not decides
+-- a codec serves what comes to it, or the reason why it does not decides
 abbrev pub unserved_refusal : Unserved → OpenRefusal
 unserved_refusal (reason.unsupported name) = unsupported_data_type
 unserved_refusal reason.endianness_missing = endianness_missing
@@ -167,6 +160,17 @@ abbrev pub unless_unserved : Option Unserved → Result ⊤ OpenRefusal
 unless_unserved None = Ok tt
 unless_unserved (Some why) = Err (unserved_refusal why)
 
+-- the data type below an array-to-array codec that serves the one above
+abbrev pub type_below : ArrayToArray → DataType → Result DataType OpenRefusal
+type_below codec type = unless_unserved (array_unserved_by codec None (Some type)) >>= λ _.
+    Ok (type_below_by codec type)
+
+-- the data type that comes to the array-to-bytes codec
+abbrev pub bottom_type : List ArrayToArray → DataType → Result DataType OpenRefusal
+bottom_type [] type = Ok type
+bottom_type (codec ∷ codecs) type = type_below codec type >>= bottom_type codecs
+
+-- an array-to-bytes codec serves a type; the first reason why the innermost codec does not decides
 abbrev pub expect_bytes : Plain → DataType → Result ⊤ OpenRefusal
 expect_bytes codec type = unless_unserved (unserved_by codec type)
 
@@ -202,7 +206,7 @@ document_of names fields = do
   type ← data_type_by names.data_types fields.data_type
   grid ← grid_by names.grids fields.shape fields.chunk_grid
   keys ← keys_by names.key_encodings fields.chunk_key_encoding
-  codecs ← codecs_by names.codecs fields.codecs
+  codecs ← codecs_by (length fields.shape) names.codecs fields.codecs
   filler ← or_refused invalid_fill (fill_of type fields.fill_value)
   chain ← or_refused chain_order (chain_in codecs)
   served_document keys chain type fields.shape grid filler

@@ -1,8 +1,10 @@
 //! The codecs of a document in the order of a chain.
 
 ghost use Rattle.std.specs.Prelude.{◌≡◌, ◌≤◌, IfOk, map, drop, length};
+ghost use Rattle.zarr_basics.specs.kinds.array_to_array.Views.{array_form};
+ghost use Rattle.zarr_basics.specs.kinds.BytesToBytes.{byte_form};
 ghost use Rattle.zarr_basics.specs.kinds.CodecForm.{form_of};
-ghost use Rattle.zarr_array_parts.specs.Chain.{leading, behind, all_byte_codecs, chain_in, array_form, byte_form, chain_form};
+ghost use Rattle.zarr_array_parts.specs.Chain.{leading, behind, all_byte_codecs, chain_in, chain_form};
 ghost use Rattle.zarr_array_parts.specs.Opening.{chain_order, or_refused};
 ghost use Rattle.zarr_array_parts.specs.Parts.{Opens};
 
@@ -27,7 +29,8 @@ fn leading(alloc: Global, codecs: &[BasicCodec]) -> Result<Vec<BasicArrayToArray
         let Codec::ArrayToArray(codec) = codec else {
             return Ok(first);
         };
-        first.push(*codec)?;
+        let copy = codec.try_clone(alloc)?;
+        first.push(copy)?;
     }
     Ok(first)
 }

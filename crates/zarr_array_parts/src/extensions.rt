@@ -1,6 +1,6 @@
 //! What the extensions of an array document denote by the names of registries.
 
-ghost use Rattle.std.specs.Prelude.{◌≡◌, true, IfOk, is_some, map};
+ghost use Rattle.std.specs.Prelude.{◌≡◌, true, IfOk, is_some, length, map};
 ghost use Rattle.zarr_model.specs.Prelude.{fill_element, kind_of};
 ghost use Rattle.zarrs_metadata.specs.AdditionalFields.{additional_fields_seen};
 ghost use Rattle.zarrs_metadata.specs.ArrayMetadata.{array_seen};
@@ -14,13 +14,13 @@ ghost use Rattle.zarr_basics_grids.specs.BasicGrid.{basic_shape, basic_form};
 ghost use Rattle.zarr_basics.specs.Keys.{keys_of};
 ghost use Rattle.zarr_basics.specs.kinds.CodecForm.{form_of};
 ghost use Rattle.zarr_array_parts.specs.Parts.{Opens};
-ghost use Rattle.zarr_array_parts.specs.Opening.{invalid_fill, or_refused, has_required_field, expect_known_fields, data_type_by, grid_by, keys_by, codec_by, codecs_by};
+ghost use Rattle.zarr_array_parts.specs.Opening.{invalid_fill, or_refused, has_required_field, expect_known_fields, data_type_by, grid_by, keys_by, codec_by, has_rank, codec_at, codecs_by};
 
 use crate::open_error::OpenError;
 use std::alloc::Global;
 use zarr_basics::{BasicCodec, BasicGrid, ChunkKeyEncoding, ChunkKeyKind, CodecKind, GridKind};
 use zarrs_chunk_grid_traits::GridMaker;
-use zarrs_codec_traits::{CodecMaker, CodecMetadata};
+use zarrs_codec_traits::{Codec, CodecMaker, CodecMetadata};
 use zarrs_data_type::{
     DataType, DataTypeKind, DataTypeMetadata, DataTypeTraits, FillMetadataFault, FillValue,
 };
@@ -105,6 +105,7 @@ pub(crate) fn keys_by(
     }
 }
 
+// A codec by its name, with the codecs inside by theirs.
 fn codec_by(
     alloc: Global,
     metadata: &MetadataV3,
@@ -122,18 +123,49 @@ fn codec_by(
     }
 }
 
+// Whether a codec serves shapes of the array's rank.
+fn has_rank(codec: &BasicCodec, array_shape: &[u64]) -> bool
+    ensures { result ≡ has_rank (length array_shape.now) (form_of codec.now) }
+{
+    match codec {
+        Codec::ArrayToArray(codec) => codec.has_rank(array_shape.len()),
+        Codec::ArrayToBytes(_) => true,
+        Codec::BytesToBytes(_) => true,
+    }
+}
+
+// The codec of an extension, over an array of this shape.
+#[tactic(auto, using(crate::proofs::OpeningLaws::fails_after))]
+fn codec_at(
+    alloc: Global,
+    array_shape: &[u64],
+    metadata: &MetadataV3,
+    registry: &Registry<CodecKind>,
+) -> Result<BasicCodec, OpenError>
+    ensures { Opens form_of result (codec_at (length array_shape.now) (registry_of registry.now)
+        (extension_seen metadata.now)) }
+{
+    let codec = codec_by(alloc, metadata, registry)?;
+    if has_rank(&codec, array_shape) {
+        Ok(codec)
+    } else {
+        Err(OpenError::PluginCreateError)
+    }
+}
+
 // The codecs, in the order of the document.
 pub(crate) fn codecs_by(
     alloc: Global,
+    array_shape: &[u64],
     extensions: &[MetadataV3],
     registry: &Registry<CodecKind>,
 ) -> Result<Vec<BasicCodec>, OpenError>
-    ensures { Opens (λ v. map form_of v.items) result
-        (codecs_by (registry_of registry.now) (extensions_seen extensions.now)) }
+    ensures { Opens (λ v. map form_of v.items) result (codecs_by (length array_shape.now)
+        (registry_of registry.now) (extensions_seen extensions.now)) }
 {
     let mut codecs = Vec::with_capacity(alloc, extensions.len())?;
     for extension in extensions {
-        match codec_by(alloc, extension, registry) {
+        match codec_at(alloc, array_shape, extension, registry) {
             Ok(codec) => codecs.push(codec)?,
             Err(error) => return Err(error),
         }

@@ -1,9 +1,10 @@
 //! The codecs of an array, and their levels for a chunk.
 
-ghost use Rattle.std.specs.Prelude.{◌≡◌, true, IfOk, IfSome};
+ghost use Rattle.std.specs.Prelude.{◌≡◌, true, map, Ok, IfOk, IfSome};
 ghost use Rattle.zarr_model.specs.Prelude.{IsChunk};
 ghost use Rattle.zarrs_codec_traits.specs.Views.{lengths};
 ghost use Rattle.zarrs_codec_error.specs.declared.error.CodecError.TheVariants as codec;
+ghost use Rattle.zarr_basics.specs.kinds.array_to_array.Views.{array_form};
 ghost use Rattle.zarr_chain.specs.Chain.{first_level};
 ghost use Rattle.zarr_array_parts.specs.Chain.{chain_form};
 ghost use Rattle.zarr_array_parts.specs.ChunkLevels.{ServesShape, chunk_shape};
@@ -15,6 +16,7 @@ use crate::limits::has_chunks;
 use crate::parts::ArrayParts;
 use std::alloc::{AllocError, Global};
 use std::num::NonZeroU64;
+use zarr_basics::BasicArrayToArray;
 use zarr_chain::{ChunkLevels, CodecChain};
 use zarrs_array_subset::ChunkShape;
 use zarrs_chunk_grid_traits::{ChunkGridError, ChunkGridTraits};
@@ -31,6 +33,21 @@ fn copies<T: Copy>(alloc: Global, items: &[T]) -> Result<Vec<T>, AllocError>
     Ok(same)
 }
 
+// Copies of array-to-array codecs, in order.
+fn array_copies(
+    alloc: Global,
+    codecs: &[BasicArrayToArray],
+) -> Result<Vec<BasicArrayToArray>, AllocError>
+    ensures { IfOk result (λ v. map array_form v.items ≡ map array_form codecs.now) }
+{
+    let mut same = Vec::with_capacity(alloc, codecs.len())?;
+    for codec in codecs {
+        let copy = codec.try_clone(alloc)?;
+        same.push(copy)?;
+    }
+    Ok(same)
+}
+
 // The only error of making levels that the codecs of a chain serve.
 fn no_memory(error: CodecError) -> AllocError
     requires { error ≡ codec.OutOfMemory }
@@ -40,14 +57,15 @@ fn no_memory(error: CodecError) -> AllocError
 
 // Whether a shape has these lengths.
 fn has_lengths(shape: &[NonZeroU64], numbers: &[u64]) -> bool
-    ensures { result ≡ true → lengths shape.now ≡ numbers.now }
+    ensures same { result ≡ true → lengths shape.now ≡ numbers.now }
+    ensures others { lengths shape.now ≡ numbers.now → result ≡ true }
 {
-    match (shape, numbers) {
-        ([], []) => true,
-        ([length, shape @ ..], [number, numbers @ ..]) => {
-            length.get() == *number && has_lengths(shape, numbers)
-        }
-        _ => false,
+    match shape {
+        [] => numbers.is_empty(),
+        [length, shape @ ..] => match numbers {
+            [] => false,
+            [number, numbers @ ..] => length.get() == *number && has_lengths(shape, numbers),
+        },
     }
 }
 
@@ -73,7 +91,7 @@ impl ArrayParts {
     pub fn copied_chain(&self, alloc: Global) -> Result<BasicChain, AllocError>
         ensures { IfOk result (λ chain. chain_form chain ≡ chain_form self.now.chain) }
     {
-        let array_codecs = copies(alloc, &self.chain.array_codecs)?;
+        let array_codecs = array_copies(alloc, &self.chain.array_codecs)?;
         let to_bytes = self.chain.to_bytes.try_clone(alloc)?;
         let byte_codecs = copies(alloc, &self.chain.byte_codecs)?;
         Ok(CodecChain {
@@ -135,8 +153,10 @@ impl ArrayParts {
             (λ levels. ServesShape self.now (first_level levels).shape self.now.chain levels) }
         requires chunk { IsChunk (described self.now).grid chunk.now }
         requires shape { shape.now ≡ chunk_shape (described self.now) chunk.now }
-        ensures { IfOk result
+        ensures serves { IfOk result
             (ServesShape self.now (chunk_shape (described self.now) chunk.now) self.now.chain) }
+        ensures kept { IfSome hand
+            (λ levels. (first_level levels).shape ≡ shape.now → result ≡ Ok levels) }
     {
         if let Some(levels) = hand {
             if has_lengths(levels.shape(), shape) {

@@ -31,7 +31,8 @@ pub enum OpenError {
     #[error("an extension is not supported")]
     PluginUnsupportedError,
     /// The configuration of an extension is not of its form, or the name of a raw type is not; a codec inside another is no
-    /// array-to-bytes one; or the data type need not be understood.
+    /// array-to-bytes one; an array-to-array codec does not serve the array's rank; or the data type need not be
+    /// understood.
     #[error("an extension has a configuration that is not supported")]
     PluginCreateError,
     /// The fill value is no element of the data type.

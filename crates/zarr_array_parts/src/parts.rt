@@ -2,7 +2,7 @@
 //!
 //! See <https://zarr-specs.readthedocs.io/en/latest/v3/core/index.html#array-metadata>.
 
-ghost use Rattle.std.specs.Prelude.{◌≡◌, Some, true, false, is_some};
+ghost use Rattle.std.specs.Prelude.{◌≡◌, Some, true, false, is_some, length, map};
 ghost use Rattle.serde_json.specs.Read.{read as read_json};
 ghost use Rattle.zarr_model.specs.Prelude.{fill_element, kind_of};
 ghost use Rattle.zarrs_metadata.specs.ArrayMetadata.{array_seen};
@@ -11,8 +11,9 @@ ghost use Rattle.zarrs_data_type.specs.DataType.{type_of, is_type};
 ghost use Rattle.zarr_basics_grids.specs.BasicGrid.{basic_shape, basic_grid, basic_form};
 ghost use Rattle.zarr_basics.specs.Keys.{keys_of};
 ghost use Rattle.zarr_basics.specs.Registries.{names_of};
+ghost use Rattle.zarr_basics.specs.kinds.array_to_array.Views.{array_form};
 ghost use Rattle.zarr_codecs_array_to_bytes.specs.Views.{plain_of};
-ghost use Rattle.zarr_array_parts.specs.Chain.{chain_form};
+ghost use Rattle.zarr_array_parts.specs.Chain.{all_ranked, chain_form};
 ghost use Rattle.zarr_array_parts.specs.Sizes.{are_countable};
 ghost use Rattle.zarr_array_parts.specs.Opening.{is_large, is_served, served_document, document_of, document_read, open_document};
 
@@ -45,6 +46,8 @@ pub struct ArrayParts {
     ghost fits: { is_large (plain_of chain.to_bytes) (type_of data_type) (fill_bytes fill)
         (basic_grid grid) ≡ false },
     ghost served: { is_served (chain_form chain) (type_of data_type) ≡ true },
+    ghost ranked: { all_ranked (length (basic_shape grid))
+        (map array_form chain.array_codecs.items) ≡ true },
 }
 
 // Numbers of chunks have the range of a `u64`, as these are held.
@@ -69,6 +72,8 @@ impl ArrayParts {
         requires proper { is_type (type_of data_type) ≡ true }
         requires filled { is_some (fill_element (kind_of (type_of data_type)) (fill_bytes fill))
             ≡ true }
+        requires ranked { all_ranked (length (basic_shape grid))
+            (map array_form chain.array_codecs.items) ≡ true }
         ensures { Opens documented result (served_document (keys_of keys) (chain_form chain)
             (type_of data_type) (basic_shape grid) (basic_form grid) (fill_bytes fill)) }
     {
@@ -109,7 +114,7 @@ impl ArrayParts {
             &metadata.chunk_key_encoding,
             &registries.key_encodings,
         )?;
-        let codecs = codecs_by(alloc, &metadata.codecs, &registries.codecs)?;
+        let codecs = codecs_by(alloc, &metadata.shape, &metadata.codecs, &registries.codecs)?;
         let fill = fill_value_of(alloc, &data_type, &metadata.fill_value)?;
         let chain = chain_of(alloc, &codecs)?;
         Self::with_parts(alloc, data_type, fill, grid, keys, chain)
@@ -131,11 +136,11 @@ impl ArrayParts {
 
     /// Opens the array that a document describes, by the names of some registries.
     ///
-    /// Served are all data types, with any chain of `zarr_basics.offset`, which serves whole numbers, then the codec of the
-    /// elements, then `zarr_basics.sha256`, at any rank and of any length: `bytes` in either byte order for booleans,
-    /// whole numbers and raw bits, `vlen-utf8` for texts, `vlen-bytes` for byte strings, and `zarr_basics.optional` over one
-    /// of them for optional types. Attributes, dimension names and fields that need not be understood are read and left
-    /// alone.
+    /// Served are all data types, with any chain of `transpose`, whose order has the array's rank, and
+    /// `zarr_basics.offset`, which serves whole numbers, then the codec of the elements, then `zarr_basics.sha256`, at any
+    /// rank and of any length: `bytes` in either byte order for booleans, whole numbers and raw bits, `vlen-utf8` for
+    /// texts, `vlen-bytes` for byte strings, and `zarr_basics.optional` over one of them for optional types. Attributes,
+    /// dimension names and fields that need not be understood are read and left alone.
     ///
     /// # Errors
     /// The first of [`OpenError`] that applies, or `OutOfMemory`.

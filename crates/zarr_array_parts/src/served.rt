@@ -3,7 +3,8 @@
 ghost use Rattle.std.specs.Prelude.{◌≡◌, map};
 ghost use Rattle.zarrs_data_type.specs.DataType.{type_of};
 ghost use Rattle.zarr_codecs_array_to_bytes.specs.Views.{plain_of};
-ghost use Rattle.zarr_array_parts.specs.Chain.{array_form, chain_form};
+ghost use Rattle.zarr_basics.specs.kinds.array_to_array.Views.{array_form};
+ghost use Rattle.zarr_array_parts.specs.Chain.{chain_form};
 ghost use Rattle.zarr_array_parts.specs.Opening.{type_below, bottom_type, expect_bytes, expect_chain};
 ghost use Rattle.zarr_array_parts.specs.Parts.{Opens};
 

@@ -1,6 +1,6 @@
 -- The chunks of an array: what stands under their keys.
-use Rattle.std.proofs.Common.{◌≡◌, ℕ, ◌⊎◌, inl, inr, ⊎_elim, Bool, true, false, List, [], ◌∷◌, length, take, drop, nat_le, replicate, Option, Some, None, IsSome, unwrap_or, Result, Ok, Err, OnOk, OnErr, refl, sym, ap, ◌∙◌, subst}
-use Rattle.zarr_model.specs.Prelude.{Element, DataType, Region, count, count_of, Options, Level, decode_bytes, kind, kind_of, meaning, is_mask, Content, Rose, Shown, box_content, chunk_content, layout, ArrayBytes, has_long_element}
+use Rattle.std.proofs.Common.{◌≡◌, ℕ, ◌⊎◌, inl, inr, ⊎_elim, Bool, true, false, List, [], ◌∷◌, replicate, Option, Some, None, IsSome, unwrap_or, Result, Ok, Err, OnOk, OnErr, refl, sym, ap, ◌∙◌, subst}
+use Rattle.zarr_model.specs.Prelude.{Element, Region, count, count_of, Options, Level, decode_bytes, kind, kind_of, meaning, Content, Rose, Shown, box_content, chunk_content, layout, ArrayBytes, has_long_element}
 use Rattle.zarrs_codec_traits.specs.Words.{list_at, Gives}
 use Rattle.zarrs_codec_error.specs.declared.error.CodecError.{CodecError}
 use Rattle.zarrs_codec_error.specs.declared.error.CodecError.TheVariants as codec
@@ -14,9 +14,9 @@ use Rattle.zarr_chain.specs.Values as values
 use Rattle.zarr_chain_stored.specs.Fetch as stored
 use Rattle.zarr_chain_stored.specs.Seen.{ChunkTells}
 use Rattle.zarr_chain_stored.specs.Put as put
-use Rattle.zarr_array_parts.specs.kinds.codecs.Sha256.{says_digest, sha256_says}
-use Rattle.zarr_codecs_array_to_bytes.specs.Plain.{Plain, plain_bytes, plain_vlen, plain_optional, held_type, says_by, says_optional}
+use Rattle.zarr_codecs_array_to_bytes.specs.Laws.{plain_no_fault}
 use Rattle.zarr_codecs_array_to_bytes.specs.Views.{plain_of}
+use Rattle.zarr_array_parts.specs.kinds.BytesToBytes.{byte_no_fault, byte_form}
 use Rattle.zarr_array_parts.specs.kinds.declared.bytes_to_bytes.BasicBytesToBytes.{BasicBytesToBytes}
 use Rattle.zarr_array_parts.specs.Codecs.{array_meaning, list_meaning, list_says, bytes_meaning, bytes_says}
 use Rattle.zarr_array_parts.specs.Chain.{BasicChain}
@@ -109,43 +109,23 @@ module _ (array : ArrayParts) (chain : BasicChain) (levels : ChunkLevels) (optio
   }
 
   -- no codec tells that it gives nothing by an error of the store
-  digest_say : (long : Bool) (value : List ℕ) (error : StorageError) → says_digest long value (codec.StorageError error) → ⊥
-  digest_say false value error says = cc
-  digest_say true value error says = cc
-
-  said : (before : Option (List ℕ)) (earlier : CodecError → Type 0) (error : StorageError) → (earlier (codec.StorageError error) → ⊥) →
-      values.said_at before earlier sha256_says (codec.StorageError error) → ⊥
-  said None earlier error none says = none says
-  said (Some before) earlier error none says = digest_say (nat_le 32 (length before)) before error says
+  said : (before : Option (List ℕ)) (earlier : CodecError → Type 0) (says : List ℕ → CodecError → Type 0) (error : StorageError) → (earlier (codec.StorageError error) → ⊥) →
+      ((value : List ℕ) → says value (codec.StorageError error) → ⊥) → values.said_at before earlier says (codec.StorageError error) → ⊥
+  said None earlier says error first last tells = first tells
+  said (Some value) earlier says error first last tells = last value tells
 
   bytes_say : (codecs : List BasicBytesToBytes) (value : List ℕ) (error : StorageError) → values.bytes_says bytes_meaning bytes_says options codecs value (codec.StorageError error) → ⊥
   bytes_say [] value error says = says
   bytes_say (c ∷ codecs) value error says =
-      said (decode_bytes (byte_codecs bytes_meaning options codecs) value) (values.bytes_says bytes_meaning bytes_says options codecs value) error (bytes_say codecs value error) says
-
-  -- nor does an array-to-bytes codec
-  plain_say : (plain : Plain) (number : ℕ) (type : DataType) (value : List ℕ) (error : StorageError) → says_by plain number type value (codec.StorageError error) → ⊥
-  plain_say (plain_bytes order) number type value error says = cc
-  plain_say (plain_vlen text) number type value error says = cc
-  plain_say (plain_optional inner) number type value error says =
-      go (plain_say inner number (held_type type) (drop number value) error) (nat_le number (length value)) (is_mask number (take number value)) says
-    where
-      go : (says_by inner number (held_type type) (drop number value) (codec.StorageError error) → ⊥) → (long valid : Bool) →
-          says_optional long valid (says_by inner number (held_type type) (drop number value)) (length value) number (codec.StorageError error) → ⊥
-      go rest false valid says = cc
-      go rest true false says = cc
-      go rest true true says = rest says
-
-  list_say : (before : Option (List ℕ)) (earlier : CodecError → Type 0) (error : StorageError) → (earlier (codec.StorageError error) → ⊥) →
-      values.said_at before earlier (list_says chain.to_bytes options (bottom_level levels)) (codec.StorageError error) → ⊥
-  list_say None earlier error none says = none says
-  list_say (Some before) earlier error none says = plain_say (plain_of chain.to_bytes) (count_of (bottom_level levels).shape) (bottom_level levels).data_type before error says
+      said (decode_bytes (byte_codecs bytes_meaning options codecs) value) (values.bytes_says bytes_meaning bytes_says options codecs value) (bytes_says c options) error (bytes_say codecs value error)
+      (λ before tells. (byte_no_fault (byte_form c) before (codec.StorageError error) tells).unlike error refl) says
 
   pub chunk_say : (value : Option (List ℕ)) (error : StorageError) → stored.chunk_says list_says bytes_meaning bytes_says chain levels options value (codec.StorageError error) → ⊥
   chunk_say None error says = says
   chunk_say (Some value) error says =
-      list_say (decode_bytes (byte_codecs bytes_meaning options chain.byte_codecs.items) value) (values.bytes_says bytes_meaning bytes_says options chain.byte_codecs.items value) error
-      (bytes_say chain.byte_codecs.items value error) says
+      said (decode_bytes (byte_codecs bytes_meaning options chain.byte_codecs.items) value) (values.bytes_says bytes_meaning bytes_says options chain.byte_codecs.items value)
+      (list_says chain.to_bytes options (bottom_level levels)) error (bytes_say chain.byte_codecs.items value error)
+      (λ before tells. (plain_no_fault (plain_of chain.to_bytes) (count_of (bottom_level levels).shape) (bottom_level levels).data_type before (codec.StorageError error) tells).unlike error refl) says
 
   damaged : (key : List ℕ) (before now : Shown) (content : Option (List ℕ)) (error : CodecError) → box_content (layout (described array) options) ((described array).grid.chunk_box chunk) content ≡ None →
       stored.chunk_says list_says bytes_meaning bytes_says chain levels options content error →

@@ -1,5 +1,5 @@
 -- How fetching a chunk ends.
-use Rattle.std.proofs.Common.{◌≡◌, ◌⊎◌, ⊎_elim, ℕ, ◌≤◌, Bool, true, false, if◌then◌else◌, List, Option, Some, None, Err, refl, subst, inl, inr, arith}
+use Rattle.std.proofs.Common.{◌≡◌, ◌⊎◌, ℕ, ◌≤◌, Bool, true, false, if◌then◌else◌, List, Option, None, Err, refl, subst, inl, inr, arith}
 use Rattle.zarr_model.specs.Prelude.{Options, Shown, IsChunk, counted}
 use Rattle.zarrs_storage.specs.Store.{SameContent}
 use Rattle.zarrs_storage.specs.declared.byte_range.ByteRange.{ByteRange}

@@ -1,5 +1,5 @@
 -- The chunks that a region meets, by their numbers.
-use Rattle.std.proofs.Common.{◌≡◌, ℕ, zero, suc, ◌+◌, ◌<◌, true, List, [], ◌∷◌, length, get_or, slice_get, Some, refl, sym, ap, ◌∙◌, subst, arith}
+use Rattle.std.proofs.Common.{◌≡◌, ℕ, zero, suc, ◌<◌, true, List, [], ◌∷◌, length, get_or, slice_get, Some, sym, ap, ◌∙◌, subst, arith}
 use Rattle.std.proofs.lemmas.List.{nil_from_length}
 use Rattle.zarr_model.specs.Prelude.{Region, count, tuples, tuple_at, ends_within, Grid, IsChunk, chunks_meeting, CoversShape}
 use Rattle.zarr_model.specs.Region.{share_tuple}
@@ -7,8 +7,6 @@ use Rattle.zarr_model.proofs.RegionLaws.{length-tuples, get_or-tuples, rank_with
 use Rattle.zarr_model.proofs.FailureLaws.{meeting_is}
 use Rattle.zarrs_array_subset.specs.ArraySubset.{region as region_of_subset}
 use Rattle.zarr_array_parts.specs.Parts.{described}
-use Rattle.zarr_array_parts.specs.Sizes.{have_chunks}
-use Rattle.zarr_array_parts.proofs.ChunkLaws.{some_chunk}
 use Rattle.zarr_array_parts.proofs.ServedLaws.{described_covers}
 use Rattle.zarr_array_regions.specs.declared.region_chunks.RegionChunks.{RegionChunks}
 use Rattle.zarr_array_regions.specs.RegionChunks.{chunk_at, AreMet}

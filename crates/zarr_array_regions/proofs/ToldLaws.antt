@@ -1,5 +1,5 @@
 -- An error of a chunk tells why its value does not decode.
-use Rattle.std.proofs.Common.{◌≡◌, ℕ, ⊎_elim, List, [], ◌∷◌, map, Option, Some, None, refl, sym, ap, ◌∙◌, subst, subst₂}
+use Rattle.std.proofs.Common.{◌≡◌, ℕ, ⊎_elim, List, [], ◌∷◌, map, Option, Some, None, refl, sym, ap, ◌∙◌, subst}
 use Rattle.zarr_model.specs.Prelude.{Options, Level, Shown, Rose, IsChunk, decode_bytes}
 use Rattle.zarrs_codec_error.specs.declared.error.CodecError.{CodecError}
 use Rattle.zarrs_codec_error.specs.declared.error.CodecError.TheVariants as codec
@@ -15,20 +15,20 @@ use Rattle.zarr_chain_stored.specs.Seen.{ChunkTells}
 use Rattle.zarr_chain.specs.declared.levels.ChunkLevels.{ChunkLevels}
 use Rattle.zarr_chain.proofs.StepLaws.{codecs_are, top_is}
 use Rattle.zarr_codecs_array_to_bytes.specs.Views.{plain_of}
-use Rattle.zarr_array_parts.specs.kinds.declared.array_to_array.BasicArrayToArray.{BasicArrayToArray}
+use Rattle.zarr_array_parts.specs.kinds.array_to_array.Views.{array_form}
+use Rattle.zarr_array_parts.specs.kinds.array_to_array.declared.array_to_array.BasicArrayToArray.{BasicArrayToArray}
+use Rattle.zarr_array_parts.specs.kinds.BytesToBytes.{byte_codec_of, byte_says_by, byte_form}
 use Rattle.zarr_array_parts.specs.kinds.declared.bytes_to_bytes.BasicBytesToBytes.{BasicBytesToBytes}
-use Rattle.zarr_array_parts.specs.kinds.declared.bytes_to_bytes.BasicBytesToBytes.TheVariants.{Sha256}
-use Rattle.zarr_array_parts.specs.kinds.codecs.Sha256.{sha256_says}
-use Rattle.zarr_array_parts.specs.Chain.{array_form, byte_form, BasicChain}
+use Rattle.zarr_array_parts.specs.Chain.{BasicChain}
 use Rattle.zarr_array_parts.specs.ChunkLevels.{chunk_shape, chunk_level, ServesShape}
 use Rattle.zarr_array_parts.specs.Codecs.{array_meaning, array_unserved, list_meaning, list_says, bytes_meaning, bytes_says}
-use Rattle.zarr_array_parts.specs.Document.{ArrayDocument, ChainForm, byte_codec_of}
+use Rattle.zarr_array_parts.specs.Document.{ArrayDocument, ChainForm}
 use Rattle.zarr_array_parts.specs.Parts.{documented, described}
 use Rattle.zarr_array_parts.specs.declared.parts.ArrayParts.{ArrayParts}
 use Rattle.zarr_array_parts.proofs.ChainLaws.{byte_codecs_mean}
 use Rattle.zarr_array_regions.specs.Codecs.{basic_seen}
 use Rattle.zarr_array_regions.specs.Chunk.{storage_kind, chunk_kind}
-use Rattle.zarr_array_regions.specs.Told.{byte_codec_says, byte_codecs_say, level_under, to_bytes_says, value_says, stored_says, TellsWhy}
+use Rattle.zarr_array_regions.specs.Told.{byte_codecs_say, level_under, to_bytes_says, value_says, stored_says, TellsWhy}
 use Rattle.zarr_array_regions.proofs.ChunkLaws.{by_kind}
 
 -- what is said by one of two is said by one of two that are said by each
@@ -36,9 +36,6 @@ either_says : (before : Option (List ℕ)) (earlier other : CodecError → Type 
     said_at before earlier says e → said_at before other tells e
 either_says None earlier other says tells e first last said = first said
 either_says (Some value) earlier other says tells e first last said = last value said
-
-codec_says : (c : BasicBytesToBytes) (value : List ℕ) (e : CodecError) → sha256_says value e → byte_codec_says (byte_form c) value e
-codec_says (Sha256 c) value e says = says
 
 -- an error of the store tells nothing of a value
 pub told_of_storage : (document : ArrayDocument) (options : Options) (now : Shown) (fault : StorageError) → TellsWhy document options now (storage_kind fault)
@@ -50,10 +47,10 @@ told_of_storage document options now storage.OutOfMemory = tt
 codecs_say : (options : Options) (codecs : List BasicBytesToBytes) (value : List ℕ) (e : CodecError) → values.bytes_says bytes_meaning bytes_says options codecs value e → byte_codecs_say options (map byte_form codecs) value e
 codecs_say options [] value e says = says
 codecs_say options (c ∷ codecs) value e says =
-    subst (λ before. said_at before (byte_codecs_say options (map byte_form codecs) value) (byte_codec_says (byte_form c)) e)
+    subst (λ before. said_at before (byte_codecs_say options (map byte_form codecs) value) (byte_says_by (byte_form c)) e)
     (ap (λ l. decode_bytes l value) (byte_codecs_mean options codecs))
     (either_says (decode_bytes (byte_codecs bytes_meaning options codecs) value) (values.bytes_says bytes_meaning bytes_says options codecs value) (byte_codecs_say options (map byte_form codecs) value)
-    (bytes_says c options) (byte_codec_says (byte_form c)) e (codecs_say options codecs value e) (λ v. codec_says c v e) says)
+    (bytes_says c options) (byte_says_by (byte_form c)) e (codecs_say options codecs value e) (λ v said. said) says)
 
 -- the level of the array-to-bytes codec is the one below the document's array-to-array codecs
 level_is : (down : List (Step BasicArrayToArray)) (bottom : Level) → AreLinked array_meaning array_unserved down bottom → bottom ≡ level_under (map (λ s. array_form s.codec) down) (top down bottom)

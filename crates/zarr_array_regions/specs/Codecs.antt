@@ -10,16 +10,19 @@ use Rattle.zarr_chain_stored.specs.Seen.{ChainSeen}
 use Rattle.zarr_codecs_array_to_bytes.specs.Plain.{takes_by}
 use Rattle.zarr_codecs_array_to_bytes.specs.Views.{plain_of}
 use Rattle.zarr_codecs_array_to_bytes.specs.declared.codecs.BasicArrayToBytes.{BasicArrayToBytes}
-use Rattle.zarr_array_parts.specs.kinds.declared.array_to_array.BasicArrayToArray.{BasicArrayToArray}
+use Rattle.zarr_array_parts.specs.kinds.array_to_array.ArrayToArray.{region_below_by}
+use Rattle.zarr_array_parts.specs.kinds.array_to_array.Views.{array_form}
+use Rattle.zarr_array_parts.specs.kinds.array_to_array.declared.array_to_array.BasicArrayToArray.{BasicArrayToArray}
 use Rattle.zarr_array_parts.specs.Chain.{BasicChain}
 use Rattle.zarr_array_parts.specs.Codecs.{array_meaning, array_unserved, list_meaning, list_unserved, list_says, bytes_meaning, bytes_says}
 
--- no array-to-bytes codec of these names ranges, and each array-to-array codec keeps places
+-- no array-to-bytes codec of these names ranges
 abbrev pub list_request : Requesting BasicArrayToBytes
 list_request codec dims type box = None
 
+-- the box below an array-to-array codec
 abbrev pub box_below : Boxing BasicArrayToArray
-box_below codec dims box = box
+box_below codec dims box = region_below_by (array_form codec) box
 
 abbrev pub basic_seen : BasicChain → ChunkLevels → ChainSeen
 basic_seen chain levels = record {

@@ -3,23 +3,21 @@ use Rattle.std.specs.Prelude.{◌≡◌, ℕ, List, [], ◌∷◌, map, Option, 
 use Rattle.zarr_model.specs.Prelude.{count_of, Level, Options, Shown, IsChunk, decode_bytes}
 use Rattle.zarrs_codec_error.specs.declared.error.CodecError.{CodecError}
 use Rattle.zarr_chain.specs.Values.{said_at}
-use Rattle.zarr_array_parts.specs.kinds.codecs.Sha256.{sha256_says}
 use Rattle.zarr_codecs_array_to_bytes.specs.Plain.{Plain, says_by}
-use Rattle.zarr_array_parts.specs.Document.{ArrayDocument, ArrayToArray, BytesToBytes, checksum, array_codec_of, byte_codec_of, describe}
+use Rattle.zarr_array_parts.specs.kinds.array_to_array.ArrayToArray.{ArrayToArray, array_codec_of}
+use Rattle.zarr_array_parts.specs.kinds.BytesToBytes.{BytesToBytes, byte_codec_of, byte_says_by}
+use Rattle.zarr_array_parts.specs.Document.{ArrayDocument, describe}
 use Rattle.zarr_array_parts.specs.ChunkLevels.{chunk_level}
 use Rattle.zarr_array_regions.specs.declared.error.SessionErrorKind.{SessionErrorKind}
 use Rattle.zarr_array_regions.specs.declared.error.SessionErrorKind.TheVariants.{NotOpened, ChunkDecode, Store, OutOfMemory}
 
--- which errors tell that a bytes-to-bytes codec gives nothing for a value
-abbrev pub byte_codec_says : BytesToBytes → List ℕ → CodecError → Type 0
-byte_codec_says checksum value e = sha256_says value e
-
--- the same of some codecs: those of the first one, from the last, that gives nothing
+-- which errors tell that some bytes-to-bytes codecs give nothing for a value: those of the first
+-- one, from the last, that gives nothing
 abbrev pub byte_codecs_say : Options → List BytesToBytes → List ℕ → CodecError → Type 0
 byte_codecs_say options [] value e = ⊥
 byte_codecs_say options (c ∷ codecs) value e =
     said_at (decode_bytes (map (byte_codec_of options) codecs) value)
-    (byte_codecs_say options codecs value) (byte_codec_says c) e
+    (byte_codecs_say options codecs value) (byte_says_by c) e
 
 -- the level below some array-to-array codecs
 abbrev pub level_under : List ArrayToArray → Level → Level

@@ -9,7 +9,7 @@ use Rattle.zarr_basics_grids.specs.declared.grid_kind.GridKind.TheVariants.{Regu
 use Rattle.zarr_basics.specs.declared.registries.ChunkKeyKind.{ChunkKeyKind}
 use Rattle.zarr_basics.specs.declared.registries.ChunkKeyKind.TheVariants.{Default, V2}
 use Rattle.zarr_codecs_kinds.specs.declared.codec_kind.CodecKind.{CodecKind}
-use Rattle.zarr_codecs_kinds.specs.declared.codec_kind.CodecKind.TheVariants.{Bytes, VlenUtf8, VlenBytes, Optional, Offset, Sha256}
+use Rattle.zarr_codecs_kinds.specs.declared.codec_kind.CodecKind.TheVariants.{Bytes, VlenUtf8, VlenBytes, Optional, Offset, Transpose, Sha256}
 use Rattle.zarr_basics.specs.declared.registries.Registries.{Registries}
 
 -- for each kind of extension, what its names denote
@@ -46,6 +46,7 @@ builtin_names = record {
         ∷ (exact (codes "vlen-bytes"), VlenBytes)
         ∷ (exact (codes "zarr_basics.optional"), Optional)
         ∷ (exact (codes "zarr_basics.offset"), Offset)
+        ∷ (exact (codes "transpose"), Transpose)
         ∷ (exact (codes "zarr_basics.sha256"), Sha256) ∷ [];
   };
 }

@@ -75,7 +75,7 @@ fn data_types(alloc: Global) -> Result<Vec<(NamePattern, DataTypeKind)>, AllocEr
 /// The registries with the built-in names alone: the data types `bool`, `int8` to `int64`, `uint8` to `uint64`,
 /// `string`, `bytes`, also `variable_length_bytes`, `zarrs.optional` and `r` before digits, the grids `regular` and
 /// `zarr_basics.boundaries`, the key encodings `default` and `v2`, and the codecs `bytes`, `vlen-utf8`, `vlen-bytes`,
-/// `zarr_basics.optional`, `zarr_basics.offset` and `zarr_basics.sha256`.
+/// `zarr_basics.optional`, `zarr_basics.offset`, `transpose` and `zarr_basics.sha256`.
 pub fn builtin_registries(alloc: Global) -> Result<Registries, AllocError>
     ensures { IfOk result (λ r. names_of r ≡ builtin_names) }
 {
@@ -99,6 +99,7 @@ pub fn builtin_registries(alloc: Global) -> Result<Registries, AllocError>
             ("vlen-bytes", CodecKind::VlenBytes),
             ("zarr_basics.optional", CodecKind::Optional),
             ("zarr_basics.offset", CodecKind::Offset),
+            ("transpose", CodecKind::Transpose),
             ("zarr_basics.sha256", CodecKind::Sha256),
         ],
     )?;

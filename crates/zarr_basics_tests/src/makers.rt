@@ -43,6 +43,7 @@ vlen-utf8 -> Some(VlenUtf8)
 vlen-bytes -> Some(VlenBytes)
 zarr_basics.optional -> Some(Optional)
 zarr_basics.offset -> Some(Offset)
+transpose -> Some(Transpose)
 zarr_basics.sha256 -> Some(Sha256)
 vlen-utf16 -> None
 "#;

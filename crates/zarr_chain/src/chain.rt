@@ -7,13 +7,13 @@ ghost use Rattle.zarr_model.specs.Command.{has_long_element};
 ghost use Rattle.zarr_model.specs.Region.{count_of};
 ghost use Rattle.zarrs_codec_array_bytes.specs.Raw.{raw_of};
 ghost use Rattle.zarrs_codec_error.specs.declared.error.CodecError.TheVariants as codec;
-ghost use Rattle.zarrs_codec_traits.specs.Errors.{IsDecodeError};
 ghost use Rattle.zarrs_codec_traits.specs.Views.{options_of};
 ghost use Rattle.zarrs_codec_traits.specs.Words.{list_at, Gives};
 ghost use Rattle.zarr_chain.specs.Levels.{SaysInvalid};
-ghost use Rattle.zarr_chain.specs.Chain.{IsServed, first_level, bottom_level, steps, decoded, chain_says};
+ghost use Rattle.zarr_chain.specs.Chain.{IsServed, first_level, bottom_level, steps, decoded};
 ghost use Rattle.zarr_chain.specs.Values.{byte_codecs};
 ghost use Rattle.zarr_chain.specs.Encoding.{AnswersBelow};
+ghost use Rattle.zarr_chain.specs.Answers.{chunk_list, FailsToDecode};
 
 use crate::decode::{decode_through, decode_up};
 use crate::encode::{encode_down, encode_through};
@@ -54,12 +54,10 @@ impl<A: ArrayToArrayCodecTraits, B: ArrayToBytesCodecTraits, C: BytesToBytesCode
         options: &CodecOptions,
     ) -> Result<ArrayBytes<'static>, CodecError>
         requires { IsServed A.meaning A.unserved B.unserved self.now levels.now }
-        ensures value { IfOk result (λ v. Gives (list_at (first_level levels.now) (raw_of v))
-            (decoded A.meaning B.meaning C.meaning self.now levels.now (options_of options.now)
-            value.items)) }
-        ensures failed { let under = options_of options.now in IfErr result (IsDecodeError
-            (decoded A.meaning B.meaning C.meaning self.now levels.now under value.items)
-            (chain_says B.says C.meaning C.says self.now levels.now under value.items)) }
+        ensures value { IfOk result (λ v. Gives (chunk_list levels.now v) (decoded A.meaning
+            B.meaning C.meaning self.now levels.now (options_of options.now) value.items)) }
+        ensures failed { FailsToDecode A.meaning B.meaning B.says C.meaning C.says self.now
+            levels.now (options_of options.now) value.items result }
         ensures short { IfOk result (λ v. has_long_element (raw_of v) ≡ false) }
     {
         let below = self.decode_bottom(alloc, levels, value, options)?;
@@ -78,14 +76,12 @@ impl<A: ArrayToArrayCodecTraits, B: ArrayToBytesCodecTraits, C: BytesToBytesCode
         options: &CodecOptions,
     ) -> Result<ArrayBytes<'static>, CodecError>
         requires { IsServed A.meaning A.unserved B.unserved self.now levels.now }
-        ensures value { let under = options_of options.now in
-            let bottom = bottom_level levels.now in
+        ensures value { let under = options_of options.now in let bottom = bottom_level levels.now in
             IfOk result (λ v. Gives (list_at bottom (raw_of v))
             (option_and_then (B.meaning self.now.to_bytes under bottom)
             (decode_bytes (byte_codecs C.meaning under self.now.byte_codecs.items) value.items))) }
-        ensures failed { let under = options_of options.now in IfErr result (IsDecodeError
-            (decoded A.meaning B.meaning C.meaning self.now levels.now under value.items)
-            (chain_says B.says C.meaning C.says self.now levels.now under value.items)) }
+        ensures failed { FailsToDecode A.meaning B.meaning B.says C.meaning C.says self.now
+            levels.now (options_of options.now) value.items result }
         ensures short { IfOk result (λ v. has_long_element (raw_of v) ≡ false) }
     {
         let bytes = decode_through(alloc, &self.byte_codecs, value, options)?;
@@ -114,19 +110,15 @@ impl<A: ArrayToArrayCodecTraits, B: ArrayToBytesCodecTraits, C: BytesToBytesCode
         options: &CodecOptions,
     ) -> Result<Vec<u8>, CodecError>
         requires { IsServed A.meaning A.unserved B.unserved self.now levels.now }
-        ensures value { (list : List Element)
-            → list_at (first_level levels.now) (raw_of bytes.entry) ≡ Some list
+        ensures value { (list : List Element) → chunk_list levels.now bytes.entry ≡ Some list
             → IfOk result (λ v. (under : Options)
             → decoded A.meaning B.meaning C.meaning self.now levels.now under v.items ≡ Some list) }
-        ensures refused { list_at (first_level levels.now) (raw_of bytes.entry) ≡ None
-            → MatchResult result (λ v. ⊥)
+        ensures refused { chunk_list levels.now bytes.entry ≡ None → MatchResult result (λ v. ⊥)
             (SaysInvalid (first_level levels.now) (raw_of bytes.entry)) }
-        ensures memory { IsSome (list_at (first_level levels.now) (raw_of bytes.entry))
-            → has_long_element (raw_of bytes.entry) ≡ false
-            → B.takes self.now.to_bytes (bottom_level levels.now)
-            → IfErr result (λ e. e ≡ codec.OutOfMemory) }
-        ensures beyond { (list : List Element)
-            → list_at (first_level levels.now) (raw_of bytes.entry) ≡ Some list
+        ensures memory { IsSome (chunk_list levels.now bytes.entry)
+            → has_long_element (raw_of bytes.entry) ≡ false → B.takes self.now.to_bytes
+            (bottom_level levels.now) → IfErr result (λ e. e ≡ codec.OutOfMemory) }
+        ensures beyond { (list : List Element) → chunk_list levels.now bytes.entry ≡ Some list
             → AnswersBelow A.meaning (B.beyond self.now.to_bytes (bottom_level levels.now))
             (steps self.now levels.now) (bottom_level levels.now) list (raw_of bytes.entry) result }
     {

@@ -1,7 +1,6 @@
 //! What a stored value decodes to through a chain.
 
-ghost use Rattle.std.specs.Prelude.{◌≡◌, ℕ, List, length, Some, MatchResult, IfOk, IfErr, false};
-ghost use Rattle.zarr_model.specs.Command.{has_long_element};
+ghost use Rattle.std.specs.Prelude.{◌≡◌, List, length, Some, MatchResult, IfOk, IfErr};
 ghost use Rattle.zarr_model.specs.Element.{Element};
 ghost use Rattle.zarr_model.specs.Codec.{Level, decode_bytes};
 ghost use Rattle.zarrs_codec_array_bytes.specs.Raw.{raw_of};
@@ -11,6 +10,7 @@ ghost use Rattle.zarrs_codec_traits.specs.Views.{options_of};
 ghost use Rattle.zarrs_codec_traits.specs.Words.{list_at, Gives};
 ghost use Rattle.zarr_chain.specs.Levels.{steps_of, top, AreFit, AreLinked, elements_above};
 ghost use Rattle.zarr_chain.specs.Values.{byte_codecs, bytes_says};
+ghost use Rattle.zarr_chain.specs.Answers.{StaysShort};
 
 use crate::representation::ChunkRepresentation;
 use std::alloc::Global;
@@ -64,8 +64,7 @@ pub fn decode_up<A: ArrayToArrayCodecTraits>(
         (λ v. Gives (list_at (top (steps_of codecs.now levels.now) bottom) (raw_of v))
         (elements_above A.meaning (steps_of codecs.now levels.now) (Some list)))
         (λ e. e ≡ codec.OutOfMemory) }
-    ensures short { has_long_element (raw_of bytes.entry) ≡ false
-        → IfOk result (λ v. has_long_element (raw_of v) ≡ false) }
+    ensures short { StaysShort bytes.entry result }
 {
     let mut decoded = bytes;
     let mut left = codecs.len();

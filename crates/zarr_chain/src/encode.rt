@@ -1,7 +1,6 @@
 //! The value that elements are encoded to through a chain.
 
-ghost use Rattle.std.specs.Prelude.{◌≡◌, List, [], length, Some, None, MatchResult, IfOk, false};
-ghost use Rattle.zarr_model.specs.Command.{has_long_element};
+ghost use Rattle.std.specs.Prelude.{◌≡◌, List, [], length, Some, None, MatchResult, IfOk};
 ghost use Rattle.zarr_model.specs.Element.{Element};
 ghost use Rattle.zarr_model.specs.Codec.{Level, Options, decode_bytes};
 ghost use Rattle.zarrs_codec_array_bytes.specs.Raw.{raw_of};
@@ -9,6 +8,7 @@ ghost use Rattle.zarrs_codec_error.specs.declared.error.CodecError.TheVariants a
 ghost use Rattle.zarrs_codec_traits.specs.Words.{list_at};
 ghost use Rattle.zarr_chain.specs.Levels.{steps_of, top, AreFit, AreLinked, elements_above, SaysInvalid};
 ghost use Rattle.zarr_chain.specs.Values.{byte_codecs};
+ghost use Rattle.zarr_chain.specs.Answers.{StaysShort};
 
 use crate::representation::ChunkRepresentation;
 use std::alloc::Global;
@@ -35,16 +35,13 @@ pub fn encode_down<A: ArrayToArrayCodecTraits>(
         → AreLinked A.meaning A.unserved (steps_of codecs.now levels.now) bottom
         → list_at (top (steps_of codecs.now levels.now) bottom) (raw_of bytes.entry) ≡ Some list
         → MatchResult result (λ v. elements_above A.meaning (steps_of codecs.now levels.now)
-        (list_at bottom (raw_of v)) ≡ Some list)
-        (λ e. e ≡ codec.OutOfMemory) }
+        (list_at bottom (raw_of v)) ≡ Some list) (λ e. e ≡ codec.OutOfMemory) }
     ensures refused { (bottom : Level)
         → AreLinked A.meaning A.unserved (steps_of codecs.now levels.now) bottom
         → list_at (top (steps_of codecs.now levels.now) bottom) (raw_of bytes.entry) ≡ None
-        → MatchResult result
-        (λ v. (codecs.now ≡ []) × (raw_of v ≡ raw_of bytes.entry))
+        → MatchResult result (λ v. (codecs.now ≡ []) × (raw_of v ≡ raw_of bytes.entry))
         (SaysInvalid (top (steps_of codecs.now levels.now) bottom) (raw_of bytes.entry)) }
-    ensures short { has_long_element (raw_of bytes.entry) ≡ false
-        → IfOk result (λ v. has_long_element (raw_of v) ≡ false) }
+    ensures short { StaysShort bytes.entry result }
     ensures none { codecs.now ≡ [] → IfOk result (λ v. raw_of v ≡ raw_of bytes.entry) }
 {
     let mut encoded = bytes;
@@ -72,8 +69,7 @@ pub fn encode_through<C: BytesToBytesCodecTraits>(
     value: Vec<u8>,
     options: &CodecOptions,
 ) -> Result<Vec<u8>, CodecError>
-    ensures { MatchResult result
-        (λ v. (under : Options)
+    ensures { MatchResult result (λ v. (under : Options)
         → decode_bytes (byte_codecs C.meaning under codecs.now) v.items ≡ Some value.items)
         (λ e. e ≡ codec.OutOfMemory) }
 {

@@ -1,15 +1,15 @@
 //! Regions of a chunk, through the levels of a chain.
 
-ghost use Rattle.std.specs.Prelude.{◌≡◌, true, false, List, [], map, Some, Option, IfOk, MatchResult, IsSome};
+ghost use Rattle.std.specs.Prelude.{◌≡◌, true, List, [], Option, IfOk, MatchResult, IsSome};
 ghost use Rattle.zarr_model.specs.Region.{ends_within};
 ghost use Rattle.zarr_model.specs.Element.{Element};
-ghost use Rattle.zarr_model.specs.Command.{has_long_element};
 ghost use Rattle.zarrs_array_subset.specs.ArraySubset.{region as box_of};
 ghost use Rattle.zarrs_codec_array_bytes.specs.Raw.{raw_of};
 ghost use Rattle.zarrs_codec_error.specs.declared.error.CodecError.TheVariants as codec;
 ghost use Rattle.zarrs_codec_traits.specs.Words.{list_at, at_box};
 ghost use Rattle.zarr_chain.specs.Chain.{IsServed, first_level, bottom_level, steps};
-ghost use Rattle.zarr_chain.specs.Regions.{boxes_below, bottom_box, last_item, HoldsBox, IsCounted};
+ghost use Rattle.zarr_chain.specs.Regions.{bottom_box, last_item, HoldsBox, IsCounted};
+ghost use Rattle.zarr_chain.specs.Answers.{AreBelow, StaysShort};
 
 use crate::chain::CodecChain;
 use crate::levels::ChunkLevels;
@@ -50,8 +50,8 @@ impl<A: ArrayToArrayCodecTraits, B: ArrayToBytesCodecTraits, C: BytesToBytesCode
     ) -> Result<Vec<ArraySubset>, CodecError>
         requires served { IsServed A.meaning A.unserved B.unserved self.now levels.now }
         requires inside { ends_within (box_of region.now) (first_level levels.now).shape ≡ true }
-        ensures { MatchResult result (λ boxes. map box_of boxes.items
-            ≡ boxes_below A.region_below (steps self.now levels.now) (box_of region.now))
+        ensures { MatchResult result
+            (λ boxes. AreBelow A.region_below self.now levels.now region.now boxes.items)
             (λ e. e ≡ codec.OutOfMemory) }
     {
         let mut boxes: Vec<ArraySubset> = Vec::new(alloc);
@@ -78,8 +78,7 @@ impl<A: ArrayToArrayCodecTraits, B: ArrayToBytesCodecTraits, C: BytesToBytesCode
     ) -> Result<ArrayBytes<'static>, CodecError>
         requires served { IsServed A.meaning A.unserved B.unserved self.now levels.now }
         requires inside { ends_within (box_of region.now) (first_level levels.now).shape ≡ true }
-        requires boxes { map box_of boxes.now
-            ≡ boxes_below A.region_below (steps self.now levels.now) (box_of region.now) }
+        requires boxes { AreBelow A.region_below self.now levels.now region.now boxes.now }
         requires valid { IsSome (list_at (at_box
             (bottom_box A.region_below (steps self.now levels.now) (box_of region.now))
             (bottom_level levels.now)) (raw_of bytes)) }
@@ -92,8 +91,7 @@ impl<A: ArrayToArrayCodecTraits, B: ArrayToBytesCodecTraits, C: BytesToBytesCode
         ensures valid { MatchResult result
             (λ v. IsSome (list_at (at_box (box_of region.now) (first_level levels.now)) (raw_of v)))
             (λ e. e ≡ codec.OutOfMemory) }
-        ensures short { has_long_element (raw_of bytes.entry) ≡ false
-            → IfOk result (λ v. has_long_element (raw_of v) ≡ false) }
+        ensures short { StaysShort bytes.entry result }
     {
         let mut decoded = bytes;
         let mut left = self.array_codecs.len();

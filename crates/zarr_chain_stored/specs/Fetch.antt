@@ -1,5 +1,5 @@
 -- The elements of a chunk, by what stands under its key.
-use Rattle.std.specs.Prelude.{◌≡◌, ℕ, false, List, replicate, Option, Some, None}
+use Rattle.std.specs.Prelude.{◌≡◌, ℕ, false, List, replicate, Option, Some, None, Result, IfErr}
 use Rattle.zarr_model.specs.Region.{count_of}
 use Rattle.zarr_model.specs.Element.{Element, kind_of, fill_element}
 use Rattle.zarr_model.specs.ArrayBytes.{ArrayBytes}
@@ -7,6 +7,10 @@ use Rattle.zarr_model.specs.Codec.{Level, ArrayCodec, Options}
 use Rattle.zarr_model.specs.Command.{has_long_element}
 use Rattle.zarrs_codec_bytes.specs.Filling.{filled_with}
 use Rattle.zarrs_codec_error.specs.declared.error.CodecError.{CodecError}
+use Rattle.zarrs_codec_array_bytes.specs.declared.array_bytes.ArrayBytes as code
+use Rattle.zarrs_codec_array_bytes.specs.Raw.{raw_of}
+use Rattle.zarrs_codec_traits.specs.Errors.{IsDecodeError}
+use Rattle.zarrs_codec_traits.specs.Words.{list_at}
 use Rattle.zarr_chain.specs.declared.chain.CodecChain.{CodecChain}
 use Rattle.zarr_chain.specs.declared.levels.ChunkLevels.{ChunkLevels}
 use Rattle.zarr_chain.specs.Chain.{Listing, Opening, first_level, first_fill, decoded, chain_says}
@@ -26,3 +30,17 @@ abbrev pub chunk_says : {A B C : Type 0} → (B → Options → Level → List �
 chunk_says list_says opens says chain levels under None e = ⊥
 chunk_says list_says opens says chain levels under (Some value) e =
     chain_says list_says opens says chain levels under value e
+
+-- a call fails for want of memory, or since the chunk does not decode, which the error tells
+abbrev pub FailsByContent : {A B C T : Type 0} → (A → ArrayCodec) → Listing B
+    → (B → Options → Level → List ℕ → CodecError → Type 0) → Opening C
+    → (C → Options → List ℕ → CodecError → Type 0) → CodecChain A B C → ChunkLevels → Options
+    → Option (List ℕ) → Result T CodecError → Type 0
+FailsByContent array to_list list_says opens says chain levels under value result =
+    IfErr result (IsDecodeError (chunk_content array to_list opens chain levels under value)
+    (chunk_says list_says opens says chain levels under value))
+
+-- array bytes are the fill everywhere in a level
+abbrev pub IsBlank : Level → code.ArrayBytes → Type 0
+IsBlank level bytes =
+    list_at level (raw_of bytes) ≡ Some (replicate (count_of level.shape) level.fill)

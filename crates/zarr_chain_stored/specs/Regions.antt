@@ -1,5 +1,5 @@
 -- What is fetched of a chunk for a region of it, and the ranges of its value that are read.
-use Rattle.std.specs.Prelude.{◌≡◌, ◌==◌, ◌⊎◌, if◌then◌else◌, ℕ, Bool, true, false, List, length, Option, Some, None, IsSome, option_map, Result, Ok, Err}
+use Rattle.std.specs.Prelude.{◌≡◌, ◌==◌, ◌⊎◌, if◌then◌else◌, ℕ, Bool, true, false, List, length, Option, Some, None, IsSome, option_map, Result, Ok, Err, IfErr, MatchResult}
 use Rattle.zarr_model.specs.Region.{Region, count, count_of}
 use Rattle.zarr_model.specs.Element.{Element, DataType}
 use Rattle.zarr_model.specs.ArrayBytes.{ArrayBytes}
@@ -12,7 +12,10 @@ use Rattle.zarrs_codec_error.specs.declared.error.CodecError.{CodecError}
 use Rattle.zarrs_codec_error.specs.declared.error.CodecError.TheVariants as codec
 use Rattle.zarrs_codec_array_bytes.specs.declared.array_bytes.ArrayBytes as code
 use Rattle.zarrs_codec_array_bytes.specs.Raw.{raw_of}
-use Rattle.zarrs_codec_traits.specs.Words.{list_at, at_box, select}
+use Rattle.zarrs_codec_array_bytes.specs.Refusals.{fine}
+use Rattle.zarrs_codec_traits.specs.Errors.{IsDecodeError}
+use Rattle.zarrs_codec_traits.specs.Parts.{AreParts, request_answer}
+use Rattle.zarrs_codec_traits.specs.Words.{list_at, at_box}
 use Rattle.zarrs_codec_held.specs.Held.{Held}
 use Rattle.zarrs_codec_held.specs.Reads.{TellsRangeOf}
 use Rattle.zarrs_codec_held.specs.Through.{through}
@@ -21,13 +24,9 @@ use Rattle.zarr_chain.specs.declared.levels.ChunkLevels.{ChunkLevels}
 use Rattle.zarr_chain.specs.Chain.{Opening, bottom_level, steps, first_level}
 use Rattle.zarr_chain.specs.Values.{byte_codecs}
 use Rattle.zarr_chain.specs.Regions.{Boxing, bottom_box}
+use Rattle.zarr_chain.specs.Answers.{GivesPart}
 use Rattle.zarr_chain_stored.specs.declared.fetched.Fetched.{Fetched}
 use Rattle.zarr_chain_stored.specs.declared.fetched.Fetched.TheVariants as fetched
-
--- array bytes are the region of a chunk's list
-abbrev pub GivesPart : Level → Region → List Element → code.ArrayBytes → Type 0
-GivesPart level region list bytes =
-    list_at (at_box region level) (raw_of bytes) ≡ Some (select level.shape region list)
 
 -- what was fetched for a region are elements of a chunk's list: all of them, or the region's
 abbrev pub GivesRegion : Level → Region → List Element → Fetched → Type 0
@@ -79,6 +78,11 @@ abbrev pub stored_request : {A B C : Type 0} → CodecChain A B C → Option (Li
     → Option (List ByteRange)
 stored_request chain asked = if length chain.byte_codecs.items == 0 then asked else None
 
+-- what bytes-to-bytes codecs give of a value
+abbrev pub given_by : {C : Type 0} → Opening C → Options → List C → List ℕ → Held
+given_by opens under codecs value =
+    through (decode_bytes (byte_codecs opens under codecs)) (Some (Some value))
+
 -- what the bytes-to-bytes codecs give of what stands under a key: nothing of a value that one of
 -- them refuses, and no bytes where the key is absent
 abbrev pub given_bytes : {A B C : Type 0} → Opening C → CodecChain A B C → Options
@@ -128,3 +132,23 @@ abbrev pub AsksOnce : {T : Type 0} → ℕ → ℕ → Result T CodecError → T
 AsksOnce before now (Ok v) = now ≡ counted before 1
 AsksOnce before now (Err e) =
     (now ≡ counted before 1) ⊎ ((e ≡ codec.OutOfMemory) × (now ≡ before))
+
+-- what is so where parts are those of bytes, each as long as it was asked for
+abbrev pub WhereParts : Option (List ByteRange) → List ℕ → List (List ℕ) → Type 0 → Type 0
+WhereParts asked bytes parts is_so =
+    AreParts asked bytes parts → request_answer asked parts ≡ fine → is_so
+
+-- the elements of a box by such parts are those that all of the bytes decode to
+abbrev pub GivesByParts : Level → Region → Option (List ByteRange) → List (List ℕ)
+    → (Level → List ℕ → Option (List Element)) → Result code.ArrayBytes CodecError → Type 0
+GivesByParts level box asked parts decode result = (bytes : List ℕ) (list : List Element)
+    → AreParts asked bytes parts → decode level bytes ≡ Some list
+    → MatchResult result (GivesPart level box list) (λ e. e ≡ codec.OutOfMemory)
+
+-- and where there are none, these bytes do not decode, which the error tells
+abbrev pub FailsByParts : Level → Option (List ByteRange) → List (List ℕ)
+    → (Level → List ℕ → Option (List Element)) → (Level → List ℕ → CodecError → Type 0)
+    → Result code.ArrayBytes CodecError → Type 0
+FailsByParts level asked parts decode says result = (bytes : List ℕ)
+    → WhereParts asked bytes parts
+    (IfErr result (IsDecodeError (decode level bytes) (says level bytes)))

@@ -27,10 +27,11 @@ use Rattle.zarrs_codec_traits.specs.declared.bytes_to_bytes.BytesToBytesCodecTra
 use Rattle.zarr_chain.specs.declared.chain.CodecChain.{CodecChain}
 use Rattle.zarr_chain.specs.declared.levels.ChunkLevels.{ChunkLevels}
 use Rattle.zarr_chain.specs.Chain.{ServesChunks, first_level, bottom_level, decoded, HasFill}
+use Rattle.zarr_chain.specs.Answers.{GivesPart}
 use Rattle.zarr_chain_stored.specs.Fetch.{chunk_content, chunk_says}
 use Rattle.zarr_chain_stored.specs.Put.{is_dropped, PutsChunk, MayPutChunk}
 use Rattle.zarr_chain_stored.specs.Update.{with_box, UpdatesChunk, MayUpdateChunk}
-use Rattle.zarr_chain_stored.specs.Regions.{is_whole_chunk, region_request, stored_request, given_bytes, first_outside, range_says, IsGiven, IsAlike, AsksOnce, GivesPart, GivesRegion, fetched_list, fetched_bytes, gives_chunk}
+use Rattle.zarr_chain_stored.specs.Regions.{is_whole_chunk, region_request, stored_request, given_bytes, first_outside, range_says, IsGiven, IsAlike, AsksOnce, GivesRegion, fetched_list, fetched_bytes, gives_chunk}
 use Rattle.zarr_chain_stored.specs.declared.fetched.Fetched.{Fetched}
 
 -- a chain with the levels of a chunk

@@ -1,20 +1,19 @@
 //! The elements of a chunk in a store.
 
-ghost use Rattle.std.specs.Prelude.{◌≡◌, false, Some, IsSome, replicate, IfOk, IfErr, MatchResult};
+ghost use Rattle.std.specs.Prelude.{◌≡◌, false, Some, IsSome, IfOk, MatchResult};
 ghost use Rattle.zarr_model.specs.Command.{has_long_element};
 ghost use Rattle.zarr_model.specs.Element.{fill_element, kind_of};
-ghost use Rattle.zarr_model.specs.Region.{count_of};
 ghost use Rattle.zarrs_storage.specs.Store.{value_bytes};
 ghost use Rattle.zarrs_data_type_elements.specs.FillValue.{fill_bytes};
 ghost use Rattle.zarrs_data_type_names.specs.DataType.{type_of};
 ghost use Rattle.zarrs_codec_error.specs.declared.error.CodecError.TheVariants as codec;
 ghost use Rattle.zarrs_codec_array_bytes.specs.Raw.{raw_of};
-ghost use Rattle.zarrs_codec_traits.specs.Errors.{IsDecodeError};
 ghost use Rattle.zarrs_codec_traits.specs.Views.{lengths, level_of, options_of};
-ghost use Rattle.zarrs_codec_traits.specs.Words.{list_at, Gives, IsFit};
+ghost use Rattle.zarrs_codec_traits.specs.Words.{Gives, IsFit};
 ghost use Rattle.zarr_chain.specs.Chain.{IsServed, first_level, blank_chunk, HasFill};
 ghost use Rattle.zarr_chain_stored.specs.Seen.{chain_seen, FetchesChunk};
-ghost use Rattle.zarr_chain_stored.specs.Fetch.{chunk_content, chunk_says};
+ghost use Rattle.zarr_chain_stored.specs.Fetch.{chunk_content, FailsByContent, IsBlank};
+ghost use Rattle.zarr_chain.specs.Answers.{chunk_list};
 
 use std::alloc::Global;
 use std::num::NonZeroU64;
@@ -39,13 +38,10 @@ fn filled_chunk(
     requires fits { IsFit (lengths shape.now) (type_of data_type.now) }
     requires denotes { IsSome (fill_element (kind_of (type_of data_type.now))
         (fill_bytes fill_value.now)) }
-    ensures value { let level = level_of shape.now data_type.now fill_value.now in
-        MatchResult result
-        (λ v. list_at level (raw_of v) ≡ Some (replicate (count_of level.shape) level.fill))
-        (λ e. e ≡ codec.OutOfMemory) }
-    ensures bytes { IfOk result (λ v. raw_of v
-        ≡ blank_chunk (level_of shape.now data_type.now fill_value.now)
-        (fill_bytes fill_value.now)) }
+    ensures value { MatchResult result
+        (IsBlank (level_of shape.now data_type.now fill_value.now)) (λ e. e ≡ codec.OutOfMemory) }
+    ensures bytes { IfOk result (λ v. raw_of v ≡ blank_chunk
+        (level_of shape.now data_type.now fill_value.now) (fill_bytes fill_value.now)) }
 {
     ArrayBytes::new_fill_value(alloc, data_type, num_elements(shape), fill_value)
 }
@@ -54,8 +50,7 @@ fn filled_chunk(
 pub(crate) fn blank(levels: &ChunkLevels, alloc: Global) -> Result<ArrayBytes<'static>, CodecError>
     requires fits { IsFit (first_level levels.now).shape (first_level levels.now).data_type }
     requires fill { HasFill levels.now }
-    ensures value { let level = first_level levels.now in MatchResult result
-        (λ v. list_at level (raw_of v) ≡ Some (replicate (count_of level.shape) level.fill))
+    ensures value { MatchResult result (IsBlank (first_level levels.now))
         (λ e. e ≡ codec.OutOfMemory) }
     ensures short { IfOk result (λ v. has_long_element (raw_of v) ≡ false) }
 {
@@ -77,12 +72,10 @@ fn elements_of<A: ArrayToArrayCodecTraits, B: ArrayToBytesCodecTraits, C: BytesT
 ) -> Result<ArrayBytes<'static>, CodecError>
     requires served { IsServed A.meaning A.unserved B.unserved chain.now levels.now }
     requires fill { HasFill levels.now }
-    ensures value { IfOk result (λ v. Gives (list_at (first_level levels.now) (raw_of v))
-        (chunk_content A.meaning B.meaning C.meaning chain.now levels.now (options_of options.now)
-        (value_bytes value))) }
-    ensures failed { let under = options_of options.now in IfErr result (IsDecodeError
-        (chunk_content A.meaning B.meaning C.meaning chain.now levels.now under (value_bytes value))
-        (chunk_says B.says C.meaning C.says chain.now levels.now under (value_bytes value))) }
+    ensures value { IfOk result (λ v. Gives (chunk_list levels.now v) (chunk_content A.meaning
+        B.meaning C.meaning chain.now levels.now (options_of options.now) (value_bytes value))) }
+    ensures failed { FailsByContent A.meaning B.meaning B.says C.meaning C.says chain.now levels.now
+        (options_of options.now) (value_bytes value) result }
     ensures short { IfOk result (λ v. has_long_element (raw_of v) ≡ false) }
 {
     match value {

@@ -1,6 +1,6 @@
 //! A region of a chunk, by the ranges that the array-to-bytes codec asks for.
 
-ghost use Rattle.std.specs.Prelude.{◌≡◌, ◌≤◌, ◌⊎◌, ℕ, true, false, List, map, Option, Some, IsSome, IfOk, IfErr, OnOk, MatchResult};
+ghost use Rattle.std.specs.Prelude.{◌≡◌, ◌≤◌, ◌⊎◌, ℕ, true, false, List, Option, Some, IsSome, IfOk, IfErr, OnOk, MatchResult};
 ghost use Rattle.zarr_model.specs.Codec.{decode_bytes};
 ghost use Rattle.zarr_model.specs.Command.{has_long_element};
 ghost use Rattle.zarr_model.specs.Cost.{counted};
@@ -11,20 +11,18 @@ ghost use Rattle.zarrs_storage.specs.ByteRange.{parts_of};
 ghost use Rattle.zarrs_storage.specs.Store.{SameContent, part_bytes};
 ghost use Rattle.zarrs_codec_error.specs.declared.error.CodecError.TheVariants as codec;
 ghost use Rattle.zarrs_codec_array_bytes.specs.Raw.{raw_of};
-ghost use Rattle.zarrs_codec_array_bytes.specs.Refusals.{fine};
-ghost use Rattle.zarrs_codec_traits.specs.Errors.{IsDecodeError};
-ghost use Rattle.zarrs_codec_traits.specs.Parts.{AreParts, IsAnswer, request_answer};
+ghost use Rattle.zarrs_codec_traits.specs.Parts.{AreParts, IsAnswer};
 ghost use Rattle.zarrs_codec_traits.specs.Views.{options_of, ranges_of};
-ghost use Rattle.zarrs_codec_traits.specs.Words.{list_at, at_box, select};
+ghost use Rattle.zarrs_codec_traits.specs.Words.{list_at, at_box};
 ghost use Rattle.zarrs_codec_held.specs.Reads.{IsHandleError};
-ghost use Rattle.zarrs_codec_held.specs.Through.{through};
 ghost use Rattle.zarrs_codec_partial_bytes.specs.Stored.{taken_of};
-ghost use Rattle.zarr_chain.specs.Chain.{bottom_level, steps, IsServed, first_level, decoded, chain_says};
-ghost use Rattle.zarr_chain.specs.Regions.{boxes_below, bottom_box};
+ghost use Rattle.zarr_chain.specs.Chain.{bottom_level, steps, IsServed, first_level, decoded};
+ghost use Rattle.zarr_chain.specs.Regions.{bottom_box};
 ghost use Rattle.zarr_chain.specs.Values.{byte_codecs, bytes_says};
 ghost use Rattle.zarr_chain_stored.specs.Fetch.{chunk_says};
 ghost use Rattle.zarr_chain_stored.specs.Seen.{chain_seen, CanRead, ReadsBy};
-ghost use Rattle.zarr_chain_stored.specs.Regions.{bottom_request, stored_request, given_bytes, AreGivenParts, parts_say};
+ghost use Rattle.zarr_chain_stored.specs.Regions.{bottom_request, stored_request, given_bytes, AreGivenParts, parts_say, given_by, WhereParts, GivesByParts, FailsByParts};
+ghost use Rattle.zarr_chain.specs.Answers.{GivesPart, AreBelow, FailsToDecode};
 
 use crate::region::blank_region;
 use std::alloc::Global;
@@ -57,8 +55,7 @@ pub(crate) fn byte_request<
 ) -> Result<Option<Vec<ByteRange>>, CodecError>
     requires served { IsServed A.meaning A.unserved B.unserved chain.now levels.now }
     requires inside { ends_within (box_of region.now) (first_level levels.now).shape ≡ true }
-    requires boxes { map box_of boxes.now
-        ≡ boxes_below A.region_below (steps chain.now levels.now) (box_of region.now) }
+    requires boxes { AreBelow A.region_below chain.now levels.now region.now boxes.now }
     ensures { MatchResult result (λ r. ranges_of r
         ≡ bottom_request B.request A.region_below chain.now levels.now (box_of region.now))
         (λ e. e ≡ codec.OutOfMemory) }
@@ -80,14 +77,11 @@ fn parts_through<C: BytesToBytesCodecTraits>(
     ranges: &[ByteRange],
     options: &CodecOptions,
 ) -> Result<Vec<Vec<u8>>, CodecError>
-    ensures value { let given = through
-        (decode_bytes (byte_codecs C.meaning (options_of options.now) codecs.now))
-        (Some (Some value.items)) in
-        IfOk result (λ parts. AreGivenParts ranges.now given (Some (parts_of parts))) }
-    ensures failed { let given = through
-        (decode_bytes (byte_codecs C.meaning (options_of options.now) codecs.now))
-        (Some (Some value.items)) in
-        IfErr result (λ e. (e ≡ codec.OutOfMemory) ⊎ parts_say ranges.now given
+    ensures value { IfOk result (λ parts. AreGivenParts ranges.now
+        (given_by C.meaning (options_of options.now) codecs.now value.items)
+        (Some (parts_of parts))) }
+    ensures failed { IfErr result (λ e. (e ≡ codec.OutOfMemory) ⊎ parts_say ranges.now
+        (given_by C.meaning (options_of options.now) codecs.now value.items)
         (bytes_says C.meaning C.says (options_of options.now) codecs.now value.items) e) }
 {
     let bytes = decode_through(alloc, codecs, value, options)?;
@@ -110,16 +104,13 @@ fn fetch_parts<
     store: &mut S,
     options: &CodecOptions,
 ) -> Result<Option<Vec<Vec<u8>>>, CodecError>
-    ensures value { let given = given_bytes C.meaning chain.now (options_of options.now)
-        ((S.shown store.old).content key.now) in
-        IfOk result (λ parts. AreGivenParts ranges.now given (part_bytes parts)) }
+    ensures value { IfOk result (λ parts. AreGivenParts ranges.now (given_bytes C.meaning chain.now
+        (options_of options.now) ((S.shown store.old).content key.now)) (part_bytes parts)) }
     ensures failed { let content = (S.shown store.old).content key.now in
-        let given = given_bytes C.meaning chain.now (options_of options.now) content in
-        IfErr result (λ e.
-        IsHandleError (S.shown store.old).faults (S.shown store.new).faults e
-        ⊎ parts_say ranges.now given
-        (chunk_says B.says C.meaning C.says chain.now levels.now (options_of options.now) content)
-        e) }
+        let under = options_of options.now in
+        IfErr result (λ e. IsHandleError (S.shown store.old).faults (S.shown store.new).faults e
+        ⊎ parts_say ranges.now (given_bytes C.meaning chain.now under content)
+        (chunk_says B.says C.meaning C.says chain.now levels.now under content) e) }
     ensures same { SameContent (S.shown store.old) (S.shown store.new) }
     ensures asks { (S.shown store.new).asks ≡ counted (S.shown store.old).asks 1 }
     ensures taken { OnOk result ((S.shown store.new).taken ≡ counted (S.shown store.old).taken
@@ -157,26 +148,17 @@ fn bottom_of_parts<
 ) -> Result<ArrayBytes<'static>, CodecError>
     requires served { IsServed A.meaning A.unserved B.unserved chain.now levels.now }
     requires inside { ends_within (box_of region.now) (first_level levels.now).shape ≡ true }
-    requires boxes { map box_of boxes.now
-        ≡ boxes_below A.region_below (steps chain.now levels.now) (box_of region.now) }
+    requires boxes { AreBelow A.region_below chain.now levels.now region.now boxes.now }
     requires answered { IsAnswer (bottom_request B.request A.region_below chain.now levels.now
         (box_of region.now)) (parts_of parts) }
-    ensures value { let bottom = bottom_level levels.now in
-        let box = bottom_box A.region_below (steps chain.now levels.now) (box_of region.now) in
-        (bytes : List ℕ) (xs : List Element)
-        → AreParts
-        (bottom_request B.request A.region_below chain.now levels.now (box_of region.now)) bytes
-        (parts_of parts)
-        → B.meaning chain.now.to_bytes (options_of options.now) bottom bytes ≡ Some xs
-        → MatchResult result (λ v. list_at (at_box box bottom) (raw_of v)
-        ≡ Some (select bottom.shape box xs)) (λ e. e ≡ codec.OutOfMemory) }
-    ensures failed { let bottom = bottom_level levels.now in
-        let asked = bottom_request B.request A.region_below chain.now levels.now
-        (box_of region.now) in
-        (bytes : List ℕ) → AreParts asked bytes (parts_of parts)
-        → request_answer asked (parts_of parts) ≡ fine → IfErr result (IsDecodeError
-        (B.meaning chain.now.to_bytes (options_of options.now) bottom bytes)
-        (B.says chain.now.to_bytes (options_of options.now) bottom bytes)) }
+    ensures value { GivesByParts (bottom_level levels.now)
+        (bottom_box A.region_below (steps chain.now levels.now) (box_of region.now))
+        (bottom_request B.request A.region_below chain.now levels.now (box_of region.now))
+        (parts_of parts) (B.meaning chain.now.to_bytes (options_of options.now)) result }
+    ensures failed { FailsByParts (bottom_level levels.now)
+        (bottom_request B.request A.region_below chain.now levels.now (box_of region.now))
+        (parts_of parts) (B.meaning chain.now.to_bytes (options_of options.now))
+        (B.says chain.now.to_bytes (options_of options.now)) result }
     ensures valid { IfOk result (λ v. IsSome (list_at (at_box
         (bottom_box A.region_below (steps chain.now levels.now) (box_of region.now))
         (bottom_level levels.now)) (raw_of v))) }
@@ -210,28 +192,21 @@ fn region_of_parts<
 ) -> Result<ArrayBytes<'static>, CodecError>
     requires served { IsServed A.meaning A.unserved B.unserved chain.now levels.now }
     requires inside { ends_within (box_of region.now) (first_level levels.now).shape ≡ true }
-    requires boxes { map box_of boxes.now
-        ≡ boxes_below A.region_below (steps chain.now levels.now) (box_of region.now) }
+    requires boxes { AreBelow A.region_below chain.now levels.now region.now boxes.now }
     requires answered { IsAnswer (bottom_request B.request A.region_below chain.now levels.now
         (box_of region.now)) (parts_of parts) }
-    ensures elements { let level = first_level levels.now in
-        let under = options_of options.now in (value bytes : List ℕ) (list : List Element)
+    ensures elements { let under = options_of options.now in
+        (value bytes : List ℕ) (list : List Element)
         → decode_bytes (byte_codecs C.meaning under chain.now.byte_codecs.items) value ≡ Some bytes
-        → AreParts
-        (bottom_request B.request A.region_below chain.now levels.now (box_of region.now)) bytes
-        (parts_of parts)
+        → AreParts (bottom_request B.request A.region_below chain.now levels.now
+        (box_of region.now)) bytes (parts_of parts)
         → decoded A.meaning B.meaning C.meaning chain.now levels.now under value ≡ Some list
-        → IfOk result (λ v. list_at (at_box (box_of region.now) level) (raw_of v)
-        ≡ Some (select level.shape (box_of region.now) list)) }
-    ensures failed { let under = options_of options.now in
-        let asked = bottom_request B.request A.region_below chain.now levels.now
-        (box_of region.now) in
-        (value bytes : List ℕ)
+        → IfOk result (GivesPart (first_level levels.now) (box_of region.now) list) }
+    ensures failed { let under = options_of options.now in (value bytes : List ℕ)
         → decode_bytes (byte_codecs C.meaning under chain.now.byte_codecs.items) value ≡ Some bytes
-        → AreParts asked bytes (parts_of parts)
-        → request_answer asked (parts_of parts) ≡ fine → IfErr result (IsDecodeError
-        (decoded A.meaning B.meaning C.meaning chain.now levels.now under value)
-        (chain_says B.says C.meaning C.says chain.now levels.now under value)) }
+        → WhereParts (bottom_request B.request A.region_below chain.now levels.now
+        (box_of region.now)) bytes (parts_of parts) (FailsToDecode A.meaning B.meaning B.says
+        C.meaning C.says chain.now levels.now under value result) }
     ensures valid { IfOk result (λ v. IsSome (list_at (at_box (box_of region.now)
         (first_level levels.now)) (raw_of v))) }
     ensures short { IfOk result (λ v. has_long_element (raw_of v) ≡ false) }
@@ -261,8 +236,7 @@ pub(crate) fn fetch_by_parts<
     requires can { CanRead (chain_seen A.ArrayCodecTraits.own A.ArrayToArrayCodecTraits.own
         B.ArrayCodecTraits.own B.ArrayToBytesCodecTraits.own C.BytesToBytesCodecTraits.own
         chain.now levels.now) (box_of region.now) }
-    requires boxes { map box_of boxes.now
-        ≡ boxes_below A.region_below (steps chain.now levels.now) (box_of region.now) }
+    requires boxes { AreBelow A.region_below chain.now levels.now region.now boxes.now }
     requires asked { bottom_request B.request A.region_below chain.now levels.now
         (box_of region.now) ≡ Some ranges.now }
     ensures reads { ReadsBy (chain_seen A.ArrayCodecTraits.own A.ArrayToArrayCodecTraits.own

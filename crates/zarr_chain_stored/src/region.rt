@@ -1,6 +1,6 @@
 //! The elements of a region of a chunk, out of all of them, or all the fill value.
 
-ghost use Rattle.std.specs.Prelude.{◌≡◌, true, false, List, replicate, map, Some, IsSome, IfOk, MatchResult};
+ghost use Rattle.std.specs.Prelude.{◌≡◌, true, false, List, replicate, Some, IsSome, IfOk, MatchResult};
 ghost use Rattle.zarr_model.specs.Command.{has_long_element};
 ghost use Rattle.zarr_model.specs.Element.{Element, fill_element, kind_of};
 ghost use Rattle.zarr_model.specs.Region.{count, count_of, ends_within};
@@ -11,9 +11,10 @@ ghost use Rattle.zarrs_codec_bytes.specs.Filling.{filled_with};
 ghost use Rattle.zarrs_codec_error.specs.declared.error.CodecError.TheVariants as codec;
 ghost use Rattle.zarrs_codec_array_bytes.specs.Raw.{raw_of};
 ghost use Rattle.zarrs_codec_traits.specs.Views.{lengths, level_of};
-ghost use Rattle.zarrs_codec_traits.specs.Words.{list_at, at_box, select, IsFit};
+ghost use Rattle.zarrs_codec_traits.specs.Words.{list_at, at_box, IsFit};
 ghost use Rattle.zarr_chain.specs.Chain.{bottom_level, steps, IsServed, first_level, HasFill};
-ghost use Rattle.zarr_chain.specs.Regions.{boxes_below, bottom_box};
+ghost use Rattle.zarr_chain.specs.Regions.{bottom_box};
+ghost use Rattle.zarr_chain.specs.Answers.{chunk_list, GivesPart, StaysShort, AreBelow};
 
 use std::alloc::Global;
 use std::num::NonZeroU64;
@@ -37,12 +38,10 @@ pub(crate) fn part_of(
 ) -> Result<ArrayBytes<'static>, CodecError>
     requires fits { IsFit (first_level levels.now).shape (first_level levels.now).data_type }
     requires inside { ends_within (box_of region.now) (first_level levels.now).shape ≡ true }
-    ensures value { let level = first_level levels.now in (list : List Element)
-        → list_at level (raw_of whole.now) ≡ Some list
-        → MatchResult result (λ v. list_at (at_box (box_of region.now) level) (raw_of v)
-        ≡ Some (select level.shape (box_of region.now) list)) (λ e. e ≡ codec.OutOfMemory) }
-    ensures short { has_long_element (raw_of whole.now) ≡ false
-        → IfOk result (λ v. has_long_element (raw_of v) ≡ false) }
+    ensures value { (list : List Element) → chunk_list levels.now whole.now ≡ Some list
+        → MatchResult result (GivesPart (first_level levels.now) (box_of region.now) list)
+        (λ e. e ≡ codec.OutOfMemory) }
+    ensures short { StaysShort whole.now result }
 {
     extracted(alloc, whole, region, levels.shape(), levels.data_type())
 }
@@ -62,15 +61,12 @@ pub(crate) fn bottom_part<
 ) -> Result<ArrayBytes<'static>, CodecError>
     requires served { IsServed A.meaning A.unserved B.unserved chain.now levels.now }
     requires inside { ends_within (box_of region.now) (first_level levels.now).shape ≡ true }
-    requires boxes { map box_of boxes.now
-        ≡ boxes_below A.region_below (steps chain.now levels.now) (box_of region.now) }
+    requires boxes { AreBelow A.region_below chain.now levels.now region.now boxes.now }
     ensures value { let bottom = bottom_level levels.now in
         let box = bottom_box A.region_below (steps chain.now levels.now) (box_of region.now) in
         (list : List Element) → list_at bottom (raw_of below.now) ≡ Some list
-        → MatchResult result (λ v. list_at (at_box box bottom) (raw_of v)
-        ≡ Some (select bottom.shape box list)) (λ e. e ≡ codec.OutOfMemory) }
-    ensures short { has_long_element (raw_of below.now) ≡ false
-        → IfOk result (λ v. has_long_element (raw_of v) ≡ false) }
+        → MatchResult result (GivesPart bottom box list) (λ e. e ≡ codec.OutOfMemory) }
+    ensures short { StaysShort below.now result }
 {
     let bottom = &levels.bottom;
     extracted(
@@ -113,10 +109,9 @@ pub(crate) fn blank_region(
     requires fits { IsFit (first_level levels.now).shape (first_level levels.now).data_type }
     requires fill { HasFill levels.now }
     requires inside { ends_within (box_of region.now) (first_level levels.now).shape ≡ true }
-    ensures value { let level = first_level levels.now in
-        MatchResult result (λ v. list_at (at_box (box_of region.now) level) (raw_of v)
-        ≡ Some (select level.shape (box_of region.now)
-        (replicate (count_of level.shape) level.fill))) (λ e. e ≡ codec.OutOfMemory) }
+    ensures value { let level = first_level levels.now in MatchResult result
+        (GivesPart level (box_of region.now) (replicate (count_of level.shape) level.fill))
+        (λ e. e ≡ codec.OutOfMemory) }
     ensures short { IfOk result (λ v. has_long_element (raw_of v) ≡ false) }
 {
     filled_region(

@@ -1,6 +1,6 @@
 //! A region of a chunk in a store, replaced.
 
-ghost use Rattle.std.specs.Prelude.{◌≡◌, true, false, List, Some, IfOk, MatchResult};
+ghost use Rattle.std.specs.Prelude.{◌≡◌, true, false, List, Some, MatchResult};
 ghost use Rattle.zarr_model.specs.Command.{has_long_element};
 ghost use Rattle.zarr_model.specs.ArrayBytes.{meaning};
 ghost use Rattle.zarr_model.specs.Element.{Element, kind_of};
@@ -14,6 +14,7 @@ ghost use Rattle.zarrs_codec_traits.specs.Words.{list_at, at_box, IsFit};
 ghost use Rattle.zarr_chain.specs.Chain.{first_level};
 ghost use Rattle.zarr_chain_stored.specs.Seen.{chain_seen, CanWrite, WritesRegion};
 ghost use Rattle.zarr_chain_stored.specs.Update.{with_box};
+ghost use Rattle.zarr_chain.specs.Answers.{chunk_list, StaysShort};
 
 use crate::fetching::fetch;
 use crate::putting::put;
@@ -45,12 +46,9 @@ fn with_region(
     ensures value { let kind = kind_of (type_of data_type.now) in (old new : List Element)
         → meaning kind (count_of (lengths shape.now)) (raw_of whole.now) ≡ Some old
         → meaning kind (count (box_of region.now)) (raw_of bytes.now) ≡ Some new
-        → MatchResult result (λ v. meaning kind (count_of (lengths shape.now)) (raw_of v)
-        ≡ Some (with_box (lengths shape.now) (box_of region.now) new old))
-        (λ e. e ≡ codec.OutOfMemory) }
-    ensures short { has_long_element (raw_of whole.now) ≡ false
-        → has_long_element (raw_of bytes.now) ≡ false
-        → IfOk result (λ v. has_long_element (raw_of v) ≡ false) }
+        → MatchResult result (λ v. meaning kind (count_of (lengths shape.now)) (raw_of v) ≡ Some
+        (with_box (lengths shape.now) (box_of region.now) new old)) (λ e. e ≡ codec.OutOfMemory) }
+    ensures short { has_long_element (raw_of whole.now) ≡ false → StaysShort bytes.now result }
 {
     let numbers = shape_numbers(alloc, shape)?;
     update_array_bytes(alloc, whole, &numbers, region, bytes, type_size(data_type))
@@ -67,13 +65,11 @@ fn updated(
     requires fits { IsFit (first_level levels.now).shape (first_level levels.now).data_type }
     requires inside { ends_within (box_of region.now) (first_level levels.now).shape ≡ true }
     ensures value { let level = first_level levels.now in (old new : List Element)
-        → list_at level (raw_of whole.now) ≡ Some old
+        → chunk_list levels.now whole.now ≡ Some old
         → list_at (at_box (box_of region.now) level) (raw_of bytes.now) ≡ Some new
-        → MatchResult result (λ v. list_at level (raw_of v)
+        → MatchResult result (λ v. chunk_list levels.now v
         ≡ Some (with_box level.shape (box_of region.now) new old)) (λ e. e ≡ codec.OutOfMemory) }
-    ensures short { has_long_element (raw_of whole.now) ≡ false
-        → has_long_element (raw_of bytes.now) ≡ false
-        → IfOk result (λ v. has_long_element (raw_of v) ≡ false) }
+    ensures short { has_long_element (raw_of whole.now) ≡ false → StaysShort bytes.now result }
 {
     with_region(
         alloc,

@@ -1,20 +1,18 @@
 //! A region of a chunk, by all of its value.
 
-ghost use Rattle.std.specs.Prelude.{◌≡◌, ◌==◌, ◌&&◌, is_some, true, false, List, length, map, Option, Some, None, IsSome, IfOk, IfErr};
+ghost use Rattle.std.specs.Prelude.{◌≡◌, ◌==◌, ◌&&◌, is_some, true, false, List, length, Option, Some, None, IsSome, IfOk};
 ghost use Rattle.zarr_model.specs.Command.{has_long_element};
 ghost use Rattle.zarr_model.specs.Element.{Element};
 ghost use Rattle.zarr_model.specs.Region.{ends_within};
 ghost use Rattle.zarrs_array_subset.specs.ArraySubset.{region as box_of};
 ghost use Rattle.zarrs_storage.specs.Store.{value_bytes};
 ghost use Rattle.zarrs_codec_array_bytes.specs.Raw.{raw_of};
-ghost use Rattle.zarrs_codec_traits.specs.Errors.{IsDecodeError};
 ghost use Rattle.zarrs_codec_traits.specs.Views.{options_of};
-ghost use Rattle.zarrs_codec_traits.specs.Words.{list_at, at_box, select};
-ghost use Rattle.zarr_chain.specs.Chain.{IsServed, first_level, steps, decoded, chain_says, HasFill};
-ghost use Rattle.zarr_chain.specs.Regions.{boxes_below};
-ghost use Rattle.zarr_chain_stored.specs.Fetch.{chunk_content, chunk_says};
+ghost use Rattle.zarr_chain.specs.Chain.{IsServed, first_level, decoded, HasFill};
+ghost use Rattle.zarr_chain_stored.specs.Fetch.{chunk_content, FailsByContent};
 ghost use Rattle.zarr_chain_stored.specs.Regions.{GivesRegion, gives_chunk, fetched_bytes, is_whole_chunk};
 ghost use Rattle.zarr_chain_stored.specs.Seen.{chain_seen, CanRead, FetchesBy};
+ghost use Rattle.zarr_chain.specs.Answers.{GivesPart, AreBelow, FailsToDecode};
 
 use crate::fetched::Fetched;
 use crate::region::{blank_region, bottom_part};
@@ -46,19 +44,14 @@ fn region_of_value<
 ) -> Result<ArrayBytes<'static>, CodecError>
     requires served { IsServed A.meaning A.unserved B.unserved chain.now levels.now }
     requires inside { ends_within (box_of region.now) (first_level levels.now).shape ≡ true }
-    requires boxes { map box_of boxes.now
-        ≡ boxes_below A.region_below (steps chain.now levels.now) (box_of region.now) }
-    ensures elements { let level = first_level levels.now in (list : List Element)
-        → decoded A.meaning B.meaning C.meaning chain.now levels.now (options_of options.now)
-        value.items ≡ Some list
-        → IfOk result (λ v. list_at (at_box (box_of region.now) level) (raw_of v)
-        ≡ Some (select level.shape (box_of region.now) list)) }
-    ensures decodes { IfOk result (λ _. IsSome
-        (decoded A.meaning B.meaning C.meaning chain.now levels.now (options_of options.now)
-        value.items)) }
-    ensures failed { let under = options_of options.now in IfErr result (IsDecodeError
-        (decoded A.meaning B.meaning C.meaning chain.now levels.now under value.items)
-        (chain_says B.says C.meaning C.says chain.now levels.now under value.items)) }
+    requires boxes { AreBelow A.region_below chain.now levels.now region.now boxes.now }
+    ensures elements { (list : List Element) → decoded A.meaning B.meaning C.meaning chain.now
+        levels.now (options_of options.now) value.items ≡ Some list
+        → IfOk result (GivesPart (first_level levels.now) (box_of region.now) list) }
+    ensures decodes { IfOk result (λ _. IsSome (decoded A.meaning B.meaning C.meaning chain.now
+        levels.now (options_of options.now) value.items)) }
+    ensures failed { FailsToDecode A.meaning B.meaning B.says C.meaning C.says chain.now levels.now
+        (options_of options.now) value.items result }
     ensures short { IfOk result (λ v. has_long_element (raw_of v) ≡ false) }
 {
     let below = chain.decode_bottom(alloc, levels, value, options)?;
@@ -83,17 +76,14 @@ fn fetched_of_value<
 ) -> Result<Fetched, CodecError>
     requires served { IsServed A.meaning A.unserved B.unserved chain.now levels.now }
     requires inside { ends_within (box_of region.now) (first_level levels.now).shape ≡ true }
-    requires boxes { map box_of boxes.now
-        ≡ boxes_below A.region_below (steps chain.now levels.now) (box_of region.now) }
-    ensures elements { let under = options_of options.now in (list : List Element)
-        → decoded A.meaning B.meaning C.meaning chain.now levels.now under value.items ≡ Some list
+    requires boxes { AreBelow A.region_below chain.now levels.now region.now boxes.now }
+    ensures elements { (list : List Element) → decoded A.meaning B.meaning C.meaning chain.now
+        levels.now (options_of options.now) value.items ≡ Some list
         → IfOk result (GivesRegion (first_level levels.now) (box_of region.now) list) }
-    ensures decodes { IfOk result (λ _. IsSome
-        (decoded A.meaning B.meaning C.meaning chain.now levels.now (options_of options.now)
-        value.items)) }
-    ensures failed { let under = options_of options.now in IfErr result (IsDecodeError
-        (decoded A.meaning B.meaning C.meaning chain.now levels.now under value.items)
-        (chain_says B.says C.meaning C.says chain.now levels.now under value.items)) }
+    ensures decodes { IfOk result (λ _. IsSome (decoded A.meaning B.meaning C.meaning chain.now
+        levels.now (options_of options.now) value.items)) }
+    ensures failed { FailsToDecode A.meaning B.meaning B.says C.meaning C.says chain.now levels.now
+        (options_of options.now) value.items result }
     ensures short { IfOk result (λ v. has_long_element (fetched_bytes v) ≡ false) }
     ensures which { IfOk result
         (λ v. gives_chunk v ≡ (length chain.now.array_codecs.items == 0)) }
@@ -120,18 +110,14 @@ fn fetched_of<A: ArrayToArrayCodecTraits, B: ArrayToBytesCodecTraits, C: BytesTo
     requires served { IsServed A.meaning A.unserved B.unserved chain.now levels.now }
     requires fill { HasFill levels.now }
     requires inside { ends_within (box_of region.now) (first_level levels.now).shape ≡ true }
-    requires boxes { map box_of boxes.now
-        ≡ boxes_below A.region_below (steps chain.now levels.now) (box_of region.now) }
-    ensures elements { let under = options_of options.now in (list : List Element)
-        → chunk_content A.meaning B.meaning C.meaning chain.now levels.now under (value_bytes value)
-        ≡ Some list
+    requires boxes { AreBelow A.region_below chain.now levels.now region.now boxes.now }
+    ensures elements { (list : List Element) → chunk_content A.meaning B.meaning C.meaning chain.now
+        levels.now (options_of options.now) (value_bytes value) ≡ Some list
         → IfOk result (GivesRegion (first_level levels.now) (box_of region.now) list) }
-    ensures decodes { IfOk result
-        (λ _. IsSome (chunk_content A.meaning B.meaning C.meaning chain.now levels.now
-        (options_of options.now) (value_bytes value))) }
-    ensures failed { let under = options_of options.now in IfErr result (IsDecodeError
-        (chunk_content A.meaning B.meaning C.meaning chain.now levels.now under (value_bytes value))
-        (chunk_says B.says C.meaning C.says chain.now levels.now under (value_bytes value))) }
+    ensures decodes { IfOk result (λ _. IsSome (chunk_content A.meaning B.meaning C.meaning
+        chain.now levels.now (options_of options.now) (value_bytes value))) }
+    ensures failed { FailsByContent A.meaning B.meaning B.says C.meaning C.says chain.now levels.now
+        (options_of options.now) (value_bytes value) result }
     ensures short { IfOk result (λ v. has_long_element (fetched_bytes v) ≡ false) }
     ensures which { IfOk result (λ v. gives_chunk v
         ≡ ((length chain.now.array_codecs.items == 0) && is_some (value_bytes value))) }
@@ -165,8 +151,7 @@ pub(crate) fn fetch_by_value<
     requires can { CanRead (chain_seen A.ArrayCodecTraits.own A.ArrayToArrayCodecTraits.own
         B.ArrayCodecTraits.own B.ArrayToBytesCodecTraits.own C.BytesToBytesCodecTraits.own
         chain.now levels.now) (box_of region.now) }
-    requires boxes { map box_of boxes.now
-        ≡ boxes_below A.region_below (steps chain.now levels.now) (box_of region.now) }
+    requires boxes { AreBelow A.region_below chain.now levels.now region.now boxes.now }
     requires part { is_whole_chunk (first_level levels.now) (box_of region.now) ≡ false }
     ensures fetches { FetchesBy (chain_seen A.ArrayCodecTraits.own A.ArrayToArrayCodecTraits.own
         B.ArrayCodecTraits.own B.ArrayToBytesCodecTraits.own C.BytesToBytesCodecTraits.own

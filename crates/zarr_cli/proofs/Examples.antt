@@ -10,7 +10,9 @@ use Rattle.zarr_cli_runs.specs.array.parts.Opening.{chain_order}
 use Rattle.zarr_cli_runs.specs.Ending.{bad_input, refused_document, damaged_chunk, write_fault, ending_line}
 use Rattle.zarr_cli_runs.specs.lines.Text.{input_lines, first_entries, line_command, replies_text, good_lines}
 use Rattle.zarr_basics_grids.specs.GridForms.{boundaries}
-use Rattle.zarr_cli_runs.specs.array.parts.Document.{offset, transpose, checksum, describe}
+use Rattle.zarr_cli_runs.specs.array.parts.Document.{describe}
+use Rattle.zarr_cli_runs.specs.array.parts.kinds.array_to_array.ArrayToArray.{offset, transpose}
+use Rattle.zarr_cli_runs.specs.array.parts.kinds.BytesToBytes.{checksum}
 use Rattle.zarr_model.specs.declared.endianness.Endianness.TheVariants.{Little, Big}
 use Rattle.zarr_cli_runs.specs.array.parts.kinds.array_to_bytes.Plain.{plain_bytes, plain_vlen, plain_optional}
 use Rattle.zarr_cli_runs.proofs.Documents.{plain_document}

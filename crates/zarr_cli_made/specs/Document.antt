@@ -4,7 +4,8 @@ use Rattle.zarr_model.specs.Prelude.{default_keys, uint_type}
 use Rattle.zarr_model.specs.declared.endianness.Endianness.TheVariants.{Big}
 use Rattle.zarr_basics_grids.specs.GridForms.{regular}
 use Rattle.zarr_cli_lines.specs.array.parts.kinds.array_to_bytes.Plain.{plain_bytes}
-use Rattle.zarr_cli_lines.specs.array.parts.Document.{ArrayDocument, checksum, document_with}
+use Rattle.zarr_cli_lines.specs.array.parts.Document.{ArrayDocument, document_with}
+use Rattle.zarr_cli_lines.specs.array.parts.kinds.BytesToBytes.{checksum}
 
 -- its text
 abbrev pub document_text : List ℕ

@@ -31,6 +31,22 @@ pub fn second(alloc: Global) -> Result<ArraySubset, AllocError>
     ArraySubset::new_with_ranges(alloc, &[1..2])
 }
 
+/// The shape of two rows and three columns.
+pub fn table(alloc: Global) -> Result<ChunkShape, AllocError>
+    ensures { IfOk result (λ s. lengths s.items ≡ 2 ∷ 3 ∷ []) }
+{
+    let (rows, columns) = (NonZeroU64::new(2).unwrap(), NonZeroU64::new(3).unwrap());
+    let shape = vec![in alloc; rows, columns]?;
+    Ok(shape)
+}
+
+/// The last two columns of them.
+pub fn columns(alloc: Global) -> Result<ArraySubset, AllocError>
+    ensures { IfOk result (λ r. ends_within (box_of r) (2 ∷ 3 ∷ []) ≡ true) }
+{
+    ArraySubset::new_with_ranges(alloc, &[0..2, 1..3])
+}
+
 /// Optional numbers of a byte.
 pub fn optional_numbers(alloc: Global) -> Result<DataType, AllocError>
     ensures { IfOk result (λ r. type_of r ≡ option_of (uint_type 1)) }

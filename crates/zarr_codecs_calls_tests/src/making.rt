@@ -6,7 +6,9 @@ use crate::texts::{cut, error_text, is_text};
 use std::alloc::{AllocError, Global};
 use std::process::Abort;
 use zarr_codecs::{BytesCodec, Sha256Codec};
-use zarr_codecs_kinds::{BasicArrayToArray, BasicArrayToBytes, BasicBytesToBytes, BasicCodec};
+use zarr_codecs_kinds::{
+    BasicArrayToArray, BasicArrayToBytes, BasicBytesToBytes, BasicCodec, TransposeCodec,
+};
 use zarr_codecs_offset::OffsetCodec;
 use zarr_codecs_vlen::VlenCodec;
 use zarr_model::Endianness;
@@ -27,6 +29,13 @@ const OFFSET: &str = r#"
 {"name":"zarr_basics.offset","configuration":{"offset":-3}} -> zarr_basics.offset {"offset":-3} and zarr_basics.offset {"offset":-3}
 "zarr_basics.offset" -> Config
 "bytes" -> Unsupported(PluginUnsupportedError { name: "bytes", kind: Codec })
+"#;
+
+const TRANSPOSE: &str = r#"
+{"name":"transpose","configuration":{"order":[2,0,1]}} -> transpose {"order":[2,0,1]} and transpose {"order":[2,0,1]}
+{"name":"transpose","configuration":{"order":[0,0]}} -> Config
+"transpose" -> Config
+"zarr_basics.offset" -> Unsupported(PluginUnsupportedError { name: "zarr_basics.offset", kind: Codec })
 "#;
 
 const SHA256: &str = r#"
@@ -95,6 +104,7 @@ fn are_made<C: CodecTraitsV3 + Drop>(rt: &impl Abort, alloc: Global, rows: &str)
 fn codecs_are_made_by_their_types(rt: HostRuntime) {
     are_made::<BytesCodec>(&rt, rt.alloc(), BYTES);
     are_made::<OffsetCodec>(&rt, rt.alloc(), OFFSET);
+    are_made::<TransposeCodec>(&rt, rt.alloc(), TRANSPOSE);
     are_made::<Sha256Codec>(&rt, rt.alloc(), SHA256);
     are_made::<VlenCodec>(&rt, rt.alloc(), VLEN);
 }
@@ -111,6 +121,12 @@ fn told_of(alloc: Global, codec: &BasicCodec) -> Result<String, AllocError> {
 
 fn of_offset(alloc: Global) -> Result<String, AllocError> {
     let codec = BasicArrayToArray::Offset(OffsetCodec::new(250));
+    told_of(alloc, &Codec::ArrayToArray(codec))
+}
+
+fn of_order(alloc: Global) -> Result<String, AllocError> {
+    let order = vec![in alloc; 1, 0]?;
+    let codec = BasicArrayToArray::Transpose(TransposeCodec::new(order));
     told_of(alloc, &Codec::ArrayToArray(codec))
 }
 
@@ -133,6 +149,8 @@ fn codecs_have_metadata_of_both_versions(rt: HostRuntime) {
     let alloc = rt.alloc();
     let offset = r#"zarr_basics.offset {"offset":250} and zarr_basics.offset {"offset":250}"#;
     is_text(&rt, of_offset(alloc), offset);
+    let order = r#"transpose {"order":[1,0]} and transpose {"order":[1,0]}"#;
+    is_text(&rt, of_order(alloc), order);
     let bytes = r#"bytes {"endian":"little"} and bytes {"endian":"little"}"#;
     is_text(&rt, of_bytes(alloc), bytes);
     let digests = "zarr_basics.sha256 {} and zarr_basics.sha256 {}";

@@ -100,6 +100,7 @@ same_within (suc n) (suc m) names e few some = go (same_within n m names) (find 
     go same (Some kind.VlenBytes) = refl
     go same (Some kind.Optional) = inner same (inner_in e.configuration) refl
     go same (Some kind.Offset) = refl
+    go same (Some kind.Transpose) = refl
     go same (Some kind.Sha256) = refl
 
 pub inner_named : (names : Names CodecKind) (c : Option Members) (e : Extension) → inner_in c ≡ Some e → optional_by (form_within (nesting c) names) (inner_in c) ≡ optional_over (codec_named names e)

@@ -1,15 +1,21 @@
 -- The configurations that codecs are written with say these codecs again.
-use Rattle.std.proofs.Common.{◌≡◌, ℤ, pos, negsuc, true, false, codes, Option, Some, None, Ok, refl, ap, ◌∙◌}
-use Rattle.serde_json.specs.Data.{Members}
+use Rattle.std.proofs.Common.{◌≡◌, ℕ, ℤ, pos, negsuc, true, false, List, codes, Option, Some, None, option_map, Ok, refl, ap, ◌∙◌}
+use Rattle.std.proofs.lemmas.Bool.{cond-true}
 use Rattle.zarrs_metadata_parts.specs.MetadataV3.{Extension, normal_form}
 use Rattle.zarr_model.specs.declared.endianness.Endianness.TheVariants.{Little, Big}
 use Rattle.zarrs_plugin.specs.Registry.{Names, find}
+use Rattle.zarrs_metadata_values.specs.Reading.{◌>>=◌}
+use Rattle.zarrs_metadata_values.proofs.NumberLists.{whole_numbers_read_back}
+use Rattle.zarrs_metadata_parts.specs.Making.{or_config}
 use Rattle.zarr_codecs.specs.BytesCodec.{given_order}
+use Rattle.zarr_codecs_axes.specs.Order.{is_order}
 use Rattle.zarr_codecs_offset.specs.Offset.{offset_in, offset_members}
+use Rattle.zarr_codecs_transpose.specs.Configuration.{order_members, if_order, order_in}
+use Rattle.zarr_codecs_array_to_array.specs.ArrayToArray.{offset, transpose}
 use Rattle.zarr_codecs_array_to_bytes.specs.Plain.{Plain, plain_bytes, plain_vlen, plain_optional, name_by, members_by}
 use Rattle.zarr_codecs_array_to_bytes.specs.Inner.{extension_by}
 use Rattle.zarr_codecs_array_to_bytes.proofs.InnerLaws.{inner_reads_back}
-use Rattle.zarr_codecs_kinds.specs.CodecForm.{codec_form, codec_named, offset, to_bytes, optional_over, form_by, form_within, nesting}
+use Rattle.zarr_codecs_kinds.specs.CodecForm.{codec_form, codec_named, array_codec, to_bytes, optional_over, form_by, form_within, nesting}
 use Rattle.zarr_codecs_kinds.specs.declared.codec_kind.CodecKind.{CodecKind}
 use Rattle.zarr_codecs_kinds.specs.declared.codec_kind.CodecKind.TheVariants as kind
 use Rattle.zarr_codecs_kinds.proofs.InnerLaws.{inner_named}
@@ -54,7 +60,14 @@ module _ (names : Names CodecKind) (bytes : find (codes "bytes") names ≡ Some 
   pub to_bytes_back : (plain : Plain) → codec_named names (extension_by plain) ≡ Ok (to_bytes plain)
   to_bytes_back plain = by_name plain (extension_by plain) refl ∙ says plain
 
-pub offset_back : (names : Names CodecKind) (number : ℤ) → codec_form names kind.Offset (Some (offset_members number)) ≡ Ok (offset number)
+pub offset_back : (names : Names CodecKind) (number : ℤ) → codec_form names kind.Offset (Some (offset_members number)) ≡ Ok (array_codec (offset number))
 unfolding offset_in
 offset_back names (pos n) = refl
 offset_back names (negsuc n) = refl
+
+order_back : (order : List ℕ) → is_order order ≡ true → order_in (Some (order_members order)) ≡ Some order
+unfolding order_in
+order_back order orders = ap (λ (read : Option (List ℕ)). read >>= if_order) (whole_numbers_read_back order) ∙ cond-true (is_order order) (Some order) None orders
+
+pub transpose_back : (names : Names CodecKind) (order : List ℕ) → is_order order ≡ true → codec_form names kind.Transpose (Some (order_members order)) ≡ Ok (array_codec (transpose order))
+transpose_back names order orders = ap (λ (read : Option (List ℕ)). or_config (option_map (λ (o : List ℕ). array_codec (transpose o)) read)) (order_back order orders)

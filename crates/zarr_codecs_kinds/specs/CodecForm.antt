@@ -1,5 +1,5 @@
 -- The codecs that documents name.
-use Rattle.std.specs.Prelude.{ℕ, zero, suc, ℤ, true, false, if◌then◌else◌, Option, Some, None, option_map, Result, Ok, Err}
+use Rattle.std.specs.Prelude.{ℕ, zero, suc, true, false, if◌then◌else◌, Option, Some, None, option_map, Result, Ok, Err}
 use Rattle.serde_json.specs.Data.{object, Members, depth}
 use Rattle.zarrs_metadata_values.specs.Configuration.{is_none_or_empty}
 use Rattle.zarrs_metadata_parts.specs.MetadataV3.{Extension}
@@ -10,36 +10,45 @@ use Rattle.zarrs_plugin.specs.declared.error.PluginKind.TheVariants as kinds
 use Rattle.zarrs_metadata_parts.specs.Making.{or_config}
 use Rattle.zarr_codecs.specs.BytesCodec.{order_in}
 use Rattle.zarr_codecs_offset.specs.Offset.{offset_in}
+use Rattle.zarr_codecs_transpose.specs.Configuration.{order_in as dimensions_in}
+use Rattle.zarr_codecs_array_to_array.specs.ArrayToArray.{ArrayToArray, offset, transpose}
+use Rattle.zarr_codecs_array_to_array.specs.Views.{array_form}
+use Rattle.zarr_codecs_array_to_array.specs.declared.array_to_array.BasicArrayToArray.{BasicArrayToArray}
 use Rattle.zarr_codecs_array_to_bytes.specs.Plain.{Plain, plain_bytes, plain_vlen, plain_optional}
 use Rattle.zarr_codecs_array_to_bytes.specs.Inner.{inner_in}
 use Rattle.zarr_codecs_array_to_bytes.specs.Views.{plain_of}
 use Rattle.zarr_codecs_array_to_bytes.specs.declared.codecs.BasicArrayToBytes.{BasicArrayToBytes}
 use Rattle.zarrs_codec_traits.specs.declared.codec.Codec.{Codec}
 use Rattle.zarrs_codec_traits.specs.declared.codec.Codec.TheVariants as code
-use Rattle.zarr_codecs_kinds.specs.Basic.{basic_offset}
-use Rattle.zarr_codecs_kinds.specs.declared.array_to_array.BasicArrayToArray.{BasicArrayToArray}
+use Rattle.zarr_codecs_kinds.specs.BytesToBytes.{BytesToBytes, checksum, byte_form}
 use Rattle.zarr_codecs_kinds.specs.declared.bytes_to_bytes.BasicBytesToBytes.{BasicBytesToBytes}
 use Rattle.zarr_codecs_kinds.specs.declared.codec_kind.CodecKind.{CodecKind}
 use Rattle.zarr_codecs_kinds.specs.declared.codec_kind.CodecKind.TheVariants as kind
 
--- a codec by name: an offset, an array-to-bytes codec, or `zarr_basics.sha256`
+-- a codec by name, of each of the three types
 pub data CodecForm : Type 0 where
-  offset : ℤ → CodecForm
+  array_codec : ArrayToArray → CodecForm
   to_bytes : Plain → CodecForm
-  sha256 : CodecForm
+  byte_codec : BytesToBytes → CodecForm
 
 abbrev pub form_of : Codec BasicArrayToArray BasicArrayToBytes BasicBytesToBytes → CodecForm
-form_of (code.ArrayToArray codec) = offset (basic_offset codec)
+form_of (code.ArrayToArray codec) = array_codec (array_form codec)
 form_of (code.ArrayToBytes codec) = to_bytes (plain_of codec)
-form_of (code.BytesToBytes codec) = sha256
+form_of (code.BytesToBytes codec) = byte_codec (byte_form codec)
 
--- the configurations of `bytes` and of an offset, and of a codec that has none, or an empty one
+-- the configurations of `bytes`, of an offset and of an order of dimensions, and of a codec that has
+-- none, or an empty one
 abbrev pub bytes_form : Option Members → Result CodecForm Unmade
 bytes_form configuration =
     or_config (option_map (λ order. to_bytes (plain_bytes order)) (order_in configuration))
 
 abbrev pub offset_form : Option Members → Result CodecForm Unmade
-offset_form configuration = or_config (option_map offset (offset_in configuration))
+offset_form configuration =
+    or_config (option_map (λ number. array_codec (offset number)) (offset_in configuration))
+
+abbrev pub transpose_form : Option Members → Result CodecForm Unmade
+transpose_form configuration =
+    or_config (option_map (λ order. array_codec (transpose order)) (dimensions_in configuration))
 
 abbrev pub if_none : CodecForm → Option Members → Result CodecForm Unmade
 if_none form configuration =
@@ -48,8 +57,8 @@ if_none form configuration =
 -- optional elements over the codec inside, which has to be an array-to-bytes one
 abbrev pub optional_over : Result CodecForm Unmade → Result CodecForm Unmade
 optional_over (Ok (to_bytes inner)) = Ok (to_bytes (plain_optional inner))
-optional_over (Ok (offset number)) = Err config
-optional_over (Ok sha256) = Err config
+optional_over (Ok (array_codec codec)) = Err config
+optional_over (Ok (byte_codec codec)) = Err config
 optional_over (Err why) = Err why
 
 abbrev pub optional_by : (Extension → Result CodecForm Unmade) → Option Extension
@@ -66,7 +75,8 @@ kind_form made kind.VlenUtf8 configuration = if_none (to_bytes (plain_vlen true)
 kind_form made kind.VlenBytes configuration = if_none (to_bytes (plain_vlen false)) configuration
 kind_form made kind.Optional configuration = optional_by made (inner_in configuration)
 kind_form made kind.Offset configuration = offset_form configuration
-kind_form made kind.Sha256 configuration = if_none sha256 configuration
+kind_form made kind.Transpose configuration = transpose_form configuration
+kind_form made kind.Sha256 configuration = if_none (byte_codec checksum) configuration
 
 abbrev pub form_by : (Extension → Result CodecForm Unmade) → Option CodecKind → Extension
     → Result CodecForm Unmade

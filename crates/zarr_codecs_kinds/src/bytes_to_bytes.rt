@@ -1,7 +1,7 @@
 //! The bytes-to-bytes codecs of this project as one type.
 
 ghost use Rattle.std.specs.Prelude.{◌≡◌, Ok};
-ghost use Rattle.serde_json.specs.Data.{no_members};
+ghost use Rattle.zarr_codecs_kinds.specs.BytesToBytes.{byte_form};
 
 use std::alloc::{AllocError, Global};
 use zarr_codecs::Sha256Codec;
@@ -34,9 +34,10 @@ impl BasicBytesToBytes {
 }
 
 impl ExtensionName for BasicBytesToBytes {
-    ghost use Rattle.std.specs.Prelude.{Some, codes};
+    ghost use Rattle.std.specs.Prelude.{Some};
+    ghost use Rattle.zarr_codecs_kinds.specs.BytesToBytes.{byte_name_by};
 
-    ghost name_in = { λ _ _. Some (codes "zarr_basics.sha256") };
+    ghost name_in = { λ c _. Some (byte_name_by (byte_form c)) };
 
     fn name(&self, alloc: Global, version: ZarrVersion) -> Result<Option<String>, AllocError> {
         match self {
@@ -47,8 +48,9 @@ impl ExtensionName for BasicBytesToBytes {
 
 impl CodecTraits for BasicBytesToBytes {
     ghost use Rattle.std.specs.Prelude.{Some, false};
+    ghost use Rattle.zarr_codecs_kinds.specs.BytesToBytes.{byte_members_by};
 
-    ghost written = { λ _ _ _. Some no_members };
+    ghost written = { λ c _ _. Some (byte_members_by (byte_form c)) };
 
     ghost decodes_parts = { λ _. record { partial_read = false; partial_decode = false } };
 
@@ -79,18 +81,15 @@ impl CodecTraits for BasicBytesToBytes {
 }
 
 impl BytesToBytesCodecTraits for BasicBytesToBytes {
-    ghost use Rattle.zarr_model.specs.Codec.{checksum_codec};
-    ghost use Rattle.std.specs.Prelude.{nat_le, length};
-    ghost use Rattle.zarr_codecs.specs.Sha256.{sha256_says, digest_no_fault, with_digest_size};
+    ghost use Rattle.zarr_codecs_kinds.specs.BytesToBytes.{byte_codec_of, byte_says_by, byte_no_fault, byte_size_by};
 
-    ghost meaning = { λ _ under value. checksum_codec under.validate_checksums value };
+    ghost meaning = { λ c under value. byte_codec_of under (byte_form c) value };
 
-    ghost says = { λ _ _ value e. sha256_says value e };
+    ghost says = { λ c _ value e. byte_says_by (byte_form c) value e };
 
-    ghost no_fault = { λ _ _ value e told.
-        digest_no_fault (nat_le 32 (length value)) value e told };
+    ghost no_fault = { λ c _ value e told. byte_no_fault (byte_form c) value e told };
 
-    ghost representation = { λ _ size. with_digest_size size };
+    ghost representation = { λ c size. byte_size_by (byte_form c) size };
 
     ghost concurrency = { λ _ _. record { minimum = 1; maximum = 1 } };
 

@@ -6,16 +6,16 @@ ghost use Rattle.zarrs_metadata_values.specs.Configuration.{configuration_seen};
 ghost use Rattle.zarrs_plugin.specs.Registry.{registry_of};
 ghost use Rattle.zarrs_plugin.specs.Making.{Unmade};
 ghost use Rattle.zarr_codecs_array_to_bytes.specs.Plain.{plain_vlen};
-ghost use Rattle.zarr_codecs_kinds.specs.CodecForm.{CodecForm, to_bytes, sha256, bytes_form, offset_form, if_none, optional_over, MakesForm, codec_form, codec_named};
+ghost use Rattle.zarr_codecs_kinds.specs.BytesToBytes.{checksum};
+ghost use Rattle.zarr_codecs_kinds.specs.CodecForm.{CodecForm, to_bytes, byte_codec, bytes_form, offset_form, transpose_form, if_none, optional_over, MakesForm, codec_form, codec_named};
 ghost use Rattle.zarr_codecs_kinds.specs.declared.codec_kind.CodecKind.TheVariants as named;
 ghost use Rattle.zarrs_codec_traits.specs.CodecMetadata.{configuration_of};
 
-use crate::array_to_array::BasicArrayToArray;
 use crate::bytes_to_bytes::BasicBytesToBytes;
 use std::alloc::Global;
 use zarr_codecs::{BytesCodec, Sha256Codec};
+use zarr_codecs_array_to_array::{BasicArrayToArray, OffsetCodec, TransposeCodec};
 use zarr_codecs_array_to_bytes::{BasicArrayToBytes, OptionalCodec, VlenCodec, inner_metadata};
-use zarr_codecs_offset::OffsetCodec;
 use zarrs_codec_traits::{Codec, CodecMaker, CodecMetadata, unsupported_codec};
 use zarrs_metadata_parts::{Configuration, MetadataV3};
 use zarrs_plugin::{PluginCreateError, Registry};
@@ -33,6 +33,8 @@ pub enum CodecKind {
     Optional,
     /// Numbers with an offset added.
     Offset,
+    /// The dimensions in another order.
+    Transpose,
     /// A value with its digest behind it.
     Sha256,
 }
@@ -77,8 +79,22 @@ fn offset_by(configuration: Option<&Configuration>) -> Result<BasicCodec, Plugin
 }
 
 #[tactic(auto, using(crate::proofs::KindLaws::of_kinds))]
+fn transpose_by(
+    alloc: Global,
+    configuration: Option<&Configuration>,
+) -> Result<BasicCodec, PluginCreateError>
+    ensures { MakesForm result (transpose_form
+        (option_map (λ c. configuration_seen c.now) configuration.entry)) }
+{
+    match TransposeCodec::from_configuration(alloc, configuration) {
+        Ok(codec) => Ok(Codec::ArrayToArray(BasicArrayToArray::Transpose(codec))),
+        Err(error) => Err(error),
+    }
+}
+
+#[tactic(auto, using(crate::proofs::KindLaws::of_kinds))]
 fn sha256_by(configuration: Option<&Configuration>) -> Result<BasicCodec, PluginCreateError>
-    ensures { MakesForm result (if_none sha256
+    ensures { MakesForm result (if_none (byte_codec checksum)
         (option_map (λ c. configuration_seen c.now) configuration.entry)) }
 {
     match Sha256Codec::from_configuration(configuration) {
@@ -153,6 +169,7 @@ fn codec_by(
         CodecKind::VlenBytes => vlen_by(false, configuration),
         CodecKind::Optional => optional_by(alloc, configuration, registry),
         CodecKind::Offset => offset_by(configuration),
+        CodecKind::Transpose => transpose_by(alloc, configuration),
         CodecKind::Sha256 => sha256_by(configuration),
     }
 }

@@ -26,6 +26,21 @@ const VERSION_3: &str = r#"
 {"name":"zarr_basics.offset","configuration":{"offset":"1"}} -> Config
 {"name":"zarr_basics.offset","configuration":{}} -> Config
 "zarr_basics.offset" -> Config
+{"name":"transpose","configuration":{"order":[1,0]}} -> transpose {"order":[1,0]}
+{"name":"transpose","configuration":{"order":[2,0,1]}} -> transpose {"order":[2,0,1]}
+{"name":"transpose","configuration":{"order":[0]}} -> transpose {"order":[0]}
+{"name":"transpose","configuration":{"order":[]}} -> transpose {"order":[]}
+{"name":"transpose","configuration":{"order":[0,0]}} -> Config
+{"name":"transpose","configuration":{"order":[1]}} -> Config
+{"name":"transpose","configuration":{"order":[0,2]}} -> Config
+{"name":"transpose","configuration":{"order":[-1,0]}} -> Config
+{"name":"transpose","configuration":{"order":[18446744073709551615]}} -> Config
+{"name":"transpose","configuration":{"order":["0"]}} -> Config
+{"name":"transpose","configuration":{"order":"C"}} -> Config
+{"name":"transpose","configuration":{"order":[0],"more":1}} -> Config
+{"name":"transpose","configuration":{"axes":[0]}} -> Config
+{"name":"transpose","configuration":{}} -> Config
+"transpose" -> Config
 "zstd" -> Unsupported(PluginUnsupportedError { name: "zstd", kind: Codec })
 "vlen-utf8" -> vlen-utf8 {}
 {"name":"vlen-bytes","configuration":{}} -> vlen-bytes {}
@@ -35,6 +50,7 @@ const VERSION_3: &str = r#"
 {"name":"zarr_basics.optional","configuration":{"inner":"zstd"}} -> Unsupported(PluginUnsupportedError { name: "zstd", kind: Codec })
 {"name":"zarr_basics.optional","configuration":{"inner":"zarr_basics.sha256"}} -> Config
 {"name":"zarr_basics.optional","configuration":{"inner":{"name":"zarr_basics.offset","configuration":{"offset":1}}}} -> Config
+{"name":"zarr_basics.optional","configuration":{"inner":{"name":"transpose","configuration":{"order":[0]}}}} -> Config
 {"name":"zarr_basics.optional","configuration":{"inner":{"name":"bytes","configuration":{"a":1}}}} -> Config
 {"name":"zarr_basics.optional","configuration":{"inner":"bytes","more":1}} -> Config
 {"name":"zarr_basics.optional","configuration":{"inner":7}} -> Config
@@ -43,6 +59,8 @@ const VERSION_3: &str = r#"
 
 const VERSION_2: &str = r#"
 {"id":"zarr_basics.offset","offset":-3} -> zarr_basics.offset {"offset":-3}
+{"id":"transpose","order":[1,0]} -> transpose {"order":[1,0]}
+{"id":"transpose","order":[1,1]} -> Config
 {"id":"bytes","endian":"little"} -> bytes {"endian":"little"}
 {"id":"zarr_basics.sha256"} -> zarr_basics.sha256 {}
 {"id":"zarr_basics.offset","offset":1,"more":2} -> Config
@@ -53,12 +71,13 @@ const VERSION_2: &str = r#"
 {"id":"blosc"} -> Unsupported(PluginUnsupportedError { name: "blosc", kind: Codec })
 "#;
 
-const KINDS: [(&str, CodecKind); 6] = [
+const KINDS: [(&str, CodecKind); 7] = [
     ("bytes", CodecKind::Bytes),
     ("vlen-utf8", CodecKind::VlenUtf8),
     ("vlen-bytes", CodecKind::VlenBytes),
     ("zarr_basics.optional", CodecKind::Optional),
     ("zarr_basics.offset", CodecKind::Offset),
+    ("transpose", CodecKind::Transpose),
     ("zarr_basics.sha256", CodecKind::Sha256),
 ];
 

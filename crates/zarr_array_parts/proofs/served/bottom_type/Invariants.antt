@@ -1,6 +1,6 @@
 use Rattle.std.proofs.Common.{◌≡◌, map, drop}
 use Rattle.zarrs_data_type_names.specs.DataType.{type_of}
-use Rattle.zarr_array_parts.specs.Chain.{array_form}
+use Rattle.zarr_basics.specs.kinds.array_to_array.Views.{array_form}
 use Rattle.zarr_array_parts.specs.Opening.{bottom_type}
 use Rattle.zarr_array_parts.proofs.served.bottom_type.Given as goal
 

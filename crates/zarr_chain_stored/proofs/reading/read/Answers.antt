@@ -5,7 +5,8 @@ use Rattle.zarrs_codec_traits.specs.Views.{options_of}
 use Rattle.zarrs_codec_traits.specs.Words.{list_at, at_box}
 use Rattle.zarr_chain.specs.Chain.{first_level}
 use Rattle.zarr_chain.proofs.ChainLaws.{some_of}
-use Rattle.zarr_chain_stored.specs.Regions.{GivesPart, GivesRegion, fetched_list}
+use Rattle.zarr_chain.specs.Answers.{GivesPart}
+use Rattle.zarr_chain_stored.specs.Regions.{GivesRegion, fetched_list}
 use Rattle.zarr_chain_stored.specs.Seen.{chain_seen}
 use Rattle.zarr_chain_stored.proofs.SeenLaws.{cut_asks, cut_alike}
 use Rattle.zarr_chain_stored.proofs.ReadLaws.{ok_half, ok_there}

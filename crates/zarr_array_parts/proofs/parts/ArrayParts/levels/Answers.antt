@@ -2,7 +2,7 @@ use Rattle.std.proofs.Common.{ap, ◌∙◌}
 use Rattle.zarrs_codec_traits.specs.Views.{lengths, level_of}
 use Rattle.zarrs_data_type_elements.specs.FillValue.{fill_bytes}
 use Rattle.zarr_array_parts.specs.Chain.{chain_form}
-use Rattle.zarr_array_parts.proofs.ChainLaws.{shape_fits, serves_shape}
+use Rattle.zarr_array_parts.proofs.ChainLaws.{shape_ranked, shape_fits, serves_shape}
 use Rattle.zarr_array_parts.proofs.ServingLaws.{not_built}
 use Rattle.zarr_array_parts.proofs.parts.ArrayParts.levels.Goals as goal
 
@@ -18,4 +18,5 @@ returns-in-Ok c =
 pub no_memory-requires : goal.no_memory-requires
 no_memory-requires c =
     let array = c.args.self.now in
-    not_built (chain_form array.chain) c.args.chain.now (level_of c.deref.result.now array.data_type array.fill) (fill_bytes array.fill) c.in-Err.error array.served c.requires.chain c.in-Err.ensures.exact
+    not_built (chain_form array.chain) c.args.chain.now (level_of c.deref.result.now array.data_type array.fill) (fill_bytes array.fill) c.in-Err.error array.served
+    (shape_ranked array c.args.chunk.now (lengths c.deref.result.now) c.requires.chunk (ap lengths c.deref.ensures.value ∙ c.in_ok-lengths.ensures)) c.requires.chain c.in-Err.ensures.exact

@@ -19,4 +19,5 @@ invariant_of-result c = record {
   countable = ap are_countable (sym c.grid_shape.ensures) ∙ c.countable.ensures;
   fits = sym c.is_large.ensures ∙ c.if-is_large.false;
   served = ap is_opened c.in_ok-expect_chain.ensures;
+  ranked = c.requires.ranked;
 }

@@ -1,4 +1,4 @@
-use Rattle.std.proofs.Common.{◌∙◌, sym, subst}
+use Rattle.std.proofs.Common.{sym, subst}
 use Rattle.zarr_model.specs.Prelude.{IsChunk}
 use Rattle.zarr_array_parts.specs.Parts.{described}
 use Rattle.zarr_array_regions.proofs.MetLaws.{met_chunk}

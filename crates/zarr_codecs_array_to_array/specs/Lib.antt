@@ -1,0 +1,3 @@
+pub mod ArrayToArray
+pub mod Views
+pub mod Laws

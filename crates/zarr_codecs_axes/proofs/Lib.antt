@@ -1,0 +1,10 @@
+pub mod OrderLaws
+pub mod CountLaws
+pub mod PlaceLaws
+pub mod MoveLaws
+pub mod BoxLaws
+pub mod LoopLaws
+pub mod RunLaws
+pub mod PieceSteps
+pub mod Examples
+pub mod LeadLaws

@@ -1,0 +1,17 @@
+use Rattle.std.proofs.Common.{◌≡◌, ℕ, List, Some, sym, subst}
+use Rattle.zarr_model.specs.Region.{count_of}
+use Rattle.zarr_model.specs.ArrayBytes.{meaning}
+use Rattle.zarr_model.specs.Codec.{permuted}
+use Rattle.zarrs_codec_array_bytes.specs.Raw.{raw_of}
+use Rattle.zarrs_codec_array_bytes.specs.Steps.{kind_seen}
+use Rattle.zarrs_codec_traits.specs.Views.{level_of}
+use Rattle.zarrs_codec_traits.specs.Words.{list_at}
+use Rattle.zarr_codecs_transpose.specs.OrderOf.{order_of}
+use Rattle.zarr_codecs_transpose.proofs.CodecLaws.{decode_list_gives}
+use Rattle.zarr_codecs_transpose.proofs.transpose_codec.TransposeCodecArrayToArrayCodecTraits.decode.Goals as goal
+
+pub returns-clause-value : goal.returns-clause-value
+returns-clause-value c = λ list served is.
+    let level = level_of c.args.shape.now c.args.data_type.now c.args._fill_value.now in
+    decode_list_gives (λ v. list_at level (raw_of v)) (order_of c.args.self.now) c.deref-2.result.now level list c.decoded.result c.deref-2.ensures.value
+    (c.decoded.ensures.value list (subst (λ (o : List ℕ). meaning (kind_seen c.args.data_type.now) (count_of (permuted o level.shape)) (raw_of c.args.bytes) ≡ Some list) (sym c.deref-2.ensures.value) is))
