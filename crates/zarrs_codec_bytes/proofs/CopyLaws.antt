@@ -3,7 +3,7 @@ use Rattle.std.proofs.Common.{◌≡◌, ℕ, zero, suc, ◌+◌, ◌-◌, ◌*�
 use Rattle.std.proofs.lemmas.Bool.{and_parts, lt-ltb, ltb-true, cases_lt, cond-true, cond-false, false_from_ne_true}
 use Rattle.std.proofs.lemmas.Bool.Decides.{nat_tests}
 use Rattle.std.proofs.lemmas.Nat.{div-mul-add, mod-mul-add, div_below}
-use Rattle.std.proofs.lemmas.List.{get_or_append_left, get_or-append_right, get_or-drop, get_or-take, length-drop, length-take-le, length-append, drop_all}
+use Rattle.std.proofs.lemmas.List.{get_or_append_left, get_or-append_right, get_or-drop, get_or-take, length-drop, length-take-le, length-append}
 use Rattle.std.proofs.Math.Nat.{div-add-mod', mod-lt, mul_comm, suc-mul, mul-le-mul_right}
 use Rattle.zarr_model.specs.Prelude.{Span, Region, count, contains, is_in, place, tuple_at}
 use Rattle.zarr_model.proofs.RegionLaws.{span_in, in_span, positive_factor, place_below}
@@ -290,39 +290,3 @@ module _ {A : Type 0} (old source : List A) (at from len : ℕ) (room : at + len
 
       past_test : at + len ≤ k → (nat_le at k && nat_lt k (at + len)) ≡ false
       past_test past = grind (arith, nat_tests)
-
--- what two boxes share in their last dimension, as one run
-module _ {A : Type 0} (target_region source_region : Region) (axis : ℕ) (target_last : axis + 1 ≡ length target_region) (source_last : axis + 1 ≡ length source_region)
-    (source old : List A) (at from len : ℕ) (at_is : at ≡ shared_from (span_at target_region axis) (span_at source_region axis)) (from_is : from ≡ shared_from (span_at source_region axis) (span_at target_region axis))
-    (len_is : len ≡ shared_size (span_at target_region axis) (span_at source_region axis)) (some : len ≡ 0 → ⊥)
-    (long : length old ≡ count (drop axis target_region)) (source_long : length source ≡ count (drop axis source_region)) where
-  abbrev t : Span
-  t = span_at target_region axis
-
-  abbrev s : Span
-  s = span_at source_region axis
-
-  last_span : (region : Region) → axis + 1 ≡ length region → drop axis region ≡ span_at region axis ∷ []
-  last_span region h = drop-span region axis (omega arith) ∙ ap (λ rest. span_at region axis ∷ rest) (drop_all (axis + 1) region (omega arith))
-
-  pub run_room : at + len ≤ length old
-  run_room = omega (arith, at_is, len_is, some, long ∙ ap count (last_span target_region target_last))
-
-  pub run_enough : from + len ≤ length source
-  run_enough = omega (arith, from_is, len_is, some, source_long ∙ ap count (last_span source_region source_last))
-
-  pub run_copied : Copied (drop axis target_region) (drop axis source_region) source old (with_run old at source from len)
-  run_copied = subst₂ (λ a b. Copied a b source old (with_run old at source from len)) (sym (last_span target_region target_last)) (sym (last_span source_region source_last)) (record {
-    as_long = length-with_run old source at from len run_room run_enough;
-    each = λ k d h. get_or-with_run old source at from len run_room run_enough k d
-        ∙ ap₂ (λ b n. if b then get_or source n d else get_or old k d) (in_run k (omega (arith, h))) (place_is k);
-  })
-    where
-      whole : (k : ℕ) → k / 1 ≡ k
-      whole k = omega arith
-
-      in_run : (k : ℕ) → k < t.size → (nat_le at k && nat_lt k (at + len)) ≡ (is_in (t.start + k / 1) s && true)
-      in_run k h = grind (arith, nat_tests)
-
-      place_is : (k : ℕ) → from + (k - at) ≡ (t.start + k / 1 - s.start) * 1 + 0
-      place_is k = omega (arith, at_is, from_is, whole k)

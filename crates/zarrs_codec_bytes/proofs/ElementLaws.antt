@@ -1,16 +1,15 @@
 -- Boxes of elements of n bytes as boxes of bytes, and back.
-use Rattle.std.proofs.Common.{rules, ◌≡◌, ℕ, zero, suc, ◌+◌, ◌-◌, ◌*◌, ◌/◌, ◌%◌, ◌<◌, ◌≤◌, nat_le, nat_lt, ◌&&◌, Bool, true, false, if◌then◌else◌, List, [], ◌∷◌, ◌++◌, length, get_or, take, drop, map, refl, sym, ap, ap₂, ◌∙◌, subst, subst₂, arith, ⊎_elim}
-use Rattle.std.proofs.lemmas.Bool.{and_parts, ltb-true, leb-true, false_from_ne_true, cases_lt, cond-true, cond-false, and_right}
+use Rattle.std.proofs.Common.{rules, ◌≡◌, ℕ, zero, suc, ◌+◌, ◌-◌, ◌*◌, ◌/◌, ◌%◌, ◌<◌, ◌≤◌, ◌&&◌, Bool, true, false, if◌then◌else◌, List, [], ◌∷◌, ◌++◌, length, get_or, take, drop, map, refl, sym, ap, ap₂, ◌∙◌, subst, subst₂, arith}
+use Rattle.std.proofs.lemmas.Bool.{and_parts, cond-true, cond-false, and_right}
 use Rattle.std.proofs.lemmas.Bool.Decides.{nat_tests}
-use Rattle.std.proofs.lemmas.Nat.{div-mul-add, mod-mul-add, div_below, mod_below}
+use Rattle.std.proofs.lemmas.Nat.{div-mul-add, mod-mul-add, mod_below}
 use Rattle.std.proofs.lemmas.List.{length-map, get_or-map, get_or-drop, get_or-take, length-drop, length-take-le, same_lists}
 use Rattle.std.proofs.Math.Nat.{add-mul, div-add-mod', mul_assoc, suc-mul, mul-le-mul_right, mul-div_cancel}
 use Rattle.zarr_model.specs.Element as Model
-use Rattle.zarr_model.specs.Prelude.{Span, Region, count, contains, is_in, place, tuple_at, pieces}
+use Rattle.zarr_model.specs.Prelude.{Region, count, contains, is_in, place, tuple_at, pieces}
 use Rattle.zarr_model.proofs.RegionLaws.{positive_factor, place_below}
 use Rattle.zarrs_codec_bytes.specs.Elements.{elements_of, fixed_elements}
-use Rattle.zarrs_codec_bytes.specs.Overlap.{Copied, in_bytes, span_at, shared_from, shared_size, with_run}
-use Rattle.zarrs_codec_bytes.proofs.CopyLaws.{drop-span, length-with_run, get_or-with_run}
+use Rattle.zarrs_codec_bytes.specs.Overlap.{Copied, in_bytes}
 use Rattle.std.proofs.lemmas.List.{drop_all}
 
 pub count-in_bytes : (n : ℕ) (box : Region) → count (in_bytes n box) ≡ count box * n
@@ -201,122 +200,3 @@ element_copied n axis target source from old target_end source_end from_long old
 
     inside : (k : ℕ) → k < n → (is_in (0 + k / 1) (record { start = 0; size = n }) && true) ≡ true
     inside k h = grind (arith, nat_tests)
-
--- a run of the last dimension, in bytes
-module _ (target_region source_region : Region) (axis n : ℕ) (target_last : axis + 1 ≡ length target_region) (source_last : axis + 1 ≡ length source_region)
-    (source old : List ℕ) (at from len : ℕ) (at_is : at ≡ shared_from (span_at target_region axis) (span_at source_region axis)) (from_is : from ≡ shared_from (span_at source_region axis) (span_at target_region axis))
-    (len_is : len ≡ shared_size (span_at target_region axis) (span_at source_region axis)) (some : len ≡ 0 → ⊥)
-    (long : length old ≡ count (in_bytes n (drop axis target_region))) (source_long : length source ≡ count (in_bytes n (drop axis source_region))) where
-  abbrev t : Span
-  t = span_at target_region axis
-
-  abbrev s : Span
-  s = span_at source_region axis
-
-  abbrev element_span : Span
-  element_span = record { start = 0; size = n }
-
-  last_span : (region : Region) → axis + 1 ≡ length region → in_bytes n (drop axis region) ≡ span_at region axis ∷ element_span ∷ []
-  last_span region h = ap (in_bytes n) (drop-span region axis (omega arith) ∙ ap (λ rest. span_at region axis ∷ rest) (drop_all (axis + 1) region (omega arith)))
-
-  bytes_room : (m size : ℕ) → m ≤ size → m * n ≤ size * (n * 1)
-  bytes_room m size h = let rows : m * n ≤ size * n = mul-le-mul_right n h in let one : n * 1 ≡ n = omega arith in omega (arith, rows, ap (λ k. size * k) one)
-
-  pub bytes_run_room : (at + len) * n ≤ length old
-  bytes_run_room = let fits : at + len ≤ t.size = omega (arith, at_is, len_is, some) in omega (arith, bytes_room (at + len) t.size fits, long ∙ ap count (last_span target_region target_last))
-
-  pub bytes_run_enough : (from + len) * n ≤ length source
-  bytes_run_enough = let fits : from + len ≤ s.size = omega (arith, from_is, len_is, some) in omega (arith, bytes_room (from + len) s.size fits, source_long ∙ ap count (last_span source_region source_last))
-
-  pub bytes_run_copied : Copied (in_bytes n (drop axis target_region)) (in_bytes n (drop axis source_region)) source old (with_run old (at * n) source (from * n) (len * n))
-  bytes_run_copied = subst₂ (λ a b. Copied a b source old (with_run old (at * n) source (from * n) (len * n))) (sym (last_span target_region target_last)) (sym (last_span source_region source_last)) (record {
-    as_long = length-with_run old source (at * n) (from * n) (len * n) (parts_fit at len n (length old) bytes_run_room) (parts_fit from len n (length source) bytes_run_enough);
-    each = λ k d h. get_or-with_run old source (at * n) (from * n) (len * n) (parts_fit at len n (length old) bytes_run_room) (parts_fit from len n (length source) bytes_run_enough) k d
-        ∙ each_byte k d (k / (n * 1)) (k % (n * 1)) (positive k h) (sym (div-add-mod' k (n * 1) ∙ refl)) (mod_below k (n * 1) (positive k h)) (div_below k (n * 1) t.size (positive k h) h);
-  })
-    where
-      positive : (k : ℕ) → k < t.size * (n * 1) → 0 < n * 1
-      positive k h = positive_factor k t.size (n * 1) h
-
-      -- a byte by its element q and its place r in it
-      each_byte : (k d q r : ℕ) → 0 < n * 1 → k ≡ q * (n * 1) + r → r < n * 1 → q < t.size →
-          (if nat_le (at * n) k && nat_lt k (at * n + len * n) then get_or source (from * n + (k - at * n)) d else get_or old k d) ≡
-          (if is_in (t.start + q) s && (is_in (0 + r / 1) element_span && true) then get_or source ((t.start + q - s.start) * (n * 1) + ((0 + r / 1 - 0) * 1 + 0)) d else get_or old k d)
-      each_byte k d q r pos k_is r_in q_in = ⊎_elim
-          (λ (low : q < at). both_out (below low) (outside (λ near. omega (arith, near.0, low, at_is))))
-          (λ (high : at ≤ q). ⊎_elim
-          (λ (within : q < at + len). both_in high within)
-          (λ (past : at + len ≤ q). both_out (above past) (outside (λ near. omega (arith, near.0, near.1, past, at_is, len_is, q_in))))
-          (cases_lt q (at + len)))
-          (cases_lt q at)
-        where
-          one : n * 1 ≡ n
-          one = omega arith
-
-          k_bytes : k ≡ q * n + r
-          k_bytes = k_is ∙ ap (λ m. q * m + r) one
-
-          r_below : r < n
-          r_below = omega (arith, r_in)
-
-          below : q < at → (nat_le (at * n) k && nat_lt k (at * n + len * n)) ≡ false
-          below low =
-              let rows : suc q * n ≤ at * n = mul-le-mul_right n (let less : suc q ≤ at = omega arith in less) in
-              let small : k < at * n = omega (arith, rows, suc-mul q n, k_bytes, r_below) in
-              test_low (at * n) (at * n + len * n) small
-            where
-              test_low : (a b : ℕ) → k < a → (nat_le a k && nat_lt k b) ≡ false
-              test_low a b small = grind (arith, nat_tests)
-
-          above : at + len ≤ q → (nat_le (at * n) k && nat_lt k (at * n + len * n)) ≡ false
-          above past =
-              let rows : (at + len) * n ≤ q * n = mul-le-mul_right n past in
-              let large : at * n + len * n ≤ k = omega (arith, rows, add-mul at len n, k_bytes) in
-              test_high (at * n) (at * n + len * n) large
-            where
-              test_high : (a b : ℕ) → b ≤ k → (nat_le a k && nat_lt k b) ≡ false
-              test_high a b large = grind (arith, nat_tests)
-
-          outside : ((s.start ≤ t.start + q) × (t.start + q < s.start + s.size) → ⊥) → (is_in (t.start + q) s && (is_in (0 + r / 1) element_span && true)) ≡ false
-          outside never = out (t.start + q) s.start s.size never (is_in (0 + r / 1) element_span && true)
-            where
-              out : (x a m : ℕ) → ((a ≤ x) × (x < a + m) → ⊥) → (b : Bool) → (is_in x (record { start = a; size = m }) && b) ≡ false
-              out x a m never b = false_from_ne_true (is_in x (record { start = a; size = m }) && b) (λ yes.
-                  let first = and_parts (is_in x (record { start = a; size = m })) b yes in
-                  let parts = and_parts (nat_le a x) (nat_lt x (a + m)) first.0 in
-                  never (leb-true a x parts.0, ltb-true x (a + m) parts.1))
-
-          both_out : (nat_le (at * n) k && nat_lt k (at * n + len * n)) ≡ false → (is_in (t.start + q) s && (is_in (0 + r / 1) element_span && true)) ≡ false →
-              (if nat_le (at * n) k && nat_lt k (at * n + len * n) then get_or source (from * n + (k - at * n)) d else get_or old k d) ≡
-              (if is_in (t.start + q) s && (is_in (0 + r / 1) element_span && true) then get_or source ((t.start + q - s.start) * (n * 1) + ((0 + r / 1 - 0) * 1 + 0)) d else get_or old k d)
-          both_out e f = cond-false (nat_le (at * n) k && nat_lt k (at * n + len * n)) _ _ e ∙ sym (cond-false (is_in (t.start + q) s && (is_in (0 + r / 1) element_span && true)) _ _ f)
-
-          both_in : at ≤ q → q < at + len →
-              (if nat_le (at * n) k && nat_lt k (at * n + len * n) then get_or source (from * n + (k - at * n)) d else get_or old k d) ≡
-              (if is_in (t.start + q) s && (is_in (0 + r / 1) element_span && true) then get_or source ((t.start + q - s.start) * (n * 1) + ((0 + r / 1 - 0) * 1 + 0)) d else get_or old k d)
-          both_in high within =
-              let rows : at * n ≤ q * n = mul-le-mul_right n high in
-              let more : suc q * n ≤ (at + len) * n = mul-le-mul_right n (let less : suc q ≤ at + len = omega arith in less) in
-              let start : at * n ≤ k = omega (arith, rows, k_bytes) in
-              let end : k < at * n + len * n = omega (arith, more, suc-mul q n, add-mul at len n, k_bytes, r_below) in
-              let column : 0 + r / 1 ≡ r = omega arith in
-              cond-true (nat_le (at * n) k && nat_lt k (at * n + len * n)) _ _ (test (at * n) (at * n + len * n) start end)
-              ∙ (ap (λ m. get_or source m d) place_is
-              ∙ sym (cond-true (is_in (t.start + q) s && (is_in (0 + r / 1) element_span && true)) _ _
-              (in_spans (t.start + q) s.start s.size (0 + r / 1) (omega (arith, at_is)) (omega (arith, at_is, len_is)) (omega (arith, column, r_below)))))
-            where
-              test : (a b : ℕ) → a ≤ k → k < b → (nat_le a k && nat_lt k b) ≡ true
-              test a b low up = grind (arith, nat_tests)
-
-              in_spans : (x a m y : ℕ) → a ≤ x → x < a + m → y < n → (is_in x (record { start = a; size = m }) && (is_in y element_span && true)) ≡ true
-              in_spans x a m y low up small = grind (arith, nat_tests)
-
-              place_is : from * n + (k - at * n) ≡ (t.start + q - s.start) * (n * 1) + ((0 + r / 1 - 0) * 1 + 0)
-              place_is =
-                  let shift : t.start + q - s.start ≡ from + (q - at) = omega (arith, at_is, from_is, high) in
-                  let apart : (q - at + at) * n ≡ (q - at) * n + at * n = add-mul (q - at) at n in
-                  let whole : (q - at + at) * n ≡ q * n = ap (λ m. m * n) (let e : q - at + at ≡ q = omega (arith, high) in e) in
-                  let sum : (from + (q - at)) * n ≡ from * n + (q - at) * n = add-mul from (q - at) n in
-                  let turned : (t.start + q - s.start) * (n * 1) ≡ (from + (q - at)) * n = ap₂ (λ a b. a * b) shift one in
-                  let column : (0 + r / 1 - 0) * 1 + 0 ≡ r = omega arith in
-                  omega (arith, apart, whole, sum, turned, column, k_bytes)

@@ -11,6 +11,7 @@ pub mod ValueLaws
 pub mod PieceLaws
 pub mod ReplaceLaws
 pub mod RowLaws
+pub mod RunLaws
 pub mod FilledLaws
 pub mod MaskLaws
 pub mod AreFillLaws

@@ -13,7 +13,7 @@ fn are_all(bytes: &[u8], byte: u8) -> bool
 }
 
 // The byte that all bytes of a fill value are, if they are one.
-fn same_byte(fill: &[u8]) -> Option<u8>
+pub(crate) fn same_byte(fill: &[u8]) -> Option<u8>
     ensures { IfSome result (λ byte. fill.now ≡ replicate (length fill.now) byte) }
 {
     match fill {

@@ -11,4 +11,5 @@ pub mod overlap;
 pub mod picks;
 pub mod pieces;
 pub mod rows;
+mod runs;
 pub mod values;

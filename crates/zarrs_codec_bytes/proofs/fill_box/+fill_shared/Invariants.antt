@@ -11,6 +11,7 @@ decreases-fill_shared l = length (region l.target_subset.now) - l.axis
 
 abbrev pub invariant-loop-i : goal.invariant-loop-i
 invariant-loop-i l =
-    CopiedRows ((span_at (region l.target_subset) l.axis).start + (l.at + l.i))
-    (in_bytes (length l.fill) (drop l.axis (region l.target_subset))) (in_bytes (length l.fill) (drop l.axis (region l.subset)))
+    CopiedRows ((span_at (region l.target_subset) l.axis).start + (l.shared.target_at + l.i))
+    (in_bytes (length l.fill) (drop l.axis (region l.target_subset)))
+    (in_bytes (length l.fill) (drop l.axis (region l.subset)))
     (repeated (count (drop l.axis (region l.subset))) l.fill) l.initial.target l.target

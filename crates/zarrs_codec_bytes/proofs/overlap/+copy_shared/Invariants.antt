@@ -10,4 +10,5 @@ decreases-copy_shared l = length (region l.target_subset.now) - l.axis
 abbrev pub invariant-loop-i : goal.invariant-loop-i
 invariant-loop-i l =
     CopiedRows ((span_at (region l.target_subset) l.axis).start + (l.shared.target_at + l.i))
-    (in_bytes l.size (drop l.axis (region l.target_subset))) (in_bytes l.size (drop l.axis (region l.source_subset))) l.source l.initial.target l.target
+    (in_bytes l.size (drop l.axis (region l.target_subset))) (in_bytes l.size (drop l.axis (region l.source_subset)))
+    l.source l.initial.target l.target
