@@ -15,12 +15,12 @@ use Rattle.zarr_array.proofs.HasRun.{HasRun}
 use Rattle.zarr_array.proofs.WriteLaws.{write-ran, write-fails, write-fails-keys}
 use Rattle.zarr_array.proofs.StepRuns.{read-ran}
 
--- array bytes that mean the region of each array that the store means answer a read
+-- array bytes that mean the region of each array that has the chunks met answer a read
 pub bytes-read : (array : ArrayParts) (options : Options) (region : Region) (old new : Shown) (bytes : ArrayBytes) → refusal (described array) (read region) ≡ None →
     HasReadRegion array options region old new bytes → HasRun (described array) options (read region ∷ []) old new (answered bytes ∷ [])
 bytes-read array options region old new bytes none has =
-    read-ran (described array) options region old new bytes none has.read.same has.read.decodes (λ a meant.
-    let is = has.read.elements a meant in
+    read-ran (described array) options region old new bytes none has.read.same has.read.readable (λ a met.
+    let is = has.read.elements a met in
     ap (λ n. meaning (kind (described array)) n bytes) (ap length (sym is) ∙ has.read.as_long)
     ∙ (some_list (meaning (kind (described array)) (count region) bytes) has.means ∙ ap Some is)) has.read.asks has.read.later
 
@@ -50,7 +50,7 @@ inside array region bytes none = (accepted array region (none_then (region_refus
 
 module _ (array : ArrayParts) (options : Options) (region : Region) (bytes : ArrayBytes) (none : refusal (described array) (write region bytes) ≡ None) (old new : Shown) where
   pub bytes-written : HasWrittenRegion array options region bytes old new → HasRun (described array) options (write region bytes ∷ []) old new (answered_done ∷ [])
-  bytes-written changed = write-ran (described array) (described_covers array) options (described_sound array options) region bytes none old new changed
+  bytes-written has = write-ran (described array) (described_covers array) options (described_sound array options) region bytes none old new has.changed
 
   module _ (error : CommandError) (fails : NotWrittenRegion array options region bytes old new error) where
     pub bytes-fail : FailsAt (described array) options (write region bytes ∷ []) old new (Some (0, error.chunks_done)) error.kind

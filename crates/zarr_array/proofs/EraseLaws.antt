@@ -2,7 +2,7 @@
 use Rattle.std.proofs.Common.{◌≡◌, ℕ, zero, suc, ◌-◌, ◌^◌, ◌≤◌, ◌&&◌, ◌||◌, ◌⊎◌, true, false, if◌then◌else◌, bytes_eq, List, [], ◌∷◌, replicate, slice_get, Option, Some, None, IsSome, is_some, refl, sym, ap, ◌∙◌, subst, arith, inl, inr, ⊎_elim}
 use Rattle.std.specs.List.{list_any}
 use Rattle.std.proofs.lemmas.Bool.{cases_Bool, cond-true, cond-false, true≢false, or_parts, or_from}
-use Rattle.zarr_model.specs.Prelude.{count, Element, Array, IsChunk, CoversShape, Options, Content, IsSound, IsHonest, box_content, chunk_content, Shown, erase, Description, kind, layout, refusal, reply_of, array_of, after, answered_done, Matches, chunks_under, command_chunks, asks_store, is_among, present_in, present_under, erases_chunk, IsDamageMet, MeetsNoDamage, KeepsDamage, IsLeftAt, Rose, PutsKey, MayPutKey, ChunkHas, LeavesKeys, ServesWhole}
+use Rattle.zarr_model.specs.Prelude.{count, Element, Array, IsChunk, CoversShape, Options, Content, IsSound, box_content, chunk_content, Shown, erase, Description, kind, layout, refusal, reply_of, array_of, after, answered_done, Matches, chunks_under, command_chunks, asks_store, is_among, present_in, present_under, present_after, erases_chunk, IsDamageSeen, SeesNoDamage, KeepsDamage, IsLeftAt, Rose, PutsKey, MayPutKey, ChunkHas, LeavesKeys, ServesWhole}
 use Rattle.zarr_model.proofs.FailureLaws.{same_bytes, bytes_eq-refl, listed_is_chunk, part_way-start, part_way-fails, erase-done}
 use Rattle.zarr_array_regions.specs.declared.error.SessionErrorKind.TheVariants.{Store, OutOfMemory}
 use Rattle.zarr_array.proofs.HasRun.{HasRun}
@@ -14,15 +14,15 @@ use Rattle.zarr_array.proofs.StepRuns.{command-starved}
 pub MayPutKey-from : (old new : Content) (key : List ℕ) (value : Option (List ℕ)) → PutsKey old new key value → MayPutKey old new key value
 MayPutKey-from old new key value puts = record { here = inr (inl puts.here); others = puts.others }
 
--- an erase asks for no chunk, and so meets no damage
-pub MeetsNoDamage-erase : (description : Description) (options : Options) (chunk : List ℕ) (store : Content) → MeetsNoDamage description options (erase chunk ∷ []) store
-MeetsNoDamage-erase description options chunk store = record { no_key = unmet }
+-- an erase asks for no chunk, and so sees no damage
+pub SeesNoDamage-erase : (description : Description) (options : Options) (chunk : List ℕ) (store : Content) → SeesNoDamage description options (erase chunk ∷ []) store
+SeesNoDamage-erase description options chunk store = record { no_key = unmet }
   where
-    unmet : (key : List ℕ) → IsDamageMet description options (erase chunk ∷ []) store key → ⊥
-    unmet key (zero, command, is, asks, _, _, _, _, _) =
+    unmet : (key : List ℕ) → IsDamageSeen description options (erase chunk ∷ []) store key → ⊥
+    unmet key (zero, command, is, asks, _, _, _, _, _, _) =
         let same : erase chunk ≡ command = cc in
         true≢false (sym (subst (λ c. asks_store c ≡ true) (sym same) asks))
-    unmet key (suc m, command, is, _, _, _, _, _, _) = cc
+    unmet key (suc m, command, is, _, _, _, _, _, _, _) = cc
 
 module _ (description : Description) (covers : CoversShape description.shape description.grid) (options : Options) (sound : IsSound (layout description options)) (chunk : List ℕ)
     (accepted : refusal description (erase chunk) ≡ None) where
@@ -59,16 +59,19 @@ module _ (description : Description) (covers : CoversShape description.shape des
   }
 
   module _ (old new : Content) (puts : PutsKey old new (description.key chunk) None) where
+    erase-presence : (array : Array Element) (other : List ℕ) → IsChunk description.grid other → present_in description new other ≡ present_after description options (erase chunk ∷ []) array (present_in description old) other
+    erase-presence array other is_other = subst
+        (λ why. present_in description new other ≡ present_under description options why (erase chunk) (array_of description why (erase chunk) array) (present_in description old) other)
+        (sym accepted)
+        (one_or_other other is_other (present_in description new other ≡ (if bytes_eq other chunk then false else present_in description old other))
+        (λ same equal. ap (present_in description new) same ∙ (ap is_some puts.here ∙ sym (cond-true (bytes_eq other chunk) false (present_in description old other) equal)))
+        (λ apart differs. ap is_some (puts.others (description.key other) apart) ∙ sym (cond-false (bytes_eq other chunk) false (present_in description old other) differs)))
+
     pub erase-serves : ServesWhole description options (erase chunk ∷ []) old new (answered_done ∷ [])
     erase-serves = record {
       answers_match = λ array meant. (subst (λ why. Matches (kind description) answered_done (reply_of why (erase chunk) array)) (sym accepted) tt, tt);
       whole_chunks = λ array meant. erase-done description covers options sound chunk array old new accepted meant puts;
-      presence = λ array other meant is_other. subst
-          (λ why. present_in description new other ≡ present_under description options why (erase chunk) (array_of description why (erase chunk) array) (present_in description old) other)
-          (sym accepted)
-          (one_or_other other is_other (present_in description new other ≡ (if bytes_eq other chunk then false else present_in description old other))
-          (λ same equal. ap (present_in description new) same ∙ (ap is_some puts.here ∙ sym (cond-true (bytes_eq other chunk) false (present_in description old other) equal)))
-          (λ apart differs. ap is_some (puts.others (description.key other) apart) ∙ sym (cond-false (bytes_eq other chunk) false (present_in description old other) differs)));
+      presence = λ array other meant is_other. erase-presence array other is_other;
       keys = erase-keys old new (MayPutKey-from old new (description.key chunk) None puts);
     }
 
@@ -110,7 +113,8 @@ module _ (description : Description) (covers : CoversShape description.shape des
     refused = λ all. absurd (true≢false (sym all ∙ ap (λ why. is_some why && true) accepted));
     asks = omega (arith, asked, fits);
     damage = KeepsDamage-erase before.content now.content puts;
-    met = MeetsNoDamage-erase description options chunk before.content;
+    undamaged = SeesNoDamage-erase description options chunk before.content;
+    erased = λ none array other is_other. erase-presence before.content now.content puts array other is_other;
     stored = erase-stored before.content now.content puts;
     later = later;
   }

@@ -12,4 +12,5 @@ pub mod StepRuns
 pub mod EraseLaws
 pub mod Commands
 pub mod RunsLaws
+pub mod TakenLaws
 pub mod SizeLaws

@@ -8,7 +8,8 @@ use Rattle.zarr_model.specs.Prelude.{CoversShape, Element, Array, Options, Conte
 use Rattle.zarr_model.proofs.StoreLaws.{stored_array-meant, Means-from_whole}
 use Rattle.zarr_model.proofs.SessionLaws.{serves_from_whole, ServesWhole-append, LeavesKeys-none, LeavesKeys-append, LeavesKeys-more}
 use Rattle.zarr_model.proofs.StepLaws.{KeepsDamage-none, KeepsDamage-append, place-lifts, asks-lift, undecoded-lifts, stopped-lifts, starved-lifts}
-use Rattle.zarr_model.proofs.DamageLaws.{MeetsNoDamage-none, MeetsNoDamage-append}
+use Rattle.zarr_model.proofs.NeededLaws.{one_more_erased}
+use Rattle.zarr_model.proofs.SeenLaws.{SeesNoDamage-none, SeesNoDamage-append}
 use Rattle.zarr_array.specs.Command.{is_read, AreReads}
 use Rattle.zarr_array.specs.Session.{HasSessionCause, FailsAt}
 use Rattle.zarr_array.proofs.HasRun.{HasRun}
@@ -43,7 +44,8 @@ none_ran array options store fits = record {
   refusals = refl;
   refused = λ all. record { content = λ key. refl; asks = refl; taken = refl };
   asks = omega (arith, fits);
-  undamaged = MeetsNoDamage-none array options store.content;
+  undamaged = SeesNoDamage-none array options store.content;
+  erased = λ none meant chunk is_chunk. refl;
   damage = KeepsDamage-none array options store.content;
   stored = stores-none array options [] store.content store.content (λ chunk. refl);
   keys = LeavesKeys-none array options store.content;
@@ -61,6 +63,7 @@ none_begun array options commands store = record {
   refused = λ all. record { content = λ key. refl; asks = refl; taken = refl };
   asks = tt;
   undamaged = tt;
+  erased = tt;
   damage = tt;
   stored = tt;
   keys = record { same_chunks = λ chunk is_chunk e. refl; other_keys = λ key apart. refl };
@@ -126,12 +129,12 @@ read_here (first ∷ commands) zero command e all =
 read_here (first ∷ commands) (suc i) command e all =
     read_here commands i command e (and_parts (is_read first) (list_all is_read commands) all).1
 
-wholly_honest : (array : Description) (options : Options) (store : Content) (meant : Array Element) → WhollyMeans (layout array options) store meant → IsHonest (layout array options) store
+pub wholly_honest : (array : Description) (options : Options) (store : Content) (meant : Array Element) → WhollyMeans (layout array options) store meant → IsHonest (layout array options) store
 wholly_honest array options store meant means chunk is_chunk = subst IsSome (sym (means.each_chunk chunk is_chunk)) refl
 
 -- the array that an honest store means serves for all
 module _ (array : Description) (options : Options) (covers : CoversShape array.shape array.grid) (sound : IsSound (layout array options)) where
-  whole_of : (commands : List Command) (old new : Content) (answers : List Answer) → ServesArray array options commands old new answers → ServesWhole array options commands old new answers
+  pub whole_of : (commands : List Command) (old new : Content) (answers : List Answer) → ServesArray array options commands old new answers → ServesWhole array options commands old new answers
   whole_of commands old new answers serves = record {
     answers_match = λ meant means. serves.answers_match meant (Means-from_whole (layout array options) covers old meant means);
     whole_chunks = serves.left.whole_chunks;
@@ -164,7 +167,8 @@ module _ (array : Description) (options : Options) (covers : CoversShape array.s
     refusals = map-append refusal_in answers (answer ∷ []) ∙ (ap₂ (λ a b. a ++ b) first.refusals second.refusals ∙ sym (map-append (refusal array) commands (command ∷ [])));
     refused = λ all. let parts = refused_parts array commands command all in untouched_then before mid now (first.refused parts.0) (second.refused parts.1);
     asks = omega (arith, first.asks, second.asks, sum_by-append (asks_of array) commands (command ∷ []));
-    undamaged = MeetsNoDamage-append array options covers commands (command ∷ []) before.content mid.content first.damage first.undamaged second.undamaged;
+    undamaged = SeesNoDamage-append array options covers commands (command ∷ []) before.content mid.content first.damage first.undamaged second.undamaged;
+    erased = one_more_erased array options commands command before mid now first.erased second.erased;
     damage = KeepsDamage-append array options commands (command ∷ []) before.content mid.content now.content first.damage second.damage;
     stored = stores-append array options commands (command ∷ []) before.content mid.content now.content second.keys first.stored second.stored
         (whole_after commands before mid answers first) (whole_after (command ∷ []) mid now (answer ∷ []) second);
@@ -185,6 +189,7 @@ module _ (array : Description) (options : Options) (covers : CoversShape array.s
     refused = λ all. untouched_then before mid now (so_far.refused (refused_front array commands i all)) (single.refused (refused_at array commands i command here all));
     asks = tt;
     undamaged = tt;
+    erased = tt;
     damage = tt;
     stored = tt;
     keys =
@@ -231,7 +236,8 @@ module _ (array : Description) (options : Options) (covers : CoversShape array.s
     refusals = ran.refusals;
     refused = ran.refused;
     asks = ran.asks;
-    undamaged = ran.met;
+    undamaged = ran.undamaged;
+    erased = ran.erased;
     damage = ran.damage;
     stored = ran.stored;
     keys = ran.serves.keys;
@@ -251,6 +257,7 @@ module _ (array : Description) (options : Options) (covers : CoversShape array.s
     refused = refused;
     asks = tt;
     undamaged = tt;
+    erased = tt;
     damage = tt;
     stored = tt;
     keys = keys;

@@ -1,17 +1,18 @@
 -- Commands that ran: a refused one, and a read; and one that wanted memory at once.
-use Rattle.std.proofs.Common.{◌≡◌, ℕ, zero, suc, ◌+◌, ◌-◌, ◌^◌, ◌<◌, ◌≤◌, ◌&&◌, Bool, true, false, if◌then◌else◌, List, [], ◌∷◌, length, slice_get, Contains, Some, None, IsSome, is_some, refl, sym, ap, ◌∙◌, subst, arith, inl, inr}
+use Rattle.std.proofs.Common.{◌≡◌, ℕ, zero, suc, ◌+◌, ◌-◌, ◌^◌, ◌<◌, ◌≤◌, ◌&&◌, Bool, true, false, if◌then◌else◌, List, [], ◌∷◌, length, slice_get, Contains, Some, None, IsSome, is_some, refl, sym, ap, ◌∙◌, subst, arith, ◌⊎◌, inl, inr}
 use Rattle.std.specs.List.{list_any}
 use Rattle.std.proofs.lemmas.Bool.{true≢false, or_from}
-use Rattle.zarr_model.specs.Prelude.{Region, Element, ArrayBytes, Array, elements_in, chunks_meeting, CoversShape, Options, Content, WhollyMeans, chunk_content, Shown, Command, read, write, erase, Refusal, Description, kind, layout, refusal, elements, answered, answered_refused, Matches, chunks_under, command_chunks, asks_store, asks_of, is_among, changes_chunk, counted, erases_chunk, IsDamageMet, MeetsNoDamage, KeepsDamage}
+use Rattle.zarr_model.specs.Prelude.{Region, Element, ArrayBytes, Array, elements_in, chunks_meeting, CoversShape, Options, Content, HasMet, chunk_content, passes_over, Shown, Command, read, write, erase, Refusal, Description, kind, layout, refusal, elements, answered, answered_refused, Matches, after, present_in, present_under, chunks_under, command_chunks, asks_store, asks_of, is_among, changes_chunk, counted, erases_chunk, IsDamageSeen, SeesNoDamage, KeepsDamage}
 use Rattle.zarr_model.proofs.FailureLaws.{cut_short-start}
 use Rattle.zarr_model.proofs.StepLaws.{LeavesKeys-same, refused-serves, read-serves, KeepsDamage-read}
-use Rattle.zarr_model.proofs.DamageLaws.{MeetsNoDamage-read}
+use Rattle.zarr_model.proofs.FailureLaws.{meeting_is}
+use Rattle.zarr_model.proofs.SeenLaws.{SeesNoDamage-read}
 use Rattle.zarr_array_regions.specs.declared.error.SessionErrorKind.TheVariants.{OutOfMemory}
 use Rattle.zarr_array.proofs.HasRun.{HasRun}
 use Rattle.zarr_array.proofs.StoredLaws.{stores-none}
 use Rattle.zarr_array.specs.Session.{FailsAt}
 
--- a refused command has no chunks: it asks for none, erases none and meets no damage
+-- a refused command has no chunks: it asks for none, erases none and sees no damage
 module _ (description : Description) (command : Command) (why : Refusal) (refused : refusal description command ≡ Some why) where
   no_chunks : command_chunks description command ≡ []
   no_chunks = ap (λ w. chunks_under description w command) refused
@@ -45,16 +46,16 @@ module _ (description : Description) (command : Command) (why : Refusal) (refuse
     stands = λ chunk is_chunk damaged none. same (description.key chunk);
   }
 
-  pub MeetsNoDamage-refused : (options : Options) (store : Content) → MeetsNoDamage description options (command ∷ []) store
-  MeetsNoDamage-refused options store = record { no_key = unmet }
+  pub SeesNoDamage-refused : (options : Options) (store : Content) → SeesNoDamage description options (command ∷ []) store
+  SeesNoDamage-refused options store = record { no_key = unmet }
     where
-      unmet : (key : List ℕ) → IsDamageMet description options (command ∷ []) store key → ⊥
-      unmet key (zero, other, is, asks, chunk, met, its_key, none, damaged) =
+      unmet : (key : List ℕ) → IsDamageSeen description options (command ∷ []) store key → ⊥
+      unmet key (zero, other, is, asks, chunk, met, its_key, none, damaged, _) =
           let same : command ≡ other = cc in
           let found : Contains [] chunk = subst (λ chunks. Contains chunks chunk) no_chunks (subst (λ c. Contains (command_chunks description c) chunk) (sym same) met) in
           let below : found.0 < 0 = found.1 in
           absurd (omega (arith, below))
-      unmet key (suc m, other, is, _, _, _, _, _, _) = cc
+      unmet key (suc m, other, is, _, _, _, _, _, _, _) = cc
 
   -- a refused command ran
   pub refused-ran : (options : Options) (store : Shown) → store.asks ≤ 2 ^ 64 - 1 →
@@ -65,25 +66,30 @@ module _ (description : Description) (command : Command) (why : Refusal) (refuse
     refused = λ all. record { content = λ key. refl; asks = refl; taken = refl };
     asks = omega (arith, fits, no_asks);
     damage = KeepsDamage-refused options store.content store.content (λ key. refl);
-    met = MeetsNoDamage-refused options store.content;
+    undamaged = SeesNoDamage-refused options store.content;
+    erased = λ none array chunk is_chunk. sym (ap (λ w. present_under description options w command (after description command array) (present_in description store.content) chunk) refused);
     stored = stores-none description options (command ∷ []) store.content store.content changes_none;
     later = omega arith;
   }
 
--- an accepted read ran, if it left the content, all its chunks decoded, and its bytes are the region of each array that the store means
+-- an accepted read ran, if it left the content, its chunks decoded or were passed over, and its bytes are the region of each array that has the chunks met
 pub read-ran : (description : Description) (options : Options) (region : Region) (old new : Shown) (value : ArrayBytes) →
     refusal description (read region) ≡ None → ((key : List ℕ) → new.content key ≡ old.content key) →
-    ((place : ℕ) (chunk : List ℕ) → slice_get (chunks_meeting description.grid region) place ≡ Some chunk → IsSome (chunk_content (layout description options) old.content chunk)) →
-    ((array : Array Element) → WhollyMeans (layout description options) old.content array → Matches (kind description) (answered value) (elements (elements_in region array))) →
+    ((place : ℕ) (chunk : List ℕ) → slice_get (chunks_meeting description.grid region) place ≡ Some chunk →
+    IsSome (chunk_content (layout description options) old.content chunk) ⊎ (passes_over description options old.content (read region) chunk ≡ true)) →
+    ((array : Array Element) → HasMet description options region old.content array → Matches (kind description) (answered value) (elements (elements_in region array))) →
     new.asks ≡ counted old.asks (length (chunks_meeting description.grid region)) → old.faults ≤ new.faults →
     HasRun description options (read region ∷ []) old new (answered value ∷ [])
 read-ran description options region old new value accepted same decode right asked later = record {
-  serves = read-serves description options region old.content new.content (answered value) accepted same right;
+  serves = read-serves description options region old.content new.content (answered value) accepted same
+      (λ array meant. right array (λ place chunk e. meant.each_chunk chunk (meeting_is description.grid region place chunk e).0));
   refusals = ap (λ w. w ∷ []) (sym accepted);
   refused = λ all. absurd (true≢false (sym all ∙ ap (λ w. is_some w && true) accepted));
   asks = omega (arith, asked, ap length listed);
   damage = KeepsDamage-read description options region old.content new.content same;
-  met = MeetsNoDamage-read description options region old.content (λ place chunk e. decode place chunk (ap (λ chunks. slice_get chunks place) (sym listed) ∙ e));
+  erased = λ none array chunk is_chunk. ap is_some (same (description.key chunk))
+      ∙ sym (ap (λ w. present_under description options w (read region) (after description (read region) array) (present_in description old.content) chunk) accepted);
+  undamaged = SeesNoDamage-read description options region old.content (λ place chunk e. decode place chunk (ap (λ chunks. slice_get chunks place) (sym listed) ∙ e));
   stored = stores-none description options (read region ∷ []) old.content new.content (λ chunk. refl);
   later = later;
 }

@@ -1,10 +1,9 @@
 -- What is stored decodes under all options.
-use Rattle.std.proofs.Common.{◌≡◌, ℕ, Bool, true, false, ◌||◌, List, [], ◌∷◌, ◌++◌, IsSome, refl, sym, ◌∙◌, subst, ◌⊎◌, inl, inr, ⊎_elim}
+use Rattle.std.proofs.Common.{◌≡◌, ℕ, true, false, List, ◌++◌, IsSome, sym, ◌∙◌, subst, inl, inr, ⊎_elim}
 use Rattle.std.specs.List.{list_any}
 use Rattle.std.proofs.lemmas.Bool.{true≢false, cases_Bool, or_cases}
 use Rattle.std.proofs.lemmas.List.Folds.{list_any-append}
-use Rattle.std.proofs.lemmas.Option.{same_Some}
-use Rattle.zarr_model.specs.Prelude.{Element, Array, IsChunk, elements_in, Options, Content, WhollyMeans, Command, Description, layout, array_after, changes_chunk, ChunkHas, LeavesKeys}
+use Rattle.zarr_model.specs.Prelude.{Element, Array, Options, Content, WhollyMeans, Command, Description, layout, array_after, changes_chunk, ChunkHas, LeavesKeys}
 use Rattle.zarr_model.proofs.RunLaws.{array_after-append}
 use Rattle.zarr_model.proofs.StepLaws.{both_none}
 use Rattle.zarr_array_regions.proofs.PartWayLaws.{content-same}

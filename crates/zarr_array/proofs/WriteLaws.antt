@@ -3,8 +3,7 @@ use Rattle.std.proofs.Common.{◌≡◌, ℕ, zero, suc, ◌+◌, ◌<◌, ◌�
 use Rattle.std.proofs.lemmas.Bool.{cases_Bool, cases_lt, cond-true, cond-false, true≢false, or_parts}
 use Rattle.std.proofs.lemmas.List.Folds.{Any-from_list_any, list_any_at}
 use Rattle.std.proofs.lemmas.Option.{slice_get_within, slice_get-get_or, get_or_from_slice_get}
-use Rattle.zarr_model.specs.Prelude.{Region, Element, ArrayBytes, Array, written, IsChunk, chunks_meeting, CoversShape, Options, Content, IsSound, IsHonest, WhollyMeans, stored_array, box_content, chunk_content, Shown, Command, write, Description, kind, layout, refusal, written_elements, reply_of, array_of, after, answered_done, Matches, chunks_under, command_chunks, is_among, is_blank, counted, present_in, present_under, ChunkHas, IsPartWay, IsCutShort, IsDamageMet, MeetsNoDamage, KeepsDamage, IsLeftAt, LeavesKeys, ServesWhole}
-use Rattle.zarr_model.proofs.StoreLaws.{stored_array-meant}
+use Rattle.zarr_model.specs.Prelude.{Region, Element, ArrayBytes, Array, written, IsChunk, chunks_meeting, CoversShape, Options, Content, IsSound, WhollyMeans, chunk_content, Shown, Command, write, Description, kind, layout, refusal, written_elements, reply_of, array_of, after, answered_done, Matches, chunks_under, command_chunks, is_among, is_blank, counted, present_in, present_under, ChunkHas, IsPartWay, IsCutShort, IsDamageSeen, SeesNoDamage, KeepsDamage, IsLeftAt, LeavesKeys, ServesWhole}
 use Rattle.zarr_model.proofs.FailureLaws.{same_bytes, bytes_eq-refl, listed_is_chunk, chunks_under-once, part_way-end, part_way-fails}
 use Rattle.zarr_model.proofs.Choices.{alone}
 use Rattle.zarr_array_regions.specs.declared.error.SessionErrorKind.{SessionErrorKind}
@@ -48,19 +47,19 @@ part_way-stays description covers options command k by_store before now old new 
       ∙ part.others chunk is_chunk (λ place h. apart place (omega (arith, h)));
 }
 
--- a write all of whose chunks decode meets no damage
-pub MeetsNoDamage-write : (description : Description) (options : Options) (region : Region) (value : ArrayBytes) (store : Content) →
+-- a write all of whose chunks decode sees no damage
+pub SeesNoDamage-write : (description : Description) (options : Options) (region : Region) (value : ArrayBytes) (store : Content) →
     ((place : ℕ) (chunk : List ℕ) → slice_get (command_chunks description (write region value)) place ≡ Some chunk → IsSome (chunk_content (layout description options) store chunk)) →
-    MeetsNoDamage description options (write region value ∷ []) store
-MeetsNoDamage-write description options region value store decode = record { no_key = unmet }
+    SeesNoDamage description options (write region value ∷ []) store
+SeesNoDamage-write description options region value store decode = record { no_key = unmet }
   where
-    unmet : (key : List ℕ) → IsDamageMet description options (write region value ∷ []) store key → ⊥
-    unmet key (zero, command, is, asks, chunk, met, its_key, none, damaged) =
+    unmet : (key : List ℕ) → IsDamageSeen description options (write region value ∷ []) store key → ⊥
+    unmet key (zero, command, is, asks, chunk, met, its_key, none, damaged, _) =
         let same : write region value ≡ command = cc in
         let found : Contains (command_chunks description (write region value)) chunk = subst (λ c. Contains (command_chunks description c) chunk) (sym same) met in
         let (k, within, here) = found in
         true≢false (sym (subst IsSome damaged (decode k chunk (slice_get-get_or (command_chunks description (write region value)) k chunk within ∙ ap Some here))))
-    unmet key (suc m, command, is, _, _, _, _, _, _) = cc
+    unmet key (suc m, command, is, _, _, _, _, _, _, _) = cc
 
 module _ (description : Description) (covers : CoversShape description.shape description.grid) (options : Options) (sound : IsSound (layout description options)) (region : Region) (value : ArrayBytes)
     (accepted : refusal description (write region value) ≡ None) where
@@ -181,7 +180,8 @@ module _ (description : Description) (covers : CoversShape description.shape des
       refused = λ all. absurd (true≢false (sym all ∙ ap (λ why. is_some why && true) accepted));
       asks = omega (arith, changed.asks, full);
       damage = write-damage;
-      met = MeetsNoDamage-write description options region value old.content (λ place chunk e. decoded place chunk (in_region place chunk e));
+      erased = λ none array chunk is_chunk. absurd (true≢false none);
+      undamaged = SeesNoDamage-write description options region value old.content (λ place chunk e. decoded place chunk (in_region place chunk e));
       stored = write-stored;
       later = changed.later;
     }

@@ -8,3 +8,4 @@ pub mod Stored
 pub mod Session
 pub mod Ended
 pub mod Runs
+pub mod Taken

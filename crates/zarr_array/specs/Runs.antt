@@ -1,6 +1,6 @@
 -- What running commands over a store owes.
 use Rattle.std.specs.Prelude.{◌≡◌, ◌≤◌, List, IfOk, IfErr, OnOk}
-use Rattle.zarr_model.specs.Prelude.{Options, Shown, IsHonest, Command, Description, layout, all_asks, counted, Rose, MeetsNoDamage, KeepsDamage, LeavesKeys, ServesArray, RefusesRight, AreRefused, IsUntouched}
+use Rattle.zarr_model.specs.Prelude.{Options, Shown, IsHonest, Command, Description, layout, all_asks, counted, Rose, SeesNoDamage, ErasesKeys, KeepsDamage, LeavesKeys, ServesArray, RefusesRight, AreRefused, IsUntouched}
 use Rattle.zarr_array.specs.Session.{FailsAt}
 use Rattle.zarr_array.specs.Stored.{StoresForAll}
 use Rattle.zarr_array.specs.Ended.{Ended}
@@ -16,11 +16,14 @@ pub record Runs (array : Description) (options : Options) (commands : List Comma
   pub complete : IsHonest (layout array options) before.content → ¬ Rose before.faults now.faults →
       IfErr ended (λ error. error.kind ≡ OutOfMemory)
   -- where they ran, over any store: the refusals, the reading calls, and that each chunk met
-  -- decodes; where all are refused, nothing is touched however they end
+  -- decodes, but for reads of parts whose pieces are there; where all are refused, nothing is
+  -- touched however they end
   pub refusals : IfOk ended (λ answers. RefusesRight array commands answers)
   pub refused : AreRefused array commands → IsUntouched before now
   pub asks : OnOk ended (now.asks ≡ counted before.asks (all_asks array commands))
-  pub undamaged : OnOk ended (MeetsNoDamage array options commands before.content)
+  pub undamaged : OnOk ended (SeesNoDamage array options commands before.content)
+  -- commands without a write leave exactly those chunks present that they do not erase
+  pub erased : OnOk ended (ErasesKeys array options commands before.content now.content)
   -- a value that does not decode stands until its chunk is erased
   pub damage : OnOk ended (KeepsDamage array options commands before.content now.content)
   -- each chunk that was written or erased decodes under all options, and alike

@@ -1,6 +1,6 @@
 //! Single commands on an opened array.
 
-ghost use Rattle.std.specs.Prelude.{◌≡◌, ℕ, List, [], ◌∷◌, Some, IfErr, IsOk};
+ghost use Rattle.std.specs.Prelude.{◌≡◌, ℕ, true, false, List, [], ◌∷◌, Some, IfErr, IsOk};
 ghost use Rattle.zarrs_codec_array_bytes.specs.Raw.{raw_of};
 ghost use Rattle.zarr_model.specs.Prelude.{read, write, erase, AreRefused};
 ghost use Rattle.zarrs_array_subset.specs.ArraySubset.{region as region_of_subset};
@@ -8,6 +8,7 @@ ghost use Rattle.zarrs_codec_traits.specs.Views.{options_of};
 ghost use Rattle.zarr_array_regions.specs.Told.{TellsWhy};
 ghost use Rattle.zarr_array.specs.Ended.{ended_one};
 ghost use Rattle.zarr_array.specs.Runs.{Runs};
+ghost use Rattle.zarr_array.specs.Taken.{TakesAlone};
 
 use crate::command::Reply;
 use crate::error::{SessionError, SessionErrorKind};
@@ -39,6 +40,9 @@ impl OpenArray {
         ensures runs { Runs (described self.now) (options_of options.now)
             (read (region_of_subset region.now) ∷ [])
             (S.shown store.old) (S.shown store.new) (ended_one result) }
+        ensures taken { TakesAlone (documented self.now) (options_of options.now)
+            (read (region_of_subset region.now) ∷ [])
+            (S.shown store.old) (S.shown store.new) (ended_one result) }
         // A refusal is an answer, and an error is at this command.
         ensures answered { AreRefused (described self.now)
             (read (region_of_subset region.now) ∷ []) → IsOk result }
@@ -46,7 +50,7 @@ impl OpenArray {
         ensures same { (key : List ℕ) →
             (S.shown store.new).content key ≡ (S.shown store.old).content key }
         ensures kept { S.kept store.old store.new }
-        ensures told { IfErr result (λ error. TellsWhy (documented self.now)
+        ensures told { IfErr result (λ error. TellsWhy true (documented self.now)
             (options_of options.now) (S.shown store.new) error.kind) }
     {
         Ok(self.run_read(alloc, region, store, options)?)
@@ -74,11 +78,14 @@ impl OpenArray {
         ensures runs { Runs (described self.now) (options_of options.now)
             (write (region_of_subset region.now) (raw_of bytes.now) ∷ [])
             (S.shown store.old) (S.shown store.new) (ended_one result) }
+        ensures taken { TakesAlone (documented self.now) (options_of options.now)
+            (write (region_of_subset region.now) (raw_of bytes.now) ∷ [])
+            (S.shown store.old) (S.shown store.new) (ended_one result) }
         // A refusal is an answer, and an error is at this command.
         ensures answered { AreRefused (described self.now)
             (write (region_of_subset region.now) (raw_of bytes.now) ∷ []) → IsOk result }
         ensures begun { IfErr result (λ error. (k : ℕ) × (error.at ≡ Some (0, k))) }
-        ensures told { IfErr result (λ error. TellsWhy (documented self.now)
+        ensures told { IfErr result (λ error. TellsWhy false (documented self.now)
             (options_of options.now) (S.shown store.new) error.kind) }
     {
         Ok(self.run_write(alloc, region, bytes, store, options)?)
@@ -100,11 +107,14 @@ impl OpenArray {
         ensures runs { Runs (described self.now) (options_of options.now)
             (erase chunk.now ∷ [])
             (S.shown store.old) (S.shown store.new) (ended_one result) }
+        ensures taken { TakesAlone (documented self.now) (options_of options.now)
+            (erase chunk.now ∷ [])
+            (S.shown store.old) (S.shown store.new) (ended_one result) }
         // A refusal is an answer, and an error is at this command.
         ensures answered { AreRefused (described self.now)
             (erase chunk.now ∷ []) → IsOk result }
         ensures begun { IfErr result (λ error. (k : ℕ) × (error.at ≡ Some (0, k))) }
-        ensures told { IfErr result (λ error. TellsWhy (documented self.now)
+        ensures told { IfErr result (λ error. TellsWhy false (documented self.now)
             (options_of options.now) (S.shown store.new) error.kind) }
     {
         Ok(self.run_erase(alloc, chunk, store, options)?)

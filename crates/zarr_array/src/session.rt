@@ -1,16 +1,18 @@
 //! Sessions: a list of commands over a store.
 
 ghost use Rattle.std.specs.Prelude.{IfErr, ◌≡◌, map};
+ghost use Rattle.std.specs.List.{list_any};
 ghost use Rattle.zarr_array_regions.specs.parts.Document.{ArrayDocument, describe};
 ghost use Rattle.zarr_array_regions.specs.parts.Opening.{OpenRefusal, opened, not_opened, open_document};
 ghost use Rattle.zarr_array_regions.specs.parts.basics.Registries.{names_of};
 ghost use Rattle.zarr_array.specs.OpenError.{ended_by};
-ghost use Rattle.zarr_array.specs.Command.{command_of, AreReads};
+ghost use Rattle.zarr_array.specs.Command.{command_of, is_read, AreReads};
 ghost use Rattle.zarrs_codec_traits.specs.Views.{options_of};
 ghost use Rattle.zarr_array.specs.Session.{EndsUnopened};
 ghost use Rattle.zarr_array_regions.specs.Told.{TellsWhy};
 ghost use Rattle.zarr_array.specs.Ended.{ended};
 ghost use Rattle.zarr_array.specs.Runs.{Runs};
+ghost use Rattle.zarr_array.specs.Taken.{TakesAlone};
 
 use crate::command::{Command, Reply};
 use crate::error::{SessionError, SessionErrorKind};
@@ -41,7 +43,12 @@ impl OpenArray {
     ) -> Result<Vec<Reply>, SessionError>
         ensures runs { Runs (described self.now) (options_of options.now)
             (map command_of commands.now) (S.shown store.old) (S.shown store.new) (ended result) }
-        ensures told { IfErr result (λ error. TellsWhy (documented self.now)
+        // Where the codec `bytes` stands alone and presence before each is known, exactly the bytes that are needed are
+        // taken.
+        ensures taken { TakesAlone (documented self.now) (options_of options.now)
+            (map command_of commands.now) (S.shown store.old) (S.shown store.new) (ended result) }
+        ensures told { IfErr result (λ error. TellsWhy
+            (list_any is_read (map command_of commands.now)) (documented self.now)
             (options_of options.now) (S.shown store.new) error.kind) }
         // Reads keep what a store says that its reading calls keep.
         ensures kept { AreReads (map command_of commands.now) → S.kept store.old store.new }
@@ -88,11 +95,16 @@ pub fn run_session<S: Store>(
         open_document (names_of registries.now) metadata.now ≡ opened document →
         Runs (describe document) (options_of options.now) (map command_of commands.now)
         (S.shown store.old) (S.shown store.new) (ended result) }
+    // Where the codec `bytes` stands alone and presence before each is known, exactly the bytes that are needed are taken.
+    ensures taken { (document : ArrayDocument) →
+        open_document (names_of registries.now) metadata.now ≡ opened document →
+        TakesAlone document (options_of options.now) (map command_of commands.now)
+        (S.shown store.old) (S.shown store.new) (ended result) }
     // An error of a chunk tells why its value does not decode.
     ensures told { (document : ArrayDocument) →
         open_document (names_of registries.now) metadata.now ≡ opened document →
-        IfErr result (λ error. TellsWhy document (options_of options.now) (S.shown store.new)
-        error.kind) }
+        IfErr result (λ error. TellsWhy (list_any is_read (map command_of commands.now)) document
+        (options_of options.now) (S.shown store.new) error.kind) }
     // Reads keep what a store says that its reading calls keep.
     ensures kept { AreReads (map command_of commands.now) → S.kept store.old store.new }
 {

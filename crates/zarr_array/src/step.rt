@@ -1,14 +1,15 @@
 //! One command of a session.
 
-ghost use Rattle.std.specs.Prelude.{IfErr, ◌≡◌, ℕ, List, [], ◌∷◌, IsOk};
+ghost use Rattle.std.specs.Prelude.{IfErr, ◌≡◌, ℕ, true, false, List, [], ◌∷◌, IsOk};
 ghost use Rattle.zarrs_codec_array_bytes.specs.Raw.{raw_of};
 ghost use Rattle.zarr_model.specs.Prelude.{read, write, erase, AreRefused};
 ghost use Rattle.zarrs_array_subset.specs.ArraySubset.{region};
-ghost use Rattle.zarr_array.specs.Command.{command_of, AreReads};
+ghost use Rattle.zarr_array.specs.Command.{command_of, is_read, AreReads};
 ghost use Rattle.zarrs_codec_traits.specs.Views.{options_of};
 ghost use Rattle.zarr_array_regions.specs.Told.{TellsWhy};
 ghost use Rattle.zarr_array.specs.Ended.{ended_step};
 ghost use Rattle.zarr_array.specs.Runs.{Runs};
+ghost use Rattle.zarr_array.specs.Taken.{TakesAlone};
 
 use crate::command::{Command, Reply};
 use crate::error::SessionErrorKind;
@@ -34,12 +35,15 @@ impl OpenArray {
         ensures runs { Runs (described self.now) (options_of options.now)
             (read (region subset.now) ∷ [])
             (S.shown store.old) (S.shown store.new) (ended_step result) }
+        ensures taken { TakesAlone (documented self.now) (options_of options.now)
+            (read (region subset.now) ∷ [])
+            (S.shown store.old) (S.shown store.new) (ended_step result) }
         ensures answered { AreRefused (described self.now)
             (read (region subset.now) ∷ []) → IsOk result }
         ensures same { (key : List ℕ) →
             (S.shown store.new).content key ≡ (S.shown store.old).content key }
         ensures kept { S.kept store.old store.new }
-        ensures told { IfErr result (λ error. TellsWhy (documented self.now)
+        ensures told { IfErr result (λ error. TellsWhy true (documented self.now)
             (options_of options.now) (S.shown store.new) error.kind) }
     {
         if let Some(refusal) = self.region_refusal(subset) {
@@ -61,9 +65,12 @@ impl OpenArray {
         ensures runs { Runs (described self.now) (options_of options.now)
             (write (region subset.now) (raw_of bytes.now) ∷ [])
             (S.shown store.old) (S.shown store.new) (ended_step result) }
+        ensures taken { TakesAlone (documented self.now) (options_of options.now)
+            (write (region subset.now) (raw_of bytes.now) ∷ [])
+            (S.shown store.old) (S.shown store.new) (ended_step result) }
         ensures answered { AreRefused (described self.now)
             (write (region subset.now) (raw_of bytes.now) ∷ []) → IsOk result }
-        ensures told { IfErr result (λ error. TellsWhy (documented self.now)
+        ensures told { IfErr result (λ error. TellsWhy false (documented self.now)
             (options_of options.now) (S.shown store.new) error.kind) }
     {
         if let Some(refusal) = self.write_refusal(subset, bytes) {
@@ -84,9 +91,12 @@ impl OpenArray {
         ensures runs { Runs (described self.now) (options_of options.now)
             (erase chunk_indices.now ∷ [])
             (S.shown store.old) (S.shown store.new) (ended_step result) }
+        ensures taken { TakesAlone (documented self.now) (options_of options.now)
+            (erase chunk_indices.now ∷ [])
+            (S.shown store.old) (S.shown store.new) (ended_step result) }
         ensures answered { AreRefused (described self.now)
             (erase chunk_indices.now ∷ []) → IsOk result }
-        ensures told { IfErr result (λ error. TellsWhy (documented self.now)
+        ensures told { IfErr result (λ error. TellsWhy false (documented self.now)
             (options_of options.now) (S.shown store.new) error.kind) }
     {
         if let Some(refusal) = self.erase_refusal(chunk_indices) {
@@ -114,11 +124,14 @@ impl OpenArray {
         ensures runs { Runs (described self.now) (options_of options.now)
             (command_of command.now ∷ [])
             (S.shown store.old) (S.shown store.new) (ended_step result) }
+        ensures taken { TakesAlone (documented self.now) (options_of options.now)
+            (command_of command.now ∷ [])
+            (S.shown store.old) (S.shown store.new) (ended_step result) }
         ensures answered { AreRefused (described self.now)
             (command_of command.now ∷ []) → IsOk result }
         ensures kept { AreReads (command_of command.now ∷ []) → S.kept store.old store.new }
-        ensures told { IfErr result (λ error. TellsWhy (documented self.now)
-            (options_of options.now) (S.shown store.new) error.kind) }
+        ensures told { IfErr result (λ error. TellsWhy (is_read (command_of command.now))
+            (documented self.now) (options_of options.now) (S.shown store.new) error.kind) }
     {
         match command {
             Command::Read(subset) => self.run_read(alloc, subset, store, options),

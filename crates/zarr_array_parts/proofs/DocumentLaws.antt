@@ -3,11 +3,12 @@ use Rattle.std.proofs.Common.{◌≡◌, ℕ, ◌^◌, nat_le, true, List, [], �
 use Rattle.std.specs.List.{AllByRecursion}
 use Rattle.std.proofs.lemmas.Bool.{and_parts, leb-true}
 use Rattle.zarr_model.specs.Prelude.{Options, KeepsCount, IsChunk, IsSound, layout}
-use Rattle.zarr_model.proofs.ChainLaws.{decode_chain-counted, array_to_bytes-counted, offset-keeps_count, transpose-keeps_count}
+use Rattle.zarr_model.proofs.ChainLaws.{decode_chain-counted, array_to_bytes-counted}
 use Rattle.zarr_basics.specs.Keys.{IsCountable}
 use Rattle.zarr_codecs_array_to_bytes.specs.Plain.{codec_of}
 use Rattle.zarr_array_parts.specs.Sizes.{are_countable}
-use Rattle.zarr_basics.specs.kinds.array_to_array.ArrayToArray.{ArrayToArray, offset, transpose, array_codec_of}
+use Rattle.zarr_basics.specs.kinds.array_to_array.ArrayToArray.{ArrayToArray, array_codec_of}
+use Rattle.zarr_basics.specs.kinds.array_to_array.Laws.{keeps_count}
 use Rattle.zarr_array_parts.specs.Document.{ArrayDocument, describe}
 use Rattle.zarr_array_parts.specs.Opening.{opened, not_opened, OpenRefusal}
 
@@ -20,8 +21,7 @@ countable_is (n ∷ grid_shape) e =
 
 keep_count : (codecs : List ArrayToArray) → AllByRecursion KeepsCount (map array_codec_of codecs)
 keep_count [] = tt
-keep_count (offset number ∷ codecs) = (offset-keeps_count number, keep_count codecs)
-keep_count (transpose order ∷ codecs) = (transpose-keeps_count order, keep_count codecs)
+keep_count (codec ∷ codecs) = (keeps_count codec, keep_count codecs)
 
 -- where different chunks have different keys
 pub describe-sound : (document : ArrayDocument) (options : Options) →

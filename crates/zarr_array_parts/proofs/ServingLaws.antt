@@ -12,8 +12,8 @@ use Rattle.zarrs_codec_traits.specs.Errors.{Unserved, RefusesBy, unserved_error,
 use Rattle.zarr_codecs_array_to_bytes.specs.Plain.{unserved_by}
 use Rattle.zarr_codecs_array_to_bytes.specs.Views.{plain_of}
 use Rattle.zarr_codecs_array_to_bytes.specs.declared.codecs.BasicArrayToBytes.{BasicArrayToBytes}
-use Rattle.zarr_basics.specs.kinds.array_to_array.ArrayToArray.{ArrayToArray, offset, transpose, array_codec_of, array_unserved_by, array_has_rank, type_below_by}
-use Rattle.zarr_basics.specs.kinds.array_to_array.Laws.{plain_serves, type_of_below, rank_below}
+use Rattle.zarr_basics.specs.kinds.array_to_array.ArrayToArray.{ArrayToArray, array_codec_of, array_unserved_by, array_has_rank, type_below_by}
+use Rattle.zarr_basics.specs.kinds.array_to_array.Laws.{type_kept, plain_serves, type_of_below, rank_below}
 use Rattle.zarr_basics.specs.kinds.array_to_array.Views.{array_form}
 use Rattle.zarr_basics.specs.kinds.array_to_array.declared.array_to_array.BasicArrayToArray.{BasicArrayToArray}
 use Rattle.zarr_chain.specs.Building.{chain_unserved, IsReason, FailsToBuild}
@@ -36,11 +36,6 @@ below_unless why below = unless_unserved why >>= λ _. Ok below
 below_passed : {B : Type 0} (why : Option Unserved) (below : DataType) (y : B) (f : DataType → Result B OpenRefusal) → (below_unless why below >>= f) ≡ Ok y → (why ≡ None) × (f below ≡ Ok y)
 below_passed None below y f e = (refl, e)
 below_passed (Some why) below y f e = absurd cc
-
--- array-to-array codecs keep the type
-type_kept : (codec : ArrayToArray) (type : DataType) → type_below_by codec type ≡ type
-type_kept (offset number) type = refl
-type_kept (transpose order) type = refl
 
 abbrev type_is : DataType → Result DataType OpenRefusal
 type_is type = Ok type

@@ -4,15 +4,18 @@ use Rattle.zarr_model.specs.Prelude.{Element, Region, count, count_of, Options, 
 use Rattle.zarrs_codec_traits.specs.Words.{list_at, Gives}
 use Rattle.zarrs_codec_error.specs.declared.error.CodecError.{CodecError}
 use Rattle.zarrs_codec_error.specs.declared.error.CodecError.TheVariants as codec
+use Rattle.zarrs_storage.specs.declared.byte_range.ByteRange.{ByteRange}
 use Rattle.zarrs_storage.specs.declared.store.StorageError.{StorageError}
 use Rattle.zarrs_storage.specs.declared.store.StorageError.TheVariants as storage
+use Rattle.zarrs_codec_held.specs.Held.{Held}
 use Rattle.zarrs_codec_held.specs.Reads.{IsHandleError}
 use Rattle.zarr_chain.specs.Chain.{first_level, bottom_level, decoded}
 use Rattle.zarr_chain.specs.declared.levels.ChunkLevels.{ChunkLevels}
 use Rattle.zarr_chain.specs.Values.{byte_codecs}
 use Rattle.zarr_chain.specs.Values as values
 use Rattle.zarr_chain_stored.specs.Fetch as stored
-use Rattle.zarr_chain_stored.specs.Seen.{ChunkTells}
+use Rattle.zarr_chain_stored.specs.Regions.{given_bytes, first_outside, range_says}
+use Rattle.zarr_chain_stored.specs.Seen.{ChunkTells, RegionTells}
 use Rattle.zarr_chain_stored.specs.Put as put
 use Rattle.zarr_codecs_array_to_bytes.specs.Laws.{plain_no_fault}
 use Rattle.zarr_codecs_array_to_bytes.specs.Views.{plain_of}
@@ -127,35 +130,52 @@ module _ (array : ArrayParts) (chain : BasicChain) (levels : ChunkLevels) (optio
       (list_says chain.to_bytes options (bottom_level levels)) error (bytes_say chain.byte_codecs.items value error)
       (λ before tells. (plain_no_fault (plain_of chain.to_bytes) (count_of (bottom_level levels).shape) (bottom_level levels).data_type before (codec.StorageError error) tells).unlike error refl) says
 
-  damaged : (key : List ℕ) (before now : Shown) (content : Option (List ℕ)) (error : CodecError) → box_content (layout (described array) options) ((described array).grid.chunk_box chunk) content ≡ None →
-      stored.chunk_says list_says bytes_meaning bytes_says chain levels options content error →
-      FailsToFetch (box_content (layout (described array) options) ((described array).grid.chunk_box chunk) content) key before now (chunk_kind key error)
-  damaged key before now content error none says =
-      by_kind (λ k kind. FailsToFetch (box_content (layout (described array) options) ((described array).grid.chunk_box chunk) content) k before now kind) key error
-      (λ fault is. absurd (chunk_say content fault (subst (stored.chunk_says list_says bytes_meaning bytes_says chain levels options content) is says))) tt (refl, none)
+  -- and no range of a part is
+  range_say : (outside : Option ByteRange) (asked : Option (List ByteRange)) (given : Held) (says : CodecError → Type 0) (error : StorageError) → (says (codec.StorageError error) → ⊥) →
+      range_says outside asked given says (codec.StorageError error) → ⊥
+  range_say None asked given says error first tells = first tells
+  range_say (Some range) asked None says error first tells = tells
+  range_say (Some range) None (Some bytes) says error first tells = tells
+  range_say (Some range) (Some ranges) (Some None) says error first tells = tells
+  range_say (Some range) (Some ranges) (Some (Some value)) says error first tells = tells
 
-  -- why a chunk was not fetched
-  fetch_fails : (key : List ℕ) (before now : Shown) (content : Option (List ℕ)) (error : CodecError) →
-      ChunkTells (basic_seen chain levels) options content before.faults now.faults error →
+  -- why a chunk was not fetched: an error of the handle's, or one that tells that it does not decode
+  fetch_fails : (key : List ℕ) (before now : Shown) (content : Option (List ℕ)) (error : CodecError) (says : CodecError → Type 0) → ((fault : StorageError) → says (codec.StorageError fault) → ⊥) →
+      (IsHandleError before.faults now.faults error ⊎ ((stored.chunk_content array_meaning list_meaning bytes_meaning chain levels options content ≡ None) × says error)) →
       FailsToFetch (box_content (layout (described array) options) ((described array).grid.chunk_box chunk) content) key before now (chunk_kind key error)
-  fetch_fails key before now content error fails = ⊎_elim
+  fetch_fails key before now content error says unlike fails = ⊎_elim
       (λ (handle : IsHandleError before.faults now.faults error). ⊎_elim
       (λ (memory : error ≡ codec.OutOfMemory). subst fails_by (sym memory) tt)
       (λ (fault : (error ≡ codec.StorageError storage.Failed) × Rose before.faults now.faults). subst fails_by (sym fault.0) fault.1)
       handle)
-      (λ (none : (stored.chunk_content array_meaning list_meaning bytes_meaning chain levels options content ≡ None) × stored.chunk_says list_says bytes_meaning bytes_says chain levels options content error).
-      damaged key before now content error (sym (content_as content) ∙ none.0) none.1)
+      (λ (none : (stored.chunk_content array_meaning list_meaning bytes_meaning chain levels options content ≡ None) × says error).
+      by_kind (λ k kind. FailsToFetch (box_content (layout (described array) options) ((described array).grid.chunk_box chunk) content) k before now kind) key error
+      (λ fault is. absurd (unlike fault (subst says is none.1))) tt (refl, sym (content_as content) ∙ none.0))
       fails
     where
       fails_by : CodecError → Type 0
       fails_by e = FailsToFetch (box_content (layout (described array) options) ((described array).grid.chunk_box chunk) content) key before now (chunk_kind key e)
 
+  not_given : (key : List ℕ) (before now : Shown) (error : CodecError) (says : CodecError → Type 0) → ((fault : StorageError) → says (codec.StorageError fault) → ⊥) → key ≡ (described array).key chunk →
+      (IsHandleError before.faults now.faults error ⊎ ((stored.chunk_content array_meaning list_meaning bytes_meaning chain levels options (before.content key) ≡ None) × says error)) →
+      FailsToFetch (chunk_content (layout (described array) options) before.content chunk) ((described array).key chunk) before now (chunk_kind key error)
+  not_given key before now error says unlike its_key fails =
+      subst (λ k. FailsToFetch (box_content (layout (described array) options) ((described array).grid.chunk_box chunk) (before.content k)) k before now (chunk_kind key error)) its_key
+      (fetch_fails key before now (before.content key) error says unlike fails)
+
   pub not_fetched : (key : List ℕ) (before now : Shown) (error : CodecError) → key ≡ (described array).key chunk →
       ChunkTells (basic_seen chain levels) options (before.content key) before.faults now.faults error →
       FailsToFetch (chunk_content (layout (described array) options) before.content chunk) ((described array).key chunk) before now (chunk_kind key error)
   not_fetched key before now error its_key fails =
-      subst (λ k. FailsToFetch (box_content (layout (described array) options) ((described array).grid.chunk_box chunk) (before.content k)) k before now (chunk_kind key error)) its_key
-      (fetch_fails key before now (before.content key) error fails)
+      not_given key before now error (stored.chunk_says list_says bytes_meaning bytes_says chain levels options (before.content key)) (chunk_say (before.content key)) its_key fails
+
+  pub part_not_fetched : (asked : Option (List ByteRange)) (key : List ℕ) (before now : Shown) (error : CodecError) → key ≡ (described array).key chunk →
+      RegionTells (basic_seen chain levels) options asked (before.content key) before.faults now.faults error →
+      FailsToFetch (chunk_content (layout (described array) options) before.content chunk) ((described array).key chunk) before now (chunk_kind key error)
+  part_not_fetched asked key before now error its_key fails =
+      let given = given_bytes bytes_meaning chain options (before.content key) in
+      not_given key before now error (range_says (first_outside asked given) asked given (stored.chunk_says list_says bytes_meaning bytes_says chain levels options (before.content key)))
+      (λ fault. range_say (first_outside asked given) asked given (stored.chunk_says list_says bytes_meaning bytes_says chain levels options (before.content key)) fault (chunk_say (before.content key) fault)) its_key fails
 
 -- what is there
 pub some_list : (o : Option (List Element)) → IsSome o → o ≡ Some (unwrap_or o [])

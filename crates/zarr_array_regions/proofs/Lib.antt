@@ -8,6 +8,10 @@ pub mod PlaceLaws
 pub mod MetLaws
 pub mod ChunkLaws
 pub mod ToldLaws
+pub mod PieceLaws
+pub mod FoundLaws
+pub mod RunBytes
+pub mod TakenLaws
 pub mod FetchSteps
 pub mod SharedLaws
 pub mod SharedSteps

@@ -1,11 +1,15 @@
 -- The steps of reading a region.
-use Rattle.std.proofs.Common.{◌≡◌, ℕ, ◌+◌, ◌-◌, ◌^◌, ◌<◌, ◌≤◌, ◌⊎◌, true, List, [], length, slice_get, Some, IsSome, unwrap_or, refl, sym, ap, ◌∙◌, subst, subst₂, arith, le_trans, inl, inr, ⊎_elim}
-use Rattle.std.proofs.lemmas.Option.{slice_get_within}
-use Rattle.zarr_model.specs.Prelude.{Region, count, ends_within, Element, Kind, kind, ArrayBytes, meaning, Array, IsChunk, chunks_meeting, WhollyMeans, Options, box_content, chunk_content, Shown, Description, layout, counted}
+use Rattle.std.proofs.Common.{◌≡◌, ℕ, ◌+◌, ◌-◌, ◌^◌, ◌<◌, ◌≤◌, ◌⊎◌, true, List, [], length, take, filter, if◌then◌else◌, is_some, ◌*◌, slice_get, Option, Some, IsSome, unwrap_or, refl, sym, ap, ◌∙◌, subst, subst₂, arith, le_trans, inl, inr, ⊎_elim}
+use Rattle.std.specs.List.{sum_by}
+use Rattle.std.proofs.lemmas.List.{take_all}
+use Rattle.std.proofs.lemmas.List.Sums.{sum_by_more}
+use Rattle.std.proofs.lemmas.Option.{slice_get_within, get_or_from_slice_get}
+use Rattle.zarr_model.specs.Prelude.{Region, count, contains, tuples, ends_within, Element, Kind, kind, fixed_size, ArrayBytes, meaning, Array, elements_in, chunks_meeting, HasMet, Options, Content, box_content, chunk_content, Shown, Description, layout, counted, read_bytes, finds_shared}
+use Rattle.zarr_model.proofs.NeededLaws.{read_needs}
 use Rattle.zarrs_storage.specs.Store.{SameContent}
 use Rattle.zarrs_codec_bytes.specs.Overlap.{Copied}
 use Rattle.zarr_array_elements.specs.Elements.{list_in}
-use Rattle.zarr_array_parts.specs.Parts.{described}
+use Rattle.zarr_array_parts.specs.Parts.{documented, described}
 use Rattle.zarr_array_parts.specs.declared.parts.ArrayParts.{ArrayParts}
 use Rattle.zarr_array_parts.proofs.ServedLaws.{described_covers}
 use Rattle.zarrs_codec_held.proofs.EditLaws.{rose_later}
@@ -14,15 +18,30 @@ use Rattle.zarr_array_regions.specs.declared.error.SessionErrorKind.TheVariants.
 use Rattle.zarr_array_regions.specs.Chunk.{FailsToFetch}
 use Rattle.zarr_array_regions.specs.CommandError.{before_chunks}
 use Rattle.zarr_array_regions.specs.Fetch.{HasAsked, chunk_list, HasElements, NotFetched}
-use Rattle.zarr_array_regions.specs.Shared.{HoldsShared, IsHeldShared}
+use Rattle.zarr_array_regions.specs.Shared.{HoldsShared, IsReadable, IsHeldShared}
 use Rattle.zarr_array_regions.specs.declared.shared.FetchedChunk.{FetchedChunk}
+use Rattle.zarr_array_regions.specs.Taken.{Takes}
 use Rattle.zarr_array_regions.specs.Read.{HasReadCause, FailsToRead, HasReadChunk, HasReadList, HasReadRegion, NotReadRegion}
 use Rattle.zarr_array_regions.proofs.ReadLaws.{HasRead, read-start, read-step, read-end, chunk_copied}
-use Rattle.zarr_array_regions.proofs.DecodeLaws.{decode-step, decode-all}
+use Rattle.zarr_array_regions.proofs.DecodeLaws.{each-step, each-all}
 
 -- counts that stop at the greatest number
 pub counted_more : (before mid now k more : ℕ) → mid ≡ counted before k → now ≡ counted mid more → now ≡ counted before (k + more)
 counted_more before mid now k more first second = omega (arith, first, second)
+
+-- what a chunk needs depends on whether it is present
+pub read_bytes-same : (description : Description) (region : Region) (old mid : Content) (chunk : List ℕ) → mid (description.key chunk) ≡ old (description.key chunk) → read_bytes description region mid chunk ≡ read_bytes description region old chunk
+read_bytes-same description region old mid chunk same =
+    ap (λ v. if is_some v then unwrap_or (fixed_size (kind description)) 0 * length (filter (contains (description.grid.chunk_box chunk)) (tuples region)) else 0) same
+
+-- the bytes of one chunk more
+pub one_more_taken : (chunks : List (List ℕ)) (k : ℕ) (chunk : List ℕ) → slice_get chunks k ≡ Some chunk → (needs : List ℕ → ℕ) (before mid now : Shown) →
+    mid.taken ≡ counted before.taken (sum_by needs (take k chunks)) → now.taken ≡ counted mid.taken (needs chunk) → now.taken ≡ counted before.taken (sum_by needs (take (k + 1) chunks))
+one_more_taken chunks k chunk here needs before mid now first second =
+    let within : k < length chunks = slice_get_within chunks k chunk here in
+    let more : sum_by needs (take (k + 1) chunks) ≡ sum_by needs (take k chunks) + needs chunk =
+    sum_by_more needs chunks k chunk within ∙ ap (λ c. sum_by needs (take k chunks) + needs c) (get_or_from_slice_get chunks k chunk chunk here) in
+    omega (arith, first, second, more)
 
 -- a chunk that could not be fetched stops the reading of its region
 pub stops_reading : (description : Description) (options : Options) (region : Region) (k : ℕ) (old mid new : Shown) (chunk : List ℕ) (kind : SessionErrorKind) →
@@ -49,65 +68,77 @@ pub record HasReadSome (array : ArrayParts) (options : Options) (region : Region
   pub as_long : length list ≡ count region
   pub same : SameContent before now
   pub asks : now.asks ≡ counted before.asks k
+  pub taken : Takes (documented array) (sum_by (read_bytes (described array) region before.content) (take k (chunks_meeting (described array).grid region))) before now
   pub later : before.faults ≤ now.faults
-  pub decode : (place : ℕ) (chunk : List ℕ) → place < k → slice_get (chunks_meeting (described array).grid region) place ≡ Some chunk →
-      IsSome (chunk_content (layout (described array) options) before.content chunk)
-  pub read : (plain : Array Element) → WhollyMeans (layout (described array) options) before.content plain →
+  pub readable : (place : ℕ) (chunk : List ℕ) → place < k → slice_get (chunks_meeting (described array).grid region) place ≡ Some chunk → IsReadable (described array) options region before.content chunk
+  pub read : (plain : Array Element) → HasMet (described array) options region before.content plain →
       HasRead (described array).grid region (chunks_meeting (described array).grid region) k plain list
 
 module _ (array : ArrayParts) (options : Options) (region : Region) where
   abbrev met : List (List ℕ)
   met = chunks_meeting (described array).grid region
 
+  -- what makes a chunk readable, of what stands under its key
+  abbrev readable_by : List ℕ → Option (List ℕ) → Type 0
+  readable_by chunk value =
+      IsSome (box_content (layout (described array) options) ((described array).grid.chunk_box chunk) value) ⊎ (finds_shared (described array) options region chunk value ≡ true)
+
   -- a chunk that was fetched was put into the region's elements
   pub chunk_put : (chunk : List ℕ) (bytes : ArrayBytes) (of_kind : Kind) (over own : Region) (old new : List Element) (before now : Shown) → HasAsked before now → HasElements array options chunk before bytes →
       of_kind ≡ kind (described array) → over ≡ region → own ≡ (described array).grid.chunk_box chunk → Copied over own (list_in of_kind own bytes) old new →
-      HasReadChunk array options region chunk old new before now
-  chunk_put chunk bytes of_kind over own old new before now asked held kind_is over_is own_is put =
+      Takes (documented array) (read_bytes (described array) region before.content chunk) before now → HasReadChunk array options region chunk old new before now
+  chunk_put chunk bytes of_kind over own old new before now asked held kind_is over_is own_is put taken =
       let moved : Copied region ((described array).grid.chunk_box chunk) (chunk_list array chunk bytes) old new =
       subst (λ b. Copied region b (list_in (kind (described array)) b bytes) old new) own_is
       (subst₂ (λ k r. Copied r own (list_in k own bytes) old new) kind_is over_is put) in
       record {
         asked = asked;
-        decodes = subst IsSome (sym held.elements) refl;
+        readable = inl (subst IsSome (sym held.elements) refl);
         copied = λ plain has. chunk_copied (layout (described array) options) before.content region chunk (chunk_list array chunk bytes) old new plain held.elements moved has;
         as_long = moved.as_long;
+        taken = taken;
       }
 
   -- what a chunk that was fetched shares with the region was put into the region's elements
   pub shared_read : (chunk : List ℕ) (held : FetchedChunk) (old new : List Element) (before now : Shown) → HasAsked before now → IsHeldShared array options region chunk before held →
-      ((list : List Element) → HoldsShared array region chunk list held → Copied region ((described array).grid.chunk_box chunk) list old new) → HasReadChunk array options region chunk old new before now
-  shared_read chunk held old new before now asked is put = record {
+      ((list : List Element) → HoldsShared array region chunk list held → Copied region ((described array).grid.chunk_box chunk) list old new) →
+      Takes (documented array) (read_bytes (described array) region before.content chunk) before now → HasReadChunk array options region chunk old new before now
+  shared_read chunk held old new before now asked is put taken = record {
     asked = asked;
-    decodes = subst IsSome (sym is.content) refl;
-    copied = λ plain has. chunk_copied (layout (described array) options) before.content region chunk is.list old new plain is.content (put is.list is.holds) has;
+    readable = is.readable;
+    copied = λ plain has. subst (λ xs. Copied region ((described array).grid.chunk_box chunk) xs old new)
+        (sym (is.content (elements_in ((described array).grid.chunk_box chunk) plain) has)) (put is.list is.holds);
     as_long = (put is.list is.holds).as_long;
+    taken = taken;
   }
 
-  pub none_read : (list : List Element) (store : Shown) → length list ≡ count region → store.asks ≤ 2 ^ 64 - 1 → HasReadSome array options region 0 list store store
-  none_read list store long fits = record {
+  pub none_read : (list : List Element) (store : Shown) → length list ≡ count region → store.asks ≤ 2 ^ 64 - 1 → store.taken ≤ 2 ^ 64 - 1 → HasReadSome array options region 0 list store store
+  none_read list store long fits room = record {
     as_long = long;
     same = λ key. refl;
     asks = omega (arith, fits);
+    taken = λ alone. omega (arith, room);
     later = omega arith;
-    decode = λ place chunk below e. absurd (omega (arith, below));
-    read = λ plain meant. read-start (described array).grid region met plain list long;
+    readable = λ place chunk below e. absurd (omega (arith, below));
+    read = λ plain has. read-start (described array).grid region met plain list long;
   }
 
-  pub one_read : (k : ℕ) (chunk : List ℕ) (old new : List Element) (before mid now : Shown) → slice_get met k ≡ Some chunk → IsChunk (described array).grid chunk →
+  pub one_read : (k : ℕ) (chunk : List ℕ) (old new : List Element) (before mid now : Shown) → slice_get met k ≡ Some chunk →
       HasReadSome array options region k old before mid → HasReadChunk array options region chunk old new mid now → HasReadSome array options region (k + 1) new before now
-  one_read k chunk old new before mid now here is_chunk so_far step = record {
+  one_read k chunk old new before mid now here so_far step = record {
     as_long = step.as_long ∙ so_far.as_long;
     same = λ key. step.asked.same key ∙ so_far.same key;
     asks = counted_more before.asks mid.asks now.asks k 1 so_far.asks step.asked.asks;
+    taken = λ alone. one_more_taken met k chunk here (read_bytes (described array) region before.content) before mid now (so_far.taken alone)
+        (step.taken alone ∙ ap (counted mid.taken) (read_bytes-same (described array) region before.content mid.content chunk (so_far.same ((described array).key chunk))));
     later = le_trans so_far.later step.asked.later;
-    decode = decode-step (layout (described array) options) met before.content mid.content k chunk here so_far.same so_far.decode step.decodes;
-    read = λ plain meant. read-step (described array).grid region met plain k chunk old new here (so_far.read plain meant)
-        (step.copied plain (ap (box_content (layout (described array) options) ((described array).grid.chunk_box chunk)) (so_far.same ((described array).key chunk)) ∙ meant.each_chunk chunk is_chunk));
+    readable = each-step readable_by (described array).key met before.content mid.content k chunk here so_far.same so_far.readable step.readable;
+    read = λ plain has. read-step (described array).grid region met plain k chunk old new here (so_far.read plain has)
+        (step.copied plain (ap (box_content (layout (described array) options) ((described array).grid.chunk_box chunk)) (so_far.same ((described array).key chunk)) ∙ has k chunk here));
   }
 
   pub stops_read : (k : ℕ) (chunk : List ℕ) (list : List Element) (before mid now : Shown) (kind : SessionErrorKind) → slice_get met k ≡ Some chunk →
-      HasReadSome array options region k list before mid → NotFetched array options chunk mid now kind →
+      HasReadSome array options region k list before mid → NotFetched true array options chunk mid now kind →
       NotReadRegion array options region before now (record { chunks_done = k; kind = kind })
   stops_read k chunk list before mid now kind here so_far stop = record {
     same = λ key. stop.same key ∙ so_far.same key;
@@ -115,6 +146,7 @@ module _ (array : ArrayParts) (options : Options) (region : Region) where
     failed =
         let within : k < length met = slice_get_within met k chunk here in
         stops_reading (described array) options region k before mid now chunk kind here (omega (arith, within)) so_far.same so_far.asks stop.asks so_far.later stop.failed;
+    readable = so_far.readable;
     told = stop.told;
   }
 
@@ -122,23 +154,25 @@ module _ (array : ArrayParts) (options : Options) (region : Region) where
       HasReadList array options region before now list
   all_read list before now inside all = record {
     as_long = all.as_long;
-    elements = λ plain meant. read-end (described array).shape (described array).grid region met plain list (described_covers array) inside refl (all.read plain meant);
-    decodes = decode-all (layout (described array) options) met before.content (length met) (omega arith) all.decode;
+    elements = λ plain has. read-end (described array).shape (described array).grid region met plain list (described_covers array) inside refl (all.read plain has);
+    readable = each-all readable_by (described array).key met before.content (length met) (omega arith) all.readable;
     same = all.same;
     asks = all.asks;
+    taken = λ alone. all.taken alone ∙ ap (counted before.taken)
+        (ap (sum_by (read_bytes (described array) region before.content)) (take_all (length met) met (omega arith)) ∙ sym (read_needs (described array) region before.content));
     later = all.later;
   }
 
   -- a region that meets no chunk
-  pub none_to_read : (list : List Element) (store : Shown) → ends_within region (described array).shape ≡ true → met ≡ [] → length list ≡ count region → store.asks ≤ 2 ^ 64 - 1 →
+  pub none_to_read : (list : List Element) (store : Shown) → ends_within region (described array).shape ≡ true → met ≡ [] → length list ≡ count region → store.asks ≤ 2 ^ 64 - 1 → store.taken ≤ 2 ^ 64 - 1 →
       HasReadList array options region store store list
-  none_to_read list store inside none long fits =
-      all_read list store store inside (subst (λ n. HasReadSome array options region n list store store) (sym (ap length none)) (none_read list store long fits))
+  none_to_read list store inside none long fits room =
+      all_read list store store inside (subst (λ n. HasReadSome array options region n list store store) (sym (ap length none)) (none_read list store long fits room))
 
   -- array bytes that mean what was read
-  pub read_bytes : (bytes : ArrayBytes) (of_kind : Kind) (over : Region) (list : List Element) (before now : Shown) → of_kind ≡ kind (described array) → over ≡ region → meaning of_kind (count over) bytes ≡ Some list →
+  pub read_means : (bytes : ArrayBytes) (of_kind : Kind) (over : Region) (list : List Element) (before now : Shown) → of_kind ≡ kind (described array) → over ≡ region → meaning of_kind (count over) bytes ≡ Some list →
       HasReadList array options region before now list → HasReadRegion array options region before now bytes
-  read_bytes bytes of_kind over list before now kind_is over_is means read =
+  read_means bytes of_kind over list before now kind_is over_is means read =
       let here : meaning (kind (described array)) (count region) bytes ≡ Some list = subst₂ (λ k r. meaning k (count r) bytes ≡ Some list) kind_is over_is means in
       record {
         means = subst IsSome (sym here) refl;
@@ -151,6 +185,7 @@ module _ (array : ArrayParts) (options : Options) (region : Region) where
     same = read.same;
     later = read.later;
     failed = record { few = omega (arith, all); asks = inl (read.asks ∙ ap (counted before.asks) (sym all)); cause = tt };
+    readable = λ place chunk below. read.readable place chunk;
     told = tt;
   }
 
@@ -160,5 +195,6 @@ module _ (array : ArrayParts) (options : Options) (region : Region) where
     same = λ key. refl;
     later = omega arith;
     failed = record { few = omega arith; asks = inl (omega (arith, fits)); cause = tt };
+    readable = λ place chunk below e. absurd (omega (arith, below));
     told = tt;
   }

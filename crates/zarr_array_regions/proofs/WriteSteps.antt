@@ -1,7 +1,10 @@
 -- The steps of writing to a region.
-use Rattle.std.proofs.Common.{◌≡◌, ℕ, ◌+◌, ◌-◌, ◌^◌, ◌≤◌, false, List, [], length, slice_get, Some, IsSome, Result, Ok, Err, refl, sym, ap, ◌∙◌, subst, subst₂, le_trans, inl, inr}
-use Rattle.zarr_model.specs.Prelude.{Region, count, Element, Kind, kind, ArrayBytes, meaning, has_long_element, written_elements, Array, chunks_meeting, Options, Shown, layout, chunk_content}
+use Rattle.std.proofs.Common.{◌≡◌, ℕ, ◌+◌, ◌-◌, ◌*◌, ◌^◌, ◌≤◌, false, if◌then◌else◌, is_some, unwrap_or, List, [], length, take, slice_get, Some, IsSome, Result, Ok, Err, refl, sym, ap, ◌∙◌, subst, subst₂, arith, le_trans, inl, inr}
+use Rattle.std.specs.List.{sum_by}
+use Rattle.std.proofs.lemmas.List.{take_all}
+use Rattle.zarr_model.specs.Prelude.{Region, count, Element, Kind, kind, fixed_size, ArrayBytes, meaning, has_long_element, written_elements, Array, chunks_meeting, Options, Shown, layout, chunk_content, counted, write_bytes}
 use Rattle.zarr_model.proofs.BytesLaws.{length-meaning}
+use Rattle.zarr_model.proofs.NeededLaws.{write_needs}
 use Rattle.zarrs_storage.specs.declared.store.StorageError.{StorageError}
 use Rattle.zarrs_codec_bytes.specs.Overlap.{Copied}
 use Rattle.zarr_array_elements.specs.Elements.{list_in}
@@ -14,12 +17,14 @@ use Rattle.zarr_array_regions.specs.Chunk.{storage_kind, FailsToFetch}
 use Rattle.zarr_array_regions.specs.CommandError.{before_chunks}
 use Rattle.zarr_array_regions.specs.Fetch.{HasAsked, chunk_list, MeanChunk, HasElements, NotFetched}
 use Rattle.zarr_array_regions.specs.Store.{StoresElements}
+use Rattle.zarr_array_regions.specs.Taken.{Takes}
 use Rattle.zarr_array_regions.specs.Write.{change_of, FailsToChange, HasWrittenChunk, NotWrittenChunk}
 use Rattle.zarr_array_regions.specs.PartWay.{ChangedSome, HasWrittenRegion, NotWrittenRegion}
 use Rattle.zarr_array_regions.proofs.ChunkLaws.{some_list}
 use Rattle.zarr_array_regions.proofs.StoredLaws.{chunk-changed, chunk-stops}
 use Rattle.zarr_array_regions.proofs.ToldLaws.{told_of_storage}
-use Rattle.zarr_array_regions.proofs.PartWayLaws.{changed-start, changed-step, changed-fails, changed-starved, met-chunks, met-once}
+use Rattle.zarr_array_regions.proofs.PartWayLaws.{changed-kept, changed-start, changed-step, changed-fails, changed-starved, met-chunks, met-once}
+use Rattle.zarr_array_regions.proofs.ReadSteps.{one_more_taken}
 
 -- a call that ended so
 abbrev pub as_error : (T : Type 0) → StorageError → Result T StorageError
@@ -34,7 +39,7 @@ module _ (array : ArrayParts) (options : Options) (region : Region) (chunk : Lis
   box = (described array).grid.chunk_box chunk
 
   -- what is not fetched is not changed
-  pub unfetched : (before now : Shown) (kind : SessionErrorKind) → NotFetched array options chunk before now kind → NotWrittenChunk array options change chunk before now kind
+  pub unfetched : (before now : Shown) (kind : SessionErrorKind) → NotFetched false array options chunk before now kind → NotWrittenChunk array options change chunk before now kind
   unfetched before now kind fails = record { failed = by_kind kind fails.failed; told = fails.told; asks = fails.asks; later = fails.later }
     where
       by_kind : (kind : SessionErrorKind) → FailsToFetch (chunk_content (layout (described array) options) before.content chunk) ((described array).key chunk) before now kind →
@@ -45,6 +50,7 @@ module _ (array : ArrayParts) (options : Options) (region : Region) (chunk : Lis
       by_kind OutOfMemory none = fails.same
 
   module _ (key : List ℕ) (value list : ArrayBytes) (before mid now : Shown) (its_key : key ≡ (described array).key chunk) (held : HasElements array options chunk before value) (asked : HasAsked before mid)
+      (takes : Takes (documented array) (write_bytes (described array) before.content chunk) before mid)
       (copied : Copied box region (written_elements (described array) region bytes) (chunk_list array chunk value) (chunk_list array chunk list)) where
     long : length (chunk_list array chunk value) ≡ count box
     long = length-meaning (kind (described array)) (count box) value (chunk_list array chunk value) (some_list (meaning (kind (described array)) (count box) value) held.mean.means)
@@ -55,6 +61,7 @@ module _ (array : ArrayParts) (options : Options) (region : Region) (chunk : Lis
       changed = chunk-changed (described array) options region chunk key (written_elements (described array) region bytes) (chunk_list array chunk value) (chunk_list array chunk list) before
           its_key held.elements long copied mid.content now.content asked.same stores.ok;
       asks = stores.asks ∙ asked.asks;
+      taken = λ alone. stores.taken ∙ takes alone;
       later = le_trans asked.later stores.cause.later;
     }
 
@@ -64,7 +71,7 @@ module _ (array : ArrayParts) (options : Options) (region : Region) (chunk : Lis
     not_written error stores = record {
       failed = chunk-stops (described array) options region chunk key (written_elements (described array) region bytes) (chunk_list array chunk value) (chunk_list array chunk list) before
           its_key held.elements long copied mid now error asked.same stores.failed (λ e. stores.memory (ap Err e)) stores.cause.failed asked.later stores.plain;
-      told = told_of_storage (documented array) options now error;
+      told = told_of_storage false (documented array) options now error;
       asks = inr (stores.asks ∙ asked.asks);
       later = le_trans asked.later stores.cause.later;
     }
@@ -91,25 +98,50 @@ module _ (array : ArrayParts) (options : Options) (region : Region) (bytes : Arr
   abbrev all : Array Element → Array Element
   all = change_of array region bytes
 
-  pub none_written : (store : Shown) → store.asks ≤ 2 ^ 64 - 1 → ChangedSome (described array) options all met 0 store store
-  none_written store fits = changed-start (described array) options (described_sound array options) all met (met-chunks (described array).grid region) store fits
+  -- the first k chunks were changed, by the bytes that they need
+  pub record HasWrittenSome (k : ℕ) (before now : Shown) : Type 0 where
+    pub changed : ChangedSome (described array) options all met k before now
+    pub taken : Takes (documented array) (sum_by (write_bytes (described array) before.content) (take k met)) before now
 
-  pub one_written : (k : ℕ) (chunk : List ℕ) (before mid now : Shown) → slice_get met k ≡ Some chunk → ChangedSome (described array) options all met k before mid →
-      HasWrittenChunk array options all chunk mid now → ChangedSome (described array) options all met (k + 1) before now
-  one_written k chunk before mid now here so_far step = changed-step (described array) options (described_sound array options) all met (met-chunks (described array).grid region)
-      (met-once (described array) region) k before mid now chunk so_far here step.changed step.asks step.later
+  pub none_written : (store : Shown) → store.asks ≤ 2 ^ 64 - 1 → store.taken ≤ 2 ^ 64 - 1 → HasWrittenSome 0 store store
+  none_written store fits room = record {
+    changed = changed-start (described array) options (described_sound array options) all met (met-chunks (described array).grid region) store fits;
+    taken = λ alone. omega (arith, room);
+  }
 
-  pub stops_written : (k : ℕ) (chunk : List ℕ) (before mid now : Shown) (kind : SessionErrorKind) → slice_get met k ≡ Some chunk → ChangedSome (described array) options all met k before mid →
+  pub one_written : (k : ℕ) (chunk : List ℕ) (before mid now : Shown) → slice_get met k ≡ Some chunk → HasWrittenSome k before mid →
+      HasWrittenChunk array options all chunk mid now → HasWrittenSome (k + 1) before now
+  one_written k chunk before mid now here so_far step = record {
+    changed = changed-step (described array) options (described_sound array options) all met (met-chunks (described array).grid region)
+        (met-once (described array) region) k before mid now chunk so_far.changed here step.changed step.asks step.later;
+    taken = λ alone. one_more_taken met k chunk here (write_bytes (described array) before.content) before mid now (so_far.taken alone)
+        (step.taken alone ∙ ap (λ v. counted mid.taken (if is_some v then unwrap_or (fixed_size (kind (described array))) 0 * count ((described array).grid.chunk_box chunk) else 0)) was);
+  }
+    where
+      was : mid.content ((described array).key chunk) ≡ before.content ((described array).key chunk)
+      was = changed-kept (described array) options (described_sound array options) all met (met-chunks (described array).grid region) k before mid chunk so_far.changed
+          (met-chunks (described array).grid region k chunk here)
+          (λ place h e. let same : place ≡ k = met-once (described array) region place k chunk e here in absurd (omega (arith, h, same)))
+
+  -- all were
+  pub all_written : (k : ℕ) (before now : Shown) → k ≡ length met → HasWrittenSome k before now → HasWrittenRegion array options region bytes before now
+  all_written k before now all_of some = record {
+    changed = subst (λ n. ChangedSome (described array) options all met n before now) all_of some.changed;
+    taken = λ alone. some.taken alone ∙ ap (counted before.taken)
+        (ap (sum_by (write_bytes (described array) before.content)) (take_all k met (omega (arith, all_of))) ∙ sym (write_needs (described array) region bytes before.content));
+  }
+
+  pub stops_written : (k : ℕ) (chunk : List ℕ) (before mid now : Shown) (kind : SessionErrorKind) → slice_get met k ≡ Some chunk → HasWrittenSome k before mid →
       NotWrittenChunk array options all chunk mid now kind → NotWrittenRegion array options region bytes before now (record { chunks_done = k; kind = kind })
   stops_written k chunk before mid now kind here so_far stop = record {
     failed = changed-fails (described array) options (described_sound array options) all met (met-chunks (described array).grid region)
-        k before mid now chunk kind so_far here stop.failed stop.asks stop.later;
+        k before mid now chunk kind so_far.changed here stop.failed stop.asks stop.later;
     told = stop.told;
   }
 
   -- a region that meets no chunk
-  pub none_to_write : (store : Shown) → met ≡ [] → store.asks ≤ 2 ^ 64 - 1 → HasWrittenRegion array options region bytes store store
-  none_to_write store none fits = subst (λ n. ChangedSome (described array) options all met n store store) (sym (ap length none)) (none_written store fits)
+  pub none_to_write : (store : Shown) → met ≡ [] → store.asks ≤ 2 ^ 64 - 1 → store.taken ≤ 2 ^ 64 - 1 → HasWrittenRegion array options region bytes store store
+  none_to_write store none fits room = all_written 0 store store (sym (ap length none)) (none_written store fits room)
 
   -- memory ran out before the first chunk
   pub starved_writing : (store : Shown) → store.asks ≤ 2 ^ 64 - 1 → NotWrittenRegion array options region bytes store store before_chunks

@@ -1,5 +1,5 @@
 -- An array's codecs with the levels of a chunk, as contracts see them.
-use Rattle.std.specs.Prelude.{◌==◌, length, None}
+use Rattle.std.specs.Prelude.{◌==◌, length}
 use Rattle.zarr_model.specs.Prelude.{count_of}
 use Rattle.zarr_chain.specs.Chain.{ServesChunks, first_level, bottom_level, decoded}
 use Rattle.zarr_chain.specs.Regions.{Boxing}
@@ -7,22 +7,20 @@ use Rattle.zarr_chain.specs.declared.levels.ChunkLevels.{ChunkLevels}
 use Rattle.zarr_chain_stored.specs.Fetch.{chunk_content, chunk_says}
 use Rattle.zarr_chain_stored.specs.Regions.{Requesting, region_request, stored_request, given_bytes}
 use Rattle.zarr_chain_stored.specs.Seen.{ChainSeen}
-use Rattle.zarr_codecs_array_to_bytes.specs.Plain.{takes_by}
+use Rattle.zarr_codecs_array_to_bytes.specs.Plain.{takes_by, request_by}
 use Rattle.zarr_codecs_array_to_bytes.specs.Views.{plain_of}
 use Rattle.zarr_codecs_array_to_bytes.specs.declared.codecs.BasicArrayToBytes.{BasicArrayToBytes}
-use Rattle.zarr_array_parts.specs.kinds.array_to_array.ArrayToArray.{region_below_by}
-use Rattle.zarr_array_parts.specs.kinds.array_to_array.Views.{array_form}
 use Rattle.zarr_array_parts.specs.kinds.array_to_array.declared.array_to_array.BasicArrayToArray.{BasicArrayToArray}
 use Rattle.zarr_array_parts.specs.Chain.{BasicChain}
 use Rattle.zarr_array_parts.specs.Codecs.{array_meaning, array_unserved, list_meaning, list_unserved, list_says, bytes_meaning, bytes_says}
 
--- no array-to-bytes codec of these names ranges
+-- the ranges that an array-to-bytes codec asks for
 abbrev pub list_request : Requesting BasicArrayToBytes
-list_request codec dims type box = None
+list_request codec dims type box = request_by (plain_of codec) dims type box
 
 -- the box below an array-to-array codec
 abbrev pub box_below : Boxing BasicArrayToArray
-box_below codec dims box = region_below_by (array_form codec) box
+box_below codec dims box = (array_meaning codec).box_below dims box
 
 abbrev pub basic_seen : BasicChain → ChunkLevels → ChainSeen
 basic_seen chain levels = record {

@@ -1,5 +1,5 @@
 -- What fetching a chunk of an array owes.
-use Rattle.std.specs.Prelude.{◌≡◌, ◌≤◌, ◌⊎◌, ℕ, false, List, Some, IsSome}
+use Rattle.std.specs.Prelude.{◌≡◌, ◌≤◌, ◌⊎◌, ℕ, Bool, false, List, Some, IsSome}
 use Rattle.zarr_model.specs.Prelude.{count, Element, kind, ArrayBytes, meaning, has_long_element, Options, Shown, chunk_content, layout, counted}
 use Rattle.zarrs_storage.specs.Store.{SameContent}
 use Rattle.zarr_array_parts.specs.Parts.{documented, described}
@@ -33,8 +33,9 @@ pub record HasElements (array : ArrayParts) (options : Options) (chunk : List �
   pub elements : chunk_content (layout (described array) options) before.content chunk
       ≡ Some (chunk_list array chunk bytes)
 
--- a chunk was not fetched: nothing was changed, and the error has its cause and tells why
-pub record NotFetched (array : ArrayParts) (options : Options) (chunk : List ℕ)
+-- a chunk was not fetched, all of it or, where parts are read, some: nothing was changed, and the
+-- error has its cause and tells why
+pub record NotFetched (parts : Bool) (array : ArrayParts) (options : Options) (chunk : List ℕ)
     (before now : Shown) (kind : SessionErrorKind) : Type 0 where
   pub same : SameContent before now
   pub asks : (now.asks ≡ before.asks) ⊎ (now.asks ≡ counted before.asks 1)
@@ -42,4 +43,4 @@ pub record NotFetched (array : ArrayParts) (options : Options) (chunk : List ℕ
   pub failed : FailsToFetch
       (chunk_content (layout (described array) options) before.content chunk)
       ((described array).key chunk) before now kind
-  pub told : TellsWhy (documented array) options now kind
+  pub told : TellsWhy parts (documented array) options now kind

@@ -4,6 +4,7 @@ pub mod CommandError
 pub mod Codecs
 pub mod Chunk
 pub mod Told
+pub mod Taken
 pub mod RegionChunks
 pub mod Fetch
 pub mod HeldChunk

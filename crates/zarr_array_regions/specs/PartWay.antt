@@ -1,11 +1,12 @@
 -- What changing some chunks, one after another, does to a store.
-use Rattle.std.specs.Prelude.{◌≡◌, ◌+◌, ◌<◌, ◌≤◌, ◌⊎◌, ℕ, List, length, slice_get, Some, IsSome}
-use Rattle.zarr_model.specs.Prelude.{Region, Element, ArrayBytes, Array, Options, chunk_content, chunks_meeting, Shown, Description, layout, counted, ChunkHas}
+use Rattle.std.specs.Prelude.{◌≡◌, ◌+◌, ◌<◌, ◌≤◌, ◌⊎◌, ℕ, false, List, length, slice_get, Some, None, IsSome}
+use Rattle.zarr_model.specs.Prelude.{Region, Element, ArrayBytes, Array, Options, chunk_content, chunks_meeting, write, present_in, bytes_under, Shown, Description, layout, counted, ChunkHas}
 use Rattle.zarr_array_parts.specs.Parts.{documented, described}
 use Rattle.zarr_array_parts.specs.declared.parts.ArrayParts.{ArrayParts}
 use Rattle.zarr_array_regions.specs.declared.error.CommandError.{CommandError}
 use Rattle.zarr_array_regions.specs.declared.error.SessionErrorKind.{SessionErrorKind}
 use Rattle.zarr_array_regions.specs.declared.error.SessionErrorKind.TheVariants.{OutOfMemory}
+use Rattle.zarr_array_regions.specs.Taken.{Takes}
 use Rattle.zarr_array_regions.specs.Told.{TellsWhy}
 use Rattle.zarr_array_regions.specs.Write.{HoldsChunk, change_of, FailsToChange}
 
@@ -50,15 +51,17 @@ pub record FailsPartWay (description : Description) (options : Options) (change 
   pub later : mid.faults ≤ now.faults
 
 -- bytes were written to a region: each chunk that it meets was changed
-abbrev pub HasWrittenRegion : ArrayParts → Options → Region → ArrayBytes → Shown → Shown → Type 0
-HasWrittenRegion array options region bytes before now =
-    let chunks = chunks_meeting (described array).grid region in
-    ChangedSome (described array) options (change_of array region bytes) chunks (length chunks)
-    before now
+pub record HasWrittenRegion (array : ArrayParts) (options : Options) (region : Region)
+    (bytes : ArrayBytes) (before now : Shown) : Type 0 where
+  pub changed : ChangedSome (described array) options (change_of array region bytes)
+      (chunks_meeting (described array).grid region)
+      (length (chunks_meeting (described array).grid region)) before now
+  pub taken : Takes (documented array) (bytes_under (described array) None (write region bytes)
+      (present_in (described array) before.content)) before now
 
 -- they were not: the chunks before the error's place were changed, and it tells why
 pub record NotWrittenRegion (array : ArrayParts) (options : Options) (region : Region)
     (bytes : ArrayBytes) (before now : Shown) (error : CommandError) : Type 0 where
   pub failed : FailsPartWay (described array) options (change_of array region bytes)
       (chunks_meeting (described array).grid region) error.chunks_done before now error.kind
-  pub told : TellsWhy (documented array) options now error.kind
+  pub told : TellsWhy false (documented array) options now error.kind

@@ -1,6 +1,6 @@
 -- What reading a region owes.
-use Rattle.std.specs.Prelude.{◌≡◌, ◌<◌, ◌≤◌, ◌+◌, ◌⊎◌, ℕ, List, length, slice_get, Some, None, IsSome, Result, MatchResult}
-use Rattle.zarr_model.specs.Prelude.{Region, count, Element, Array, kind, ArrayBytes, meaning, elements_in, chunks_meeting, chunk_content, WhollyMeans, ChunkHas, Shown, Options, Description, layout, counted, Rose}
+use Rattle.std.specs.Prelude.{◌≡◌, ◌<◌, ◌≤◌, ◌+◌, ◌⊎◌, ℕ, List, true, length, slice_get, Some, None, IsSome, Result, MatchResult}
+use Rattle.zarr_model.specs.Prelude.{Region, count, Element, Array, kind, ArrayBytes, meaning, elements_in, chunks_meeting, chunk_content, HasMet, ChunkHas, read, present_in, bytes_under, read_bytes, Shown, Options, Description, layout, counted, Rose}
 use Rattle.zarrs_array_subset.specs.ArraySubset.{region as region_of_subset}
 use Rattle.zarrs_storage.specs.Store.{SameContent}
 use Rattle.zarrs_codec_bytes.specs.Overlap.{Copied}
@@ -15,6 +15,8 @@ use Rattle.zarr_array_regions.specs.declared.error.SessionErrorKind.TheVariants.
 use Rattle.zarr_array_regions.specs.declared.region_chunks.RegionChunks.{RegionChunks}
 use Rattle.zarr_array_regions.specs.RegionChunks.{chunk_at}
 use Rattle.zarr_array_regions.specs.Fetch.{HasAsked, NotFetched}
+use Rattle.zarr_array_regions.specs.Shared.{IsReadable}
+use Rattle.zarr_array_regions.specs.Taken.{Takes}
 use Rattle.zarr_array_regions.specs.Told.{TellsWhy}
 
 -- the cause at the next chunk after k of the region's: its value does not decode, the store failed,
@@ -48,12 +50,14 @@ pub record HoldsRegion (array : ArrayParts) (region : Region) (elements : BoxEle
 pub record HasReadChunk (array : ArrayParts) (options : Options) (region : Region)
     (chunk : List ℕ) (old new : List Element) (before now : Shown) : Type 0 where
   pub asked : HasAsked before now
-  pub decodes : IsSome (chunk_content (layout (described array) options) before.content chunk)
+  pub readable : IsReadable (described array) options region before.content chunk
   pub copied : (plain : Array Element)
       → ChunkHas (layout (described array) options) before.content plain chunk
       → Copied region ((described array).grid.chunk_box chunk)
       (elements_in ((described array).grid.chunk_box chunk) plain) old new
   pub as_long : length new ≡ length old
+  pub taken : Takes (documented array) (read_bytes (described array) region before.content chunk)
+      before now
 
 -- the chunk of a number was read so into the region's elements, or it was not fetched
 abbrev pub ReadsChunk : {T : Type 0} → RegionChunks → ℕ → Options → BoxElements → BoxElements
@@ -61,22 +65,24 @@ abbrev pub ReadsChunk : {T : Type 0} → RegionChunks → ℕ → Options → Bo
 ReadsChunk met number options old new before now result = MatchResult result
     (λ _. HasReadChunk met.array.now options (region_of_subset met.subset.now)
     (chunk_at met number) (list_held old) (list_held new) before now)
-    (NotFetched met.array.now options (chunk_at met number) before now)
+    (NotFetched true met.array.now options (chunk_at met number) before now)
 
--- elements are those of a region of the array that a store means, each of whose chunks decodes and
--- was asked for once
+-- elements are those of a region of each array that has the elements of the chunks met, each of
+-- which was asked for once, and decodes or is passed over
 pub record HasReadList (array : ArrayParts) (options : Options) (region : Region)
     (before now : Shown) (list : List Element) : Type 0 where
   pub as_long : length list ≡ count region
   pub elements : (plain : Array Element)
-      → WhollyMeans (layout (described array) options) before.content plain
+      → HasMet (described array) options region before.content plain
       → list ≡ elements_in region plain
-  pub decodes : (k : ℕ) (chunk : List ℕ)
+  pub readable : (k : ℕ) (chunk : List ℕ)
       → slice_get (chunks_meeting (described array).grid region) k ≡ Some chunk
-      → IsSome (chunk_content (layout (described array) options) before.content chunk)
+      → IsReadable (described array) options region before.content chunk
   pub same : SameContent before now
   pub asks : now.asks
       ≡ counted before.asks (length (chunks_meeting (described array).grid region))
+  pub taken : Takes (documented array) (bytes_under (described array) None (read region)
+      (present_in (described array) before.content)) before now
   pub later : before.faults ≤ now.faults
 
 -- array bytes mean such elements
@@ -92,4 +98,8 @@ pub record NotReadRegion (array : ArrayParts) (options : Options) (region : Regi
   pub same : SameContent before now
   pub later : before.faults ≤ now.faults
   pub failed : FailsToRead (described array) options region error.chunks_done before now error.kind
-  pub told : TellsWhy (documented array) options now error.kind
+  -- the chunks before the error's place decode or are passed over
+  pub readable : (k : ℕ) (chunk : List ℕ) → k < error.chunks_done
+      → slice_get (chunks_meeting (described array).grid region) k ≡ Some chunk
+      → IsReadable (described array) options region before.content chunk
+  pub told : TellsWhy true (documented array) options now error.kind

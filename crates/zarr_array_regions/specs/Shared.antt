@@ -1,6 +1,6 @@
 -- What was fetched of a chunk for what it shares with a region.
-use Rattle.std.specs.Prelude.{◌≡◌, ℕ, List, length, Some}
-use Rattle.zarr_model.specs.Prelude.{Region, count, Element, Options, Shown, chunk_content, layout}
+use Rattle.std.specs.Prelude.{◌≡◌, ◌⊎◌, ◌==◌, ◌&&◌, not, ℕ, Bool, true, false, List, length, Option, Some, None, IsSome}
+use Rattle.zarr_model.specs.Prelude.{Region, count, Element, Options, Shown, Content, Description, chunk_content, layout, chain_finds, finds_shared}
 use Rattle.zarrs_array_subset.specs.ArraySubset.{region as region_of_subset}
 use Rattle.zarr_chain_stored.specs.Regions.{GivesRegion}
 use Rattle.zarr_chain_stored.specs.declared.fetched.Fetched.{Fetched}
@@ -22,11 +22,28 @@ abbrev pub HasList : ArrayParts → Options → List ℕ → Shown → List Elem
 HasList array options chunk before list =
     chunk_content (layout (described array) options) before.content chunk ≡ Some list
 
--- these are elements for a box inside a chunk, of the list that the chunk has
+-- whether what stands under a chunk's key holds a box that is not all of the chunk
+abbrev pub finds_box : Description → Options → List ℕ → Region → Option (List ℕ) → Bool
+finds_box description options chunk within None = false
+finds_box description options chunk within (Some value) =
+    not (count within == count (description.grid.chunk_box chunk))
+    && chain_finds (description.finds options) (description.chain options)
+    (chunk_level description chunk) within value
+
+-- a chunk decodes, or its value holds a box of it
+abbrev pub IsFound : ArrayParts → Options → List ℕ → Region → Content → Type 0
+IsFound array options chunk within store =
+    IsSome (chunk_content (layout (described array) options) store chunk)
+    ⊎ (finds_box (described array) options chunk within (store ((described array).key chunk))
+    ≡ true)
+
+-- these are elements for a box inside a chunk, of a list that is the chunk's if it has one, and the
+-- chunk has one or its value holds the box
 pub record IsPartOf (array : ArrayParts) (options : Options) (chunk : List ℕ) (within : Region)
     (before : Shown) (fetched : Fetched) : Type 0 where
   pub list : List Element
-  pub content : HasList array options chunk before list
+  pub content : (own : List Element) → HasList array options chunk before own → own ≡ list
+  pub found : IsFound array options chunk within before.content
   pub has : HasPart array chunk within list fetched
 
 -- a chunk's place, what it shares with a region, and for that elements of this list
@@ -36,9 +53,16 @@ pub record HoldsShared (array : ArrayParts) (region : Region) (chunk : List ℕ)
   pub shared : IsSharedBy region ((described array).grid.chunk_box chunk) held.shared
   pub has : HasPart array chunk (region_of_subset held.shared.within) list held.elements
 
--- the same of the list that the chunk has
+-- a chunk decodes, or a read of a region does not notice that its value does not
+abbrev pub IsReadable : Description → Options → Region → Content → List ℕ → Type 0
+IsReadable description options region store chunk =
+    IsSome (chunk_content (layout description options) store chunk)
+    ⊎ (finds_shared description options region chunk (store (description.key chunk)) ≡ true)
+
+-- the same of a list that is the chunk's if it has one
 pub record IsHeldShared (array : ArrayParts) (options : Options) (region : Region)
     (chunk : List ℕ) (before : Shown) (held : FetchedChunk) : Type 0 where
   pub list : List Element
-  pub content : HasList array options chunk before list
+  pub content : (own : List Element) → HasList array options chunk before own → own ≡ list
+  pub readable : IsReadable (described array) options region before.content chunk
   pub holds : HoldsShared array region chunk list held

@@ -19,5 +19,6 @@ pub record StoresElements (array : ArrayParts) (options : Options) (chunk : List
       (MayPutElements (described array) options chunk list before.content now.content key)
   pub memory : IsErrOf result Storage.OutOfMemory → SameContent before now
   pub asks : now.asks ≡ before.asks
+  pub taken : now.taken ≡ before.taken
   pub plain : IfErr result IsPlain
   pub cause : HasCause IsFault before.faults now.faults result

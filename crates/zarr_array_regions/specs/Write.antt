@@ -1,11 +1,12 @@
 -- What writing one chunk does to a store.
 use Rattle.std.specs.Prelude.{◌≡◌, ◌+◌, ◌*◌, ◌^◌, ◌<◌, ◌≤◌, ◌||◌, ◌⊎◌, not, false, ℕ, List, None, IsSome}
-use Rattle.zarr_model.specs.Prelude.{Element, Array, Options, Content, chunk_content, Shown, Description, layout, present_in, is_blank, ChunkHas, Rose, counted, Region, count, written, written_elements, kind, fixed_size, ArrayBytes, meaning, has_long_element}
+use Rattle.zarr_model.specs.Prelude.{Element, Array, Options, Content, chunk_content, Shown, Description, layout, present_in, is_blank, write_bytes, ChunkHas, Rose, counted, Region, count, written, written_elements, kind, fixed_size, ArrayBytes, meaning, has_long_element}
 use Rattle.zarrs_codec_bytes.specs.Picking.{size_in}
 use Rattle.zarr_array_parts.specs.Parts.{documented, described}
 use Rattle.zarr_array_parts.specs.declared.parts.ArrayParts.{ArrayParts}
 use Rattle.zarr_array_regions.specs.declared.error.SessionErrorKind.{SessionErrorKind}
 use Rattle.zarr_array_regions.specs.declared.error.SessionErrorKind.TheVariants.{NotOpened, ChunkDecode, Store, OutOfMemory}
+use Rattle.zarr_array_regions.specs.Taken.{Takes}
 use Rattle.zarr_array_regions.specs.Told.{TellsWhy}
 
 -- a chunk has an array's elements under all options, and is absent exactly where these are all fill
@@ -75,6 +76,8 @@ pub record HasWrittenChunk (array : ArrayParts) (options : Options)
     (change : Array Element → Array Element) (chunk : List ℕ) (before now : Shown) : Type 0 where
   pub changed : ChangesChunk (described array) options change chunk before.content now.content
   pub asks : now.asks ≡ counted before.asks 1
+  pub taken : Takes (documented array) (write_bytes (described array) before.content chunk)
+      before now
   pub later : before.faults ≤ now.faults
 
 -- changing a chunk failed: the error has its cause and tells why
@@ -82,6 +85,6 @@ pub record NotWrittenChunk (array : ArrayParts) (options : Options)
     (change : Array Element → Array Element) (chunk : List ℕ) (before now : Shown)
     (kind : SessionErrorKind) : Type 0 where
   pub failed : FailsToChange (described array) options change chunk before now kind
-  pub told : TellsWhy (documented array) options now kind
+  pub told : TellsWhy false (documented array) options now kind
   pub asks : (now.asks ≡ before.asks) ⊎ (now.asks ≡ counted before.asks 1)
   pub later : before.faults ≤ now.faults

@@ -1,6 +1,6 @@
 //! The elements of the chunks that a region meets: fetched from a store, and put into it.
 
-ghost use Rattle.std.specs.Prelude.{◌≡◌, ◌<◌, MatchResult};
+ghost use Rattle.std.specs.Prelude.{◌≡◌, ◌<◌, false, MatchResult};
 ghost use Rattle.zarr_model.specs.Prelude.{count};
 ghost use Rattle.zarrs_array_subset.specs.ArraySubset.{region};
 ghost use Rattle.zarrs_codec_array_bytes.specs.Raw.{raw_of};
@@ -10,6 +10,7 @@ ghost use Rattle.zarr_array_regions.specs.Chunk.{chunk_kind};
 ghost use Rattle.zarr_array_regions.specs.RegionChunks.{chunk_at, AreMet, AreLevelsAt, IsPlaceOf};
 ghost use Rattle.zarr_array_regions.specs.Fetch.{HasAsked, chunk_list, MeanChunk, HasElements, NotFetched};
 ghost use Rattle.zarr_array_regions.specs.Store.{StoresElements};
+ghost use Rattle.zarr_array_regions.specs.Taken.{TakesWhole};
 
 use crate::error::{SessionErrorKind, chunk_error};
 use crate::region_chunks::{ChunkPlace, RegionChunks};
@@ -50,9 +51,11 @@ impl RegionChunks<'_> {
             (λ v. HasAsked (S.shown store.old) (S.shown store.new)
             × HasElements self.now.array.now (options_of options.now) (chunk_at self.now number)
             (S.shown store.old) (raw_of v))
-            (λ error. NotFetched self.now.array.now (options_of options.now)
+            (λ error. NotFetched false self.now.array.now (options_of options.now)
             (chunk_at self.now number) (S.shown store.old) (S.shown store.new)
             (chunk_kind key.now error)) }
+        ensures taken { TakesWhole self.now.array.now (chunk_at self.now number)
+            (S.shown store.old) (S.shown store.new) result }
         ensures kept { S.kept store.old store.new }
     {
         let chain = self.array.chain();
@@ -74,12 +77,14 @@ impl RegionChunks<'_> {
         requires below { number < count (region self.now.chunks) }
         requires levels { AreLevelsAt self.now number levels.now }
         requires place { IsPlaceOf (described self.now.array.now) (chunk_at self.now number) place }
-        ensures { MatchResult result
+        ensures fetched { MatchResult result
             (λ held. HasAsked (S.shown store.old) (S.shown store.new)
             × IsHeld self.now.array.now (options_of options.now) (chunk_at self.now number)
             (S.shown store.old) held)
-            (NotFetched self.now.array.now (options_of options.now) (chunk_at self.now number)
+            (NotFetched false self.now.array.now (options_of options.now) (chunk_at self.now number)
             (S.shown store.old) (S.shown store.new)) }
+        ensures taken { TakesWhole self.now.array.now (chunk_at self.now number)
+            (S.shown store.old) (S.shown store.new) result }
     {
         match self.fetch_elements(alloc, number, levels, &place.key, store, options) {
             Ok(elements) => Ok(HeldChunk { place, elements }),

@@ -3,6 +3,7 @@
 ghost use Rattle.std.specs.Prelude.{◌≡◌, ◌+◌, ◌<◌, ◌*◌, ◌^◌, true, length, MatchResult, IfOk, IfSome};
 ghost use Rattle.zarr_model.specs.Prelude.{count, ends_within, kind, fixed_size};
 ghost use Rattle.zarrs_array_subset.specs.ArraySubset.{region};
+ghost use Rattle.zarrs_array_subset.specs.Boxes.{is_within};
 ghost use Rattle.zarrs_codec_bytes.specs.Picking.{size_in};
 ghost use Rattle.zarrs_codec_array_bytes.specs.Raw.{raw_of};
 ghost use Rattle.zarrs_codec_traits.specs.Views.{options_of};
@@ -23,7 +24,7 @@ use zarrs_codec_options::CodecOptions;
 use zarrs_storage::Store;
 
 impl RegionChunks<'_> {
-    // Takes the elements of the chunk of a number, which stands at this place.
+    // Takes the elements of the chunk of a number, which stands at this place and lies inside the region.
     fn read_whole<S: Store>(
         &self,
         alloc: Global,
@@ -38,6 +39,7 @@ impl RegionChunks<'_> {
         requires below { number < count (region self.now.chunks) }
         requires levels { AreLevelsAt self.now number levels.now }
         requires place { IsPlaceOf (described self.now.array.now) (chunk_at self.now number) place }
+        requires inside { is_within (region place.subset) (region self.now.subset.now) ≡ true }
         requires holds { HoldsRegion self.now.array.now (region self.now.subset.now) elements.old }
         ensures read { ReadsChunk self.now number (options_of options.now) elements.old
             elements.new (S.shown store.old) (S.shown store.new) result }
@@ -104,9 +106,9 @@ impl RegionChunks<'_> {
         let levels = self.levels(alloc, number, hand, &place)?;
         if place.subset.inbounds(self.subset) {
             self.read_whole(alloc, number, &levels, place, elements, store, options)?;
-        } else {
-            self.read_shared(alloc, number, &levels, place, elements, store, options)?;
+            return Ok(levels);
         }
+        self.read_shared(alloc, number, &levels, place, elements, store, options)?;
         Ok(levels)
     }
 

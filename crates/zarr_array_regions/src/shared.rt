@@ -11,6 +11,7 @@ ghost use Rattle.zarr_array_regions.specs.Chunk.{chunk_kind};
 ghost use Rattle.zarr_array_regions.specs.RegionChunks.{chunk_at, AreMet, AreLevelsAt, IsPlaceOf};
 ghost use Rattle.zarr_array_regions.specs.Fetch.{HasAsked, NotFetched};
 ghost use Rattle.zarr_array_regions.specs.Read.{HoldsRegion};
+ghost use Rattle.zarr_array_regions.specs.Taken.{TakesBox, TakesShared};
 
 use crate::error::{SessionErrorKind, chunk_error};
 use crate::region_chunks::{ChunkPlace, RegionChunks};
@@ -57,9 +58,11 @@ impl RegionChunks<'_> {
             (λ v. HasAsked (S.shown store.old) (S.shown store.new)
             × IsPartOf self.now.array.now (options_of options.now) (chunk_at self.now number)
             (region within.now) (S.shown store.old) v)
-            (λ error. NotFetched self.now.array.now (options_of options.now)
+            (λ error. NotFetched true self.now.array.now (options_of options.now)
             (chunk_at self.now number) (S.shown store.old) (S.shown store.new)
             (chunk_kind key.now error)) }
+        ensures taken { TakesBox self.now.array.now (chunk_at self.now number) (region within.now)
+            (S.shown store.old) (S.shown store.new) result }
         ensures kept { S.kept store.old store.new }
     {
         let chain = self.array.chain();
@@ -86,8 +89,10 @@ impl RegionChunks<'_> {
             (λ held. HasAsked (S.shown store.old) (S.shown store.new)
             × IsHeldShared self.now.array.now (options_of options.now)
             (region self.now.subset.now) (chunk_at self.now number) (S.shown store.old) held)
-            (NotFetched self.now.array.now (options_of options.now) (chunk_at self.now number)
+            (NotFetched true self.now.array.now (options_of options.now) (chunk_at self.now number)
             (S.shown store.old) (S.shown store.new)) }
+        ensures taken { TakesShared self.now.array.now (region self.now.subset.now)
+            (chunk_at self.now number) (S.shown store.old) (S.shown store.new) result }
         ensures kept { S.kept store.old store.new }
     {
         let shared = SharedBox::of(alloc, self.subset, &place.subset)?;

@@ -76,7 +76,8 @@ impl<A: ArrayToArrayCodecTraits, B: ArrayToBytesCodecTraits, C: BytesToBytesCode
         options: &CodecOptions,
     ) -> Result<ArrayBytes<'static>, CodecError>
         requires { IsServed A.meaning A.unserved B.unserved self.now levels.now }
-        ensures value { let under = options_of options.now in let bottom = bottom_level levels.now in
+        ensures value { let under = options_of options.now in
+            let bottom = bottom_level levels.now in
             IfOk result (λ v. Gives (list_at bottom (raw_of v))
             (option_and_then (B.meaning self.now.to_bytes under bottom)
             (decode_bytes (byte_codecs C.meaning under self.now.byte_codecs.items) value.items))) }

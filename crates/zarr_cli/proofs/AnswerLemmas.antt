@@ -14,7 +14,7 @@ use Rattle.zarr_cli.specs.Answers.{Answers}
 use Rattle.zarr_cli_runs.specs.declared.status.Status.{Status}
 use Rattle.zarr_cli_runs.specs.declared.status.Status.TheVariants.{Done, BadWords, BadInput, Document, Chunk, Store, Read, Write, TooLong, OutOfMemory}
 use Rattle.zarr_cli.proofs.EndingLemmas.{is_done, is_bad_input, is_write, is_too_long}
-use Rattle.zarr_cli.proofs.EndLemmas.{went, did_asks, did_refused, not_reading, not_long, not_bad, not_refused, told_chunk, told_opening, told_input, told_document}
+use Rattle.zarr_cli.proofs.EndLemmas.{went, did_asks, did_taken, did_refused, not_reading, not_long, not_bad, not_refused, told_chunk, told_opening, told_input, told_document}
 
 module _ (words : List (List ℕ)) (input : List ℕ) (before now : Seen) where
   -- the replies were written
@@ -39,6 +39,7 @@ module _ (words : List (List ℕ)) (input : List ℕ) (before now : Seen) where
     front = λ is. absurd (cc);
     unchanged = lines;
     unasked = unasked;
+    taken = λ run written none. did_taken words input before.store now.store text did run none;
     refused = λ run written all none.
         did_refused words input before.store now.store text did run all none;
   }
@@ -65,6 +66,7 @@ module _ (words : List (List ℕ)) (input : List ℕ) (before now : Seen) where
         (λ output. IsGivenFront output before.sink.bytes now.sink.bytes) did given;
     unchanged = lines;
     unasked = unasked;
+    taken = λ run written none. did_taken words input before.store now.store text did run none;
     refused = λ run written all none.
         did_refused words input before.store now.store text did run all none;
   }
@@ -119,5 +121,6 @@ module _ (words : List (List ℕ)) (input : List ℕ) (before now : Seen) where
     front = λ is. absurd (told_at status last which told Write (is_write last is) (λ e. cc));
     unchanged = lines;
     unasked = unasked;
+    taken = λ run written none. absurd (unwritten status last which told written);
     refused = λ run written all none. absurd (unwritten status last which told written);
   }

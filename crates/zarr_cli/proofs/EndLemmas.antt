@@ -4,7 +4,7 @@ use Rattle.std.specs.declared.alloc.Global.{Global}
 use Rattle.zarr_model.specs.Prelude.{Shown, Told, AreRefused, IsUntouched, all_asks, Rose}
 use Rattle.zarr_cli_runs.specs.array.parts.Document.{describe}
 use Rattle.zarr_cli_runs.specs.array.parts.Opening.{OpenRefusal}
-use Rattle.zarr_cli_runs.specs.array.OpenArray.{described}
+use Rattle.zarr_cli_runs.specs.array.OpenArray.{documented, described}
 use Rattle.zarr_cli_runs.specs.array.parts.OpenError.{open_refusal_of}
 use Rattle.zarr_cli_runs.specs.array.Command.{command_of}
 use Rattle.zarr_cli_runs.specs.lines.Parts.{entry_view}
@@ -15,7 +15,7 @@ use Rattle.zarr_cli_runs.specs.Ending.{Ending, bad_input, refused_document, dama
 use Rattle.zarr_cli_runs.specs.Status.{ending_of, refused_by}
 use Rattle.zarr_cli.specs.Steps.{SaysInput, PrintsAll, PrintsInput, IsReadFault, RefusesInput, IsToldFault, IsPlainFault}
 use Rattle.zarr_cli_runs.specs.Keys.{CountsDump}
-use Rattle.zarr_cli_runs.specs.Commands.{IsRunFault}
+use Rattle.zarr_cli_runs.specs.Commands.{TakesRun, IsRunFault}
 use Rattle.zarr_cli.proofs.ProgramLaws.{one_run}
 use Rattle.zarr_cli.proofs.OutcomeLemmas.{did_run, run_told, run_not_bad, run_not_refused, refused_not_bad, one_bad_line}
 use Rattle.zarr_cli.specs.declared.input.ParsedInput.{ParsedInput}
@@ -27,12 +27,13 @@ use Rattle.zarr_cli_runs.proofs.DescribedLaws.{same_refusal}
 pub bytes_told : (words : List (List ℕ)) (settings : Settings) (input : List ℕ) (parsed : ParsedInput) (before now : Shown) (result : Result (Vec ℕ Global) Status) →
     ReadsBy words settings → length input ≤ input_limit → SaysInput input parsed →
     IfOk result (λ text. PrintsAll (described parsed.array) settings (map command_of parsed.commands.items) (with_entries (map entry_view parsed.entries.items) before) now text.items) →
+    OnOk result (settings.dump ≡ false → TakesRun (documented parsed.array) settings.options (map command_of parsed.commands.items) (with_entries (map entry_view parsed.entries.items) before) now) →
     OnOk result (AreRefused (described parsed.array) (map command_of parsed.commands.items) → settings.dump ≡ false → IsUntouched (with_entries (map entry_view parsed.entries.items) before) now) →
     IfErr result (λ status. IsRunFault (described parsed.array) settings.options (map command_of parsed.commands.items) (with_entries (map entry_view parsed.entries.items) before) now status) →
     MatchResult result (λ text. PrintsInput words input before now text.items) (λ status. IsToldFault words input ⊥ before now status)
-bytes_told words settings input parsed before now (Ok text) reads within says ran refused fault =
-    did_run words settings input parsed before now text.items reads within says ran refused
-bytes_told words settings input parsed before now (Err status) reads within says ran refused fault =
+bytes_told words settings input parsed before now (Ok text) reads within says ran taken refused fault =
+    did_run words settings input parsed before now text.items reads within says ran taken refused
+bytes_told words settings input parsed before now (Err status) reads within says ran taken refused fault =
     run_told words settings input parsed before now reads within says status fault
 
 weaker_told : (words : List (List ℕ)) (input : List ℕ) (rose : Type 0) (before now : Shown) (status : Status) → IsToldFault words input ⊥ before now status → IsToldFault words input rose before now status
@@ -105,6 +106,15 @@ did_asks words input before now text did run =
     subst (λ settings. CountsDump settings.dump (all_asks (describe run.document) run.commands) before now) (sym same.0)
     (subst (λ commands. CountsDump did.run.settings.dump (all_asks (describe run.document) commands) before now) (sym same.2)
     (subst (λ document. CountsDump did.run.settings.dump (all_asks (describe document) did.run.commands) before now) (sym same.1) did.asks))
+
+pub did_taken : (words : List (List ℕ)) (input : List ℕ) (before now : Shown) (text : List ℕ) → PrintsInput words input before now text →
+    (run : Run words input) → run.settings.dump ≡ false → TakesRun run.document run.settings.options run.commands (with_entries (input_entries input) before) now
+did_taken words input before now text did run none =
+    let same = one_run words input did.run.settings did.run.document did.run.commands did.run.are_words.0 did.run.is_opened did.run.are_commands run in
+    subst (λ settings. TakesRun run.document settings.options run.commands (with_entries (input_entries input) before) now) (sym same.0)
+    (subst (λ commands. TakesRun run.document did.run.settings.options commands (with_entries (input_entries input) before) now) (sym same.2)
+    (subst (λ document. TakesRun document did.run.settings.options did.run.commands (with_entries (input_entries input) before) now) (sym same.1)
+    (did.taken (sym (ap (λ settings. settings.dump) same.0) ∙ none))))
 
 pub did_refused : (words : List (List ℕ)) (input : List ℕ) (before now : Shown) (text : List ℕ) → PrintsInput words input before now text →
     (run : Run words input) → AreRefused (describe run.document) run.commands → run.settings.dump ≡ false →

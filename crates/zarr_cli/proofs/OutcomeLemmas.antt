@@ -15,7 +15,7 @@ use Rattle.zarr_cli.specs.Words.{Settings, ReadsBy}
 use Rattle.zarr_cli.specs.Run.{Run, IsRunnable}
 use Rattle.zarr_cli.specs.Input.{input_limit, command_grammar, document_line, lines_after_document, store_after_keys, with_entries, IsBadLine}
 use Rattle.zarr_cli.specs.Steps.{SaysInput, PrintsAll, PrintsInput, IsInputFault, RefusesInput, IsToldFault}
-use Rattle.zarr_cli_runs.specs.Commands.{IsRunFault}
+use Rattle.zarr_cli_runs.specs.Commands.{IsRunFault, TakesRun}
 use Rattle.zarr_cli_runs.specs.Opening.{IsRefusal}
 use Rattle.zarr_cli.proofs.ProgramLaws.{one_run}
 use Rattle.zarr_cli.specs.declared.input.ParsedInput.{ParsedInput}
@@ -40,14 +40,16 @@ its_run words settings input parsed reads within says = record {
 pub did_run : (words : List (List ℕ)) (settings : Settings) (input : List ℕ) (parsed : ParsedInput) (before now : Shown) (text : List ℕ) →
     ReadsBy words settings → length input ≤ input_limit → SaysInput input parsed →
     PrintsAll (described parsed.array) settings (map command_of parsed.commands.items) (with_entries (map entry_view parsed.entries.items) before) now text →
+    (settings.dump ≡ false → TakesRun (documented parsed.array) settings.options (map command_of parsed.commands.items) (with_entries (map entry_view parsed.entries.items) before) now) →
     (AreRefused (described parsed.array) (map command_of parsed.commands.items) → settings.dump ≡ false → IsUntouched (with_entries (map entry_view parsed.entries.items) before) now) →
     PrintsInput words input before now text
-did_run words settings input parsed before now text reads within says ran refused =
+did_run words settings input parsed before now text reads within says ran taken refused =
     let runs = subst (λ entries. PrintsAll (described parsed.array) settings (map command_of parsed.commands.items) (with_entries entries before) now text) says.entries_are ran in
     record {
       run = its_run words settings input parsed reads within says;
       prints = runs.prints;
       asks = runs.asks;
+      taken = λ none. subst (λ entries. TakesRun (documented parsed.array) settings.options (map command_of parsed.commands.items) (with_entries entries before) now) says.entries_are (taken none);
       refused = λ all none. subst (λ entries. IsUntouched (with_entries entries before) now) says.entries_are (refused all none);
     }
 

@@ -9,7 +9,7 @@ use Rattle.std.specs.Str.Lossy.{utf8_valid_len}
 use Rattle.std.proofs.lemmas.Str.{utf8_valid_len-IsValidUpTo, is_utf8-from_IsUtf8, IsUtf8-from_is_utf8}
 use Rattle.std.proofs.lemmas.Option.{same_Some}
 use Rattle.hex.specs.Hex.{encode_with, decode_pairs}
-use Rattle.zarr_model.specs.Prelude.{of_bytes, fixed_bytes, regular_grid, Options, Content, with_key, WhollyMeans, stored_array, Command, elements, read, write, erase, Description, layout, LeavesArray, command_chunks, asks_store, counted, Rose, Shown, Given, IsPlace, AsksUpTo, IsUndecoded, IsStopped, erases_chunk, IsDamageMet}
+use Rattle.zarr_model.specs.Prelude.{of_bytes, fixed_bytes, regular_grid, Options, Content, with_key, WhollyMeans, stored_array, Command, elements, read, write, erase, Description, layout, LeavesArray, command_chunks, asks_store, counted, Rose, Shown, Given, IsPlace, AsksUpTo, IsUndecoded, IsStopped, erases_chunk, IsDamageMet, IsDamageSeen, passes_over}
 use Rattle.zarr_cli_runs.specs.array.parts.Document.{ArrayDocument, describe}
 use Rattle.zarr_cli_runs.proofs.StoredLaws.{stores-none}
 use Rattle.zarr_cli_runs.specs.array.parts.Opening.{opened, open_builtin}
@@ -100,6 +100,20 @@ small_read = read (record { start = 0; size = 2 } ∷ [])
 damage_met : IsDamageMet small_array (options_with false) (small_read ∷ []) damaged (codes "c/0")
 unfolding digits
 damage_met = (0, small_read, refl, refl, 0 ∷ [], (0, lit< tt, refl), refl, refl, refl)
+
+-- it is seen by a read of all of the chunk, and of a part that is not there, and passed over by a
+-- read of the part that is
+damage_seen : IsDamageSeen small_array (options_with false) (small_read ∷ []) damaged (codes "c/0")
+unfolding digits
+damage_seen = (0, small_read, refl, refl, 0 ∷ [], (0, lit< tt, refl), refl, refl, refl, refl)
+
+part_seen : passes_over small_array (options_with false) damaged (read (record { start = 1; size = 1 } ∷ [])) (0 ∷ []) ≡ false
+unfolding digits
+part_seen = refl
+
+part_passed_over : passes_over small_array (options_with false) damaged (read (record { start = 0; size = 1 } ∷ [])) (0 ∷ []) ≡ true
+unfolding digits
+part_passed_over = refl
 
 erased_first : (m : ℕ) (command : Command) (chunk : List ℕ) (k : ℕ) → slice_get (erase (0 ∷ []) ∷ small_read ∷ []) m ≡ Some command → asks_store command ≡ true →
     k < length (command_chunks small_array command) → get_or (command_chunks small_array command) k chunk ≡ chunk →
@@ -205,10 +219,10 @@ later_line = inl (
   refl,
 )
 
-right_unmet : (key : List ℕ) → IsDamageMet (describe (plain_document (4 ∷ 4 ∷ []) (2 ∷ 2 ∷ []) 0)) first_settings.options
+right_unseen : (key : List ℕ) → IsDamageSeen (describe (plain_document (4 ∷ 4 ∷ []) (2 ∷ 2 ∷ []) 0)) first_settings.options
     (read (record { start = 3; size = 1 } ∷ record { start = 3; size = 1 } ∷ []) ∷ []) (store_after_keys square_input nothing) key → ⊥
 unfolding digits encode_with decode_pairs is_utf8 chars encode
-right_unmet key (m, command, is, asks, chunk, met, its_key, none, damaged) = let gone : true ≡ false = ap is_some damaged in cc
+right_unseen key (m, command, is, asks, chunk, met, its_key, none, damaged, noticed) = let gone : true ≡ false = ap is_some damaged in cc
 
 right_run : WentThrough [] square_input nothing nothing (λ text. text ≡ codes "ok h00\n")
 unfolding digits encode_with decode_pairs is_utf8 chars encode
@@ -238,7 +252,7 @@ right_run = (
       keys = record { same_chunks = λ chunk is_chunk e. refl; other_keys = λ key apart. refl };
     };
     stored = stores-none _ _ _ _ _ (λ chunk. refl);
-    undamaged = record { no_key = right_unmet };
+    undamaged = record { no_key = right_unseen };
     dumped = (codes "ok h00\n", [], refl, refl);
   },
   refl,

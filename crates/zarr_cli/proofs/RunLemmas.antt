@@ -1,11 +1,12 @@
 -- Commands that ran, and their text.
-use Rattle.std.proofs.Common.{◌≡◌, ℕ, ◌<◌, ◌≤◌, List, ◌++◌, Some, Result, Ok, Err, IfErr, sym, ap, ◌∙◌, subst, arith}
-use Rattle.zarr_model.specs.Prelude.{Command, Description, kind, replies, all_asks, LeavesArray, IsDamageMet, Shown, Options}
+use Rattle.std.proofs.Common.{◌≡◌, ℕ, ◌≤◌, List, ◌++◌, Result, Ok, Err, IfErr, sym, ap, ap₂, ◌∙◌, subst, arith}
+use Rattle.zarr_model.specs.Prelude.{Command, Description, kind, replies, all_asks, all_bytes, present_in, counted, TellsPresence, LeavesArray, IsDamageMet, Shown, Options}
+use Rattle.zarr_cli_runs.specs.array.parts.Document.{ArrayDocument, describe}
 use Rattle.zarr_cli_runs.specs.array.Stored.{StoresForAll}
 use Rattle.zarr_cli_runs.specs.array.declared.command.Reply.{Reply}
 use Rattle.zarr_cli.specs.Steps.{RepliesTo, PrintsAll}
 use Rattle.zarr_cli_runs.specs.Keys.{Dumps, IsDumpFault}
-use Rattle.zarr_cli_runs.specs.Commands.{IsRunFault, RepliedBy}
+use Rattle.zarr_cli_runs.specs.Commands.{IsRunFault, RepliedBy, TakesRun}
 use Rattle.zarr_cli.specs.Words.{Settings}
 use Rattle.zarr_cli_runs.proofs.KeyLemmas.{counted_more}
 use Rattle.zarr_cli_runs.specs.declared.status.Status.{Status}
@@ -70,3 +71,15 @@ dump_run_fault description options commands before mid now (Chunk key) later fau
 dump_run_fault description options commands before mid now Read later fault = fault
 dump_run_fault description options commands before mid now Write later fault = fault
 dump_run_fault description options commands before mid now TooLong later fault = fault
+
+-- the bytes that commands took, seen from before the key lines were set, and after a dump that asked
+-- for nothing
+pub earlier_taken : (document : ArrayDocument) (options : Options) (commands : List Command) (before mid now : Shown) → mid.content ≡ before.content → mid.taken ≡ before.taken →
+    TakesRun document options commands mid now → TakesRun document options commands before now
+earlier_taken document options commands before mid now content taken takes alone array tells =
+    takes alone array (subst (λ store. TellsPresence (describe document) options commands store array) (sym content) tells)
+    ∙ ap₂ (λ (n : ℕ) store. counted n (all_bytes (describe document) options commands array (present_in (describe document) store))) taken content
+
+pub later_taken : (document : ArrayDocument) (options : Options) (commands : List Command) (before mid now : Shown) → now.taken ≡ mid.taken →
+    TakesRun document options commands before mid → TakesRun document options commands before now
+later_taken document options commands before mid now taken takes alone array tells = taken ∙ takes alone array tells

@@ -6,6 +6,7 @@ use Rattle.zarr_cli_runs.specs.array.parts.Opening.{OpenRefusal}
 use Rattle.zarr_cli.specs.Words.{HasBadWords}
 use Rattle.zarr_cli.specs.Input.{input_entries, with_entries, store_after_keys, HasLongInput, HasBadLine, HasRefusedDocument}
 use Rattle.zarr_cli.specs.Run.{Run, HasDamage, WentThrough, IsRunnable, SameButChanged}
+use Rattle.zarr_cli_runs.specs.Commands.{TakesRun}
 use Rattle.zarr_cli_runs.specs.Keys.{IsDumpAsks}
 use Rattle.zarr_cli_runs.specs.Ending.{Ending, IsOrMemory, IsWritten, IsGiven, IsGivenFront, IsGivenLine, ending_line, IsBeforeStore}
 use Rattle.zarr_cli_runs.specs.Ending as end
@@ -25,6 +26,11 @@ pub record Answers (words : List (List ℕ)) (input : List ℕ) (before now : Se
       (more : ℕ) × IsDumpAsks run.settings.dump now.store.content more
       × (now.store.asks ≡ counted before.store.asks
       (all_asks (describe run.document) run.commands + more))
+  -- and where the codec `bytes` is all of the chain and no keys are asked for, exactly the bytes
+  -- that its commands need were taken, where presence before each is known
+  pub taken : (run : Run words input) → IsWritten ending → run.settings.dump ≡ false →
+      TakesRun run.document run.settings.options run.commands
+      (with_entries (input_entries input) before.store) now.store
   -- each early answer has its cause
   pub bad_input : (line : ℕ) → ending ≡ end.bad_input line → HasBadLine words input line
   pub document : (why : OpenRefusal) → ending ≡ end.refused_document why →

@@ -1,6 +1,6 @@
 -- A run: what its words and its input say, what it prints, and what it leaves in the store.
 use Rattle.std.specs.Prelude.{◌≡◌, ℕ, ◌+◌, ◌≤◌, Bool, List, ◌++◌, length, IsUtf8, Some}
-use Rattle.zarr_model.specs.Prelude.{Element, Array, Content, Means, IsHonest, Command, Description, layout, replies, LeavesArray, MeetsNoDamage, IsDamageMet}
+use Rattle.zarr_model.specs.Prelude.{Element, Array, Content, Means, IsHonest, Command, Description, layout, replies, LeavesArray, SeesNoDamage, IsDamageMet}
 use Rattle.zarr_cli_runs.specs.lines.Text.{commands_of, replies_text}
 use Rattle.zarr_cli_runs.specs.array.parts.Document.{ArrayDocument, describe}
 use Rattle.zarr_cli_runs.specs.array.parts.Opening.{opened, open_builtin}
@@ -37,8 +37,8 @@ pub record Prints (description : Description) (settings : Settings) (commands : 
   -- the store is left as that array's, and what was stored decodes so under all options
   pub left : LeavesArray description settings.options commands old new
   pub stored : StoresForAll description settings.options commands old new
-  -- each value that was met decodes
-  pub undamaged : MeetsNoDamage description settings.options commands old
+  -- each value that was met decodes, but for reads of parts whose pieces are there
+  pub undamaged : SeesNoDamage description settings.options commands old
   -- whatever the store meant, its final keys stand at the end
   pub dumped : (front keys : List ℕ) × IsDump settings.dump new keys × (output ≡ front ++ keys)
 

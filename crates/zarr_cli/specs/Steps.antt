@@ -1,6 +1,6 @@
 -- What each step of the program promises to the next one.
 use Rattle.std.specs.Prelude.{◌≡◌, ℕ, ◌+◌, ◌<◌, false, List, ◌++◌, length, map, IsUtf8, Contains, Option, Some, None}
-use Rattle.zarr_model.specs.Prelude.{Element, Array, Options, Means, Shown, Told, Command, Description, layout, replies, LeavesArray, AreRefused, IsUntouched, all_asks, counted, Rose, MeetsNoDamage}
+use Rattle.zarr_model.specs.Prelude.{Element, Array, Options, Means, Shown, Told, Command, Description, layout, replies, LeavesArray, AreRefused, IsUntouched, all_asks, counted, Rose, SeesNoDamage}
 use Rattle.zarr_cli_runs.specs.array.parts.Document.{describe}
 use Rattle.zarr_cli_runs.specs.array.parts.Opening.{OpenRefusal, opened, open_builtin}
 use Rattle.zarr_cli_runs.specs.array.OpenArray.{documented}
@@ -15,6 +15,7 @@ use Rattle.zarr_cli.specs.Run.{Run, Prints, HasDamage}
 use Rattle.zarr_cli_runs.specs.declared.status.Status.{Status}
 use Rattle.zarr_cli_runs.specs.declared.status.Status.TheVariants.{BadWords, BadInput, Document, Chunk, Store, Read, TooLong, OutOfMemory}
 use Rattle.zarr_cli.specs.declared.input.ParsedInput.{ParsedInput}
+use Rattle.zarr_cli_runs.specs.Commands.{TakesRun}
 use Rattle.zarr_cli_runs.specs.Keys.{CountsDump}
 use Rattle.zarr_cli_runs.specs.Opening.{IsRefusal}
 
@@ -62,7 +63,7 @@ pub record RepliesTo (description : Description) (options : Options) (commands :
       text ≡ replies_text (replies description commands array)
   pub left : LeavesArray description options commands before.content now.content
   pub stored : StoresForAll description options commands before.content now.content
-  pub undamaged : MeetsNoDamage description options commands before.content
+  pub undamaged : SeesNoDamage description options commands before.content
   pub asks : now.asks ≡ counted before.asks (all_asks description commands)
 
 -- commands were run over a store, and the text is what they print, at the cost of the calls that
@@ -83,6 +84,8 @@ pub record PrintsInput (words : List (List ℕ)) (input : List ℕ) (before now 
   pub prints : Prints (describe run.document) run.settings run.commands
       (store_after_keys input before.content) now.content text
   pub asks : CountsDump run.settings.dump (all_asks (describe run.document) run.commands) before now
+  pub taken : run.settings.dump ≡ false → TakesRun run.document run.settings.options run.commands
+      (with_entries (input_entries input) before) now
   pub refused : AreRefused (describe run.document) run.commands → run.settings.dump ≡ false →
       IsUntouched (with_entries (input_entries input) before) now
 

@@ -3,12 +3,12 @@
 ghost use Rattle.std.specs.Prelude.{◌≡◌, ◌≤◌, false, map, List, ℕ, IfOk, IfErr, OnOk};
 ghost use Rattle.zarr_model.specs.Prelude.{Rose, HasCause, IsHonest, with_keys, layout, AreRefused, IsUntouched};
 ghost use Rattle.zarrs_storage.specs.Store.{IsFault as IsStoreFault, IsPlain};
-ghost use Rattle.zarr_cli_runs.specs.array.OpenArray.{described};
+ghost use Rattle.zarr_cli_runs.specs.array.OpenArray.{documented, described};
 ghost use Rattle.zarr_cli_runs.specs.array.Command.{command_of};
 ghost use Rattle.zarrs_codec_traits.specs.Views.{options_of};
 ghost use Rattle.zarr_cli_runs.specs.lines.Parts.{entry_view};
 ghost use Rattle.zarr_cli.specs.Input.{with_entries};
-ghost use Rattle.zarr_cli_runs.specs.Commands.{IsChangedKey, IsRunFault};
+ghost use Rattle.zarr_cli_runs.specs.Commands.{IsChangedKey, TakesRun, IsRunFault};
 ghost use Rattle.zarr_cli.specs.Status.{settings_view};
 ghost use Rattle.zarr_cli.specs.Steps.{RepliesTo, PrintsAll, IsKeyOf, IsUnasked};
 
@@ -52,6 +52,8 @@ fn text_of_commands<S: Store>(
 ) -> Result<Vec<u8>, Status>
     ensures ran { IfOk result (λ text. RepliesTo (described array.now) (options_of options.now)
         (map command_of commands.now) (S.shown store.old) (S.shown store.new) text.items) }
+    ensures taken { OnOk result (TakesRun (documented array.now) (options_of options.now)
+        (map command_of commands.now) (S.shown store.old) (S.shown store.new)) }
     ensures refused { AreRefused (described array.now) (map command_of commands.now) →
         IsUntouched (S.shown store.old) (S.shown store.new) }
     ensures unchanged { (key : List ℕ) →
@@ -82,6 +84,9 @@ fn text_of_all<S: Store>(
 ) -> Result<Vec<u8>, Status>
     ensures ran { IfOk result (λ text. PrintsAll (described array.now) (settings_view settings.now)
         (map command_of commands.now) (S.shown store.old) (S.shown store.new) text.items) }
+    ensures taken { OnOk result (settings.now.dump ≡ false → TakesRun (documented array.now)
+        (options_of settings.now.options) (map command_of commands.now)
+        (S.shown store.old) (S.shown store.new)) }
     ensures refused { AreRefused (described array.now) (map command_of commands.now) →
         settings.now.dump ≡ false → IsUntouched (S.shown store.old) (S.shown store.new) }
     ensures unchanged { (key : List ℕ) →
@@ -117,6 +122,11 @@ pub(crate) fn run_input<S: Store>(
         (map command_of parsed.now.commands.items)
         (with_entries (map entry_view parsed.now.entries.items) (S.shown store.old))
         (S.shown store.new) text.items) }
+    ensures taken { OnOk result (settings.now.dump ≡ false →
+        TakesRun (documented parsed.now.array) (options_of settings.now.options)
+        (map command_of parsed.now.commands.items)
+        (with_entries (map entry_view parsed.now.entries.items) (S.shown store.old))
+        (S.shown store.new)) }
     ensures refused { OnOk result (
         AreRefused (described parsed.now.array) (map command_of parsed.now.commands.items) →
         settings.now.dump ≡ false →

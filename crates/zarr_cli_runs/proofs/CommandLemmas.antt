@@ -1,7 +1,6 @@
 -- Commands that ran.
 use Rattle.std.proofs.Common.{◌≡◌, ℕ, List, map, Option, Some, None, IsSome, refl, sym, subst}
-use Rattle.std.specs.List.{AllZip}
-use Rattle.zarr_model.specs.Prelude.{Element, Array, Content, IsHonest, WhollyMeans, Command, Description, kind, layout, replies, Matches, all_asks, counted, LeavesKeys, ServesArray, RefusesRight, MeetsNoDamage, Shown, Options}
+use Rattle.zarr_model.specs.Prelude.{Element, Array, Content, IsHonest, WhollyMeans, Command, Description, layout, all_asks, counted, LeavesKeys, ServesArray, RefusesRight, SeesNoDamage, Shown, Options}
 use Rattle.zarr_model.proofs.FailureLaws.{undecoded-met}
 use Rattle.zarr_cli_made.specs.array.OpenArray.{described}
 use Rattle.zarr_cli_made.specs.array.Command.{answer_of}
@@ -20,7 +19,7 @@ wholly_honest description options store array meant chunk is_chunk = subst IsSom
 pub replied_by : (array : OpenArray) (options : Options) (commands : List Command) (before now : Shown) (held : List Reply) →
     (IsHonest (layout (described array) options) before.content → ServesArray (described array) options commands before.content now.content (map answer_of held)) →
     StoresForAll (described array) options commands before.content now.content →
-    LeavesKeys (described array) options commands before.content now.content → MeetsNoDamage (described array) options commands before.content →
+    LeavesKeys (described array) options commands before.content now.content → SeesNoDamage (described array) options commands before.content →
     RefusesRight (described array) commands (map answer_of held) →
     now.asks ≡ counted before.asks (all_asks (described array) commands) → RepliedBy (described array) options commands before now held
 replied_by array options commands before now held serves stored keys undamaged refusals asks = record {

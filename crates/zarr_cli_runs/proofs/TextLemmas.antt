@@ -1,9 +1,9 @@
 -- The text of replies, one after another.
-use Rattle.std.proofs.Common.{◌≡◌, ℕ, suc, ◌+◌, ◌<◌, List, [], ◌∷◌, ◌++◌, length, map, take, get_or, refl, sym, ap, ap₂, ◌∙◌, subst, add-one, append-nil, append_assoc}
+use Rattle.std.proofs.Common.{◌≡◌, ℕ, ◌+◌, ◌<◌, List, [], ◌∷◌, ◌++◌, length, map, take, get_or, refl, sym, ap, ◌∙◌, subst, add-one, append-nil, append_assoc}
 use Rattle.std.proofs.Math.Seq.{take-suc, take-length}
 use Rattle.std.proofs.lemmas.List.{map-append}
 use Rattle.std.specs.List.{AllZip}
-use Rattle.zarr_model.specs.Prelude.{Kind, Matches, Answer}
+use Rattle.zarr_model.specs.Prelude.{Kind, Matches}
 use Rattle.zarr_model.specs.Command as Model
 use Rattle.zarr_cli_made.specs.array.Command.{answer_of}
 use Rattle.zarr_cli_made.specs.array.declared.command.Reply.{Reply}

@@ -1,7 +1,7 @@
 -- A run that is made from a number: its array, its summary, and what it leaves.
 use Rattle.std.specs.Prelude.{◌≡◌, ℕ, ◌+◌, List, length, Option, Some, None}
 use Rattle.std.specs.List.{sum_by}
-use Rattle.zarr_model.specs.Prelude.{Element, Array, Options, Content, Means, Command, Refusal, Description, refusal, layout, replies, all_asks, counted, LeavesArray, MeetsNoDamage, Shown}
+use Rattle.zarr_model.specs.Prelude.{Element, Array, Options, Content, Means, Command, Refusal, Description, refusal, layout, replies, all_asks, counted, LeavesArray, SeesNoDamage, Shown}
 use Rattle.zarrs_storage.specs.Store.{ListsKeys}
 use Rattle.zarr_cli_made.specs.array.parts.Document.{describe}
 use Rattle.zarr_cli_made.specs.array.Stored.{StoresForAll}
@@ -53,8 +53,8 @@ pub record SumsUp (description : Description) (options : Options) (commands : Li
   -- the store is left as that array's, and what was stored decodes so under all options
   pub left : LeavesArray description options commands old new
   pub stored : StoresForAll description options commands old new
-  -- each value that was met decodes
-  pub undamaged : MeetsNoDamage description options commands old
+  -- each value that was met decodes, but for reads of parts whose pieces are there
+  pub undamaged : SeesNoDamage description options commands old
 
 -- commands were run over a store, and this is their summary, at the cost of the calls they make
 pub record SumsAll (description : Description) (options : Options) (commands : List Command)

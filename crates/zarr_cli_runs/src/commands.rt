@@ -1,13 +1,13 @@
 //! Commands run over a store, and the text of their replies.
 
-ghost use Rattle.std.specs.Prelude.{◌≡◌, ◌<◌, ◌≤◌, map, List, ℕ, IfOk, IfErr};
+ghost use Rattle.std.specs.Prelude.{◌≡◌, ◌<◌, ◌≤◌, map, List, ℕ, IfOk, IfErr, OnOk};
 ghost use Rattle.zarr_model.specs.Prelude.{fixed, Rose, IsHonest, layout, AreRefused, IsUntouched};
-ghost use Rattle.zarr_cli_made.specs.array.OpenArray.{described};
+ghost use Rattle.zarr_cli_made.specs.array.OpenArray.{documented, described};
 ghost use Rattle.zarr_cli_made.specs.array.Command.{command_of, AreReads};
 ghost use Rattle.zarrs_codec_traits.specs.Views.{options_of};
 ghost use Rattle.zarrs_codec_array_bytes.specs.Steps.{kind_seen};
 ghost use Rattle.zarr_cli_made.specs.lines.Parts.{IsTextOf};
-ghost use Rattle.zarr_cli_runs.specs.Commands.{IsChangedKey, RepliedBy, IsRunFault, session_status};
+ghost use Rattle.zarr_cli_runs.specs.Commands.{IsChangedKey, RepliedBy, TakesRun, IsRunFault, session_status};
 
 use crate::status::Status;
 use std::alloc::{AllocError, Global};
@@ -59,6 +59,8 @@ pub fn replies_of<S: Store>(
 ) -> Result<Vec<Reply>, Status>
     ensures ran { IfOk result (λ held. RepliedBy (described array.now) (options_of options.now)
         (map command_of commands.now) (S.shown store.old) (S.shown store.new) held.items) }
+    ensures taken { OnOk result (TakesRun (documented array.now) (options_of options.now)
+        (map command_of commands.now) (S.shown store.old) (S.shown store.new)) }
     ensures refused { AreRefused (described array.now) (map command_of commands.now) →
         IsUntouched (S.shown store.old) (S.shown store.new) }
     ensures unchanged { (key : List ℕ) →

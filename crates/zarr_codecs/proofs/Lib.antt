@@ -1,2 +1,6 @@
 pub mod DigestLaws
 pub mod OrderLaws
+pub mod RangeLaws
+pub mod RowLaws
+pub mod PartLaws
+pub mod AskLaws

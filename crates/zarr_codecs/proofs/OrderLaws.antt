@@ -1,5 +1,5 @@
 -- The bytes of components in both orders.
-use Rattle.std.proofs.Common.{◌≡◌, ◌⊎◌, ℕ, zero, suc, ◌+◌, ◌-◌, ◌*◌, ◌/◌, ◌<◌, ◌≤◌, Bool, true, false, ◌==◌, if◌then◌else◌, List, [], ◌∷◌, ◌++◌, length, take, drop, map, flat_map, reverse, not, Option, Some, None, IsSome, refl, sym, ap, ap₂, ◌∙◌, subst, arith, ⊎_elim, inl, inr, take-append-drop, eq-eqb, eqb-true}
+use Rattle.std.proofs.Common.{◌≡◌, ◌⊎◌, ℕ, zero, suc, ◌+◌, ◌-◌, ◌*◌, ◌/◌, ◌<◌, ◌≤◌, Bool, true, false, ◌==◌, if◌then◌else◌, List, [], ◌∷◌, ◌++◌, length, take, drop, map, flat_map, reverse, Option, Some, None, IsSome, refl, sym, ap, ap₂, ◌∙◌, subst, arith, ⊎_elim, inl, inr, take-append-drop, eq-eqb, eqb-true}
 use Rattle.std.proofs.lemmas.List.{length-append, append_assoc, take_at, drop_at, length-take-le, length-drop, length-reverse, reverse-reverse, drop-drop, drop-take, take-take}
 use Rattle.std.proofs.lemmas.Bool.{cond-true, cond-false, ne_eqb}
 use Rattle.std.proofs.Math.Nat.{mul-div_left}

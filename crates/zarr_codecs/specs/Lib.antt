@@ -1,2 +1,4 @@
 pub mod Sha256
 pub mod BytesCodec
+pub mod Ranges
+pub mod Asking

@@ -9,6 +9,8 @@ ghost use Rattle.zarrs_data_type_names.specs.DataType.{type_of};
 ghost use Rattle.zarrs_codec_traits.specs.Errors.{unserved_error};
 
 use crate::configuration::{order_configuration, read_order};
+use crate::joining::region_parts;
+use crate::ranges::region_request;
 use std::alloc::{AllocError, Global};
 use std::borrow::CowSlice;
 use std::num::NonZeroU64;
@@ -22,8 +24,8 @@ use zarrs_codec_options::{
     PartialEncoderCapability, RecommendedConcurrency,
 };
 use zarrs_codec_traits::{
-    ArrayCodecTraits, ArrayToBytesCodecTraits, CodecTraits, CodecTraitsV3, extracted, fixed_value,
-    num_elements, only_part, same_shape, unsupported_codec,
+    ArrayCodecTraits, ArrayToBytesCodecTraits, CodecTraits, CodecTraitsV3, fixed_value,
+    num_elements, same_shape, unsupported_codec,
 };
 use zarrs_data_type_elements::{BytesSupport, FillValue};
 use zarrs_data_type_names::DataType;
@@ -224,8 +226,9 @@ impl ArrayToBytesCodecTraits for BytesCodec {
     ghost use Rattle.zarrs_codec_array_bytes.specs.Refusals.{fine, told_by, wrong_length};
     ghost use Rattle.zarrs_codec_traits.proofs.FaultLaws.{told_no_fault};
     ghost use Rattle.zarrs_codec_options.specs.declared.bytes_representation.BytesRepresentation.TheVariants.{FixedSize};
-    ghost use Rattle.zarrs_codec_traits.proofs.TakenLaws.{nothing_asked};
-    ghost use Rattle.zarr_codecs.specs.BytesCodec.{stored_order, bytes_size};
+    ghost use Rattle.zarr_codecs.specs.BytesCodec.{stored_order, element_bytes, bytes_size};
+    ghost use Rattle.zarr_codecs.specs.Ranges.{run_ranges};
+    ghost use Rattle.zarr_codecs.specs.Asking.{runs_asked};
 
     ghost meaning = { λ c under level value.
         decode_array_to_bytes under (bytes_codec (stored_order c.endianness)) level value };
@@ -237,7 +240,8 @@ impl ArrayToBytesCodecTraits for BytesCodec {
 
     ghost takes = { λ _ _. Unit {0} };
 
-    ghost request = { λ _ _ _ _. None };
+    ghost request = { λ _ shape data_type box.
+        Some (run_ranges (element_bytes data_type) shape box) };
 
     ghost representation = { λ _ level. FixedSize (bytes_size level) };
 
@@ -252,8 +256,8 @@ impl ArrayToBytesCodecTraits for BytesCodec {
 
     ghost refuses_form = { λ _ _ _. inl refl };
 
-    ghost asks = { λ c under level box fill value ranges served inside some.
-        absurd (nothing_asked some) };
+    ghost asks = { λ c under level box fill value ranges served inside some invalid.
+        runs_asked (stored_order c.endianness) under level box value ranges inside some invalid };
 
     ghost no_fault = { λ c under level value e told.
         told_no_fault e (wrong_length (length value) (bytes_size level)) refl told };
@@ -308,13 +312,14 @@ impl ArrayToBytesCodecTraits for BytesCodec {
 
     fn byte_request(
         &self,
-        _alloc: Global,
-        _region: &ArraySubset,
-        _shape: &[NonZeroU64],
+        alloc: Global,
+        region: &ArraySubset,
+        shape: &[NonZeroU64],
         data_type: &DataType,
     ) -> Result<Option<Vec<ByteRange>>, CodecError> {
         self.support(data_type)?;
-        Ok(None)
+        let ranges = region_request(alloc, region, shape, data_type)?;
+        Ok(Some(ranges))
     }
 
     fn decode_parts(
@@ -322,13 +327,18 @@ impl ArrayToBytesCodecTraits for BytesCodec {
         alloc: Global,
         parts: Vec<Vec<u8>>,
         region: &ArraySubset,
-        shape: &[NonZeroU64],
+        _shape: &[NonZeroU64],
         data_type: &DataType,
-        fill_value: &FillValue,
-        options: &CodecOptions,
+        _fill_value: &FillValue,
+        _options: &CodecOptions,
     ) -> Result<ArrayBytes<'static>, CodecError> {
-        let value = only_part(parts);
-        let whole = self.decode(alloc, value, shape, data_type, fill_value, options)?;
-        extracted(alloc, &whole, region, shape, data_type)
+        let support = self.support(data_type)?;
+        match region_parts(alloc, parts, region, data_type) {
+            Ok(joined) => {
+                let decoded = self.ordered(&support, joined);
+                Ok(ArrayBytes::Fixed(CowSlice::Owned(decoded)))
+            }
+            Err(error) => Err(error),
+        }
     }
 }

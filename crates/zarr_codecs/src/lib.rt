@@ -7,6 +7,8 @@
 
 mod bytes_codec;
 pub mod configuration;
+mod joining;
+mod ranges;
 mod sha256_codec;
 
 pub use bytes_codec::BytesCodec;

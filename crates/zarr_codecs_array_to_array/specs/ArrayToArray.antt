@@ -1,9 +1,8 @@
 -- Array-to-array codecs as plain data: what each means, serves and is written as.
 use Rattle.std.specs.Prelude.{ℕ, ℤ, ◌==◌, Bool, true, List, length, codes, Option, Some}
 use Rattle.serde_json.specs.Data.{Members}
-use Rattle.zarr_model.specs.Region.{Region}
 use Rattle.zarr_model.specs.Element.{DataType}
-use Rattle.zarr_model.specs.Codec.{ArrayCodec, offset_codec, opposite, transpose_codec, permuted_box}
+use Rattle.zarr_model.specs.Codec.{ArrayCodec, offset_codec, opposite, transpose_codec}
 use Rattle.zarrs_codec_traits.specs.Errors.{Unserved}
 use Rattle.zarr_codecs_numbers.specs.Numbers.{bytes_less}
 use Rattle.zarr_codecs_numbers.specs.Offset.{offset_unserved}
@@ -32,7 +31,7 @@ abbrev pub array_has_rank : ℕ → ArrayToArray → Bool
 array_has_rank rank (offset number) = true
 array_has_rank rank (transpose order) = length order == rank
 
--- the type below, the bytes of the fill value below, and the box below of a box
+-- the type below, and the bytes of the fill value below
 abbrev pub type_below_by : ArrayToArray → DataType → DataType
 type_below_by (offset number) type = type
 type_below_by (transpose order) type = type
@@ -40,10 +39,6 @@ type_below_by (transpose order) type = type
 abbrev pub fill_below_by : ArrayToArray → List ℕ → List ℕ
 fill_below_by (offset number) fill = bytes_less (opposite number) fill
 fill_below_by (transpose order) fill = fill
-
-abbrev pub region_below_by : ArrayToArray → Region → Region
-region_below_by (offset number) box = box
-region_below_by (transpose order) box = permuted_box order box
 
 -- the shape above one below, where there is one
 abbrev pub shape_above_by : ArrayToArray → List ℕ → Option (List ℕ)

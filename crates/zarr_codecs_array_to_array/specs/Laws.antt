@@ -4,7 +4,7 @@ use Rattle.std.proofs.Common.{sym, ◌∙◌, eqb-true, eq-eqb}
 use Rattle.std.proofs.lemmas.Bool.{cond-true}
 use Rattle.zarr_model.specs.Region.{Region, count_of, ends_within}
 use Rattle.zarr_model.specs.Element.{Element, DataType, kind_of, fill_element}
-use Rattle.zarr_model.specs.Codec.{Level, opposite}
+use Rattle.zarr_model.specs.Codec.{Level, KeepsCount, opposite}
 use Rattle.zarr_model.proofs.ChainLaws.{offset-keeps_count, transpose-keeps_count}
 use Rattle.zarrs_codec_bytes.specs.Filling.{innermost_fill}
 use Rattle.zarrs_codec_traits.specs.Errors.{unsupported}
@@ -15,7 +15,7 @@ use Rattle.zarr_codecs_axes.proofs.OrderLaws.{length-permuted}
 use Rattle.zarr_codecs_moving.proofs.LevelLaws.{rank_serves, fill_stays, count_kept, fit_kept, region_stays, above_below}
 use Rattle.zarr_codecs_offset.specs.OffsetOf.{offset_of}
 use Rattle.zarr_codecs_transpose.specs.OrderOf.{order_of}
-use Rattle.zarr_codecs_array_to_array.specs.ArrayToArray.{ArrayToArray, offset, transpose, array_codec_of, array_unserved_by, array_has_rank, type_below_by, fill_below_by, region_below_by, shape_above_by}
+use Rattle.zarr_codecs_array_to_array.specs.ArrayToArray.{ArrayToArray, offset, transpose, array_codec_of, array_unserved_by, array_has_rank, type_below_by, fill_below_by, shape_above_by}
 use Rattle.zarr_codecs_array_to_array.specs.Views.{array_form}
 use Rattle.zarr_codecs_array_to_array.specs.declared.array_to_array.BasicArrayToArray.{BasicArrayToArray}
 use Rattle.zarr_codecs_array_to_array.specs.declared.array_to_array.BasicArrayToArray.TheVariants as arrays
@@ -28,6 +28,15 @@ plain_serves (offset number) shape type served rank = served
 plain_serves (transpose order) shape type served rank = cond-true (length shape == length order)
     None (Some (unsupported names.Transpose))
     (eq-eqb (length shape) (length order) (sym (eqb-true (length order) (length shape) rank)))
+
+-- a codec keeps the type, and what it decodes has an element for each place
+pub type_kept : (codec : ArrayToArray) (type : DataType) → type_below_by codec type ≡ type
+type_kept (offset number) type = refl
+type_kept (transpose order) type = refl
+
+pub keeps_count : (codec : ArrayToArray) → KeepsCount (array_codec_of codec)
+keeps_count (offset number) = offset-keeps_count number
+keeps_count (transpose order) = transpose-keeps_count order
 
 -- the level below has the type below, and the same rank
 pub type_of_below : (codec : ArrayToArray) (level : Level)
@@ -123,7 +132,8 @@ level_fits (arrays.Transpose codec) level served fits =
 -- the box below lies within the shape below, and the shape above one below has it below
 pub box_inside : (c : BasicArrayToArray) (level : Level) (box : Region) → Serves c level
     → ends_within box level.shape ≡ true
-    → ends_within (region_below_by (array_form c) box) (below_of c level).shape ≡ true
+    → ends_within ((array_codec_of (array_form c)).box_below level.shape box)
+    (below_of c level).shape ≡ true
 box_inside (arrays.Offset codec) level box served inside = inside
 box_inside (arrays.Transpose codec) level box served inside =
     region_stays (order_of codec) level.shape box codec.orders served inside

@@ -146,14 +146,14 @@ impl ArrayCodecTraits for BasicArrayToArray {
 }
 
 impl ArrayToArrayCodecTraits for BasicArrayToArray {
-    ghost use Rattle.zarr_codecs_array_to_array.specs.ArrayToArray.{array_codec_of, fill_below_by, region_below_by, shape_above_by};
+    ghost use Rattle.zarr_codecs_array_to_array.specs.ArrayToArray.{array_codec_of, fill_below_by, shape_above_by};
     ghost use Rattle.zarr_codecs_array_to_array.specs.Laws.{list_counted, list_decodes, fill_decodes, fill_denotes, fill_proper, fill_short, count_below, level_fits, box_inside, shape_back};
 
     ghost meaning = { λ c. array_codec_of (array_form c) };
 
     ghost fill_below = { λ c _ fill. fill_below_by (array_form c) fill };
 
-    ghost region_below = { λ c _ box. region_below_by (array_form c) box };
+    ghost region_below = { λ c shape box. (array_codec_of (array_form c)).box_below shape box };
 
     ghost shape_above = { λ c shape. shape_above_by (array_form c) shape };
 

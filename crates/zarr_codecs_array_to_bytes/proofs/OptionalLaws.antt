@@ -1,5 +1,5 @@
 -- Optional elements by the codec inside: served, decoded and encoded.
-use Rattle.std.proofs.Common.{◌≡◌, ◌⊎◌, ℕ, ◌*◌, ◌<◌, ◌^◌, Bool, true, false, not, ◌&&◌, nat_le, List, ◌++◌, length, take, drop, Option, Some, None, Result, Ok, Err, IfErr, Vec, IsSome, option_map, refl, sym, ap, ap₂, ◌∙◌, subst, if◌then◌else◌, inl, inr, arith}
+use Rattle.std.proofs.Common.{◌≡◌, ℕ, ◌*◌, ◌<◌, ◌^◌, Bool, true, false, not, ◌&&◌, nat_le, List, ◌++◌, length, take, drop, Option, Some, None, Result, Ok, Err, IfErr, Vec, IsSome, option_map, refl, sym, ap, ap₂, ◌∙◌, subst, if◌then◌else◌, inl, inr, arith}
 use Rattle.std.proofs.lemmas.Bool.{cond-true, cond-false, and_from, le-leb}
 use Rattle.std.proofs.lemmas.List.{take_at, drop_at, length-append}
 use Rattle.zarr_model.specs.Region.{count_of}

@@ -1,12 +1,14 @@
 -- Array-to-bytes codecs as plain data: what each means, serves, takes, refuses and is written as.
-use Rattle.std.specs.Prelude.{◌≡◌, ℕ, ◌+◌, ◌*◌, ◌<◌, ◌^◌, if◌then◌else◌, Bool, true, false, nat_le, nat_lt, List, length, take, drop, codes, Option, Some, option_and_then}
+use Rattle.std.specs.Prelude.{◌≡◌, ℕ, ◌+◌, ◌*◌, ◌<◌, ◌^◌, if◌then◌else◌, Bool, true, false, nat_le, nat_lt, List, length, take, drop, codes, Option, Some, None, option_and_then}
 use Rattle.serde_json.specs.Data.{Members, no_members, member}
+use Rattle.zarr_model.specs.Region.{Region, ends_within}
 use Rattle.zarr_model.specs.Element.{DataType, optional_type}
 use Rattle.zarr_model.specs.ArrayBytes.{ArrayBytes, optional_bytes, is_mask}
-use Rattle.zarr_model.specs.Codec.{ArrayToBytes, bytes_codec, vlen_codec, optional_codec}
+use Rattle.zarr_model.specs.Codec.{ArrayToBytes, Level, bytes_codec, vlen_codec, optional_codec}
 use Rattle.zarr_model.specs.Command.{expected_optional_bytes, invalid_mask}
 use Rattle.zarrs_metadata_parts.specs.MetadataV3.{configured}
 use Rattle.zarr_model.specs.declared.endianness.Endianness.{Endianness}
+use Rattle.zarrs_storage.specs.declared.byte_range.ByteRange.{ByteRange}
 use Rattle.zarrs_data_type_elements.specs.declared.codec_support.CodecName.TheVariants as names
 use Rattle.zarrs_codec_array_bytes.specs.Refusals.{Told, told_by, fine, refused, wrong_length}
 use Rattle.zarrs_codec_error.specs.declared.error.CodecError.{CodecError}
@@ -15,7 +17,9 @@ use Rattle.zarrs_codec_options.specs.declared.bytes_representation.BytesRepresen
 use Rattle.zarrs_codec_options.specs.declared.bytes_representation.BytesRepresentation.TheVariants.{FixedSize, BoundedSize, UnboundedSize}
 use Rattle.zarrs_codec_options.specs.declared.capability.PartialDecoderCapability.{PartialDecoderCapability}
 use Rattle.zarrs_codec_traits.specs.Errors.{Unserved, unsupported}
+use Rattle.zarrs_codec_held.specs.Reads.{TellsRangeOf}
 use Rattle.zarr_codecs.specs.BytesCodec.{stored_order, type_unserved, element_bytes, order_members}
+use Rattle.zarr_codecs.specs.Ranges.{run_ranges}
 use Rattle.zarr_codecs_vlen.specs.Vlen as vlen
 
 -- `bytes` with an order of the bytes of each component, `vlen-utf8` or `vlen-bytes`, or optional
@@ -80,6 +84,20 @@ says_by (plain_vlen text) number data_type value e = e ≡ codec.InvalidVariable
 says_by (plain_optional inner) number data_type value e =
     says_optional (nat_le number (length value)) (is_mask number (take number value))
     (says_by inner number (held_type data_type) (drop number value)) (length value) number e
+
+-- the ranges of a value that hold a region of a shape: `bytes` asks for the runs of the region, and
+-- the others need all of the value
+abbrev pub request_by : Plain → List ℕ → DataType → Region → Option (List ByteRange)
+request_by (plain_bytes order) shape data_type region =
+    Some (run_ranges (element_bytes data_type) shape region)
+request_by (plain_vlen text) shape data_type region = None
+request_by (plain_optional inner) shape data_type region = None
+
+-- which errors say that a part of a value does not decode: the first of the ranges that some region
+-- of the level asks for does not lie within the value
+abbrev pub part_says : Plain → Level → List ℕ → CodecError → Type 0
+part_says plain level value e = (region : Region) × (ends_within region level.shape ≡ true)
+    × TellsRangeOf (request_by plain level.shape level.data_type region) (Some value) e
 
 -- what is told of array bytes that are to be optional, before what is under their mask
 abbrev pub mask_answer : ℕ → ArrayBytes → Told

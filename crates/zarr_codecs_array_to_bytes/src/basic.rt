@@ -1,6 +1,6 @@
 //! The traits of an array-to-bytes codec of any kind.
 
-ghost use Rattle.std.specs.Prelude.{None, Some, false};
+ghost use Rattle.std.specs.Prelude.{Some, false};
 ghost use Rattle.zarr_codecs_array_to_bytes.specs.Views.{plain_of};
 
 use crate::codecs::BasicArrayToBytes;
@@ -17,9 +17,7 @@ use zarrs_codec_options::{
     BytesRepresentation, CodecMetadataOptions, CodecOptions, PartialDecoderCapability,
     PartialEncoderCapability, RecommendedConcurrency,
 };
-use zarrs_codec_traits::{
-    ArrayCodecTraits, ArrayToBytesCodecTraits, CodecTraits, extracted, only_part, same_shape,
-};
+use zarrs_codec_traits::{ArrayCodecTraits, ArrayToBytesCodecTraits, CodecTraits, same_shape};
 use zarrs_data_type_elements::FillValue;
 use zarrs_data_type_names::DataType;
 use zarrs_metadata_parts::Configuration;
@@ -106,9 +104,8 @@ impl ArrayToBytesCodecTraits for BasicArrayToBytes {
     ghost use Rattle.zarr_model.specs.Region.{count_of};
     ghost use Rattle.zarr_model.specs.Codec.{decode_array_to_bytes};
     ghost use Rattle.zarr_model.proofs.ChainLaws.{array_to_bytes-counted};
-    ghost use Rattle.zarrs_codec_traits.proofs.TakenLaws.{nothing_asked};
-    ghost use Rattle.zarr_codecs_array_to_bytes.specs.Plain.{codec_of, takes_by, beyond_by, says_by, size_by};
-    ghost use Rattle.zarr_codecs_array_to_bytes.specs.Laws.{plain_taken, plain_takes_few, plain_refuses_form, plain_no_fault};
+    ghost use Rattle.zarr_codecs_array_to_bytes.specs.Plain.{codec_of, takes_by, beyond_by, says_by, request_by, size_by};
+    ghost use Rattle.zarr_codecs_array_to_bytes.specs.Laws.{plain_taken, plain_takes_few, plain_refuses_form, plain_asks, plain_no_fault};
 
     ghost meaning = { λ c under level value.
         decode_array_to_bytes under (codec_of (plain_of c)) level value };
@@ -120,7 +117,7 @@ impl ArrayToBytesCodecTraits for BasicArrayToBytes {
 
     ghost takes = { λ c level. takes_by (plain_of c) (count_of level.shape) };
 
-    ghost request = { λ _ _ _ _. None };
+    ghost request = { λ c shape data_type box. request_by (plain_of c) shape data_type box };
 
     ghost representation = { λ c level.
         size_by (plain_of c) (count_of level.shape) level.data_type };
@@ -139,8 +136,8 @@ impl ArrayToBytesCodecTraits for BasicArrayToBytes {
     ghost refuses_form = { λ c level bytes.
         plain_refuses_form (plain_of c) (count_of level.shape) bytes };
 
-    ghost asks = { λ c under level box fill value ranges served inside some.
-        absurd (nothing_asked some) };
+    ghost asks = { λ c under level box fill value ranges served inside some invalid.
+        plain_asks (plain_of c) under level box value ranges inside some invalid };
 
     ghost no_fault = { λ c under level value e told.
         plain_no_fault (plain_of c) (count_of level.shape) level.data_type value e told };
@@ -180,13 +177,18 @@ impl ArrayToBytesCodecTraits for BasicArrayToBytes {
 
     fn byte_request(
         &self,
-        _alloc: Global,
-        _region: &ArraySubset,
+        alloc: Global,
+        region: &ArraySubset,
         shape: &[NonZeroU64],
         data_type: &DataType,
     ) -> Result<Option<Vec<ByteRange>>, CodecError> {
-        concurrency_by(self, shape, data_type)?;
-        Ok(None)
+        match self {
+            BasicArrayToBytes::Bytes(codec) => codec.byte_request(alloc, region, shape, data_type),
+            BasicArrayToBytes::Vlen(codec) => codec.byte_request(alloc, region, shape, data_type),
+            BasicArrayToBytes::Optional(codec) => {
+                codec.byte_request(alloc, region, shape, data_type)
+            }
+        }
     }
 
     fn decode_parts(
@@ -199,8 +201,16 @@ impl ArrayToBytesCodecTraits for BasicArrayToBytes {
         fill_value: &FillValue,
         options: &CodecOptions,
     ) -> Result<ArrayBytes<'static>, CodecError> {
-        let value = only_part(parts);
-        let whole = decode_by(self, alloc, value, shape, data_type, fill_value, options)?;
-        extracted(alloc, &whole, region, shape, data_type)
+        match self {
+            BasicArrayToBytes::Bytes(codec) => {
+                codec.decode_parts(alloc, parts, region, shape, data_type, fill_value, options)
+            }
+            BasicArrayToBytes::Vlen(codec) => {
+                codec.decode_parts(alloc, parts, region, shape, data_type, fill_value, options)
+            }
+            BasicArrayToBytes::Optional(codec) => {
+                codec.decode_parts(alloc, parts, region, shape, data_type, fill_value, options)
+            }
+        }
     }
 }

@@ -1,5 +1,5 @@
-//! What array-to-bytes codecs tell of two elements and their value: the shape that is decoded at once, whether ranges of
-//! the value are asked for, and what is stored in its place.
+//! What array-to-bytes codecs tell of two elements and their value: the shape that is decoded at once, which ranges of the
+//! value are asked for, and what is stored in its place.
 
 ghost use Rattle.std.specs.Prelude.{◌≡◌, [], ◌∷◌};
 ghost use Rattle.zarrs_codec_traits.specs.Views.{lengths};
@@ -73,22 +73,27 @@ fn told<C: ArrayToBytesCodecTraits>(
 const TEXTS: [u8; 15] = [2, 0, 0, 0, 1, 0, 0, 0, 97, 2, 0, 0, 0, 98, 99];
 
 #[test]
-fn whole_values_are_asked_for_and_stay(rt: HostRuntime) {
-    let (alloc, want) = (rt.alloc(), "[2] None None");
+fn runs_are_asked_for_and_values_stay(rt: HostRuntime) {
+    let (alloc, want) = (rt.alloc(), "[2] Some([FromStart(2, Some(2))]) None");
     let bytes = BytesCodec::new(Some(Endianness::Big));
     is_text(
         &rt,
         told(alloc, &bytes, &[1, 2, 3, 4], &DataType::Int16),
         want,
     );
-    let texts = VlenCodec::new(true);
-    is_text(&rt, told(alloc, &texts, &TEXTS, &DataType::String), want);
     let bytes = BasicArrayToBytes::Bytes(bytes);
     is_text(
         &rt,
         told(alloc, &bytes, &[1, 2, 3, 4], &DataType::Int16),
         want,
     );
+}
+
+#[test]
+fn whole_values_of_texts_are_asked_for_and_stay(rt: HostRuntime) {
+    let (alloc, want) = (rt.alloc(), "[2] None None");
+    let texts = VlenCodec::new(true);
+    is_text(&rt, told(alloc, &texts, &TEXTS, &DataType::String), want);
     let texts = BasicArrayToBytes::Vlen(texts);
     is_text(&rt, told(alloc, &texts, &TEXTS, &DataType::String), want);
 }

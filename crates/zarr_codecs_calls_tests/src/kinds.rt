@@ -26,7 +26,8 @@ pub fn line(alloc: Global, number: u64) -> Result<ChunkShape, AllocError>
 
 /// The second of two elements.
 pub fn second(alloc: Global) -> Result<ArraySubset, AllocError>
-    ensures { IfOk result (λ r. ends_within (box_of r) (2 ∷ []) ≡ true) }
+    ensures inside { IfOk result (λ r. ends_within (box_of r) (2 ∷ []) ≡ true) }
+    ensures one { IfOk result (λ r. box_of r ≡ record { start = 1; size = 1 } ∷ []) }
 {
     ArraySubset::new_with_ranges(alloc, &[1..2])
 }
@@ -42,7 +43,9 @@ pub fn table(alloc: Global) -> Result<ChunkShape, AllocError>
 
 /// The last two columns of them.
 pub fn columns(alloc: Global) -> Result<ArraySubset, AllocError>
-    ensures { IfOk result (λ r. ends_within (box_of r) (2 ∷ 3 ∷ []) ≡ true) }
+    ensures inside { IfOk result (λ r. ends_within (box_of r) (2 ∷ 3 ∷ []) ≡ true) }
+    ensures two { IfOk result (λ r. box_of r
+        ≡ record { start = 0; size = 2 } ∷ record { start = 1; size = 2 } ∷ []) }
 {
     ArraySubset::new_with_ranges(alloc, &[0..2, 1..3])
 }

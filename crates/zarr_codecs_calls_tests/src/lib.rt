@@ -10,4 +10,6 @@ mod kinds;
 #[cfg(test)]
 mod making;
 #[cfg(test)]
+mod parts;
+#[cfg(test)]
 mod texts;

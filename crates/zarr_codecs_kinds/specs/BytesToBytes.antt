@@ -1,5 +1,5 @@
--- Bytes-to-bytes codecs as plain data: what each means, which errors tell that it gives nothing, and
--- what it is written as.
+-- Bytes-to-bytes codecs as plain data: what each means, which errors tell that it gives nothing,
+-- and what it is written as.
 use Rattle.std.specs.Prelude.{ℕ, nat_le, List, length, codes, Option}
 use Rattle.serde_json.specs.Data.{Members, no_members}
 use Rattle.zarr_model.specs.Codec.{Options, checksum_codec}

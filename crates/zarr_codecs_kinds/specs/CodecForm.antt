@@ -36,8 +36,8 @@ form_of (code.ArrayToArray codec) = array_codec (array_form codec)
 form_of (code.ArrayToBytes codec) = to_bytes (plain_of codec)
 form_of (code.BytesToBytes codec) = byte_codec (byte_form codec)
 
--- the configurations of `bytes`, of an offset and of an order of dimensions, and of a codec that has
--- none, or an empty one
+-- the configurations of `bytes`, of an offset and of an order of dimensions, and of a codec that
+-- has none, or an empty one
 abbrev pub bytes_form : Option Members → Result CodecForm Unmade
 bytes_form configuration =
     or_config (option_map (λ order. to_bytes (plain_bytes order)) (order_in configuration))

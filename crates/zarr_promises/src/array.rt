@@ -2,7 +2,7 @@
 
 ghost use Rattle.std.specs.Prelude.{[], ◌∷◌, IfOk, OnOk};
 ghost use Rattle.zarrs_codec_array_bytes.specs.Raw.{raw_of};
-ghost use Rattle.zarr_model.specs.Prelude.{layout, read, write, IsHonest, MeetsNoDamage, ServesArray, RefusesRight};
+ghost use Rattle.zarr_model.specs.Prelude.{layout, read, write, IsHonest, SeesNoDamage, ServesArray, RefusesRight};
 ghost use Rattle.zarrs_array_subset.specs.ArraySubset.{region as region_of_subset};
 ghost use Rattle.zarrs_codec_traits.specs.Views.{options_of};
 ghost use Rattle.zarr_array.specs.OpenArray.{described};
@@ -49,7 +49,7 @@ pub fn read_from<S: Store>(
 ) -> Result<Reply, SessionError>
     ensures refusals { IfOk (ended_one result) (λ answers. RefusesRight (described array.now)
         (read (region_of_subset region.now) ∷ []) answers) }
-    ensures undamaged { OnOk (ended_one result) (MeetsNoDamage (described array.now)
+    ensures undamaged { OnOk (ended_one result) (SeesNoDamage (described array.now)
         (options_of options.now) (read (region_of_subset region.now) ∷ [])
         (S.shown store.old).content) }
 {

@@ -11,5 +11,6 @@ mod parts;
 mod refused;
 mod run;
 mod runs;
+mod taken;
 mod targets;
 mod told_run;

@@ -141,7 +141,8 @@ abbrev pub IsEncoded : Option (List Element) → (List Element → Type 0) → T
 IsEncoded None takes = ⊥
 IsEncoded (Some list) takes = takes list
 
--- the value is absent, the fill value denotes no element to take in its place, and the error says so
+-- the value is absent, the fill value denotes no element to take in its place, and the error says
+-- so
 pub record IsUnfilled (old : ListSeen) (e : CodecError) : Type 0 where
   pub absent : old.there ≡ false
   pub undenoted : fill_element (kind_of old.level.data_type) old.fill ≡ None

@@ -14,8 +14,8 @@ none_form configuration = if is_none_or_empty configuration then Ok no_members e
 abbrev pub Refuses : Unmade → PluginCreateError → Type 0
 Refuses why error = IsUnmade {Y = Option Members} kinds.Codec error (Err why)
 
--- a kind that goes by the name gave this, by what its maker may give; a name that no kind goes by is
--- refused
+-- a kind that goes by the name gave this, by what its maker may give; a name that no kind goes by
+-- is refused
 abbrev pub MakesByKind : {K M : Type 0} → (K → Result M PluginCreateError → Type 0) → List ℕ
     → Option K → Result M PluginCreateError → Type 0
 MakesByKind gives name (Some kind) result = gives kind result

@@ -23,8 +23,8 @@ use Rattle.zarrs_data_type_elements.specs.declared.codec_traits.zfp.ZfpNativeTyp
 use Rattle.zarrs_data_type_elements.specs.declared.codec_traits.zfp.ZfpNativeType.TheVariants as native
 use Rattle.zarrs_data_type_elements.specs.declared.codec_traits.zfp.ZfpSupport.{ZfpSupport}
 
--- the support that a codec asked for is that of its table, or the table has none and the error names
--- the codec
+-- the support that a codec asked for is that of its table, or the table has none and the error
+-- names the codec
 abbrev pub Supports : {S X : Type 0} → (S → X) → CodecName → Result S DataTypeCodecError →
     Option X → Type 0
 Supports seen name (Ok support) entry = entry ≡ Some (seen support)

@@ -177,8 +177,8 @@ required_data_v2 f ms =
 abbrev pub array_v2_data : ArrayV2 → Data
 array_v2_data f = object (required_data_v2 f (optional_data_v2 f no_members))
 
--- What a document reads back as, once it is written: without an `id` in a configuration, and without
--- an empty list of filters.
+-- What a document reads back as, once it is written: without an `id` in a configuration, and
+-- without an empty list of filters.
 abbrev pub normal_array_v2 : ArrayV2 → ArrayV2
 normal_array_v2 f = record f {
   compressor = normal_compressor f.compressor;

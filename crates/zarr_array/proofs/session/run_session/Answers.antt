@@ -5,9 +5,14 @@ use Rattle.zarr_array.specs.OpenArray.{documented}
 use Rattle.zarrs_codec_traits.specs.Views.{options_of}
 use Rattle.zarr_array.specs.Ended.{ended}
 use Rattle.zarr_array.specs.Runs.{Runs}
+use Rattle.zarr_array.specs.Taken.{TakesAlone}
 use Rattle.zarr_array.proofs.OpenedLaws.{one_document}
 use Rattle.zarr_array.proofs.session.run_session.Goals as goal
 
 pub returns-in-Ok-clause-runs : goal.returns-in-Ok-clause-runs
 returns-in-Ok-clause-runs g c = λ document opens. subst (λ d. Runs (describe d) (options_of c.args.options.now) (map command_of c.args.commands.now) (g.S.Store.shown c.args.store.now) (g.S.Store.shown c.run_commands.new.store) (ended c.run_commands.result))
     (one_document (documented c.in-Ok.array) document _ c.in-Ok.ensures opens) c.run_commands.ensures.runs
+
+pub returns-in-Ok-clause-taken : goal.returns-in-Ok-clause-taken
+returns-in-Ok-clause-taken g c = λ document opens. subst (λ d. TakesAlone d (options_of c.args.options.now) (map command_of c.args.commands.now) (g.S.Store.shown c.args.store.now) (g.S.Store.shown c.run_commands.new.store) (ended c.run_commands.result))
+    (one_document (documented c.in-Ok.array) document _ c.in-Ok.ensures opens) c.run_commands.ensures.taken

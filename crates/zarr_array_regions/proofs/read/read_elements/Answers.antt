@@ -6,7 +6,7 @@ use Rattle.zarrs_codec_traits.specs.Views.{options_of}
 use Rattle.zarr_array_elements.specs.BoxElements.{kind_held, box_held, list_held}
 use Rattle.zarr_array_elements.proofs.HeldLaws.{length-list_held}
 use Rattle.zarr_array_regions.specs.RegionChunks.{Meets}
-use Rattle.zarr_array_regions.proofs.ReadSteps.{none_to_read, read_bytes}
+use Rattle.zarr_array_regions.proofs.ReadSteps.{none_to_read, read_means}
 use Rattle.zarr_array_regions.proofs.read.read_elements.Goals as goal
 
 pub read_all-requires-clause-as_long : goal.read_all-requires-clause-as_long
@@ -18,7 +18,7 @@ pub returns-in_ok-bytes-in-None-clause-read : goal.returns-in_ok-bytes-in-None-c
 returns-in_ok-bytes-in-None-clause-read g c =
     let elements = c.in_ok-elements.elements in
     let store = g.S.Store.shown c.args.store.now in
-    read_bytes c.args.array.now (options_of c.args.options.now) (region c.args.subset.now) (raw_of c.in_ok-bytes-in-None.bytes) (kind_held elements) (box_held elements) (list_held elements) store store
+    read_means c.args.array.now (options_of c.args.options.now) (region c.args.subset.now) (raw_of c.in_ok-bytes-in-None.bytes) (kind_held elements) (box_held elements) (list_held elements) store store
     (c.in_ok-elements.ensures.kind ∙ ap kind_of c.data_type.ensures) c.in_ok-elements.ensures.subset c.in_ok-bytes-in-None.ensures
     (none_to_read c.args.array.now (options_of c.args.options.now) (region c.args.subset.now) (list_held elements) store c.requires.inside
-    (subst (Meets c.args.array.now c.args.subset.now) c.in-None.is c.in_ok-met.ensures) (length-list_held elements ∙ ap count c.in_ok-elements.ensures.subset) (g.met.S.Store.counts_fit c.args.store.now).1)
+    (subst (Meets c.args.array.now c.args.subset.now) c.in-None.is c.in_ok-met.ensures) (length-list_held elements ∙ ap count c.in_ok-elements.ensures.subset) (g.met.S.Store.counts_fit c.args.store.now).1 (g.met.S.Store.counts_fit c.args.store.now).2)

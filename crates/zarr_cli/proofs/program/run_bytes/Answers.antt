@@ -7,7 +7,7 @@ use Rattle.zarr_cli.proofs.program.run_bytes.Goals as goal
 pub returns-in-Ok-clause-ran : goal.returns-in-Ok-clause-ran
 returns-in-Ok-clause-ran g c = λ words set.
     bytes_told words (settings_view c.args.settings.now) c.args.input.now c.in-Ok.parsed (g.S.Store.shown c.args.store.now) (g.S.Store.shown c.run_input.new.store)
-    c.run_input.result set c.requires c.in-Ok.ensures.says c.run_input.ensures.ran c.run_input.ensures.refused c.run_input.ensures.fault
+    c.run_input.result set c.requires c.in-Ok.ensures.says c.run_input.ensures.ran c.run_input.ensures.taken c.run_input.ensures.refused c.run_input.ensures.fault
 
 pub returns-in-Ok-clause-complete : goal.returns-in-Ok-clause-complete
 returns-in-Ok-clause-complete g c = λ words set runs calm.

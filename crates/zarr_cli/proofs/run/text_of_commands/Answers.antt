@@ -1,4 +1,4 @@
-use Rattle.std.proofs.Common.{map, ap, ◌∙◌, subst, sym}
+use Rattle.std.proofs.Common.{map, ap, subst}
 use Rattle.zarr_model.specs.Element.{kind_of}
 use Rattle.zarr_cli_runs.specs.array.OpenArray.{described}
 use Rattle.zarr_cli_runs.specs.array.Command.{command_of}

@@ -2,10 +2,13 @@ use Rattle.std.proofs.Common.{◌≡◌, ◌+◌, [], ◌∷◌, ◌++◌, map, 
 use Rattle.std.proofs.lemmas.List.{map-append}
 use Rattle.zarr_array.specs.Command.{command_of, answer_of}
 use Rattle.zarrs_codec_traits.specs.Views.{options_of}
-use Rattle.zarr_array.specs.OpenArray.{described}
+use Rattle.zarr_model.specs.Prelude.{TakesNeeded}
+use Rattle.zarr_array.specs.OpenArray.{documented, described}
 use Rattle.zarr_array.specs.Runs.{Runs}
 use Rattle.zarr_array_regions.proofs.ServedLaws.{described_covers, described_sound}
 use Rattle.zarr_array.proofs.RunsLaws.{command_here, read_here, one_more_ran, stops_at, take_next, take_whole}
+use Rattle.zarr_array.proofs.SessionSteps.{told_of_list}
+use Rattle.zarr_array.proofs.TakenLaws.{more_takes}
 use Rattle.zarr_array.proofs.open.OpenArray.run_commands.Goals as goal
 
 pub loop-number-preserved : goal.loop-number-preserved
@@ -20,6 +23,15 @@ loop-number-preserved g c = record {
       subst₂ (λ commands answers. Runs array options commands (g.S.Store.shown c.args.store.now) (g.S.Store.shown c.run_command.new.store) (Ok answers))
       (sym (take_next commands c.loop-number.number (command_of c.index-commands-number.result) here)) (sym answered)
       (one_more_ran array options (described_covers c.args.self.now.parts) (described_sound c.args.self.now.parts options) _ _ _ (g.S.Store.shown c.loop-number.store) _ _ _ c.loop-number.invariant.so_far c.in-Ok-run_command.ensures.runs);
+  taken = λ alone.
+      let options = options_of c.args.options.now in
+      let commands = map command_of c.args.commands.now in
+      let here = command_here command_of c.args.commands.now c.loop-number.number c.index-commands-number.result c.loop-number-test.true c.index-commands-number.is in
+      subst (λ list. TakesNeeded (described c.args.self.now) options list (g.S.Store.shown c.args.store.now) (g.S.Store.shown c.run_command.new.store))
+      (sym (take_next commands c.loop-number.number (command_of c.index-commands-number.result) here))
+      (more_takes (described c.args.self.now) options (described_covers c.args.self.now.parts) (described_sound c.args.self.now.parts options) _ _
+      (g.S.Store.shown c.args.store.now) (g.S.Store.shown c.loop-number.store) (g.S.Store.shown c.run_command.new.store) _
+      c.loop-number.invariant.so_far (c.loop-number.invariant.taken alone) (c.in-Ok-run_command.ensures.taken alone));
   kept =
       let here = command_here command_of c.args.commands.now c.loop-number.number c.index-commands-number.result c.loop-number-test.true c.index-commands-number.is in
       λ reads. g.met.S.Store.kept_twice c.args.store.now c.loop-number.store c.run_command.new.store (c.loop-number.invariant.kept reads)
@@ -45,3 +57,13 @@ returns-in-Err-run_command-clause-kept g c =
     let here = command_here command_of c.args.commands.now c.loop-number.number c.index-commands-number.result c.loop-number-test.true c.index-commands-number.is in
     λ reads. g.met.S.Store.kept_twice c.args.store.now c.loop-number.store c.run_command.new.store (c.loop-number.invariant.kept reads)
     (c.run_command.ensures.kept (read_here (map command_of c.args.commands.now) c.loop-number.number (command_of c.index-commands-number.result) here reads))
+
+pub returns-in-Err-run_command-clause-told : goal.returns-in-Err-run_command-clause-told
+returns-in-Err-run_command-clause-told g c =
+    let here = command_here command_of c.args.commands.now c.loop-number.number c.index-commands-number.result c.loop-number-test.true c.index-commands-number.is in
+    told_of_list (documented c.args.self.now) (options_of c.args.options.now) (g.S.Store.shown c.run_command.new.store) c.in-Err-run_command.error.kind
+    (map command_of c.args.commands.now) c.loop-number.number (command_of c.index-commands-number.result) here c.in-Err-run_command.ensures.told
+
+pub returns-clause-taken : goal.returns-clause-taken
+returns-clause-taken g c = λ alone. subst (λ commands. TakesNeeded (described c.args.self.now) (options_of c.args.options.now) commands (g.S.Store.shown c.args.store.now) (g.S.Store.shown c.loop-number.store))
+    (take_whole command_of c.args.commands.now c.loop-number.number (omega arith)) (c.loop-number.invariant.taken alone)

@@ -5,6 +5,7 @@ use Rattle.zarr_array.specs.OpenArray.{described}
 use Rattle.zarrs_codec_traits.specs.Views.{options_of}
 use Rattle.zarr_array_regions.proofs.ServedLaws.{described_covers, described_sound}
 use Rattle.zarr_array.proofs.RunsLaws.{ran_gives, failed_gives}
+use Rattle.zarr_array.proofs.TakenLaws.{erase_takes}
 use Rattle.zarr_array.proofs.EraseLaws.{erase-ran, erase-fails, erase-starved, erase-keys}
 use Rattle.zarr_array.proofs.open.OpenArray.run_erase.Goals as goal
 
@@ -33,3 +34,7 @@ returns-in-Err-Failed-clause-runs g c = failed_gives (described c.args.self.now)
     (erase-keys (described c.args.self.now) (described_covers c.args.self.now.parts) (options_of c.args.options.now) (described_sound c.args.self.now.parts (options_of c.args.options.now)) c.args.chunk_indices.now (search rules)
     (g.S.Store.shown c.args.store.now).content (g.S.Store.shown c.erase.new.self).content
     (subst (λ key. MayPutKey (g.S.Store.shown c.args.store.now).content (g.S.Store.shown c.erase.new.self).content key None) c.in_ok-key.ensures c.in-Err-Failed.ensures.puts.failed)) c.erase.ensures.puts.cause.later
+
+pub returns-in-Ok-clause-taken : goal.returns-in-Ok-clause-taken
+returns-in-Ok-clause-taken g c = λ alone. erase_takes (described c.args.self.now) (options_of c.args.options.now) c.args.chunk_indices.now (g.S.Store.shown c.args.store.now) (g.S.Store.shown c.erase.new.self) (search rules)
+    c.erase.ensures.puts.taken (g.met.S.Store.counts_fit c.args.store.now).2

@@ -8,6 +8,7 @@ use Rattle.zarrs_codec_array_bytes.specs.Raw.{raw_of}
 use Rattle.zarr_array_regions.proofs.ServedLaws.{described_covers, described_sound}
 use Rattle.zarr_array.proofs.RunsLaws.{ran_gives, failed_gives}
 use Rattle.zarr_array.proofs.ReadCommand.{read-fails}
+use Rattle.zarr_array.proofs.TakenLaws.{read_takes}
 use Rattle.zarr_array.proofs.Commands.{bytes-read}
 use Rattle.zarr_array.proofs.open.OpenArray.run_read.Goals as goal
 
@@ -23,3 +24,7 @@ pub returns-clause-runs : goal.returns-clause-runs
 returns-clause-runs g c = ran_gives (described c.args.self.now) (options_of c.args.options.now) (described_covers c.args.self.now.parts) (described_sound c.args.self.now.parts (options_of c.args.options.now)) (read (region c.args.subset.now) ∷ []) (g.S.Store.shown c.args.store.now) (g.S.Store.shown c.read_elements.new.store) _
     (bytes-read c.args.self.now.parts (options_of c.args.options.now) (region c.args.subset.now) (g.S.Store.shown c.args.store.now) (g.S.Store.shown c.read_elements.new.store) (raw_of c.in_ok-elements.elements)
     (search rules) c.in_ok-elements.ensures.read)
+
+pub returns-clause-taken : goal.returns-clause-taken
+returns-clause-taken g c = λ alone. read_takes c.args.self.now.parts (options_of c.args.options.now) (region c.args.subset.now) (g.S.Store.shown c.args.store.now) (g.S.Store.shown c.read_elements.new.store) alone
+    (raw_of c.in_ok-elements.elements) (search rules) c.in_ok-elements.ensures.read

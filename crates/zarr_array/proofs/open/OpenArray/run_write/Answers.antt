@@ -7,6 +7,7 @@ use Rattle.zarr_array.specs.OpenArray.{described}
 use Rattle.zarrs_codec_traits.specs.Views.{options_of}
 use Rattle.zarr_array_regions.proofs.ServedLaws.{described_covers, described_sound}
 use Rattle.zarr_array.proofs.RunsLaws.{ran_gives, failed_gives}
+use Rattle.zarr_array.proofs.TakenLaws.{write_takes}
 use Rattle.zarr_array.proofs.Commands.{inside, writable, bytes-written, bytes-fail, bytes-fail-keys}
 use Rattle.zarr_array.proofs.open.OpenArray.run_write.Goals as goal
 
@@ -34,3 +35,7 @@ returns-clause-runs g c = ran_gives (described c.args.self.now) (options_of c.ar
     (bytes-written c.args.self.now.parts (options_of c.args.options.now) (region c.args.subset.now) (raw_of c.args.bytes.now) (search rules)
     (g.S.Store.shown c.args.store.now) (g.S.Store.shown c.write_elements.new.store)
     c.in_ok-write_elements.ensures)
+
+pub returns-clause-taken : goal.returns-clause-taken
+returns-clause-taken g c = λ alone. write_takes c.args.self.now.parts (options_of c.args.options.now) (region c.args.subset.now) (g.S.Store.shown c.args.store.now) (g.S.Store.shown c.write_elements.new.store) alone
+    (raw_of c.args.bytes.now) (search rules) c.in_ok-write_elements.ensures

@@ -1,4 +1,4 @@
-use Rattle.std.proofs.Common.{inr}
+use Rattle.std.proofs.Common.{IsSome, inr, refl, sym, subst}
 use Rattle.std.proofs.lemmas.Result.{err_from_is_err_and}
 use Rattle.zarrs_codec_array_bytes.specs.Raw.{raw_of}
 use Rattle.zarrs_codec_traits.specs.Views.{options_of}
@@ -6,6 +6,7 @@ use Rattle.zarr_array_regions.specs.RegionChunks.{chunk_at}
 use Rattle.zarr_array_regions.proofs.ChunkLaws.{lent_serves, fetched_elements, given_mean}
 use Rattle.zarr_array_regions.proofs.FetchSteps.{fetch_failed}
 use Rattle.zarr_array_regions.proofs.MetLaws.{met_chunk}
+use Rattle.zarr_array_regions.proofs.TakenLaws.{whole_takes}
 use Rattle.zarr_array_regions.proofs.region_chunks.RegionChunks.fetch_elements.Goals as goal
 
 pub fetch-requires : goal.fetch-requires
@@ -37,3 +38,14 @@ returns-clause-fetched g c =
             (raw_of c.in_ok-bytes.bytes) c.args.key.now (g.S.Store.shown c.args.store.now) c.requires.key fetches.value;
       },
     )
+
+pub returns-clause-taken : goal.returns-clause-taken
+returns-clause-taken g c =
+    let met = c.args.self.now in
+    let chunk = chunk_at met c.args.number in
+    let options = options_of c.args.options.now in
+    let fetches = c.in_ok-bytes.ensures.fetches in
+    let serves = lent_serves met.array.now c.chain-chain.result.now c.args.levels.now chunk c.chain-chain.ensures c.requires.levels in
+    whole_takes met.array.now options chunk c.args.key.now (g.S.Store.shown c.args.store.now) (g.S.Store.shown c.fetch.new.store) c.requires.key
+    (subst IsSome (sym (fetched_elements met.array.now c.chain-chain.result.now c.args.levels.now options chunk serves
+    (raw_of c.in_ok-bytes.bytes) c.args.key.now (g.S.Store.shown c.args.store.now) c.requires.key fetches.value)) refl) fetches.asked.taken

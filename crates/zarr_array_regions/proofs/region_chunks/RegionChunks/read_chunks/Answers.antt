@@ -5,7 +5,7 @@ use Rattle.zarrs_codec_traits.specs.Views.{options_of}
 use Rattle.zarr_array_elements.specs.BoxElements.{list_held}
 use Rattle.zarr_array_parts.specs.Parts.{described}
 use Rattle.zarr_array_regions.specs.RegionChunks.{chunk_at}
-use Rattle.zarr_array_regions.proofs.MetLaws.{num_met, met_here, met_chunk}
+use Rattle.zarr_array_regions.proofs.MetLaws.{num_met, met_here}
 use Rattle.zarr_array_regions.proofs.ReadSteps.{HasReadSome, none_read, one_read, stops_read, all_read}
 use Rattle.zarr_array_regions.proofs.region_chunks.RegionChunks.read_chunks.Goals as goal
 
@@ -14,7 +14,7 @@ loop-number-init g c =
     let met = c.args.self.now in (
       c.requires.holds,
       none_read met.array.now (options_of c.args.options.now) (region met.subset.now) (list_held c.args.elements.now) (g.S.Store.shown c.args.store.now) c.requires.as_long
-          (g.met.S.Store.counts_fit c.args.store.now).1,
+          (g.met.S.Store.counts_fit c.args.store.now).1 (g.met.S.Store.counts_fit c.args.store.now).2,
       g.met.S.Store.kept_self c.args.store.now,
       tt,
     )
@@ -34,7 +34,7 @@ loop-number-preserved g c =
       c.read_chunk.ensures.holds,
       one_read met.array.now (options_of c.args.options.now) (region met.subset.now) c.loop-number.number (chunk_at met c.loop-number.number) (list_held c.loop-number.elements) (list_held c.read_chunk.new.elements)
           (g.S.Store.shown c.args.store.now) (g.S.Store.shown c.loop-number.store) (g.S.Store.shown c.read_chunk.new.store)
-          (met_here met c.requires.met c.loop-number.number below) (met_chunk met c.requires.met c.loop-number.number below) c.loop-number.invariant.1 c.in-Ok.ensures.read,
+          (met_here met c.requires.met c.loop-number.number below) c.loop-number.invariant.1 c.in-Ok.ensures.read,
       g.met.S.Store.kept_twice c.args.store.now c.loop-number.store c.read_chunk.new.store c.loop-number.invariant.2 c.read_chunk.ensures.kept,
       c.in-Ok.ensures.hand,
     )

@@ -33,6 +33,7 @@ returns g c =
           (g.S.Store.shown c.args.store.now).content (g.S.Store.shown c.put.new.store).content c.args.key.now) (c.put.ensures.cut list taken);
       memory = c.put.ensures.unchanged;
       asks = c.put.ensures.asks;
+      taken = c.put.ensures.taken;
       plain = c.put.ensures.plain;
       cause = c.put.ensures.cause;
     }

@@ -15,17 +15,17 @@ use Rattle.zarr_array_regions.proofs.region_chunks.RegionChunks.write_at.Goals a
 
 pub put_overlap-requires-clause-rank : goal.put_overlap-requires-clause-rank
 put_overlap-requires-clause-rank g c =
-    ap length c.in-Ok.ensures.1.place.lies ∙ sym (its_rank c.args.self.now c.requires.met c.args.number c.requires.below)
+    ap length c.in-Ok.ensures.fetched.1.place.lies ∙ sym (its_rank c.args.self.now c.requires.met c.args.number c.requires.below)
 
 pub put_overlap-requires-clause-chunk_count : goal.put_overlap-requires-clause-chunk_count
 put_overlap-requires-clause-chunk_count g c =
     let met = c.args.self.now in
-    subst (λ r. count r + 1 < 2 ^ 64) (sym c.in-Ok.ensures.1.place.lies) (chunk_counts met.array.now (chunk_at met c.args.number) (met_chunk met c.requires.met c.args.number c.requires.below)).0
+    subst (λ r. count r + 1 < 2 ^ 64) (sym c.in-Ok.ensures.fetched.1.place.lies) (chunk_counts met.array.now (chunk_at met c.args.number) (met_chunk met c.requires.met c.args.number c.requires.below)).0
 
 pub put_overlap-requires-clause-chunk_bytes : goal.put_overlap-requires-clause-chunk_bytes
 put_overlap-requires-clause-chunk_bytes g c =
     let met = c.args.self.now in
-    subst₂ (λ r k. count r * size_in (fixed_size k) < 2 ^ 64) (sym c.in-Ok.ensures.1.place.lies) (sym (ap kind_of c.data_type-data_type.ensures))
+    subst₂ (λ r k. count r * size_in (fixed_size k) < 2 ^ 64) (sym c.in-Ok.ensures.fetched.1.place.lies) (sym (ap kind_of c.data_type-data_type.ensures))
     (chunk_counts met.array.now (chunk_at met c.args.number) (met_chunk met c.requires.met c.args.number c.requires.below)).1
 
 pub returns-in-Ok-store_elements : goal.returns-in-Ok-store_elements
@@ -38,8 +38,8 @@ returns-in-Ok-store_elements g c =
     let list = raw_of c.in-Ok-put_overlap.elements in
     is_written met.array.now options (region met.subset.now) chunk bytes c.in-Ok.chunk.place.key value list
     (g.S.Store.shown c.args.store.now) (g.S.Store.shown c.fetch_chunk.new.store) (g.S.Store.shown c.store_elements.new.store)
-    c.in-Ok.ensures.1.place.key c.in-Ok.ensures.1.elements c.in-Ok.ensures.0
-    (copied_so met.array.now (region met.subset.now) chunk (kind_seen c.data_type-data_type.result.now) (region c.in-Ok.chunk.place.subset) (ap kind_of c.data_type-data_type.ensures) c.in-Ok.ensures.1.place.lies
+    c.in-Ok.ensures.fetched.1.place.key c.in-Ok.ensures.fetched.1.elements c.in-Ok.ensures.fetched.0 c.in-Ok.ensures.taken
+    (copied_so met.array.now (region met.subset.now) chunk (kind_seen c.data_type-data_type.result.now) (region c.in-Ok.chunk.place.subset) (ap kind_of c.data_type-data_type.ensures) c.in-Ok.ensures.fetched.1.place.lies
     bytes value list c.in-Ok-put_overlap.ensures.copied)
     _ (subst (StoresElements met.array.now options chunk (chunk_list met.array.now chunk list) c.in-Ok.chunk.place.key (g.S.Store.shown c.fetch_chunk.new.store) (g.S.Store.shown c.store_elements.new.store))
     c.in-Ok-store_elements.is c.store_elements.ensures)
@@ -54,8 +54,8 @@ returns-in-Ok-put_overlap g c =
     let list = raw_of c.in-Ok-put_overlap.elements in
     rw c.from.ensures (not_written met.array.now options (region met.subset.now) chunk bytes c.in-Ok.chunk.place.key value list
     (g.S.Store.shown c.args.store.now) (g.S.Store.shown c.fetch_chunk.new.store) (g.S.Store.shown c.store_elements.new.store)
-    c.in-Ok.ensures.1.place.key c.in-Ok.ensures.1.elements c.in-Ok.ensures.0
-    (copied_so met.array.now (region met.subset.now) chunk (kind_seen c.data_type-data_type.result.now) (region c.in-Ok.chunk.place.subset) (ap kind_of c.data_type-data_type.ensures) c.in-Ok.ensures.1.place.lies
+    c.in-Ok.ensures.fetched.1.place.key c.in-Ok.ensures.fetched.1.elements c.in-Ok.ensures.fetched.0 c.in-Ok.ensures.taken
+    (copied_so met.array.now (region met.subset.now) chunk (kind_seen c.data_type-data_type.result.now) (region c.in-Ok.chunk.place.subset) (ap kind_of c.data_type-data_type.ensures) c.in-Ok.ensures.fetched.1.place.lies
     bytes value list c.in-Ok-put_overlap.ensures.copied)
     c.in-Err-store_elements.error (subst (StoresElements met.array.now options chunk (chunk_list met.array.now chunk list) c.in-Ok.chunk.place.key (g.S.Store.shown c.fetch_chunk.new.store) (g.S.Store.shown c.store_elements.new.store))
     c.in-Err-store_elements.is c.store_elements.ensures))

@@ -1,20 +1,18 @@
-use Rattle.std.proofs.Common.{◌≡◌, ◌<◌, length, arith, subst}
+use Rattle.std.proofs.Common.{◌≡◌, ◌<◌, length, arith}
 use Rattle.zarr_model.specs.Prelude.{count, chunks_meeting}
 use Rattle.zarrs_array_subset.specs.ArraySubset.{region}
 use Rattle.zarrs_codec_array_bytes.specs.Raw.{raw_of}
 use Rattle.zarrs_codec_traits.specs.Views.{options_of}
 use Rattle.zarr_array_parts.specs.Parts.{described}
 use Rattle.zarr_array_regions.specs.RegionChunks.{chunk_at}
-use Rattle.zarr_array_regions.specs.Write.{change_of}
-use Rattle.zarr_array_regions.specs.PartWay.{ChangedSome}
 use Rattle.zarr_array_regions.proofs.MetLaws.{num_met, met_here}
-use Rattle.zarr_array_regions.proofs.WriteSteps.{none_written, one_written, stops_written}
+use Rattle.zarr_array_regions.proofs.WriteSteps.{none_written, one_written, stops_written, all_written}
 use Rattle.zarr_array_regions.proofs.region_chunks.RegionChunks.write_chunks.Goals as goal
 
 pub loop-number-init : goal.loop-number-init
 loop-number-init g c =
     let met = c.args.self.now in
-    (none_written met.array.now (options_of c.args.options.now) (region met.subset.now) (raw_of c.args.bytes.now) (g.S.Store.shown c.args.store.now) (g.met.S.Store.counts_fit c.args.store.now).1, tt)
+    (none_written met.array.now (options_of c.args.options.now) (region met.subset.now) (raw_of c.args.bytes.now) (g.S.Store.shown c.args.store.now) (g.met.S.Store.counts_fit c.args.store.now).1 (g.met.S.Store.counts_fit c.args.store.now).2, tt)
 
 pub returns-in-Err : goal.returns-in-Err
 returns-in-Err g c =
@@ -39,5 +37,5 @@ returns g c =
     let met = c.args.self.now in
     let num = num_met met c.requires.met in
     let all : c.loop-number.number ≡ length (chunks_meeting (described c.args.self.now.array.now).grid (region c.args.self.now.subset.now)) = omega (arith, num) in
-    subst (λ n. ChangedSome (described met.array.now) (options_of c.args.options.now) (change_of met.array.now (region met.subset.now) (raw_of c.args.bytes.now))
-    (chunks_meeting (described met.array.now).grid (region met.subset.now)) n (g.S.Store.shown c.args.store.now) (g.S.Store.shown c.loop-number.store)) all c.loop-number.invariant.0
+    all_written met.array.now (options_of c.args.options.now) (region met.subset.now) (raw_of c.args.bytes.now) c.loop-number.number (g.S.Store.shown c.args.store.now) (g.S.Store.shown c.loop-number.store) all
+    c.loop-number.invariant.0

@@ -1,21 +1,67 @@
-use Rattle.std.proofs.Common.{◌≡◌, ◌∙◌, ap, sym, ℕ, List}
-use Rattle.zarr_model.specs.Codec.{bytes_codec, decode_array_to_bytes}
-use Rattle.zarrs_codec_traits.specs.Views.{level_of, options_of}
-use Rattle.zarrs_codec_traits.proofs.TakenLaws.{taken_valid, taken_error, same_part}
-use Rattle.zarr_codecs.specs.BytesCodec.{stored_order}
+use Rattle.std.proofs.Common.{inl}
+use Rattle.zarrs_array_subset.specs.ArraySubset.{region as box_of}
+use Rattle.zarrs_storage.specs.ByteRange.{parts_of}
+use Rattle.zarrs_codec_traits.specs.Views.{level_of, lengths, options_of}
+use Rattle.zarrs_data_type_names.specs.DataType.{type_of}
+use Rattle.zarr_codecs.proofs.AskLaws.{few_here, room_here, here_lengths, here_valid, here_value, here_refuses, here_memory, here_no_fault, only_memory}
 use Rattle.zarr_codecs.proofs.bytes_codec.BytesCodecArrayToBytesCodecTraits.decode_parts.Goals as goal
 
-pub returns-clause-value : goal.returns-clause-value
-returns-clause-value c = λ value xs served parts e.
-    let level = level_of c.args.shape.now c.args.data_type.now c.args.fill_value.now in
-    let same : c.only_part-value.result.items ≡ value = same_part _ value (sym c.only_part-value.ensures ∙ parts) in
-    c.extracted.ensures.value xs
-    ((c.in_ok-whole.ensures.value served).same ∙ (ap (λ (v : List ℕ). decode_array_to_bytes (options_of c.args.options.now) (bytes_codec (stored_order c.args.self.now.endianness)) level v) same ∙ e))
+pub region_parts-requires-clause-few : goal.region_parts-requires-clause-few
+region_parts-requires-clause-few c =
+    few_here (lengths c.args._shape.now) (type_of c.args.data_type.now) (box_of c.args.region.now) c.requires.fits
+    c.requires.inside
 
-pub returns-clause-cause : goal.returns-clause-cause
-returns-clause-cause c = λ value served parts fits.
-    taken_error c.extracted.result _ _ _ _ _ (c.in_ok-whole.ensures.value served).there c.extracted.ensures.value
+pub region_parts-requires-clause-room : goal.region_parts-requires-clause-room
+region_parts-requires-clause-room c =
+    room_here (lengths c.args._shape.now) (type_of c.args.data_type.now) (box_of c.args.region.now) c.requires.fits
+    c.requires.inside
 
-pub returns-clause-valid : goal.returns-clause-valid
-returns-clause-valid c = λ served.
-    taken_valid c.extracted.result _ _ _ _ (c.in_ok-whole.ensures.value served).there c.extracted.ensures.value
+pub returns-in-Ok-clause-lengths : goal.returns-in-Ok-clause-lengths
+returns-in-Ok-clause-lengths c = λ served.
+    here_lengths c.args.self.now.endianness (options_of c.args._options.now) (level_of c.args._shape.now
+    c.args.data_type.now c.args._fill_value.now) (box_of c.args.region.now)
+    c.in_ok-support.support.component_size (parts_of c.args.parts)
+    c.in_ok-support.ensures.seen c.requires.inside c.requires.answered _ c.in-Ok.ensures.exact
+
+pub returns-in-Ok-clause-value : goal.returns-in-Ok-clause-value
+returns-in-Ok-clause-value c = λ value xs served slices means.
+    here_value c.args.self.now.endianness (options_of c.args._options.now) (level_of c.args._shape.now
+    c.args.data_type.now c.args._fill_value.now) (box_of c.args.region.now)
+    c.in_ok-support.support.component_size (parts_of c.args.parts)
+    c.in_ok-support.ensures.seen c.requires.inside c.requires.answered c.in-Ok.joined.items
+    c.ordered-decoded.result.items value xs c.in-Ok.ensures.value c.ordered-decoded.ensures c.in-Ok.ensures.exact
+    slices means
+
+pub returns-in-Ok-clause-valid : goal.returns-in-Ok-clause-valid
+returns-in-Ok-clause-valid c = λ served.
+    here_valid c.args.self.now.endianness (options_of c.args._options.now) (level_of c.args._shape.now
+    c.args.data_type.now c.args._fill_value.now) (box_of c.args.region.now)
+    c.in_ok-support.support.component_size (parts_of c.args.parts)
+    c.in_ok-support.ensures.seen c.requires.inside c.requires.answered c.in-Ok.joined.items
+    c.ordered-decoded.result.items c.in-Ok.ensures.value c.ordered-decoded.ensures c.in-Ok.ensures.exact
+
+pub returns-in-Err-clause-lengths : goal.returns-in-Err-clause-lengths
+returns-in-Err-clause-lengths c = λ served.
+    here_refuses c.args.self.now.endianness (options_of c.args._options.now) (level_of c.args._shape.now
+    c.args.data_type.now c.args._fill_value.now) (box_of c.args.region.now)
+    c.in_ok-support.support.component_size (parts_of c.args.parts)
+    c.in_ok-support.ensures.seen c.requires.inside c.requires.answered _ c.in-Err.error c.in-Err.ensures.exact
+
+pub returns-in-Err-clause-value : goal.returns-in-Err-clause-value
+returns-in-Err-clause-value c = λ value xs served slices means.
+    here_memory c.args.self.now.endianness (options_of c.args._options.now) (level_of c.args._shape.now
+    c.args.data_type.now c.args._fill_value.now) (box_of c.args.region.now)
+    c.in_ok-support.support.component_size (parts_of c.args.parts)
+    c.in_ok-support.ensures.seen c.requires.inside c.requires.answered c.in-Err.error value xs c.in-Err.ensures.exact
+    slices means
+
+pub returns-in-Err-clause-cause : goal.returns-in-Err-clause-cause
+returns-in-Err-clause-cause c = λ value served slices good.
+    inl (only_memory c.args.self.now.endianness (options_of c.args._options.now) (level_of c.args._shape.now
+    c.args.data_type.now c.args._fill_value.now) (box_of c.args.region.now)
+    c.in_ok-support.support.component_size (parts_of c.args.parts)
+    c.in_ok-support.ensures.seen c.requires.inside c.requires.answered c.in-Err.error c.in-Err.ensures.exact good)
+
+pub returns-in-Err-clause-no_fault : goal.returns-in-Err-clause-no_fault
+returns-in-Err-clause-no_fault c =
+    here_no_fault (Unit {0}) _ (parts_of c.args.parts) c.in-Err.error c.in-Err.ensures.exact

@@ -1,0 +1,187 @@
+-- What reading a chunk takes of a store, where the codec `bytes` is all of an array's chain.
+use Rattle.std.proofs.Common.{◌≡◌, ℕ, ◌+◌, ◌-◌, ◌*◌, ◌≤◌, max, min, Bool, true, false, ◌==◌, ◌&&◌, if◌then◌else◌, List, [], ◌∷◌, length, map, Option, Some, None, option_map, IsSome, is_some, unwrap_or, refl, sym, ap, ap₂, ◌∙◌, subst, arith, eqb-true}
+use Rattle.std.proofs.lemmas.Bool.{and_parts, leb-true}
+use Rattle.std.proofs.lemmas.List.{length-map}
+use Rattle.zarr_model.specs.Prelude.{Region, count, count_of, sizes, ends_within, overlap_of, Element, fixed_size, kind, Level, Options, Shown, box_content, chunk_content, decode_bytes, decode_chain, decode_array_to_bytes, layout, counted, present_in, read_bytes, write_bytes, box_under, level_under}
+use Rattle.zarr_model.specs.Region.{Span}
+use Rattle.zarr_model.proofs.MeetingLaws.{shared_count}
+use Rattle.zarrs_array_subset.specs.Boxes.{is_within}
+use Rattle.zarrs_storage.specs.declared.byte_range.ByteRange.{ByteRange}
+use Rattle.zarrs_codec_partial_bytes.specs.Stored.{taken_of}
+use Rattle.zarr_chain.specs.Chain.{first_level, bottom_level}
+use Rattle.zarr_chain.specs.Values.{byte_codecs}
+use Rattle.zarr_chain.specs.declared.levels.ChunkLevels.{ChunkLevels}
+use Rattle.zarr_chain_stored.specs.Fetch as stored
+use Rattle.zarr_chain_stored.specs.Regions.{IsGiven, given_bytes, is_whole_chunk, region_request, stored_request}
+use Rattle.zarr_codecs_array_to_bytes.specs.Plain.{Plain, plain_bytes, plain_vlen, plain_optional, codec_of, request_by}
+use Rattle.zarr_codecs_array_to_bytes.specs.Views.{plain_of}
+use Rattle.zarr_codecs.specs.Asking.{long_value}
+use Rattle.zarr_codecs.specs.BytesCodec.{stored_order, element_bytes}
+use Rattle.zarr_codecs.specs.Ranges.{run_ranges}
+use Rattle.zarr_array_parts.specs.kinds.array_to_array.ArrayToArray.{ArrayToArray, array_codec_of}
+use Rattle.zarr_array_parts.specs.kinds.BytesToBytes.{BytesToBytes, byte_codec_of, byte_form}
+use Rattle.zarr_array_parts.specs.Chain.{BasicChain}
+use Rattle.zarr_array_parts.specs.ChunkLevels.{chunk_shape, chunk_level, ServesShape}
+use Rattle.zarr_array_parts.specs.Codecs.{array_meaning, list_meaning, bytes_meaning}
+use Rattle.zarr_array_parts.specs.Document.{ArrayDocument, ChainForm}
+use Rattle.zarr_array_parts.specs.Parts.{documented, described}
+use Rattle.zarr_array_parts.specs.declared.parts.ArrayParts.{ArrayParts}
+use Rattle.zarr_array_regions.specs.Codecs.{list_request, box_below}
+use Rattle.zarr_array_regions.specs.Taken.{is_bytes, is_bytes_alone, Takes, box_bytes}
+use Rattle.zarr_array_regions.proofs.ChunkLaws.{content_as}
+use Rattle.zarr_array_regions.proofs.FoundLaws.{size_is, below, below_inside, below_is}
+use Rattle.zarr_array_regions.proofs.RunBytes.{part_taken}
+use Rattle.zarr_array_regions.proofs.ToldLaws.{bottom_is}
+
+-- what `bytes` alone says of a document
+none_of : {A : Type 0} (xs : List A) → (length xs == 0) ≡ true → xs ≡ []
+none_of [] e = refl
+none_of (x ∷ xs) e = let long : length (x ∷ xs) ≡ 0 = eqb-true _ _ e in absurd (omega (arith, long))
+
+module _ (document : ArrayDocument) (alone : is_bytes_alone document ≡ true) where
+  pub no_array_codecs : document.array_codecs ≡ []
+  no_array_codecs = none_of document.array_codecs (and_parts (length document.array_codecs == 0) (is_bytes document.to_bytes && length document.byte_codecs == 0) alone).0
+
+  pub no_byte_codecs : document.byte_codecs ≡ []
+  no_byte_codecs =
+      let rest = (and_parts (length document.array_codecs == 0) (is_bytes document.to_bytes && length document.byte_codecs == 0) alone).1 in
+      none_of document.byte_codecs (and_parts (is_bytes document.to_bytes) (length document.byte_codecs == 0) rest).1
+
+  pub to_bytes_is : is_bytes document.to_bytes ≡ true
+  to_bytes_is =
+      let rest = (and_parts (length document.array_codecs == 0) (is_bytes document.to_bytes && length document.byte_codecs == 0) alone).1 in
+      (and_parts (is_bytes document.to_bytes) (length document.byte_codecs == 0) rest).0
+
+-- a value that decodes by it is as long as its elements
+bytes_long : (plain : Plain) → is_bytes plain ≡ true → (options : Options) (level : Level) (value : List ℕ) (list : List Element) → decode_array_to_bytes options (codec_of plain) level value ≡ Some list →
+    length value ≡ count_of level.shape * element_bytes level.data_type
+bytes_long (plain_bytes order) is options level value list means = long_value (stored_order order) options level value list means
+bytes_long (plain_vlen text) is options level value list means = cc
+bytes_long (plain_optional inner) is options level value list means = cc
+
+chain_long : (codecs : List ArrayToArray) (plain : Plain) (bytes : List BytesToBytes) → codecs ≡ [] → is_bytes plain ≡ true → bytes ≡ [] → (options : Options) (level : Level) (value : List ℕ) (list : List Element) →
+    decode_chain (record { array_codecs = map array_codec_of codecs; to_elements = decode_array_to_bytes options (codec_of plain); byte_codecs = map (byte_codec_of options) bytes }) level value ≡ Some list →
+    length value ≡ count_of level.shape * element_bytes level.data_type
+chain_long [] plain [] none is last options level value list means = bytes_long plain is options level value list means
+chain_long [] plain (c ∷ bytes) none is last options level value list means = cc
+chain_long (c ∷ codecs) plain bytes none is last options level value list means = cc
+
+-- as the model counts
+swap : (a b : ℕ) → a * b ≡ b * a
+swap a b = omega arith
+
+module _ (array : ArrayParts) (options : Options) (chunk : List ℕ) (alone : is_bytes_alone (documented array) ≡ true) where
+  value_long : (value : List ℕ) (list : List Element) → (layout (described array) options).decode (sizes ((described array).grid.chunk_box chunk)) value ≡ Some list →
+      length value ≡ unwrap_or (fixed_size (kind (described array))) 0 * count ((described array).grid.chunk_box chunk)
+  value_long value list means =
+      chain_long (documented array).array_codecs (documented array).to_bytes (documented array).byte_codecs (no_array_codecs (documented array) alone) (to_bytes_is (documented array) alone)
+      (no_byte_codecs (documented array) alone) options (chunk_level (described array) chunk) value list means
+      ∙ (ap (λ (n : ℕ). count ((described array).grid.chunk_box chunk) * n) (size_is (fixed_size (kind (described array)))) ∙ swap _ _)
+
+  whole_of_value : (value : Option (List ℕ)) → IsSome (box_content (layout (described array) options) ((described array).grid.chunk_box chunk) value) →
+      taken_of None value ≡ (if is_some value then unwrap_or (fixed_size (kind (described array))) 0 * count ((described array).grid.chunk_box chunk) else 0)
+  whole_of_value None some = refl
+  whole_of_value (Some value) some = go ((layout (described array) options).decode (sizes ((described array).grid.chunk_box chunk)) value) refl some
+    where
+      go : (content : Option (List Element)) → (layout (described array) options).decode (sizes ((described array).grid.chunk_box chunk)) value ≡ content → IsSome content →
+          length value ≡ unwrap_or (fixed_size (kind (described array))) 0 * count ((described array).grid.chunk_box chunk)
+      go (Some list) is some = value_long value list is
+      go None is some = cc
+
+-- all of a chunk that decodes
+pub whole_takes : (array : ArrayParts) (options : Options) (chunk key : List ℕ) (before now : Shown) → key ≡ (described array).key chunk →
+    IsSome (chunk_content (layout (described array) options) before.content chunk) → now.taken ≡ counted before.taken (taken_of None (before.content key)) →
+    Takes (documented array) (write_bytes (described array) before.content chunk) before now
+whole_takes array options chunk key before now its_key some taken alone =
+    taken ∙ ap (counted before.taken) (ap (λ k. taken_of None (before.content k)) its_key ∙ whole_of_value array options chunk alone (before.content ((described array).key chunk)) some)
+
+module _ (array : ArrayParts) (chain : BasicChain) (levels : ChunkLevels) (options : Options) (chunk : List ℕ) (serves : ServesShape array (chunk_shape (described array) chunk) chain levels) where
+  -- the chain's own codecs are those of the document
+  no_byte_items : is_bytes_alone (documented array) ≡ true → chain.byte_codecs.items ≡ []
+  no_byte_items alone =
+      let none : map byte_form chain.byte_codecs.items ≡ [] = ap (λ (f : ChainForm). f.byte_codecs) serves.forms ∙ no_byte_codecs (documented array) alone in
+      none_of chain.byte_codecs.items (ap (λ (n : ℕ). n == 0) (sym (length-map chain.byte_codecs.items byte_form) ∙ ap length none))
+
+  plain_is : plain_of chain.to_bytes ≡ (documented array).to_bytes
+  plain_is = ap (λ (f : ChainForm). f.to_bytes) serves.forms
+
+  level_is : is_bytes_alone (documented array) ≡ true → bottom_level levels ≡ chunk_level (described array) chunk
+  level_is alone = bottom_is array chain levels options chunk serves ∙ ap (λ l. level_under (map array_codec_of l) (chunk_level (described array) chunk)) (no_array_codecs (documented array) alone)
+
+  box_is : is_bytes_alone (documented array) ≡ true → (within : Region) → below array chain levels options chunk serves within ≡ within
+  box_is alone within = below_is array chain levels options chunk serves within ∙ ap (λ l. box_under (map array_codec_of l) (chunk_level (described array) chunk) within) (no_array_codecs (documented array) alone)
+
+  -- a box of a chunk, by the ranges that are asked for
+  box_of_value : (within : Region) → ends_within within (first_level levels).shape ≡ true → is_bytes_alone (documented array) ≡ true → (value : Option (List ℕ)) →
+      IsGiven (region_request list_request box_below chain levels within) (given_bytes bytes_meaning chain options value) →
+      (region_request list_request box_below chain levels within ≡ None → IsSome (stored.chunk_content array_meaning list_meaning bytes_meaning chain levels options value)) →
+      taken_of (stored_request chain (region_request list_request box_below chain levels within)) value ≡ (if is_some value then unwrap_or (fixed_size (kind (described array))) 0 * count within else 0)
+  box_of_value within inside alone None given decodes = refl
+  box_of_value within inside alone (Some value) given decodes = go (is_whole_chunk (first_level levels) within) refl (plain_of chain.to_bytes) (ap is_bytes plain_is ∙ to_bytes_is (documented array) alone) given decodes
+    where
+      stored_is : (asked : Option (List ByteRange)) → stored_request chain asked ≡ asked
+      stored_is asked = ap (λ l. if length l == 0 then asked else None) (no_byte_items alone)
+
+      go : (whole : Bool) → is_whole_chunk (first_level levels) within ≡ whole → (plain : Plain) → is_bytes plain ≡ true →
+          IsGiven (if whole then None else request_by plain (bottom_level levels).shape (bottom_level levels).data_type (below array chain levels options chunk serves within)) (given_bytes bytes_meaning chain options (Some value)) →
+          ((if whole then None else request_by plain (bottom_level levels).shape (bottom_level levels).data_type (below array chain levels options chunk serves within)) ≡ None →
+          IsSome (stored.chunk_content array_meaning list_meaning bytes_meaning chain levels options (Some value))) →
+          taken_of (stored_request chain (if whole then None else request_by plain (bottom_level levels).shape (bottom_level levels).data_type (below array chain levels options chunk serves within))) (Some value)
+          ≡ unwrap_or (fixed_size (kind (described array))) 0 * count within
+      go true whole plain is given decodes =
+          let as_many : count within ≡ count ((described array).grid.chunk_box chunk) = eqb-true _ _ (ap (λ (l : Level). is_whole_chunk l within) (sym serves.level) ∙ whole) in
+          ap (λ asked. taken_of asked (Some value)) (stored_is None)
+          ∙ (whole_of_value array options chunk alone (Some value) (subst IsSome (content_as array chain levels options chunk serves (Some value)) (decodes refl))
+          ∙ ap (λ (n : ℕ). unwrap_or (fixed_size (kind (described array))) 0 * n) (sym as_many))
+      go false part (plain_vlen text) is given decodes = cc
+      go false part (plain_optional inner) is given decodes = cc
+      go false part (plain_bytes order) is given decodes =
+          ap (λ asked. taken_of asked (Some value)) (stored_is (Some (run_ranges (element_bytes (bottom_level levels).data_type) (bottom_level levels).shape (below array chain levels options chunk serves within))))
+          ∙ (part_taken (element_bytes (bottom_level levels).data_type) (bottom_level levels).shape (below array chain levels options chunk serves within) value (below_inside array chain levels options chunk serves within inside)
+          (subst (λ l. IsGiven (Some (run_ranges (element_bytes (bottom_level levels).data_type) (bottom_level levels).shape (below array chain levels options chunk serves within))) (option_map (λ (v : List ℕ). Some v) (decode_bytes (byte_codecs bytes_meaning options l) value)))
+          (no_byte_items alone) given).within
+          ∙ (ap₂ (λ (b : Region) (l : Level). count b * element_bytes l.data_type) (box_is alone within) (level_is alone)
+          ∙ (ap (λ (n : ℕ). count within * n) (size_is (fixed_size (kind (described array)))) ∙ swap _ _)))
+
+  pub box_takes : (within : Region) → ends_within within (first_level levels).shape ≡ true → (key : List ℕ) (before now : Shown) → key ≡ (described array).key chunk →
+      IsGiven (region_request list_request box_below chain levels within) (given_bytes bytes_meaning chain options (before.content key)) →
+      (region_request list_request box_below chain levels within ≡ None → IsSome (stored.chunk_content array_meaning list_meaning bytes_meaning chain levels options (before.content key))) →
+      now.taken ≡ counted before.taken (taken_of (stored_request chain (region_request list_request box_below chain levels within)) (before.content key)) →
+      Takes (documented array) (box_bytes (described array) within before.content chunk) before now
+  box_takes within inside key before now its_key given decodes taken alone =
+      taken ∙ (ap (counted before.taken) (box_of_value within inside alone (before.content key) given decodes)
+      ∙ ap (λ k. counted before.taken (if is_some (before.content k) then unwrap_or (fixed_size (kind (described array))) 0 * count within else 0)) its_key)
+
+-- what a region shares with a chunk, by the box of it
+pub shared_takes : (array : ArrayParts) (region within : Region) (chunk : List ℕ) (before now : Shown) → length region ≡ length ((described array).grid.chunk_box chunk) → count within ≡ count (overlap_of region ((described array).grid.chunk_box chunk)) →
+    Takes (documented array) (box_bytes (described array) within before.content chunk) before now → Takes (documented array) (read_bytes (described array) region before.content chunk) before now
+shared_takes array region within chunk before now rank as_many takes alone =
+    takes alone
+    ∙ ap (λ (n : ℕ). counted before.taken (if present_in (described array) before.content chunk then unwrap_or (fixed_size (kind (described array))) 0 * n else 0))
+    (as_many ∙ sym (shared_count region ((described array).grid.chunk_box chunk) rank))
+
+-- what a box shares with a region that it lies within is the box
+same_span : (a b : ℕ) (m n : ℕ) → b ≤ a → a + m ≤ b + n → (max b a ≡ a) × (min (b + n) (a + m) - max b a ≡ m)
+same_span a b m n low high = (omega (arith, low), omega (arith, low, high))
+
+abbrev span_of : ℕ → ℕ → Span
+span_of a m = record { start = a; size = m }
+
+pub overlap_inside : (region box : Region) → is_within box region ≡ true → overlap_of region box ≡ box
+overlap_inside [] [] within = refl
+overlap_inside [] (own ∷ box) within = cc
+overlap_inside (span ∷ region) [] within = cc
+overlap_inside (span ∷ region) (own ∷ box) within =
+    let parts = and_parts _ (is_within box region) within in
+    let both = and_parts _ _ parts.0 in
+    let low : span.start ≤ own.start = leb-true _ _ both.0 in
+    let high : own.start + own.size ≤ span.start + span.size = leb-true _ _ both.1 in
+    let same = same_span own.start span.start own.size span.size low high in
+    ap₂ (λ (s : Span) (rest : Region). s ∷ rest) (ap₂ (λ (a m : ℕ). span_of a m) same.0 same.1) (overlap_inside region box parts.1)
+
+-- and all of a chunk that lies inside the region
+pub inside_takes : (array : ArrayParts) (region own : Region) (chunk : List ℕ) (before now : Shown) → own ≡ (described array).grid.chunk_box chunk → is_within own region ≡ true → length region ≡ length ((described array).grid.chunk_box chunk) →
+    Takes (documented array) (write_bytes (described array) before.content chunk) before now → Takes (documented array) (read_bytes (described array) region before.content chunk) before now
+inside_takes array region own chunk before now own_is within rank takes alone =
+    let inside : is_within ((described array).grid.chunk_box chunk) region ≡ true = subst (λ b. is_within b region ≡ true) own_is within in
+    shared_takes array region ((described array).grid.chunk_box chunk) chunk before now rank (sym (ap count (overlap_inside region ((described array).grid.chunk_box chunk) inside))) takes alone
