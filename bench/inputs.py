@@ -45,11 +45,11 @@ def one_read():
     )
 
 
-def small_reads():
-    """The same chunks, and 1,000 reads of 2 by 2."""
+def small_reads(number):
+    """The same chunks, and so many reads of 2 by 2."""
     reads = (
         f"read {i % 1021}..{i % 1021 + 2},{i * 7 % 1021}..{i * 7 % 1021 + 2}\n"
-        for i in range(1000)
+        for i in range(number)
     )
     return document((1024, 1024), (128, 128)) + key_lines((8, 8), 128 * 128) + "".join(reads)
 
@@ -92,7 +92,8 @@ def single_reads(chunks, reads):
 def cases():
     """Each case: its group, its name, and a function that makes its input."""
     yield "read", "one read of 600 x 800 from 64 chunks of 128 x 128", one_read
-    yield "read", "1,000 reads of 2 x 2 from the same", small_reads
+    for number in (0, 1_000, 10_000):
+        yield "read", f"{number:,} reads of 2 x 2 from the same", lambda number=number: small_reads(number)
     for scale in (1, 2, 4, 8):
         shape = (1024 * scale, 1024)
         yield (

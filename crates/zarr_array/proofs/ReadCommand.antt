@@ -1,6 +1,6 @@
 -- A read as a command of a session.
 use Rattle.std.proofs.Common.{◌≡◌, ◌+◌, ◌<◌, ◌≤◌, true, false, [], ◌∷◌, length, slice_get, Some, None, refl, sym, ap, ◌∙◌, subst, arith, inl, inr, ⊎_elim}
-use Rattle.zarr_model.specs.Prelude.{Region, chunks_meeting, Options, Shown, read, Description, region_refusal, chunks_under, command_chunks, counted}
+use Rattle.zarr_model.specs.Prelude.{Region, chunks_meeting, Options, Shown, read, Description, region_refusal, chunks_under, command_chunks, counted, finds_shared}
 use Rattle.zarr_model.proofs.StepLaws.{LeavesKeys-same, read-left}
 use Rattle.zarr_array_regions.specs.parts.Parts.{described}
 use Rattle.zarr_array_regions.specs.parts.declared.parts.ArrayParts.{ArrayParts}
@@ -36,6 +36,10 @@ read-fails array options region old new error accepted fails = record {
     by_kind : (kind : SessionErrorKind) → HasReadCause (described array) options region error.chunks_done old new kind →
         HasSessionCause (described array) options (read region ∷ []) old new (Some (0, error.chunks_done)) kind
     by_kind (NotOpened why) cause = cause
-    by_kind (ChunkDecode key why) (chunk, here, its_key, damaged) = (read region, refl, refl, chunk, ap (λ l. slice_get l error.chunks_done) listed ∙ here, its_key, fails.same key, refl, damaged)
+    by_kind (ChunkDecode key why) (chunk, here, its_key, damaged, unfound) =
+        let there : slice_get (command_chunks (described array) (read region)) error.chunks_done ≡ Some chunk = ap (λ l. slice_get l error.chunks_done) listed ∙ here in (
+          (read region, refl, refl, chunk, there, its_key, fails.same key, refl, damaged),
+          (read region, refl, chunk, there, ap (λ k. finds_shared (described array) options region chunk (old.content k)) its_key ∙ unfound),
+        )
     by_kind Store cause = (cause, refl, λ honest. read-left (described array) options region error.chunks_done true old.content new.content (described_covers array) fails.same few)
     by_kind OutOfMemory cause = λ honest. read-left (described array) options region error.chunks_done false old.content new.content (described_covers array) fails.same few

@@ -17,7 +17,7 @@ use Rattle.zarr_array.proofs.StoredLaws.{stores-none, stores-append, stays-appen
 use Rattle.zarr_array.specs.Stored.{DamageStands}
 use Rattle.zarr_array_regions.specs.declared.error.SessionErrorKind.{SessionErrorKind}
 use Rattle.zarr_array_regions.specs.declared.error.SessionErrorKind.TheVariants.{NotOpened, ChunkDecode, Store, OutOfMemory}
-use Rattle.zarr_array.proofs.SessionSteps.{only_memory, refused_at}
+use Rattle.zarr_array.proofs.SessionSteps.{only_memory, refused_at, noticed-lifts}
 use Rattle.zarr_array.specs.declared.command.Reply.{Reply}
 use Rattle.zarr_array.specs.declared.error.SessionError.{SessionError}
 use Rattle.zarr_array.specs.Ended.{ended}
@@ -222,7 +222,10 @@ module _ (array : Description) (options : Options) (covers : CoversShape array.s
       by_kind : (kind : SessionErrorKind) → HasSessionCause array options (command ∷ []) mid now (Some (0, k)) kind →
           HasSessionCause array options commands before now (Some (i, k)) kind
       by_kind (NotOpened error) cause = cause
-      by_kind (ChunkDecode key error) cause = undecoded-lifts array options commands i command here covers before.content mid.content now.content key k so_far.damage cause
+      by_kind (ChunkDecode key error) cause = (
+        undecoded-lifts array options commands i command here covers before.content mid.content now.content key k so_far.damage cause.0,
+        noticed-lifts array options commands i command here covers before.content mid.content now.content key k so_far.damage cause.0 cause.1,
+      )
       by_kind Store cause = stopped-lifts array options commands i command here before mid now k so_far.later meant_after cause
       by_kind OutOfMemory cause = starved-lifts array options commands i command here before.content mid.content now.content k meant_after cause
 

@@ -1,26 +1,54 @@
 -- Why commands end early, and the refusals among them.
-use Rattle.std.proofs.Common.{Bool, true, false, ◌||◌, ◌≡◌, ℕ, zero, suc, ◌&&◌, List, [], ◌∷◌, slice_get, Option, Some, None, IsSome, is_some, refl, sym, ap, ap₂, ◌∙◌, subst}
+use Rattle.std.proofs.Common.{true, false, ◌≡◌, ℕ, zero, suc, ◌&&◌, List, [], ◌∷◌, take, slice_get, Option, Some, None, IsSome, is_some, option_and_then, refl, sym, ap, ap₂, ◌∙◌, subst, ◌⊎◌, ⊎_elim}
 use Rattle.std.specs.List.{list_all, list_any}
 use Rattle.std.proofs.lemmas.Bool.{and_parts, true≢false}
-use Rattle.zarr_model.specs.Prelude.{CoversShape, Options, IsHonest, Shown, Command, Description, layout, refusal, Rose, AreRefused}
+use Rattle.zarr_model.specs.Prelude.{IsChunk, CoversShape, Options, Content, IsHonest, Shown, Command, read, write, erase, Description, layout, chunk_content, command_chunks, erases_chunk, finds_shared, passes_over, refusal, IsUndecoded, KeepsDamage, Rose, AreRefused}
+use Rattle.std.proofs.lemmas.Option.{same_Some}
 use Rattle.zarr_model.proofs.FailureLaws.{listed_is_chunk}
 use Rattle.zarr_array_regions.specs.declared.error.SessionErrorKind.{SessionErrorKind}
 use Rattle.zarr_array_regions.specs.declared.error.SessionErrorKind.TheVariants.{NotOpened, ChunkDecode, Store, OutOfMemory}
 use Rattle.zarr_array_regions.specs.parts.Document.{ArrayDocument}
 use Rattle.zarr_array_regions.specs.Told.{TellsWhy}
-use Rattle.zarr_array_regions.proofs.FetchSteps.{told_more}
-use Rattle.zarr_array.specs.Command.{is_read}
-use Rattle.zarr_array.specs.Session.{HasSessionCause}
+use Rattle.zarr_array.specs.Command.{region_read, region_at}
+use Rattle.zarr_array.specs.Session.{HasSessionCause, IsNoticed}
 
 -- over an honest store, with no rise of the count, memory alone is wanting
 pub only_memory : (description : Description) (options : Options) → CoversShape description.shape description.grid → (commands : List Command) (before now : Shown) (at : Option (ℕ × ℕ)) (kind : SessionErrorKind) →
     HasSessionCause description options commands before now at kind → IsHonest (layout description options) before.content → (Rose before.faults now.faults → ⊥) → kind ≡ OutOfMemory
 only_memory description options covers commands before now at (NotOpened error) cause honest calm = absurd cause
-only_memory description options covers commands before now None (ChunkDecode key error) cause honest calm = absurd cause
-only_memory description options covers commands before now (Some place) (ChunkDecode key error) (command, which, asks, chunk, listed, its_key, kept, none, damaged) honest calm =
+only_memory description options covers commands before now None (ChunkDecode key error) cause honest calm = absurd cause.0
+only_memory description options covers commands before now (Some place) (ChunkDecode key error) ((command, which, asks, chunk, listed, its_key, kept, none, damaged), noticed) honest calm =
     absurd (true≢false (sym (subst IsSome damaged (honest chunk (listed_is_chunk description covers (refusal description command) command refl place.1 chunk listed)))))
 only_memory description options covers commands before now at Store cause honest calm = absurd (calm cause.0)
 only_memory description options covers commands before now at OutOfMemory cause honest calm = refl
+
+-- what a command passes over is told by what stands under the key
+passes_over-same : (description : Description) (options : Options) (mid old : Content) (command : Command) (chunk : List ℕ) → mid (description.key chunk) ≡ old (description.key chunk) →
+    passes_over description options mid command chunk ≡ passes_over description options old command chunk
+passes_over-same description options mid old (read region) chunk e = ap (finds_shared description options region chunk) e
+passes_over-same description options mid old (write region value) chunk e = refl
+passes_over-same description options mid old (erase other) chunk e = refl
+
+-- what one command may not pass over, behind others, the list may not
+pub noticed-lifts : (description : Description) (options : Options) (commands : List Command) (m : ℕ) (command : Command) → slice_get commands m ≡ Some command → CoversShape description.shape description.grid →
+    (old mid new : Content) (key : List ℕ) (k : ℕ) → KeepsDamage description options (take m commands) old mid → IsUndecoded description options (command ∷ []) mid new key (Some (0, k)) →
+    IsNoticed description options (command ∷ []) mid (Some (0, k)) → IsNoticed description options commands old (Some (m, k))
+noticed-lifts description options commands m command here covers old mid new key k keeps (first, is, asks, damaged, listed, its_key, kept, none, undecoded) (other, too, chunk, met, noticed) =
+    let same : other ≡ command = same_Some other command (sym too) in
+    let own : first ≡ other = same_Some first other (sym is ∙ too) in
+    let its : damaged ≡ chunk = same_Some damaged chunk (sym listed ∙ (ap (λ c. slice_get (command_chunks description c) k) own ∙ met)) in
+    let is_chunk : IsChunk description.grid damaged = listed_is_chunk description covers (refusal description first) first refl k damaged listed in
+    ⊎_elim
+    (λ (good : IsSome (chunk_content (layout description options) mid damaged)). absurd (true≢false (sym (subst IsSome undecoded good))))
+    (λ (before : (mid (description.key damaged) ≡ old (description.key damaged)) × (list_any (erases_chunk description damaged) (take m commands) ≡ false)). (
+      command,
+      here,
+      chunk,
+      subst (λ c. slice_get (command_chunks description c) k ≡ Some chunk) same met,
+      passes_over-same description options old mid command chunk (sym (subst (λ c. mid (description.key c) ≡ old (description.key c)) its before.0))
+          ∙ (ap (λ (c : Command). passes_over description options mid c chunk) (sym same) ∙ noticed),
+    ))
+    (keeps.each damaged is_chunk)
 
 -- each command of refused ones is refused
 pub refused_at : (description : Description) (commands : List Command) (i : ℕ) (command : Command) → slice_get commands i ≡ Some command → AreRefused description commands → AreRefused description (command ∷ [])
@@ -31,25 +59,8 @@ refused_at description (first ∷ commands) zero command e all =
 refused_at description (first ∷ commands) (suc i) command e all =
     refused_at description commands i command e (and_parts (is_some (refusal description first)) (list_all (λ c. is_some (refusal description c)) commands) all).1
 
--- a list with a read in it has one
-some_read : (commands : List Command) (i : ℕ) (command : Command) → slice_get commands i ≡ Some command → is_read command ≡ true → list_any is_read commands ≡ true
-some_read [] i command e reads = cc
-some_read (first ∷ commands) zero command e reads =
-    let same : first ≡ command = cc in
-    ap (λ b. b || list_any is_read commands) (ap is_read same ∙ reads)
-some_read (first ∷ commands) (suc i) command e reads = go (is_read first) (some_read commands i command e reads)
-  where
-    go : (b : Bool) → list_any is_read commands ≡ true → (b || list_any is_read commands) ≡ true
-    go true rest = refl
-    go false rest = rest
-
 -- what an error of one command tells is told of the list
-pub told_of_list : (document : ArrayDocument) (options : Options) (now : Shown) (kind : SessionErrorKind) (commands : List Command) (i : ℕ) (command : Command) → slice_get commands i ≡ Some command →
-    TellsWhy (is_read command) document options now kind → TellsWhy (list_any is_read commands) document options now kind
-told_of_list document options now kind commands i command here told = go (is_read command) (list_any is_read commands) (some_read commands i command here) told
-  where
-    go : (one all : Bool) → (one ≡ true → all ≡ true) → TellsWhy one document options now kind → TellsWhy all document options now kind
-    go true true some told = told
-    go false false some told = told
-    go false true some told = told_more document options now kind told
-    go true false some told = absurd (true≢false (sym (some refl)))
+pub told_at : (document : ArrayDocument) (options : Options) (now : Shown) (kind : SessionErrorKind) (commands : List Command) (i k : ℕ) (command : Command) → slice_get commands i ≡ Some command →
+    TellsWhy (region_read command) document options now kind → TellsWhy (region_at commands (Some (i, k))) document options now kind
+told_at document options now kind commands i k command here told =
+    subst (λ (o : Option Command). TellsWhy (option_and_then region_read o) document options now kind) (sym here) told

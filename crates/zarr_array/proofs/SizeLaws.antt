@@ -3,11 +3,11 @@ use Rattle.std.proofs.Common.{◌≡◌, ℕ, ◌<◌, sym, ap, ◌∙◌}
 use Rattle.zarr_model.specs.Prelude.{DataType, fixed, kind_of}
 use Rattle.zarrs_data_type.specs.DataType.{type_of}
 use Rattle.zarr_codecs_array_to_bytes.specs.Views.{plain_of}
+use Rattle.zarr_codecs_array_to_bytes.proofs.SizeLaws.{sized_some}
 use Rattle.zarr_array_regions.specs.parts.Chain.{chain_form}
 use Rattle.zarr_array_regions.specs.parts.Parts.{documented}
 use Rattle.zarr_array_regions.specs.parts.declared.parts.ArrayParts.{ArrayParts}
 use Rattle.zarr_array_regions.proofs.ServingLaws.{is_served-serves}
-use Rattle.zarr_array_regions.proofs.SizeLaws.{sized_some}
 
 pub some_size : (parts : ArrayParts) (type : DataType) (n : ℕ) → type ≡ (documented parts).data_type → kind_of type ≡ fixed n → 0 < n
 some_size parts type n same is =

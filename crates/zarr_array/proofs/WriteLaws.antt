@@ -233,15 +233,18 @@ module _ (description : Description) (covers : CoversShape description.shape des
     write-cause (NotOpened error) (inr (chunk, here, never)) = never
     write-cause (ChunkDecode key error) (inl (memory, same)) = let none : ChunkDecode key error ≡ OutOfMemory = memory in cc
     write-cause (ChunkDecode key error) (inr (chunk, here, (its_key, damaged, same))) = (
-      write region value,
-      refl,
-      refl,
-      chunk,
-      in_command k chunk here,
-      its_key,
-      same key ∙ subst (λ key. fails.mid.content key ≡ old.content key) its_key (next_kept chunk here),
-      refl,
-      sym (content-same (layout description options) old.content fails.mid.content chunk (next_kept chunk here)) ∙ damaged,
+      (
+        write region value,
+        refl,
+        refl,
+        chunk,
+        in_command k chunk here,
+        its_key,
+        same key ∙ subst (λ key. fails.mid.content key ≡ old.content key) its_key (next_kept chunk here),
+        refl,
+        sym (content-same (layout description options) old.content fails.mid.content chunk (next_kept chunk here)) ∙ damaged,
+      ),
+      (write region value, refl, chunk, in_command k chunk here, refl),
     )
     write-cause Store (inl (memory, same)) = let none : Store ≡ OutOfMemory = memory in cc
     write-cause Store (inr (chunk, here, (rose, stops))) = (omega (arith, rose, fails.changed.later), refl, λ honest. stopped chunk here stops)

@@ -1,9 +1,10 @@
 -- What commands, replies and refusals stand for in the model of an array.
-use Rattle.std.specs.Prelude.{◌≡◌, Bool, true, false, List}
+use Rattle.std.specs.Prelude.{◌≡◌, ℕ, Bool, true, false, List, slice_get, Option, Some, None, option_and_then}
 use Rattle.std.specs.List.{list_all}
+use Rattle.zarr_model.specs.Region.{Region}
 use Rattle.zarr_model.specs.Command as Model
 use Rattle.zarrs_codec_array_bytes.specs.Raw.{raw_of}
-use Rattle.zarrs_array_subset.specs.ArraySubset.{region}
+use Rattle.zarrs_array_subset.specs.ArraySubset.{region as region_of}
 use Rattle.zarr_array.specs.declared.command.Command.{Command}
 use Rattle.zarr_array.specs.declared.command.Command.TheVariants.{Read, Write, Erase}
 use Rattle.zarr_array.specs.declared.command.Reply.{Reply}
@@ -12,8 +13,8 @@ use Rattle.zarr_array.specs.declared.refusal.Refusal.{Refusal}
 use Rattle.zarr_array.specs.declared.refusal.Refusal.TheVariants.{IncompatibleDimensionality, SubsetOutOfBounds, RegionTooLarge, ExpectedFixedLengthBytes, ExpectedVariableLengthBytes, ExpectedOptionalBytes, InvalidMask, UnexpectedChunkDecodedSize, InvalidVariableSizedArrayOffsets, ElementTooLong}
 
 abbrev pub command_of : Command → Model.Command
-command_of (Read subset) = Model.read (region subset)
-command_of (Write subset bytes) = Model.write (region subset) (raw_of bytes)
+command_of (Read subset) = Model.read (region_of subset)
+command_of (Write subset bytes) = Model.write (region_of subset) (raw_of bytes)
 command_of (Erase chunk) = Model.erase chunk.items
 
 -- whether a command reads
@@ -21,6 +22,16 @@ abbrev pub is_read : Model.Command → Bool
 is_read (Model.read region) = true
 is_read (Model.write region bytes) = false
 is_read (Model.erase chunk) = false
+
+-- the region of a command that reads, and of the command at a place of a list
+abbrev pub region_read : Model.Command → Option Region
+region_read (Model.read region) = Some region
+region_read (Model.write region bytes) = None
+region_read (Model.erase chunk) = None
+
+abbrev pub region_at : List Model.Command → Option (ℕ × ℕ) → Option Region
+region_at commands None = None
+region_at commands (Some place) = option_and_then region_read (slice_get commands place.0)
 
 -- each command of a list reads
 abbrev pub AreReads : List Model.Command → Type 0
@@ -42,3 +53,9 @@ abbrev pub answer_of : Reply → Model.Answer
 answer_of (Elements bytes) = Model.answered (raw_of bytes)
 answer_of Done = Model.answered_done
 answer_of (Refused why) = Model.answered_refused (refusal_of why)
+
+-- the elements of a reply, if it has some, have none that is too long for its length to be stored
+abbrev pub IsShortReply : Reply → Type 0
+IsShortReply (Elements bytes) = Model.has_long_element (raw_of bytes) ≡ false
+IsShortReply Done = Unit {0}
+IsShortReply (Refused why) = Unit {0}

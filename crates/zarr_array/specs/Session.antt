@@ -1,6 +1,6 @@
 -- When a session ends with an error, and what it then leaves.
-use Rattle.std.specs.Prelude.{◌≡◌, ℕ, List, Option, Some, None, IsErrAnd}
-use Rattle.zarr_model.specs.Prelude.{Options, Shown, Command, Description, IsPlace, begun, AsksUpTo, LeavesKeys, IsUndecoded, IsStopped, IsStarved}
+use Rattle.std.specs.Prelude.{◌≡◌, ℕ, false, List, slice_get, Option, Some, None, IsErrAnd}
+use Rattle.zarr_model.specs.Prelude.{Options, Content, Shown, Command, Description, command_chunks, IsPlace, begun, AsksUpTo, LeavesKeys, passes_over, IsUndecoded, IsStopped, IsStarved}
 use Rattle.zarr_array_regions.specs.parts.Opening.{OpenRefusal}
 use Rattle.zarr_array_regions.specs.parts.OpenError.{open_refusal_of}
 use Rattle.zarr_array.specs.Ended.{Ended}
@@ -8,12 +8,21 @@ use Rattle.zarr_array.specs.Stored.{StaysOrDecodes, DamageStands}
 use Rattle.zarr_array_regions.specs.declared.error.SessionErrorKind.{SessionErrorKind}
 use Rattle.zarr_array_regions.specs.declared.error.SessionErrorKind.TheVariants.{NotOpened, ChunkDecode, Store, OutOfMemory}
 
+-- the command at a place may not pass over the value of the next chunk there
+abbrev pub IsNoticed : Description → Options → List Command → Content → Option (ℕ × ℕ) → Type 0
+IsNoticed description options commands store None = ⊥
+IsNoticed description options commands store (Some place) =
+    (command : Command) × (slice_get commands place.0 ≡ Some command)
+    × (chunk : List ℕ) × (slice_get (command_chunks description command) place.1 ≡ Some chunk)
+    × (passes_over description options store command chunk ≡ false)
+
 -- each error comes only with its cause, and says what it leaves; want of memory is free
 abbrev pub HasSessionCause : Description → Options → List Command → Shown → Shown → Option (ℕ × ℕ) →
     SessionErrorKind → Type 0
 HasSessionCause description options commands before now at (NotOpened error) = ⊥
 HasSessionCause description options commands before now at (ChunkDecode key error) =
     IsUndecoded description options commands before.content now.content key at
+    × IsNoticed description options commands before.content at
 HasSessionCause description options commands before now at Store =
     IsStopped description options commands before now at
 HasSessionCause description options commands before now at OutOfMemory =

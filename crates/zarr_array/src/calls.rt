@@ -1,11 +1,12 @@
 //! Single commands on an opened array.
 
-ghost use Rattle.std.specs.Prelude.{◌≡◌, ℕ, true, false, List, [], ◌∷◌, Some, IfErr, IsOk};
+ghost use Rattle.std.specs.Prelude.{◌≡◌, ℕ, List, [], ◌∷◌, Some, None, IfOk, IfErr, IsOk};
 ghost use Rattle.zarrs_codec_array_bytes.specs.Raw.{raw_of};
 ghost use Rattle.zarr_model.specs.Prelude.{read, write, erase, AreRefused};
 ghost use Rattle.zarrs_array_subset.specs.ArraySubset.{region as region_of_subset};
 ghost use Rattle.zarrs_codec_traits.specs.Views.{options_of};
 ghost use Rattle.zarr_array_regions.specs.Told.{TellsWhy};
+ghost use Rattle.zarr_array.specs.Command.{IsShortReply};
 ghost use Rattle.zarr_array.specs.Ended.{ended_one};
 ghost use Rattle.zarr_array.specs.Runs.{Runs};
 ghost use Rattle.zarr_array.specs.Taken.{TakesAlone};
@@ -50,8 +51,10 @@ impl OpenArray {
         ensures same { (key : List ℕ) →
             (S.shown store.new).content key ≡ (S.shown store.old).content key }
         ensures kept { S.kept store.old store.new }
-        ensures told { IfErr result (λ error. TellsWhy true (documented self.now)
-            (options_of options.now) (S.shown store.new) error.kind) }
+        // No element that is read has 2^32 bytes or more.
+        ensures short { IfOk result IsShortReply }
+        ensures told { IfErr result (λ error. TellsWhy (Some (region_of_subset region.now))
+            (documented self.now) (options_of options.now) (S.shown store.new) error.kind) }
     {
         Ok(self.run_read(alloc, region, store, options)?)
     }
@@ -85,7 +88,7 @@ impl OpenArray {
         ensures answered { AreRefused (described self.now)
             (write (region_of_subset region.now) (raw_of bytes.now) ∷ []) → IsOk result }
         ensures begun { IfErr result (λ error. (k : ℕ) × (error.at ≡ Some (0, k))) }
-        ensures told { IfErr result (λ error. TellsWhy false (documented self.now)
+        ensures told { IfErr result (λ error. TellsWhy None (documented self.now)
             (options_of options.now) (S.shown store.new) error.kind) }
     {
         Ok(self.run_write(alloc, region, bytes, store, options)?)
@@ -114,7 +117,7 @@ impl OpenArray {
         ensures answered { AreRefused (described self.now)
             (erase chunk.now ∷ []) → IsOk result }
         ensures begun { IfErr result (λ error. (k : ℕ) × (error.at ≡ Some (0, k))) }
-        ensures told { IfErr result (λ error. TellsWhy false (documented self.now)
+        ensures told { IfErr result (λ error. TellsWhy None (documented self.now)
             (options_of options.now) (S.shown store.new) error.kind) }
     {
         Ok(self.run_erase(alloc, chunk, store, options)?)

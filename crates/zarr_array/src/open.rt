@@ -9,7 +9,7 @@ ghost use Rattle.zarrs_chunk_grid_traits.specs.ChunkGrid.{in_chunk};
 ghost use Rattle.zarrs_codec_traits.specs.Views.{lengths};
 ghost use Rattle.zarrs_data_type.specs.FillValue.{fill_bytes};
 ghost use Rattle.zarrs_data_type.specs.DataType.{type_of};
-ghost use Rattle.zarr_array_regions.specs.parts.basics.BasicGrid.{basic_grid, basic_shape};
+ghost use Rattle.zarr_array_regions.specs.parts.basics.BasicGrid.{basic_form, basic_grid, basic_shape};
 ghost use Rattle.zarr_array_regions.specs.parts.basics.Registries.{names_of};
 ghost use Rattle.zarr_array_regions.specs.parts.Opening.{open_document};
 ghost use Rattle.zarr_array_regions.specs.parts.Chain.{chain_form};
@@ -118,6 +118,7 @@ impl OpenArray {
 
     /// The grid of chunks.
     pub fn grid(&self) -> &BasicGrid
+        ensures form { basic_form result.now ≡ (documented self.now).grid }
         ensures grid { basic_grid result.now ≡ (described self.now).grid }
         ensures shape { basic_shape result.now ≡ (documented self.now).shape }
     {

@@ -1,12 +1,11 @@
 //! Sessions: a list of commands over a store.
 
 ghost use Rattle.std.specs.Prelude.{IfErr, ◌≡◌, map};
-ghost use Rattle.std.specs.List.{list_any};
 ghost use Rattle.zarr_array_regions.specs.parts.Document.{ArrayDocument, describe};
 ghost use Rattle.zarr_array_regions.specs.parts.Opening.{OpenRefusal, opened, not_opened, open_document};
 ghost use Rattle.zarr_array_regions.specs.parts.basics.Registries.{names_of};
 ghost use Rattle.zarr_array.specs.OpenError.{ended_by};
-ghost use Rattle.zarr_array.specs.Command.{command_of, is_read, AreReads};
+ghost use Rattle.zarr_array.specs.Command.{command_of, region_at, AreReads};
 ghost use Rattle.zarrs_codec_traits.specs.Views.{options_of};
 ghost use Rattle.zarr_array.specs.Session.{EndsUnopened};
 ghost use Rattle.zarr_array_regions.specs.Told.{TellsWhy};
@@ -48,7 +47,7 @@ impl OpenArray {
         ensures taken { TakesAlone (documented self.now) (options_of options.now)
             (map command_of commands.now) (S.shown store.old) (S.shown store.new) (ended result) }
         ensures told { IfErr result (λ error. TellsWhy
-            (list_any is_read (map command_of commands.now)) (documented self.now)
+            (region_at (map command_of commands.now) error.at) (documented self.now)
             (options_of options.now) (S.shown store.new) error.kind) }
         // Reads keep what a store says that its reading calls keep.
         ensures kept { AreReads (map command_of commands.now) → S.kept store.old store.new }
@@ -103,7 +102,7 @@ pub fn run_session<S: Store>(
     // An error of a chunk tells why its value does not decode.
     ensures told { (document : ArrayDocument) →
         open_document (names_of registries.now) metadata.now ≡ opened document →
-        IfErr result (λ error. TellsWhy (list_any is_read (map command_of commands.now)) document
+        IfErr result (λ error. TellsWhy (region_at (map command_of commands.now) error.at) document
         (options_of options.now) (S.shown store.new) error.kind) }
     // Reads keep what a store says that its reading calls keep.
     ensures kept { AreReads (map command_of commands.now) → S.kept store.old store.new }

@@ -1,10 +1,10 @@
 //! One command of a session.
 
-ghost use Rattle.std.specs.Prelude.{IfErr, ◌≡◌, ℕ, true, false, List, [], ◌∷◌, IsOk};
+ghost use Rattle.std.specs.Prelude.{IfOk, IfErr, ◌≡◌, ℕ, List, [], ◌∷◌, Some, None, IsOk};
 ghost use Rattle.zarrs_codec_array_bytes.specs.Raw.{raw_of};
 ghost use Rattle.zarr_model.specs.Prelude.{read, write, erase, AreRefused};
 ghost use Rattle.zarrs_array_subset.specs.ArraySubset.{region};
-ghost use Rattle.zarr_array.specs.Command.{command_of, is_read, AreReads};
+ghost use Rattle.zarr_array.specs.Command.{command_of, region_read, AreReads, IsShortReply};
 ghost use Rattle.zarrs_codec_traits.specs.Views.{options_of};
 ghost use Rattle.zarr_array_regions.specs.Told.{TellsWhy};
 ghost use Rattle.zarr_array.specs.Ended.{ended_step};
@@ -43,8 +43,9 @@ impl OpenArray {
         ensures same { (key : List ℕ) →
             (S.shown store.new).content key ≡ (S.shown store.old).content key }
         ensures kept { S.kept store.old store.new }
-        ensures told { IfErr result (λ error. TellsWhy true (documented self.now)
-            (options_of options.now) (S.shown store.new) error.kind) }
+        ensures short { IfOk result IsShortReply }
+        ensures told { IfErr result (λ error. TellsWhy (Some (region subset.now))
+            (documented self.now) (options_of options.now) (S.shown store.new) error.kind) }
     {
         if let Some(refusal) = self.region_refusal(subset) {
             return Ok(Reply::Refused(refusal));
@@ -70,7 +71,7 @@ impl OpenArray {
             (S.shown store.old) (S.shown store.new) (ended_step result) }
         ensures answered { AreRefused (described self.now)
             (write (region subset.now) (raw_of bytes.now) ∷ []) → IsOk result }
-        ensures told { IfErr result (λ error. TellsWhy false (documented self.now)
+        ensures told { IfErr result (λ error. TellsWhy None (documented self.now)
             (options_of options.now) (S.shown store.new) error.kind) }
     {
         if let Some(refusal) = self.write_refusal(subset, bytes) {
@@ -96,7 +97,7 @@ impl OpenArray {
             (S.shown store.old) (S.shown store.new) (ended_step result) }
         ensures answered { AreRefused (described self.now)
             (erase chunk_indices.now ∷ []) → IsOk result }
-        ensures told { IfErr result (λ error. TellsWhy false (documented self.now)
+        ensures told { IfErr result (λ error. TellsWhy None (documented self.now)
             (options_of options.now) (S.shown store.new) error.kind) }
     {
         if let Some(refusal) = self.erase_refusal(chunk_indices) {
@@ -130,7 +131,7 @@ impl OpenArray {
         ensures answered { AreRefused (described self.now)
             (command_of command.now ∷ []) → IsOk result }
         ensures kept { AreReads (command_of command.now ∷ []) → S.kept store.old store.new }
-        ensures told { IfErr result (λ error. TellsWhy (is_read (command_of command.now))
+        ensures told { IfErr result (λ error. TellsWhy (region_read (command_of command.now))
             (documented self.now) (options_of options.now) (S.shown store.new) error.kind) }
     {
         match command {

@@ -1,12 +1,11 @@
 -- Elements of one size, optional or not, that were copied between boxes.
-use Rattle.std.proofs.Common.{◌≡◌, ℕ, zero, suc, ◌*◌, ◌<◌, ◌==◌, Bool, true, false, nat_le, if◌then◌else◌, List, [], ◌∷◌, length, take, drop, get_or, replicate, Option, Some, None, IsSome, is_some, option_map, unwrap_or, arith, ap, ap₂, sym, refl, ◌∙◌, subst, eq-eqb}
+use Rattle.std.proofs.Common.{◌≡◌, ℕ, suc, ◌*◌, ◌<◌, ◌==◌, Bool, true, false, nat_le, if◌then◌else◌, List, [], ◌∷◌, length, take, drop, get_or, replicate, Option, Some, None, IsSome, is_some, option_map, unwrap_or, arith, ap, ap₂, sym, refl, ◌∙◌, subst, eq-eqb}
 use Rattle.std.specs.List.{list_all}
 use Rattle.std.proofs.lemmas.Bool.{and_parts, and_from, cond-true}
 use Rattle.std.proofs.lemmas.List.{get_or_default, drop_more}
 use Rattle.zarr_model.specs.Region.{Region, count, contains, place, tuple_at}
 use Rattle.zarr_model.specs.Element.{Element, of_bytes, null, Kind, fixed, variable, optional, fixed_size}
 use Rattle.zarr_model.specs.ArrayBytes.{ArrayBytes, fixed_bytes, variable_bytes, optional_bytes, is_mask, masked, mask_over, meaning}
-use Rattle.zarr_model.specs.Command.{has_long_element}
 use Rattle.zarr_model.proofs.BytesLaws.{length-meaning, length-mask_over, mask_length}
 use Rattle.zarr_model.proofs.RegionLaws.{place_below}
 use Rattle.zarr_model.proofs.ListLaws.{list_all-at}
@@ -49,12 +48,6 @@ fixed_means variable number raw some h = absurd (omega arith)
 fixed_means (optional kind) number (fixed_bytes value) some h = cc
 fixed_means (optional kind) number (variable_bytes value offsets) some h = cc
 fixed_means (optional kind) number (optional_bytes under mask) some h = fixed_means kind number under some (under_some kind number under mask h)
-
--- so no element of theirs is too long
-pub fixed_short : (raw : ArrayBytes) → holds_fixed raw ≡ true → has_long_element raw ≡ false
-fixed_short (fixed_bytes value) h = refl
-fixed_short (variable_bytes value offsets) h = cc
-fixed_short (optional_bytes under mask) h = fixed_short under h
 
 -- so many elements that are all the fill value mean a list
 pub filled_some : (fill : Option Element) (number : ℕ) (list : Option (List Element)) → IsSome fill → ((x : Element) → fill ≡ Some x → list ≡ Some (replicate number x)) → IsSome list

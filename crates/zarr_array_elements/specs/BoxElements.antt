@@ -1,14 +1,15 @@
 -- What a box of elements holds.
-use Rattle.std.specs.Prelude.{List}
+use Rattle.std.specs.Prelude.{◌≡◌, ◌<◌, false, List}
 use Rattle.zarr_model.specs.Region.{Region, count}
 use Rattle.zarr_model.specs.Element.{Element, Kind}
+use Rattle.zarr_model.specs.Command.{has_long_element}
 use Rattle.zarrs_array_subset.specs.ArraySubset.{region}
 use Rattle.zarrs_codec_bytes.specs.Picking.{replaced}
 use Rattle.zarrs_codec_array_bytes.specs.Raw.{raw_of}
 use Rattle.zarrs_codec_array_bytes.specs.Steps.{kind_seen}
 use Rattle.zarr_array_elements.specs.Elements.{list_in, blanks}
 use Rattle.zarr_array_elements.specs.Placed.{placed_bytes}
-use Rattle.zarr_array_elements.specs.Given.{given_indices, given_list}
+use Rattle.zarr_array_elements.specs.Given.{given_indices, given_list, has_long_given}
 use Rattle.zarr_array_elements.specs.declared.fixed.FixedBox.{FixedBox}
 use Rattle.zarr_array_elements.specs.declared.listed.ListedBox.{ListedBox}
 use Rattle.zarr_array_elements.specs.declared.box_elements.Held.{Held}
@@ -60,3 +61,18 @@ box_held elements = held_box elements.held
 
 abbrev pub list_held : BoxElements → List Element
 list_held elements = held_list elements.held
+
+-- of elements of any kind none is too long for its length to be stored: not the blank one, where
+-- there is a place for it, and none that was given
+pub record IsShortList (elements : ListedBox) : Type 0 where
+  pub blank : 0 < count (listed_box elements) → has_long_element (raw_of elements.blank) ≡ false
+  pub given : has_long_given elements.given ≡ false
+
+-- the same of either; of elements of one size no length is stored
+abbrev pub IsHeldShort : Held → Type 0
+IsHeldShort (held.Fixed elements) = Unit {0}
+IsHeldShort (held.Listed elements) = IsShortList elements
+
+-- no element of a box of elements is too long for its length to be stored
+abbrev pub HoldsShort : BoxElements → Type 0
+HoldsShort elements = IsHeldShort elements.held

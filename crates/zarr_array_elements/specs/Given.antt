@@ -1,7 +1,8 @@
 -- What was given to places of a box.
-use Rattle.std.specs.Prelude.{ℕ, Bool, true, List, [], length, Option, Some, None, unwrap_or}
+use Rattle.std.specs.Prelude.{ℕ, Bool, true, false, List, [], length, Option, Some, None, unwrap_or}
 use Rattle.zarr_model.specs.Element.{Element, Kind}
 use Rattle.zarr_model.specs.ArrayBytes.{ArrayBytes, meaning}
+use Rattle.zarr_model.specs.Command.{has_long_element}
 use Rattle.zarrs_codec_array_bytes_update.specs.Pairs.{are_alike}
 use Rattle.zarr_array_elements.specs.Joined.{joined}
 use Rattle.zarr_array_elements.specs.Grown.{grown_bytes}
@@ -30,3 +31,8 @@ given_alike (Some given) piece = are_alike (grown_bytes given.grown) piece
 abbrev pub given_joined : Option Given → ArrayBytes → ArrayBytes
 given_joined None piece = piece
 given_joined (Some given) piece = joined (grown_bytes given.grown) piece
+
+-- whether one of what was given is too long for its length to be stored
+abbrev pub has_long_given : Option Given → Bool
+has_long_given None = false
+has_long_given (Some given) = has_long_element (grown_bytes given.grown)

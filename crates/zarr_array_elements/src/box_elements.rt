@@ -1,11 +1,13 @@
 //! A box of elements that grows.
 
-ghost use Rattle.std.specs.Prelude.{◌≡◌, ◌+◌, ◌*◌, ◌<◌, ◌^◌, Some, IsSome, length, replicate, IfOk, OnOk};
+ghost use Rattle.std.specs.Prelude.{◌≡◌, ◌+◌, ◌*◌, ◌<◌, ◌^◌, false, Some, IsSome, length, replicate, IfOk, OnOk};
 ghost use Rattle.zarr_model.specs.Region.{count};
 ghost use Rattle.zarr_model.specs.Element.{Element, fill_element, fixed_size};
 ghost use Rattle.zarr_model.specs.ArrayBytes.{meaning};
+ghost use Rattle.zarr_model.specs.Command.{has_long_element};
 ghost use Rattle.zarrs_array_subset.specs.ArraySubset.{region};
 ghost use Rattle.zarrs_data_type_elements.specs.FillValue.{fill_bytes};
+ghost use Rattle.zarrs_codec_bytes.specs.Filling.{filled_with};
 ghost use Rattle.zarrs_codec_bytes.specs.Overlap.{Copied};
 ghost use Rattle.zarrs_codec_bytes.specs.Picking.{size_in};
 ghost use Rattle.zarrs_codec_array_bytes.specs.Raw.{raw_of};
@@ -35,7 +37,7 @@ pub struct BoxElements<'a> {
 }
 
 impl<'a> BoxElements<'a> {
-    ghost use Rattle.zarr_array_elements.specs.BoxElements.{kind_held, box_held, list_held};
+    ghost use Rattle.zarr_array_elements.specs.BoxElements.{kind_held, box_held, list_held, HoldsShort};
 
     /// A box whose elements are all the fill value.
     ///
@@ -56,6 +58,9 @@ impl<'a> BoxElements<'a> {
         ensures elements { (x : Element)
             → fill_element (kind_seen data_type.now) (fill_bytes fill_value.now) ≡ Some x
             → IfOk result (λ v. list_held v ≡ replicate (count (region subset.now)) x) }
+        ensures short { (0 < count (region subset.now) → has_long_element
+            (filled_with (kind_seen data_type.now) 1 (fill_bytes fill_value.now)) ≡ false)
+            → IfOk result HoldsShort }
     {
         if element_size(data_type) == 0 {
             let elements = ListedBox::filled(alloc, data_type, fill_value, subset)?;
@@ -91,6 +96,8 @@ impl<'a> BoxElements<'a> {
         ensures copied { OnOk result (Copied (box_held self.old) (region subset.now)
             (list_in (kind_held self.old) (region subset.now) (raw_of bytes.now))
             (list_held self.old) (list_held self.new)) }
+        ensures short { has_long_element (raw_of bytes.now) ≡ false → HoldsShort self.old
+            → HoldsShort self.new }
     {
         match &mut self.held {
             Held::Fixed(elements) => {
@@ -106,8 +113,10 @@ impl<'a> BoxElements<'a> {
     /// # Errors
     /// [`AllocError`] where memory runs out.
     pub fn into_bytes(self, alloc: Global) -> Result<ArrayBytes<'static>, AllocError>
-        ensures { IfOk result (λ v. meaning (kind_held self.entry) (count (box_held self.entry))
-            (raw_of v) ≡ Some (list_held self.entry)) }
+        ensures means { IfOk result (λ v. meaning (kind_held self.entry)
+            (count (box_held self.entry)) (raw_of v) ≡ Some (list_held self.entry)) }
+        ensures short { HoldsShort self.entry
+            → IfOk result (λ v. has_long_element (raw_of v) ≡ false) }
     {
         match self.held {
             Held::Fixed(elements) => elements.into_bytes(alloc),

@@ -107,8 +107,9 @@ impl<'a> FixedBox<'a> {
 
     /// The elements as array bytes, in the same memory.
     pub(crate) fn into_bytes(self, alloc: Global) -> Result<ArrayBytes<'static>, AllocError>
-        ensures { IfOk result (λ v. meaning (fixed_kind self.entry)
+        ensures means { IfOk result (λ v. meaning (fixed_kind self.entry)
             (count (fixed_box self.entry)) (raw_of v) ≡ Some (fixed_list self.entry)) }
+        ensures short { IfOk result (λ v. has_long_element (raw_of v) ≡ false) }
     {
         let FixedBox {
             data_type: _,

@@ -1,17 +1,19 @@
 //! Elements of any kind over a box.
 
-ghost use Rattle.std.specs.Prelude.{◌≡◌, ◌+◌, ◌*◌, ◌<◌, ◌^◌, [], ◌∷◌, Some, IsSome, length, replicate, IfOk, OnOk};
+ghost use Rattle.std.specs.Prelude.{◌≡◌, ◌+◌, ◌*◌, ◌<◌, ◌^◌, false, [], ◌∷◌, Some, IsSome, length, replicate, IfOk, OnOk};
 ghost use Rattle.zarr_model.specs.Region.{count};
 ghost use Rattle.zarr_model.specs.Element.{Element, fill_element, fixed_size};
 ghost use Rattle.zarr_model.specs.ArrayBytes.{meaning};
+ghost use Rattle.zarr_model.specs.Command.{has_long_element};
 ghost use Rattle.zarrs_array_subset.specs.ArraySubset.{region};
 ghost use Rattle.zarrs_data_type_elements.specs.FillValue.{fill_bytes};
+ghost use Rattle.zarrs_codec_bytes.specs.Filling.{filled_with};
 ghost use Rattle.zarrs_codec_bytes.specs.Overlap.{Copied};
 ghost use Rattle.zarrs_codec_bytes.specs.Picking.{AllBelow, replaced, size_in};
 ghost use Rattle.zarrs_codec_array_bytes.specs.Raw.{raw_of};
 ghost use Rattle.zarrs_codec_array_bytes.specs.Steps.{kind_seen, bytes_seen};
 ghost use Rattle.zarr_array_elements.specs.Elements.{list_in, blanks};
-ghost use Rattle.zarr_array_elements.specs.Given.{given_indices, given_meaning, given_list};
+ghost use Rattle.zarr_array_elements.specs.Given.{given_indices, given_meaning, given_list, has_long_given};
 
 use crate::given::{Given, with_piece};
 use crate::grown::into_array_bytes;
@@ -46,9 +48,11 @@ fn blank_element(
     data_type: &DataType,
     fill_value: &FillValue,
 ) -> Result<ArrayBytes<'static>, AllocError>
-    ensures { (x : Element)
+    ensures means { (x : Element)
         → fill_element (kind_seen data_type.now) (fill_bytes fill_value.now) ≡ Some x
         → IfOk result (λ v. meaning (kind_seen data_type.now) 1 (raw_of v) ≡ Some (x ∷ [])) }
+    ensures value { IfOk result
+        (λ v. raw_of v ≡ filled_with (kind_seen data_type.now) 1 (fill_bytes fill_value.now)) }
 {
     let _size = element_size(data_type);
     match ArrayBytes::new_fill_value(alloc, data_type, 1, fill_value) {
@@ -68,10 +72,13 @@ fn with_given(
     requires blank { IsSome (meaning (kind_seen data_type.now) 1 (raw_of blank.now)) }
     requires given { IsSome (given_meaning (kind_seen data_type.now) (Some given)) }
     requires below { AllBelow count (given_indices (Some given)) }
-    ensures { IfOk result (λ v. meaning (kind_seen data_type.now) count (raw_of v)
+    ensures means { IfOk result (λ v. meaning (kind_seen data_type.now) count (raw_of v)
         ≡ Some (replaced (given_indices (Some given))
         (given_list (kind_seen data_type.now) (Some given))
         (blanks (kind_seen data_type.now) count (raw_of blank.now)))) }
+    ensures short { (0 < count → has_long_element (raw_of blank.now) ≡ false)
+        → has_long_given (Some given) ≡ false
+        → IfOk result (λ v. has_long_element (raw_of v) ≡ false) }
 {
     let Given { indices, grown } = given;
     let new = into_array_bytes(grown, alloc)?;
@@ -91,8 +98,10 @@ fn repeated(
     blank: &ArrayBytes<'_>,
 ) -> Result<ArrayBytes<'static>, AllocError>
     requires { IsSome (meaning (kind_seen data_type.now) 1 (raw_of blank.now)) }
-    ensures { IfOk result (λ v. meaning (kind_seen data_type.now) count (raw_of v)
+    ensures means { IfOk result (λ v. meaning (kind_seen data_type.now) count (raw_of v)
         ≡ Some (blanks (kind_seen data_type.now) count (raw_of blank.now))) }
+    ensures short { (0 < count → has_long_element (raw_of blank.now) ≡ false)
+        → IfOk result (λ v. has_long_element (raw_of v) ≡ false) }
 {
     let places = vec![in alloc; 0; count as usize]?;
     match select(alloc, &places, 1, blank, element_size(data_type)) {
@@ -102,7 +111,7 @@ fn repeated(
 }
 
 impl<'a> ListedBox<'a> {
-    ghost use Rattle.zarr_array_elements.specs.BoxElements.{listed_kind, listed_box, listed_list};
+    ghost use Rattle.zarr_array_elements.specs.BoxElements.{listed_kind, listed_box, listed_list, IsShortList};
 
     /// A box whose elements are all the fill value.
     pub(crate) fn filled(
@@ -120,6 +129,9 @@ impl<'a> ListedBox<'a> {
         ensures elements { (x : Element)
             → fill_element (kind_seen data_type.now) (fill_bytes fill_value.now) ≡ Some x
             → IfOk result (λ v. listed_list v ≡ replicate (count (region subset.now)) x) }
+        ensures short { (0 < count (region subset.now) → has_long_element
+            (filled_with (kind_seen data_type.now) 1 (fill_bytes fill_value.now)) ≡ false)
+            → IfOk result IsShortList }
     {
         let blank = blank_element(alloc, data_type, fill_value)?;
         Ok(ListedBox {
@@ -148,6 +160,8 @@ impl<'a> ListedBox<'a> {
         ensures copied { OnOk result (Copied (listed_box self.old) (region subset.now)
             (list_in (listed_kind self.old) (region subset.now) (raw_of bytes.now))
             (listed_list self.old) (listed_list self.new)) }
+        ensures short { has_long_element (raw_of bytes.now) ≡ false → IsShortList self.old
+            → IsShortList self.new }
     {
         let part = shared_part(alloc, self.subset, subset)?;
         let piece = piece_in(alloc, self.data_type, bytes, subset, &part)?;
@@ -160,8 +174,10 @@ impl<'a> ListedBox<'a> {
 
     /// The elements as array bytes.
     pub(crate) fn into_bytes(self, alloc: Global) -> Result<ArrayBytes<'static>, AllocError>
-        ensures { IfOk result (λ v. meaning (listed_kind self.entry)
+        ensures means { IfOk result (λ v. meaning (listed_kind self.entry)
             (count (listed_box self.entry)) (raw_of v) ≡ Some (listed_list self.entry)) }
+        ensures short { IsShortList self.entry
+            → IfOk result (λ v. has_long_element (raw_of v) ≡ false) }
     {
         let ListedBox {
             data_type,

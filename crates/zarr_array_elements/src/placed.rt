@@ -1,9 +1,10 @@
 //! Elements of one size, optional or not, that stand in their places.
 
-ghost use Rattle.std.specs.Prelude.{◌≡◌, ◌+◌, ◌*◌, ◌<◌, ◌^◌, true, Some, IsSome, length, replicate, IfOk};
+ghost use Rattle.std.specs.Prelude.{◌≡◌, ◌+◌, ◌*◌, ◌<◌, ◌^◌, true, false, Some, IsSome, length, replicate, IfOk};
 ghost use Rattle.zarr_model.specs.Region.{count};
 ghost use Rattle.zarr_model.specs.Element.{Element, fill_element};
 ghost use Rattle.zarr_model.specs.ArrayBytes.{meaning};
+ghost use Rattle.zarr_model.specs.Command.{has_long_element};
 ghost use Rattle.zarrs_array_subset.specs.ArraySubset.{region};
 ghost use Rattle.zarrs_data_type_elements.specs.FillValue.{fill_bytes};
 ghost use Rattle.zarrs_codec_bytes.specs.Elements.{fixed_elements};
@@ -59,7 +60,8 @@ pub(crate) fn into_array_bytes(
     placed: Placed,
     alloc: Global,
 ) -> Result<ArrayBytes<'static>, AllocError>
-    ensures { IfOk result (λ v. raw_of v ≡ placed_bytes placed) }
+    ensures value { IfOk result (λ v. raw_of v ≡ placed_bytes placed) }
+    ensures short { IfOk result (λ v. has_long_element (raw_of v) ≡ false) }
 {
     match placed {
         Placed::Fixed(value) => Ok(ArrayBytes::Fixed(CowSlice::Owned(value))),

@@ -26,7 +26,8 @@ use Rattle.zarr_array_parts.specs.Codecs.{array_meaning, array_unserved, list_me
 use Rattle.zarr_array_parts.specs.ChunkLevels.{shape_level, chunk_shape, ServesShape}
 use Rattle.zarr_array_parts.specs.Parts.{described}
 use Rattle.zarr_array_parts.specs.declared.parts.ArrayParts.{ArrayParts}
-use Rattle.zarr_array_parts.proofs.SizeLaws.{unstored_sized, taken, short_fill}
+use Rattle.zarr_codecs_array_to_bytes.proofs.SizeLaws.{unstored_sized, taken}
+use Rattle.zarr_array_parts.proofs.SizeLaws.{short_fill}
 use Rattle.zarr_array_parts.proofs.ServingLaws.{is_served-serves}
 use Rattle.zarr_array_parts.proofs.ServedLaws.{described_covers, chunk_counts, chunk_short}
 
@@ -83,7 +84,7 @@ shape_fits array chunk dims is_chunk is =
     }
 
 -- the fill value of a chunk is not too long to be stored
-fill_short : (array : ArrayParts) (chunk : List ℕ) → IsChunk (described array).grid chunk → fixed_size (kind (described array)) ≡ None → length (innermost_fill (kind (described array)) (fill_bytes array.fill)) < 2 ^ 32
+pub fill_short : (array : ArrayParts) (chunk : List ℕ) → IsChunk (described array).grid chunk → fixed_size (kind (described array)) ≡ None → length (innermost_fill (kind (described array)) (fill_bytes array.fill)) < 2 ^ 32
 fill_short array chunk is_chunk unsized = go (stores_lengths (plain_of array.chain.to_bytes)) refl
   where
     served : unserved_by (plain_of array.chain.to_bytes) (type_of array.data_type) ≡ None

@@ -2,12 +2,13 @@
 //!
 //! See <https://zarr-specs.readthedocs.io/en/latest/v3/core/index.html#array-metadata>.
 
-ghost use Rattle.std.specs.Prelude.{◌≡◌, Some, true, false, is_some, length, map};
+ghost use Rattle.std.specs.Prelude.{◌≡◌, ℕ, List, Some, true, false, is_some, length, map};
 ghost use Rattle.serde_json.specs.Read.{read as read_json};
-ghost use Rattle.zarr_model.specs.Prelude.{fill_element, kind_of};
+ghost use Rattle.zarr_model.specs.Prelude.{fill_element, kind, kind_of, has_long_element, IsChunk};
 ghost use Rattle.zarrs_metadata.specs.ArrayMetadata.{array_seen};
 ghost use Rattle.zarrs_data_type_elements.specs.FillValue.{fill_bytes};
 ghost use Rattle.zarrs_data_type.specs.DataType.{type_of, is_type};
+ghost use Rattle.zarrs_codec_bytes.specs.Filling.{filled_with};
 ghost use Rattle.zarr_basics_grids.specs.BasicGrid.{basic_shape, basic_grid, basic_form};
 ghost use Rattle.zarr_basics.specs.Keys.{keys_of};
 ghost use Rattle.zarr_basics.specs.Registries.{names_of};
@@ -160,8 +161,12 @@ impl ArrayParts {
 
     /// The fill value.
     pub fn fill_value(&self) -> &FillValue
-        ensures { fill_element (kind_of (documented self.now).data_type) (fill_bytes result.now)
-            ≡ Some (documented self.now).fill }
+        ensures element { fill_element (kind_of (documented self.now).data_type)
+            (fill_bytes result.now) ≡ Some (documented self.now).fill }
+        // Where there is a chunk, one element that is the fill value is not too long to be stored.
+        ensures short { (chunk : List ℕ) → IsChunk (described self.now).grid chunk
+            → has_long_element (filled_with (kind (described self.now)) 1 (fill_bytes result.now))
+            ≡ false }
     {
         &self.fill
     }
@@ -175,6 +180,7 @@ impl ArrayParts {
 
     /// The grid of chunks.
     pub fn grid(&self) -> &BasicGrid
+        ensures form { basic_form result.now ≡ (documented self.now).grid }
         ensures grid { basic_grid result.now ≡ (described self.now).grid }
         ensures shape { basic_shape result.now ≡ (documented self.now).shape }
     {

@@ -82,6 +82,13 @@ module _ (array : ArrayParts) (chain : BasicChain) (levels : ChunkLevels) (optio
   content_as None = ap (λ (l : Level). Some (replicate (count_of l.shape) l.fill)) serves.level
   content_as (Some value) = decodes_as options value
 
+  -- what stands under its key is what the chunk has
+  pub own_content : (key : List ℕ) (before : Shown) → key ≡ (described array).key chunk →
+      chunk_content (layout (described array) options) before.content chunk ≡ stored.chunk_content array_meaning list_meaning bytes_meaning chain levels options (before.content key)
+  own_content key before its_key =
+      ap (λ k. box_content (layout (described array) options) ((described array).grid.chunk_box chunk) (before.content k)) (sym its_key)
+      ∙ sym (content_as (before.content key))
+
   -- what was put for the chain was put for the array
   is_put : (decode other : put.Decoding) → ((under : Options) (value : List ℕ) → decode under value ≡ other under value) → (drops : Bool) (list : List Element) (value : Option (List ℕ)) →
       put.IsPut decode drops list value → put.IsPut other drops list value
@@ -110,72 +117,6 @@ module _ (array : ArrayParts) (chain : BasicChain) (levels : ChunkLevels) (optio
         puts.here;
     others = puts.others;
   }
-
-  -- no codec tells that it gives nothing by an error of the store
-  said : (before : Option (List ℕ)) (earlier : CodecError → Type 0) (says : List ℕ → CodecError → Type 0) (error : StorageError) → (earlier (codec.StorageError error) → ⊥) →
-      ((value : List ℕ) → says value (codec.StorageError error) → ⊥) → values.said_at before earlier says (codec.StorageError error) → ⊥
-  said None earlier says error first last tells = first tells
-  said (Some value) earlier says error first last tells = last value tells
-
-  bytes_say : (codecs : List BasicBytesToBytes) (value : List ℕ) (error : StorageError) → values.bytes_says bytes_meaning bytes_says options codecs value (codec.StorageError error) → ⊥
-  bytes_say [] value error says = says
-  bytes_say (c ∷ codecs) value error says =
-      said (decode_bytes (byte_codecs bytes_meaning options codecs) value) (values.bytes_says bytes_meaning bytes_says options codecs value) (bytes_says c options) error (bytes_say codecs value error)
-      (λ before tells. (byte_no_fault (byte_form c) before (codec.StorageError error) tells).unlike error refl) says
-
-  pub chunk_say : (value : Option (List ℕ)) (error : StorageError) → stored.chunk_says list_says bytes_meaning bytes_says chain levels options value (codec.StorageError error) → ⊥
-  chunk_say None error says = says
-  chunk_say (Some value) error says =
-      said (decode_bytes (byte_codecs bytes_meaning options chain.byte_codecs.items) value) (values.bytes_says bytes_meaning bytes_says options chain.byte_codecs.items value)
-      (list_says chain.to_bytes options (bottom_level levels)) error (bytes_say chain.byte_codecs.items value error)
-      (λ before tells. (plain_no_fault (plain_of chain.to_bytes) (count_of (bottom_level levels).shape) (bottom_level levels).data_type before (codec.StorageError error) tells).unlike error refl) says
-
-  -- and no range of a part is
-  range_say : (outside : Option ByteRange) (asked : Option (List ByteRange)) (given : Held) (says : CodecError → Type 0) (error : StorageError) → (says (codec.StorageError error) → ⊥) →
-      range_says outside asked given says (codec.StorageError error) → ⊥
-  range_say None asked given says error first tells = first tells
-  range_say (Some range) asked None says error first tells = tells
-  range_say (Some range) None (Some bytes) says error first tells = tells
-  range_say (Some range) (Some ranges) (Some None) says error first tells = tells
-  range_say (Some range) (Some ranges) (Some (Some value)) says error first tells = tells
-
-  -- why a chunk was not fetched: an error of the handle's, or one that tells that it does not decode
-  fetch_fails : (key : List ℕ) (before now : Shown) (content : Option (List ℕ)) (error : CodecError) (says : CodecError → Type 0) → ((fault : StorageError) → says (codec.StorageError fault) → ⊥) →
-      (IsHandleError before.faults now.faults error ⊎ ((stored.chunk_content array_meaning list_meaning bytes_meaning chain levels options content ≡ None) × says error)) →
-      FailsToFetch (box_content (layout (described array) options) ((described array).grid.chunk_box chunk) content) key before now (chunk_kind key error)
-  fetch_fails key before now content error says unlike fails = ⊎_elim
-      (λ (handle : IsHandleError before.faults now.faults error). ⊎_elim
-      (λ (memory : error ≡ codec.OutOfMemory). subst fails_by (sym memory) tt)
-      (λ (fault : (error ≡ codec.StorageError storage.Failed) × Rose before.faults now.faults). subst fails_by (sym fault.0) fault.1)
-      handle)
-      (λ (none : (stored.chunk_content array_meaning list_meaning bytes_meaning chain levels options content ≡ None) × says error).
-      by_kind (λ k kind. FailsToFetch (box_content (layout (described array) options) ((described array).grid.chunk_box chunk) content) k before now kind) key error
-      (λ fault is. absurd (unlike fault (subst says is none.1))) tt (refl, sym (content_as content) ∙ none.0))
-      fails
-    where
-      fails_by : CodecError → Type 0
-      fails_by e = FailsToFetch (box_content (layout (described array) options) ((described array).grid.chunk_box chunk) content) key before now (chunk_kind key e)
-
-  not_given : (key : List ℕ) (before now : Shown) (error : CodecError) (says : CodecError → Type 0) → ((fault : StorageError) → says (codec.StorageError fault) → ⊥) → key ≡ (described array).key chunk →
-      (IsHandleError before.faults now.faults error ⊎ ((stored.chunk_content array_meaning list_meaning bytes_meaning chain levels options (before.content key) ≡ None) × says error)) →
-      FailsToFetch (chunk_content (layout (described array) options) before.content chunk) ((described array).key chunk) before now (chunk_kind key error)
-  not_given key before now error says unlike its_key fails =
-      subst (λ k. FailsToFetch (box_content (layout (described array) options) ((described array).grid.chunk_box chunk) (before.content k)) k before now (chunk_kind key error)) its_key
-      (fetch_fails key before now (before.content key) error says unlike fails)
-
-  pub not_fetched : (key : List ℕ) (before now : Shown) (error : CodecError) → key ≡ (described array).key chunk →
-      ChunkTells (basic_seen chain levels) options (before.content key) before.faults now.faults error →
-      FailsToFetch (chunk_content (layout (described array) options) before.content chunk) ((described array).key chunk) before now (chunk_kind key error)
-  not_fetched key before now error its_key fails =
-      not_given key before now error (stored.chunk_says list_says bytes_meaning bytes_says chain levels options (before.content key)) (chunk_say (before.content key)) its_key fails
-
-  pub part_not_fetched : (asked : Option (List ByteRange)) (key : List ℕ) (before now : Shown) (error : CodecError) → key ≡ (described array).key chunk →
-      RegionTells (basic_seen chain levels) options asked (before.content key) before.faults now.faults error →
-      FailsToFetch (chunk_content (layout (described array) options) before.content chunk) ((described array).key chunk) before now (chunk_kind key error)
-  part_not_fetched asked key before now error its_key fails =
-      let given = given_bytes bytes_meaning chain options (before.content key) in
-      not_given key before now error (range_says (first_outside asked given) asked given (stored.chunk_says list_says bytes_meaning bytes_says chain levels options (before.content key)))
-      (λ fault. range_say (first_outside asked given) asked given (stored.chunk_says list_says bytes_meaning bytes_says chain levels options (before.content key)) fault (chunk_say (before.content key) fault)) its_key fails
 
 -- what is there
 pub some_list : (o : Option (List Element)) → IsSome o → o ≡ Some (unwrap_or o [])

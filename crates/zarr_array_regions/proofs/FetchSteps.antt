@@ -1,30 +1,40 @@
 -- How fetching a chunk ends.
-use Rattle.std.proofs.Common.{◌≡◌, ◌⊎◌, ℕ, ◌≤◌, Bool, true, false, if◌then◌else◌, List, map, Option, Some, None, Err, refl, sym, inl, inr, arith}
-use Rattle.std.proofs.lemmas.Bool.{true≢false}
-use Rattle.zarr_model.specs.Prelude.{Region, ends_within, Level, Options, Shown, IsChunk, counted, decode_bytes}
+use Rattle.std.proofs.Common.{◌≡◌, ◌⊎◌, ℕ, ◌≤◌, Bool, true, false, not, ◌==◌, if◌then◌else◌, List, length, Option, Some, None, option_map, Err, refl, sym, ap, ◌∙◌, subst, inl, inr, ⊎_elim, arith}
+use Rattle.zarr_model.specs.Prelude.{Region, ends_within, Element, Level, Options, Rose, Shown, chunk_content, decode_bytes, layout, counted}
 use Rattle.zarrs_storage.specs.Store.{SameContent}
+use Rattle.zarrs_storage.specs.ByteRange.{first_invalid}
 use Rattle.zarrs_storage.specs.declared.byte_range.ByteRange.{ByteRange}
+use Rattle.zarrs_storage.specs.declared.store.StorageError.TheVariants as storage
 use Rattle.zarrs_codec_error.specs.declared.error.CodecError.{CodecError}
-use Rattle.zarr_chain.specs.Chain.{first_level}
-use Rattle.zarr_chain_stored.specs.Regions.{AsksOnce, is_whole_chunk, region_request}
-use Rattle.zarr_chain_stored.specs.Seen.{ChunkTells, RegionTells}
+use Rattle.zarrs_codec_error.specs.declared.error.CodecError.TheVariants as codec
+use Rattle.zarrs_codec_held.specs.Held.{Held}
+use Rattle.zarrs_codec_held.specs.Reads.{TellsRangeOf, IsHandleError}
+use Rattle.zarr_chain.specs.Chain.{first_level, bottom_level, decoded}
+use Rattle.zarr_chain.specs.Values.{byte_codecs}
 use Rattle.zarr_chain.specs.declared.levels.ChunkLevels.{ChunkLevels}
-use Rattle.zarr_codecs_array_to_bytes.specs.Plain.{Plain}
-use Rattle.zarr_array_parts.specs.kinds.BytesToBytes.{byte_codec_of}
+use Rattle.zarr_chain_stored.specs.Fetch as stored
+use Rattle.zarr_chain_stored.specs.Regions.{AsksOnce, GivesRegion, IsAlike, is_whole_chunk, region_request, given_bytes, first_outside, range_says}
+use Rattle.zarr_chain_stored.specs.Seen.{ChunkTells, RegionTells, IsAlikeIn}
+use Rattle.zarr_chain_stored.specs.declared.fetched.Fetched.{Fetched}
+use Rattle.zarr_codecs_array_to_bytes.specs.Plain.{request_by}
+use Rattle.zarr_codecs_array_to_bytes.specs.Views.{plain_of}
 use Rattle.zarr_array_parts.specs.Chain.{BasicChain}
 use Rattle.zarr_array_parts.specs.ChunkLevels.{chunk_shape, chunk_level, ServesShape}
-use Rattle.zarr_array_parts.specs.Document.{ArrayDocument, describe}
+use Rattle.zarr_array_parts.specs.Codecs.{array_meaning, list_meaning, list_says, bytes_meaning, bytes_says}
 use Rattle.zarr_array_parts.specs.Parts.{documented, described}
 use Rattle.zarr_array_parts.specs.declared.parts.ArrayParts.{ArrayParts}
+use Rattle.zarr_array_regions.specs.Asked.{part_asked, finds_asked}
 use Rattle.zarr_array_regions.specs.Codecs.{list_request, box_below, basic_seen}
-use Rattle.zarr_array_regions.specs.Chunk.{chunk_kind}
+use Rattle.zarr_array_regions.specs.Chunk.{chunk_kind, FailsToFetch}
 use Rattle.zarr_array_regions.specs.Fetch.{HasAsked, NotFetched}
-use Rattle.zarr_array_regions.specs.Told.{byte_codecs_say, level_below_all, to_bytes_says, stored_says, TellsWhy}
+use Rattle.zarr_array_regions.specs.Told.{stored_says, TellsOf}
 use Rattle.zarr_array_regions.specs.declared.error.SessionErrorKind.{SessionErrorKind}
 use Rattle.zarr_array_regions.specs.declared.error.SessionErrorKind.TheVariants.{NotOpened, ChunkDecode, Store, OutOfMemory}
-use Rattle.zarr_array_regions.proofs.ChunkLaws.{not_fetched, part_not_fetched}
-use Rattle.zarr_array_regions.proofs.FoundLaws.{below, below_inside}
-use Rattle.zarr_array_regions.proofs.ToldLaws.{either_says, told_whole, told_part}
+use Rattle.zarr_array_regions.proofs.AlikeLaws.{other_value}
+use Rattle.zarr_array_regions.proofs.BottomLaws.{below}
+use Rattle.zarr_array_regions.proofs.ChunkLaws.{by_kind, own_content}
+use Rattle.zarr_array_regions.proofs.FoundLaws.{nothing_found, unasked_unfound, outside_unfound}
+use Rattle.zarr_array_regions.proofs.ToldLaws.{no_fault_says, told_of_storage, says_whole, says_all, says_nothing, says_range}
 
 -- a store was asked for one value, or for none, and nothing was changed
 pub record MayHaveAsked (before now : Shown) : Type 0 where
@@ -37,71 +47,135 @@ pub asked_at_most : (T : Type 0) (before now : ℕ) (e : CodecError) → AsksOnc
 asked_at_most T before now e (inl asked) = inr asked
 asked_at_most T before now e (inr none) = inl none.1
 
--- what is asked for: nothing, or what the codec asks for
-either_asked : (whole : Bool) (asked : Option (List ByteRange)) → ((if whole then None else asked) ≡ None) ⊎ ((if whole then None else asked) ≡ asked)
-either_asked true asked = inl refl
-either_asked false asked = inr refl
-
 module _ (array : ArrayParts) (chain : BasicChain) (levels : ChunkLevels) (options : Options) (chunk : List ℕ) (serves : ServesShape array (chunk_shape (described array) chunk) chain levels) where
+  abbrev its_key : List ℕ
+  its_key = (described array).key chunk
+
+  abbrev content : Option (List ℕ) → Option (List Element)
+  content value = stored.chunk_content array_meaning list_meaning bytes_meaning chain levels options value
+
+  abbrev given : List ℕ → Option (List ℕ)
+  given value = decode_bytes (byte_codecs bytes_meaning options chain.byte_codecs.items) value
+
+  abbrev says : Option (List ℕ) → CodecError → Type 0
+  says value e = stored.chunk_says list_says bytes_meaning bytes_says chain levels options value e
+
+  -- why a call gave nothing of a chunk: an error of the store's, or since what stands under its key
+  -- does not decode and does not hold what was asked for, which the error tells
+  abbrev Unfetched : Option Region → Option (List ℕ) → ℕ → ℕ → CodecError → Type 0
+  Unfetched asked value before now e = IsHandleError before now e
+      ⊎ ((content value ≡ None) × (finds_asked (described array) options chunk asked value ≡ false) × stored_says (documented array) options chunk asked value e)
+
+  module _ (asked : Option Region) (before now : Shown) (error : CodecError) (may : MayHaveAsked before now) where
+    abbrev Why : Type 0
+    Why = Unfetched asked (before.content its_key) before.faults now.faults error
+
+    abbrev Fails : List ℕ → SessionErrorKind → Type 0
+    Fails key kind = FailsToFetch (chunk_content (layout (described array) options) before.content chunk) (finds_asked (described array) options chunk asked (before.content its_key)) key before now kind
+
+    abbrev Tells : SessionErrorKind → Type 0
+    Tells kind = TellsOf (documented array) options chunk asked now kind
+
+    failed : Why → Fails its_key (chunk_kind its_key error)
+    failed (inl (inl memory)) = subst (λ e. Fails its_key (chunk_kind its_key e)) (sym memory) tt
+    failed (inl (inr fault)) = subst (λ e. Fails its_key (chunk_kind its_key e)) (sym fault.0) fault.1
+    failed (inr why) = by_kind Fails its_key error
+        (λ fault is. absurd (no_fault_says fault (documented array) options chunk asked (before.content its_key) (subst (stored_says (documented array) options chunk asked (before.content its_key)) is why.2))) tt
+        (refl, own_content array chain levels options chunk serves its_key before refl ∙ why.0, why.1)
+
+    told : Why → Tells (chunk_kind its_key error)
+    told (inl (inl memory)) = subst (λ e. Tells (chunk_kind its_key e)) (sym memory) tt
+    told (inl (inr fault)) = subst (λ e. Tells (chunk_kind its_key e)) (sym fault.0) tt
+    told (inr why) = by_kind (λ key kind. Tells kind) its_key error
+        (λ fault is. told_of_storage (documented array) options chunk asked now fault) tt
+        (refl, subst (λ v. stored_says (documented array) options chunk asked v error) (sym (may.same its_key)) why.2)
+
+    not_fetched : Why → NotFetched asked array options chunk before now (chunk_kind its_key error)
+    not_fetched why = record {
+      same = may.same;
+      asks = may.asks;
+      later = may.later;
+      failed = failed why;
+      told = told why;
+    }
+
   -- the chain's call for all of a chunk failed
-  pub fetch_failed : IsChunk (described array).grid chunk →
-      (key : List ℕ) (before now : Shown) (error : CodecError) → key ≡ (described array).key chunk → MayHaveAsked before now →
+  pub fetch_failed : (key : List ℕ) (before now : Shown) (error : CodecError) → key ≡ its_key → MayHaveAsked before now →
       ChunkTells (basic_seen chain levels) options (before.content key) before.faults now.faults error →
-      NotFetched false array options chunk before now (chunk_kind key error)
-  fetch_failed is_chunk key before now error its_key asked fails = record {
-    same = asked.same;
-    asks = asked.asks;
-    later = asked.later;
-    failed = not_fetched array chain levels options chunk serves key before now error its_key fails;
-    told = told_whole array chain levels options chunk serves is_chunk false key before now error its_key (asked.same key) fails;
-  }
+      NotFetched None array options chunk before now (chunk_kind key error)
+  fetch_failed key before now error is may fails =
+      subst (λ k. NotFetched None array options chunk before now (chunk_kind k error)) (sym is)
+      (not_fetched None before now error may (⊎_elim
+      (λ (handle : IsHandleError before.faults now.faults error). inl handle)
+      (λ (none : (content (before.content its_key) ≡ None) × says (before.content its_key) error).
+      inr (none.0, refl, says_whole array chain levels options chunk serves (before.content its_key) error none.1))
+      (subst (λ k. ChunkTells (basic_seen chain levels) options (before.content k) before.faults now.faults error) is fails)))
 
-  -- and the one for a box of it
-  pub part_failed : IsChunk (described array).grid chunk → (within : Region) → ends_within within (first_level levels).shape ≡ true →
-      (key : List ℕ) (before now : Shown) (error : CodecError) → key ≡ (described array).key chunk → MayHaveAsked before now →
-      RegionTells (basic_seen chain levels) options (region_request list_request box_below chain levels within) (before.content key) before.faults now.faults error →
-      NotFetched true array options chunk before now (chunk_kind key error)
-  part_failed is_chunk within inside key before now error its_key asked fails = record {
-    same = asked.same;
-    asks = asked.asks;
-    later = asked.later;
-    failed = part_not_fetched array chain levels options chunk serves (region_request list_request box_below chain levels within) key before now error its_key fails;
-    told = told_part array chain levels options chunk serves is_chunk (below array chain levels options chunk serves within) (below_inside array chain levels options chunk serves within inside)
-        (region_request list_request box_below chain levels within) (either_asked (is_whole_chunk (first_level levels) within) _) key before now error its_key (asked.same key) fails;
-  }
+  -- the one for a box of it: by ranges, where the codec at the bottom asks for some
+  abbrev at_bottom : Region → Option (List ByteRange)
+  at_bottom within = request_by (plain_of chain.to_bytes) (bottom_level levels).shape (bottom_level levels).data_type (below array chain levels chunk serves within)
 
--- what is told of all of a chunk may be told where parts are read
-to_bytes_more : (plain : Plain) (level : Level) (value : List ℕ) (e : CodecError) → to_bytes_says false plain level value e → to_bytes_says true plain level value e
-to_bytes_more plain level value e (inl says) = inl says
-to_bytes_more plain level value e (inr (none, says)) = absurd (true≢false (sym none))
+  abbrev Refused : Option (List ByteRange) → Option (List ℕ) → ℕ → ℕ → CodecError → Type 0
+  Refused asked value before now e = RegionTells (basic_seen chain levels) options asked value before now e
 
-pub told_more : (document : ArrayDocument) (options : Options) (now : Shown) (kind : SessionErrorKind) → TellsWhy false document options now kind → TellsWhy true document options now kind
-told_more document options now (NotOpened error) told = tt
-told_more document options now Store told = tt
-told_more document options now OutOfMemory told = tt
-told_more document options now (ChunkDecode key error) (chunk, is_chunk, its_key, says) = (chunk, is_chunk, its_key, stored_more (now.content key) says)
-  where
-    stored_more : (value : Option (List ℕ)) → stored_says false document options chunk value error → stored_says true document options chunk value error
-    stored_more None says = says
-    stored_more (Some value) says =
-        either_says (decode_bytes (map (byte_codec_of options) document.byte_codecs) value) (byte_codecs_say options document.byte_codecs value) (byte_codecs_say options document.byte_codecs value)
-        (to_bytes_says false document.to_bytes (level_below_all document.array_codecs (chunk_level (describe document) chunk)))
-        (to_bytes_says true document.to_bytes (level_below_all document.array_codecs (chunk_level (describe document) chunk))) error (λ said. said)
-        (λ bytes given. to_bytes_more document.to_bytes (level_below_all document.array_codecs (chunk_level (describe document) chunk)) bytes error) says
+  abbrev Alike : Region → Option (List ByteRange) → Option (List ℕ) → ℕ → ℕ → CodecError → Type 0
+  Alike within asked value before now e = IsAlikeIn {T = Fetched} (GivesRegion (first_level levels) within) (basic_seen chain levels) options asked value before now (Err e)
 
-pub not_fetched_part : (array : ArrayParts) (options : Options) (chunk : List ℕ) (before now : Shown) (kind : SessionErrorKind) → NotFetched false array options chunk before now kind → NotFetched true array options chunk before now kind
-not_fetched_part array options chunk before now kind not = record {
-  same = not.same;
-  asks = not.asks;
-  later = not.later;
-  failed = not.failed;
-  told = told_more (documented array) options now kind not.told;
-}
+  abbrev held : Option (List ℕ) → Held
+  held bytes = option_map (λ (v : List ℕ). Some v) bytes
 
-module _ (parts : Bool) (array : ArrayParts) (options : Options) (chunk : List ℕ) where
+  by_ranges : (within : Region) → ends_within within (first_level levels).shape ≡ true → (ranges : List ByteRange) → at_bottom within ≡ Some ranges →
+      (value : Option (List ℕ)) (before now : ℕ) (e : CodecError) → Alike within (Some ranges) value before now e → Refused (Some ranges) value before now e → Unfetched (Some within) value before now e
+  by_ranges within inside ranges some value before now e alike (inl handle) = inl handle
+  by_ranges within inside ranges some None before now e alike (inr (none, told)) = absurd told
+  by_ranges within inside ranges some (Some value) before now e alike (inr (none, told)) = go (given value) refl alike told
+    where
+      go : (bytes : Option (List ℕ)) → given value ≡ bytes →
+          ((own other : List ℕ) (list : List Element) → held bytes ≡ Some (Some own) → first_invalid (length own) ranges ≡ None → IsAlike ranges own (given_bytes bytes_meaning chain options (Some other)) →
+          decoded array_meaning list_meaning bytes_meaning chain levels options other ≡ Some list → IsHandleError before now e) →
+          range_says (first_outside (Some ranges) (held bytes)) (Some ranges) (held bytes) (says (Some value)) e → Unfetched (Some within) (Some value) before now e
+      go None is alike told = inr (none, nothing_found array chain levels options chunk serves within value is, says_nothing array chain levels options chunk serves within value e is told)
+      go (Some own) is alike told = last (first_invalid (length own) ranges) refl told
+        where
+          last : (outside : Option ByteRange) → first_invalid (length own) ranges ≡ outside → range_says outside (Some ranges) (Some (Some own)) (says (Some value)) e →
+              Unfetched (Some within) (Some value) before now e
+          last None valid told =
+              let other = other_value array chain levels options chunk serves within inside ranges some own valid in
+              inl (alike own other.0 other.1 refl valid other.2 other.3)
+          last (Some range) outside told = inr (
+            none,
+            outside_unfound array chain levels options chunk serves within inside ranges some value own is range outside,
+            says_range array chain levels options chunk serves within ranges some value own e is told,
+          )
+
+  why_part : (within : Region) → ends_within within (first_level levels).shape ≡ true → (whole : Bool) → (asked : Option (List ByteRange)) → at_bottom within ≡ asked →
+      (value : Option (List ℕ)) (before now : ℕ) (e : CodecError) → Alike within (if whole then None else asked) value before now e → Refused (if whole then None else asked) value before now e →
+      Unfetched (if not whole then Some within else None) value before now e
+  why_part within inside true asked is value before now e alike (inl handle) = inl handle
+  why_part within inside true asked is value before now e alike (inr (none, told)) = inr (none, refl, says_whole array chain levels options chunk serves value e told)
+  why_part within inside false None is value before now e alike (inl handle) = inl handle
+  why_part within inside false None is None before now e alike (inr (none, told)) = absurd told
+  why_part within inside false None is (Some value) before now e alike (inr (none, told)) =
+      inr (none, unasked_unfound array chain levels options chunk serves within is value, says_all array chain levels options chunk serves within is (Some value) e told)
+  why_part within inside false (Some ranges) is value before now e alike told = by_ranges within inside ranges is value before now e alike told
+
+  pub part_failed : (within : Region) → ends_within within (first_level levels).shape ≡ true →
+      (key : List ℕ) (before now : Shown) (error : CodecError) → key ≡ its_key → MayHaveAsked before now →
+      Alike within (region_request list_request box_below chain levels within) (before.content key) before.faults now.faults error →
+      Refused (region_request list_request box_below chain levels within) (before.content key) before.faults now.faults error →
+      NotFetched (part_asked ((described array).grid.chunk_box chunk) within) array options chunk before now (chunk_kind key error)
+  part_failed within inside key before now error is may alike fails =
+      subst (λ k. NotFetched (part_asked ((described array).grid.chunk_box chunk) within) array options chunk before now (chunk_kind k error)) (sym is)
+      (not_fetched (part_asked ((described array).grid.chunk_box chunk) within) before now error may
+      (subst (λ (l : Level). Unfetched (if not (is_whole_chunk l within) then Some within else None) (before.content its_key) before.faults now.faults error) serves.level
+      (why_part within inside (is_whole_chunk (first_level levels) within) (at_bottom within) refl (before.content its_key) before.faults now.faults error
+      (subst (λ k. Alike within (region_request list_request box_below chain levels within) (before.content k) before.faults now.faults error) is alike)
+      (subst (λ k. Refused (region_request list_request box_below chain levels within) (before.content k) before.faults now.faults error) is fails))))
+
+module _ (asked : Option Region) (array : ArrayParts) (options : Options) (chunk : List ℕ) where
   -- memory ran out after it, or before
-  pub starved_after : (before now : Shown) → HasAsked before now → NotFetched parts array options chunk before now OutOfMemory
-  starved_after before now asked = record { same = asked.same; asks = inr asked.asks; later = asked.later; failed = tt; told = tt }
+  pub starved_after : (before now : Shown) → HasAsked before now → NotFetched asked array options chunk before now OutOfMemory
+  starved_after before now has = record { same = has.same; asks = inr has.asks; later = has.later; failed = tt; told = tt }
 
-  pub starved_before : (store : Shown) → NotFetched parts array options chunk store store OutOfMemory
+  pub starved_before : (store : Shown) → NotFetched asked array options chunk store store OutOfMemory
   starved_before store = record { same = λ key. refl; asks = inl refl; later = omega arith; failed = tt; told = tt }

@@ -3,13 +3,14 @@ pub use Rattle.zarr_array_parts.proofs.Documents
 pub use Rattle.zarr_array_parts.proofs.KeysApart
 pub use Rattle.zarr_array_parts.proofs.ServedLaws
 pub use Rattle.zarr_array_parts.proofs.ServingLaws
-pub use Rattle.zarr_array_parts.proofs.SizeLaws
 pub mod PlaceLaws
 pub mod MetLaws
 pub mod ChunkLaws
+pub mod BottomLaws
+pub mod AskedLaws
 pub mod ToldLaws
-pub mod PieceLaws
 pub mod FoundLaws
+pub mod AlikeLaws
 pub mod RunBytes
 pub mod TakenLaws
 pub mod FetchSteps
@@ -17,6 +18,7 @@ pub mod SharedLaws
 pub mod SharedSteps
 pub mod ReadLaws
 pub mod DecodeLaws
+pub mod ShortLaws
 pub mod ReadSteps
 pub mod StoredLaws
 pub mod PartWayLaws

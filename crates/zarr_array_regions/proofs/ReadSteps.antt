@@ -1,10 +1,10 @@
 -- The steps of reading a region.
-use Rattle.std.proofs.Common.{◌≡◌, ℕ, ◌+◌, ◌-◌, ◌^◌, ◌<◌, ◌≤◌, ◌⊎◌, true, List, [], length, take, filter, if◌then◌else◌, is_some, ◌*◌, slice_get, Option, Some, IsSome, unwrap_or, refl, sym, ap, ◌∙◌, subst, subst₂, arith, le_trans, inl, inr, ⊎_elim}
+use Rattle.std.proofs.Common.{◌≡◌, ℕ, ◌+◌, ◌-◌, ◌^◌, ◌<◌, ◌≤◌, ◌⊎◌, true, false, List, [], length, take, filter, if◌then◌else◌, is_some, ◌*◌, slice_get, Option, Some, IsSome, unwrap_or, refl, sym, ap, ◌∙◌, subst, subst₂, arith, le_trans, inl, inr, ⊎_elim}
 use Rattle.std.specs.List.{sum_by}
 use Rattle.std.proofs.lemmas.List.{take_all}
 use Rattle.std.proofs.lemmas.List.Sums.{sum_by_more}
 use Rattle.std.proofs.lemmas.Option.{slice_get_within, get_or_from_slice_get}
-use Rattle.zarr_model.specs.Prelude.{Region, count, contains, tuples, ends_within, Element, Kind, kind, fixed_size, ArrayBytes, meaning, Array, elements_in, chunks_meeting, HasMet, Options, Content, box_content, chunk_content, Shown, Description, layout, counted, read_bytes, finds_shared}
+use Rattle.zarr_model.specs.Prelude.{Region, count, contains, tuples, ends_within, Element, Kind, kind, fixed_size, ArrayBytes, meaning, has_long_element, Array, elements_in, chunks_meeting, HasMet, Options, Content, box_content, chunk_content, Shown, Description, layout, counted, read_bytes, finds_shared}
 use Rattle.zarr_model.proofs.NeededLaws.{read_needs}
 use Rattle.zarrs_storage.specs.Store.{SameContent}
 use Rattle.zarrs_codec_bytes.specs.Overlap.{Copied}
@@ -15,6 +15,7 @@ use Rattle.zarr_array_parts.proofs.ServedLaws.{described_covers}
 use Rattle.zarrs_codec_held.proofs.EditLaws.{rose_later}
 use Rattle.zarr_array_regions.specs.declared.error.SessionErrorKind.{SessionErrorKind}
 use Rattle.zarr_array_regions.specs.declared.error.SessionErrorKind.TheVariants.{NotOpened, ChunkDecode, Store, OutOfMemory}
+use Rattle.zarr_array_regions.specs.Asked.{chunk_asked, finds_asked}
 use Rattle.zarr_array_regions.specs.Chunk.{FailsToFetch}
 use Rattle.zarr_array_regions.specs.CommandError.{before_chunks}
 use Rattle.zarr_array_regions.specs.Fetch.{HasAsked, chunk_list, HasElements, NotFetched}
@@ -23,7 +24,10 @@ use Rattle.zarr_array_regions.specs.declared.shared.FetchedChunk.{FetchedChunk}
 use Rattle.zarr_array_regions.specs.Taken.{Takes}
 use Rattle.zarr_array_regions.specs.Read.{HasReadCause, FailsToRead, HasReadChunk, HasReadList, HasReadRegion, NotReadRegion}
 use Rattle.zarr_array_regions.proofs.ReadLaws.{HasRead, read-start, read-step, read-end, chunk_copied}
+use Rattle.zarr_array_regions.proofs.AskedLaws.{asked_shared}
 use Rattle.zarr_array_regions.proofs.DecodeLaws.{each-step, each-all}
+use Rattle.zarr_array_regions.proofs.PartWayLaws.{met-chunks}
+use Rattle.zarr_array_regions.proofs.ToldLaws.{told_why}
 
 -- counts that stop at the greatest number
 pub counted_more : (before mid now k more : ℕ) → mid ≡ counted before k → now ≡ counted mid more → now ≡ counted before (k + more)
@@ -47,7 +51,7 @@ one_more_taken chunks k chunk here needs before mid now first second =
 pub stops_reading : (description : Description) (options : Options) (region : Region) (k : ℕ) (old mid new : Shown) (chunk : List ℕ) (kind : SessionErrorKind) →
     slice_get (chunks_meeting description.grid region) k ≡ Some chunk → k ≤ length (chunks_meeting description.grid region) →
     ((key : List ℕ) → mid.content key ≡ old.content key) → mid.asks ≡ counted old.asks k → ((new.asks ≡ mid.asks) ⊎ (new.asks ≡ counted mid.asks 1)) → old.faults ≤ mid.faults →
-    FailsToFetch (chunk_content (layout description options) mid.content chunk) (description.key chunk) mid new kind →
+    FailsToFetch (chunk_content (layout description options) mid.content chunk) (finds_asked description options chunk (chunk_asked description (Some region) chunk) (mid.content (description.key chunk))) (description.key chunk) mid new kind →
     FailsToRead description options region k old new kind
 stops_reading description options region k old mid new chunk kind here few same asked more later fails = record {
   few = few;
@@ -55,10 +59,18 @@ stops_reading description options region k old mid new chunk kind here few same 
   cause = by_kind kind fails;
 }
   where
-    by_kind : (kind : SessionErrorKind) → FailsToFetch (chunk_content (layout description options) mid.content chunk) (description.key chunk) mid new kind →
+    by_kind : (kind : SessionErrorKind) → FailsToFetch (chunk_content (layout description options) mid.content chunk) (finds_asked description options chunk (chunk_asked description (Some region) chunk) (mid.content (description.key chunk))) (description.key chunk) mid new kind →
         HasReadCause description options region k old new kind
     by_kind (NotOpened error) fails = fails
-    by_kind (ChunkDecode key error) fails = (chunk, here, sym fails.0, ap (box_content (layout description options) (description.grid.chunk_box chunk)) (sym (same (description.key chunk))) ∙ fails.1)
+    by_kind (ChunkDecode key error) fails = (
+      chunk,
+      here,
+      sym fails.0,
+      ap (box_content (layout description options) (description.grid.chunk_box chunk)) (sym (same (description.key chunk))) ∙ fails.1,
+      ap (λ k. finds_shared description options region chunk (old.content k)) fails.0
+          ∙ (ap (finds_shared description options region chunk) (sym (same (description.key chunk)))
+          ∙ (sym (asked_shared description options region chunk (mid.content (description.key chunk))) ∙ fails.2)),
+    )
     by_kind Store fails = rose_later old.faults mid.faults new.faults later fails
     by_kind OutOfMemory fails = tt
 
@@ -138,7 +150,7 @@ module _ (array : ArrayParts) (options : Options) (region : Region) where
   }
 
   pub stops_read : (k : ℕ) (chunk : List ℕ) (list : List Element) (before mid now : Shown) (kind : SessionErrorKind) → slice_get met k ≡ Some chunk →
-      HasReadSome array options region k list before mid → NotFetched true array options chunk mid now kind →
+      HasReadSome array options region k list before mid → NotFetched (chunk_asked (described array) (Some region) chunk) array options chunk mid now kind →
       NotReadRegion array options region before now (record { chunks_done = k; kind = kind })
   stops_read k chunk list before mid now kind here so_far stop = record {
     same = λ key. stop.same key ∙ so_far.same key;
@@ -147,7 +159,7 @@ module _ (array : ArrayParts) (options : Options) (region : Region) where
         let within : k < length met = slice_get_within met k chunk here in
         stops_reading (described array) options region k before mid now chunk kind here (omega (arith, within)) so_far.same so_far.asks stop.asks so_far.later stop.failed;
     readable = so_far.readable;
-    told = stop.told;
+    told = told_why (documented array) options (Some region) chunk now kind (met-chunks (described array).grid region k chunk here) stop.told;
   }
 
   pub all_read : (list : List Element) (before now : Shown) → ends_within region (described array).shape ≡ true → HasReadSome array options region (length met) list before now →
@@ -170,13 +182,14 @@ module _ (array : ArrayParts) (options : Options) (region : Region) where
       all_read list store store inside (subst (λ n. HasReadSome array options region n list store store) (sym (ap length none)) (none_read list store long fits room))
 
   -- array bytes that mean what was read
-  pub read_means : (bytes : ArrayBytes) (of_kind : Kind) (over : Region) (list : List Element) (before now : Shown) → of_kind ≡ kind (described array) → over ≡ region → meaning of_kind (count over) bytes ≡ Some list →
+  pub read_means : (bytes : ArrayBytes) (of_kind : Kind) (over : Region) (list : List Element) (before now : Shown) → of_kind ≡ kind (described array) → over ≡ region → meaning of_kind (count over) bytes ≡ Some list → has_long_element bytes ≡ false →
       HasReadList array options region before now list → HasReadRegion array options region before now bytes
-  read_means bytes of_kind over list before now kind_is over_is means read =
+  read_means bytes of_kind over list before now kind_is over_is means short read =
       let here : meaning (kind (described array)) (count region) bytes ≡ Some list = subst₂ (λ k r. meaning k (count r) bytes ≡ Some list) kind_is over_is means in
       record {
         means = subst IsSome (sym here) refl;
         read = subst (HasReadList array options region before now) (sym (ap (λ o. unwrap_or o []) here)) read;
+        short = short;
       }
 
   -- memory ran out once all chunks were read

@@ -1,7 +1,7 @@
 -- Fetching what a chunk shares with a region, and putting it into the region's elements.
-use Rattle.std.proofs.Common.{◌≡◌, ℕ, suc, ◌+◌, ◌*◌, ◌^◌, ◌<◌, ◌==◌, ◌&&◌, not, ◌⊎◌, inl, inr, ⊎_elim, true, List, [], ◌∷◌, length, Option, Some, None, IsSome, unwrap_or, refl, sym, ap, ap₂, ◌∙◌, subst, subst₂, arith}
+use Rattle.std.proofs.Common.{◌≡◌, ℕ, suc, ◌+◌, ◌*◌, ◌^◌, ◌<◌, ◌==◌, ◌&&◌, not, ◌⊎◌, inl, inr, ⊎_elim, true, false, List, [], ◌∷◌, length, Option, Some, None, IsSome, unwrap_or, refl, sym, ap, ap₂, ◌∙◌, subst, subst₂, arith}
 use Rattle.std.proofs.lemmas.Option.{same_Some}
-use Rattle.zarr_model.specs.Prelude.{Region, starts, sizes, count, ends_within, Element, Kind, kind, fixed_size, ArrayBytes, meaning, Options, Content, Level, Shown, IsChunk, box_content, chunk_content, layout, chain_finds, finds_shared}
+use Rattle.zarr_model.specs.Prelude.{Region, starts, sizes, count, ends_within, Element, Kind, kind, fixed_size, ArrayBytes, meaning, has_long_element, Options, Content, Level, Shown, IsChunk, box_content, chunk_content, layout, chain_finds, finds_shared}
 use Rattle.zarr_model.specs.Region.{part_of_box}
 use Rattle.zarr_model.proofs.BytesLaws.{length-meaning}
 use Rattle.zarr_model.proofs.PartLaws.{list_with, list_long, part_of_list}
@@ -14,7 +14,7 @@ use Rattle.zarrs_codec_traits.specs.Words.{list_at, at_box, select}
 use Rattle.zarr_chain.specs.declared.levels.ChunkLevels.{ChunkLevels}
 use Rattle.zarr_chain.specs.Chain.{first_level}
 use Rattle.zarr_chain_stored.specs.Fetch as stored
-use Rattle.zarr_chain_stored.specs.Regions.{GivesRegion, fetched_list}
+use Rattle.zarr_chain_stored.specs.Regions.{GivesRegion, fetched_list, fetched_bytes}
 use Rattle.zarr_chain_stored.specs.declared.fetched.Fetched.{Fetched}
 use Rattle.zarr_chain_stored.specs.declared.fetched.Fetched.TheVariants as fetched
 use Rattle.zarrs_codec_array_bytes.specs.Raw.{raw_of}
@@ -28,10 +28,12 @@ use Rattle.zarr_array_parts.specs.Parts.{described}
 use Rattle.zarr_array_parts.specs.declared.parts.ArrayParts.{ArrayParts}
 use Rattle.zarr_array_parts.proofs.ServedLaws.{described_sound, chunk_counts}
 use Rattle.zarr_array_parts.specs.Codecs.{array_meaning, list_meaning, bytes_meaning}
+use Rattle.zarr_array_regions.specs.Asked.{finds_asked}
 use Rattle.zarr_array_regions.specs.RegionChunks.{IsPlaceOf}
 use Rattle.zarr_array_regions.specs.Shared.{HasPart, HasList, finds_box, IsFound, IsPartOf, IsReadable, IsHeldShared}
 use Rattle.zarr_array_regions.specs.declared.shared.FetchedChunk.{FetchedChunk}
-use Rattle.zarr_array_regions.proofs.ChunkLaws.{content_as, some_list}
+use Rattle.zarr_array_regions.proofs.AskedLaws.{shared_asked, asked_shared}
+use Rattle.zarr_array_regions.proofs.ChunkLaws.{own_content, some_list}
 use Rattle.zarr_array_regions.proofs.SharedLaws.{shared_inside, copied_part, content_long, shared_few}
 
 -- what the chain gives for a box inside a chunk are elements of the chunk
@@ -42,22 +44,19 @@ module _ (array : ArrayParts) (chain : BasicChain) (levels : ChunkLevels) (optio
   pub within_level : (within : Region) → ends_within within (sizes ((described array).grid.chunk_box chunk)) ≡ true → ends_within within (first_level levels).shape ≡ true
   within_level within inside = subst (λ (l : Level). ends_within within l.shape ≡ true) (sym serves.level) inside
 
-  -- what is under its key is what the chunk has
-  own_content : (key : List ℕ) (before : Shown) → key ≡ (described array).key chunk → chunk_content (layout (described array) options) before.content chunk ≡ stored_content (before.content key)
-  own_content key before its_key =
-      ap (λ k. box_content (layout (described array) options) ((described array).grid.chunk_box chunk) (before.content k)) (sym its_key)
-      ∙ sym (content_as array chain levels options chunk serves (before.content key))
+  its_content : (key : List ℕ) (before : Shown) → key ≡ (described array).key chunk → chunk_content (layout (described array) options) before.content chunk ≡ stored_content (before.content key)
+  its_content = own_content array chain levels options chunk serves
 
   -- array bytes that are valid are elements of some list of the chunk
   some_elements : (within : Region) (fetched : Fetched) → ends_within within (sizes ((described array).grid.chunk_box chunk)) ≡ true → IsSome (fetched_list (chunk_level (described array) chunk) within fetched) →
-      (list : List Element) × HasPart array chunk within list fetched
-  some_elements within (fetched.Chunk bytes) inside valid =
+      has_long_element (fetched_bytes fetched) ≡ false → (list : List Element) × HasPart array chunk within list fetched
+  some_elements within (fetched.Chunk bytes) inside valid short =
       let list = unwrap_or (list_at (chunk_level (described array) chunk) (raw_of bytes)) [] in
       let means = some_list (list_at (chunk_level (described array) chunk) (raw_of bytes)) valid in (
         list,
-        record { as_long = length-meaning (kind (described array)) (count ((described array).grid.chunk_box chunk)) (raw_of bytes) list means; gives = means },
+        record { as_long = length-meaning (kind (described array)) (count ((described array).grid.chunk_box chunk)) (raw_of bytes) list means; gives = means; short = short },
       )
-  some_elements within (fetched.Region bytes) inside valid =
+  some_elements within (fetched.Region bytes) inside valid short =
       let part = unwrap_or (list_at (at_box within (chunk_level (described array) chunk)) (raw_of bytes)) [] in
       let means = some_list (list_at (at_box within (chunk_level (described array) chunk)) (raw_of bytes)) valid in
       let long = length-meaning (kind (described array)) (count within) (raw_of bytes) part means in (
@@ -65,25 +64,26 @@ module _ (array : ArrayParts) (chain : BasicChain) (levels : ChunkLevels) (optio
         record {
           as_long = list_long (sizes ((described array).grid.chunk_box chunk)) within part inside long;
           gives = means ∙ ap Some (sym (part_of_list (sizes ((described array).grid.chunk_box chunk)) within part inside long));
+          short = short;
         },
       )
 
   pub fetched_part : IsChunk (described array).grid chunk → (within : Region) (fetched : Fetched) (key : List ℕ) (before : Shown) → key ≡ (described array).key chunk →
       ends_within within (sizes ((described array).grid.chunk_box chunk)) ≡ true → IsSome (stored_content (before.content key)) ⊎ (finds_box (described array) options chunk within (before.content key) ≡ true) →
-      IsSome (fetched_list (first_level levels) within fetched) →
+      IsSome (fetched_list (first_level levels) within fetched) → has_long_element (fetched_bytes fetched) ≡ false →
       ((list : List Element) → stored_content (before.content key) ≡ Some list → GivesRegion (first_level levels) within list fetched) → IsPartOf array options chunk within before fetched
-  fetched_part is_chunk within fetched key before its_key inside found valid gives = go (stored_content (before.content key)) refl
+  fetched_part is_chunk within fetched key before its_key inside found valid short gives = go (stored_content (before.content key)) refl
     where
       found_here : IsFound array options chunk within before.content
       found_here = ⊎_elim
-          (λ (some : IsSome (stored_content (before.content key))). inl (subst IsSome (sym (own_content key before its_key)) some))
+          (λ (some : IsSome (stored_content (before.content key))). inl (subst IsSome (sym (its_content key before its_key)) some))
           (λ (held : finds_box (described array) options chunk within (before.content key) ≡ true).
           inr (ap (λ k. finds_box (described array) options chunk within (before.content k)) (sym its_key) ∙ held))
           found
 
       go : (content : Option (List Element)) → stored_content (before.content key) ≡ content → IsPartOf array options chunk within before fetched
       go (Some list) here =
-          let content : HasList array options chunk before list = own_content key before its_key ∙ here in
+          let content : HasList array options chunk before list = its_content key before its_key ∙ here in
           record {
             list = list;
             content = λ own has. same_Some own list (sym has ∙ content);
@@ -91,13 +91,14 @@ module _ (array : ArrayParts) (chain : BasicChain) (levels : ChunkLevels) (optio
             has = record {
               as_long = content_long (layout (described array) options) before.content chunk list (described_sound array options) is_chunk content;
               gives = subst (λ (l : Level). GivesRegion l within list fetched) serves.level (gives list here);
+              short = short;
             };
           }
       go None here =
-          let some = some_elements within fetched inside (subst (λ (l : Level). IsSome (fetched_list l within fetched)) serves.level valid) in
+          let some = some_elements within fetched inside (subst (λ (l : Level). IsSome (fetched_list l within fetched)) serves.level valid) short in
           record {
             list = some.0;
-            content = λ own has. absurd (none_some own (sym (own_content key before its_key ∙ here) ∙ has));
+            content = λ own has. absurd (none_some own (sym (its_content key before its_key ∙ here) ∙ has));
             found = found_here;
             has = some.1;
           }
@@ -118,19 +119,19 @@ pub shared_many : (region own box within : Region) → own ≡ box → length re
 shared_many region own box within own_is rank is =
     ap count (is ∙ ap (λ b. moved_back (overlap_of region b) (starts b)) own_is) ∙ count-moved (overlap_of region box) (starts box) (shares_second region box rank)
 
+pub its_part : (region own box within : Region) → own ≡ box → within ≡ moved_back (overlap_of region own) (starts own) → within ≡ part_of_box region box
+its_part region own box within own_is is = is ∙ ap (λ b. moved_back (overlap_of region b) (starts b)) own_is
+
 -- what holds the box that a region shares with a chunk holds what is shared
 readable_part : (array : ArrayParts) (options : Options) (region own within : Region) (chunk : List ℕ) (store : Content) → length region ≡ length ((described array).grid.chunk_box chunk) → own ≡ (described array).grid.chunk_box chunk →
     within ≡ moved_back (overlap_of region own) (starts own) → IsFound array options chunk within store → IsReadable (described array) options region store chunk
 readable_part array options region own within chunk store rank own_is is (inl some) = inl some
-readable_part array options region own within chunk store rank own_is is (inr held) = inr (go (store ((described array).key chunk)) held)
-  where
-    its_part : within ≡ part_of_box region ((described array).grid.chunk_box chunk)
-    its_part = is ∙ ap (λ b. moved_back (overlap_of region b) (starts b)) own_is
-
-    go : (value : Option (List ℕ)) → finds_box (described array) options chunk within value ≡ true → finds_shared (described array) options region chunk value ≡ true
-    go None held = held
-    go (Some value) held =
-        ap₂ (λ (n : ℕ) (w : Region). not (n == count ((described array).grid.chunk_box chunk)) && chain_finds ((described array).finds options) ((described array).chain options) (chunk_level (described array) chunk) w value) (sym (shared_many region own ((described array).grid.chunk_box chunk) within own_is rank is)) (sym its_part) ∙ held
+readable_part array options region own within chunk store rank own_is is (inr held) = inr (
+    sym (asked_shared (described array) options region chunk (store ((described array).key chunk)))
+    ∙ (ap (λ (a : Option Region). finds_asked (described array) options chunk a (store ((described array).key chunk)))
+    (sym (shared_asked (described array) region chunk within (its_part region own ((described array).grid.chunk_box chunk) within own_is is)
+    (shared_many region own ((described array).grid.chunk_box chunk) within own_is rank is)))
+    ∙ held))
 
 pub held_shared : (array : ArrayParts) (options : Options) (region : Region) (chunk : List ℕ) (before : Shown) (held : FetchedChunk) → length region ≡ length ((described array).grid.chunk_box chunk) → IsPlaceOf (described array) chunk held.place →
     IsSharedBy region (region_of_subset held.place.subset) held.shared → IsPartOf array options chunk (region_of_subset held.shared.within) before held.elements → IsHeldShared array options region chunk before held

@@ -1,9 +1,8 @@
 -- What reading a chunk takes of a store, where the codec `bytes` is all of an array's chain.
-use Rattle.std.proofs.Common.{◌≡◌, ℕ, ◌+◌, ◌-◌, ◌*◌, ◌≤◌, max, min, Bool, true, false, ◌==◌, ◌&&◌, if◌then◌else◌, List, [], ◌∷◌, length, map, Option, Some, None, option_map, IsSome, is_some, unwrap_or, refl, sym, ap, ap₂, ◌∙◌, subst, arith, eqb-true}
-use Rattle.std.proofs.lemmas.Bool.{and_parts, leb-true}
+use Rattle.std.proofs.Common.{◌≡◌, ℕ, ◌+◌, ◌-◌, ◌*◌, Bool, true, false, ◌==◌, ◌&&◌, if◌then◌else◌, List, [], ◌∷◌, length, map, Option, Some, None, option_map, IsSome, is_some, unwrap_or, refl, sym, ap, ap₂, ◌∙◌, subst, subst₂, arith, eqb-true}
+use Rattle.std.proofs.lemmas.Bool.{and_parts}
 use Rattle.std.proofs.lemmas.List.{length-map}
 use Rattle.zarr_model.specs.Prelude.{Region, count, count_of, sizes, ends_within, overlap_of, Element, fixed_size, kind, Level, Options, Shown, box_content, chunk_content, decode_bytes, decode_chain, decode_array_to_bytes, layout, counted, present_in, read_bytes, write_bytes, box_under, level_under}
-use Rattle.zarr_model.specs.Region.{Span}
 use Rattle.zarr_model.proofs.MeetingLaws.{shared_count}
 use Rattle.zarrs_array_subset.specs.Boxes.{is_within}
 use Rattle.zarrs_storage.specs.declared.byte_range.ByteRange.{ByteRange}
@@ -13,10 +12,10 @@ use Rattle.zarr_chain.specs.Values.{byte_codecs}
 use Rattle.zarr_chain.specs.declared.levels.ChunkLevels.{ChunkLevels}
 use Rattle.zarr_chain_stored.specs.Fetch as stored
 use Rattle.zarr_chain_stored.specs.Regions.{IsGiven, given_bytes, is_whole_chunk, region_request, stored_request}
-use Rattle.zarr_codecs_array_to_bytes.specs.Plain.{Plain, plain_bytes, plain_vlen, plain_optional, codec_of, request_by}
+use Rattle.zarr_codecs_array_to_bytes.specs.Plain.{Plain, codec_of, is_bytes}
 use Rattle.zarr_codecs_array_to_bytes.specs.Views.{plain_of}
-use Rattle.zarr_codecs.specs.Asking.{long_value}
-use Rattle.zarr_codecs.specs.BytesCodec.{stored_order, element_bytes}
+use Rattle.zarr_codecs_array_to_bytes.proofs.PartLaws.{size_is, bytes_asks, bytes_long}
+use Rattle.zarr_codecs.specs.BytesCodec.{element_bytes}
 use Rattle.zarr_codecs.specs.Ranges.{run_ranges}
 use Rattle.zarr_array_parts.specs.kinds.array_to_array.ArrayToArray.{ArrayToArray, array_codec_of}
 use Rattle.zarr_array_parts.specs.kinds.BytesToBytes.{BytesToBytes, byte_codec_of, byte_form}
@@ -27,11 +26,11 @@ use Rattle.zarr_array_parts.specs.Document.{ArrayDocument, ChainForm}
 use Rattle.zarr_array_parts.specs.Parts.{documented, described}
 use Rattle.zarr_array_parts.specs.declared.parts.ArrayParts.{ArrayParts}
 use Rattle.zarr_array_regions.specs.Codecs.{list_request, box_below}
-use Rattle.zarr_array_regions.specs.Taken.{is_bytes, is_bytes_alone, Takes, box_bytes}
+use Rattle.zarr_array_regions.specs.Taken.{is_bytes_alone, Takes, box_bytes}
 use Rattle.zarr_array_regions.proofs.ChunkLaws.{content_as}
-use Rattle.zarr_array_regions.proofs.FoundLaws.{size_is, below, below_inside, below_is}
+use Rattle.zarr_array_regions.proofs.AskedLaws.{overlap_inside}
+use Rattle.zarr_array_regions.proofs.BottomLaws.{bottom_is, below, below_inside, below_is}
 use Rattle.zarr_array_regions.proofs.RunBytes.{part_taken}
-use Rattle.zarr_array_regions.proofs.ToldLaws.{bottom_is}
 
 -- what `bytes` alone says of a document
 none_of : {A : Type 0} (xs : List A) → (length xs == 0) ≡ true → xs ≡ []
@@ -52,13 +51,7 @@ module _ (document : ArrayDocument) (alone : is_bytes_alone document ≡ true) w
       let rest = (and_parts (length document.array_codecs == 0) (is_bytes document.to_bytes && length document.byte_codecs == 0) alone).1 in
       (and_parts (is_bytes document.to_bytes) (length document.byte_codecs == 0) rest).0
 
--- a value that decodes by it is as long as its elements
-bytes_long : (plain : Plain) → is_bytes plain ≡ true → (options : Options) (level : Level) (value : List ℕ) (list : List Element) → decode_array_to_bytes options (codec_of plain) level value ≡ Some list →
-    length value ≡ count_of level.shape * element_bytes level.data_type
-bytes_long (plain_bytes order) is options level value list means = long_value (stored_order order) options level value list means
-bytes_long (plain_vlen text) is options level value list means = cc
-bytes_long (plain_optional inner) is options level value list means = cc
-
+-- a value that decodes by such a chain is as long as its elements
 chain_long : (codecs : List ArrayToArray) (plain : Plain) (bytes : List BytesToBytes) → codecs ≡ [] → is_bytes plain ≡ true → bytes ≡ [] → (options : Options) (level : Level) (value : List ℕ) (list : List Element) →
     decode_chain (record { array_codecs = map array_codec_of codecs; to_elements = decode_array_to_bytes options (codec_of plain); byte_codecs = map (byte_codec_of options) bytes }) level value ≡ Some list →
     length value ≡ count_of level.shape * element_bytes level.data_type
@@ -106,10 +99,10 @@ module _ (array : ArrayParts) (chain : BasicChain) (levels : ChunkLevels) (optio
   plain_is = ap (λ (f : ChainForm). f.to_bytes) serves.forms
 
   level_is : is_bytes_alone (documented array) ≡ true → bottom_level levels ≡ chunk_level (described array) chunk
-  level_is alone = bottom_is array chain levels options chunk serves ∙ ap (λ l. level_under (map array_codec_of l) (chunk_level (described array) chunk)) (no_array_codecs (documented array) alone)
+  level_is alone = bottom_is array chain levels chunk serves ∙ ap (λ l. level_under (map array_codec_of l) (chunk_level (described array) chunk)) (no_array_codecs (documented array) alone)
 
-  box_is : is_bytes_alone (documented array) ≡ true → (within : Region) → below array chain levels options chunk serves within ≡ within
-  box_is alone within = below_is array chain levels options chunk serves within ∙ ap (λ l. box_under (map array_codec_of l) (chunk_level (described array) chunk) within) (no_array_codecs (documented array) alone)
+  box_is : is_bytes_alone (documented array) ≡ true → (within : Region) → below array chain levels chunk serves within ≡ within
+  box_is alone within = below_is array chain levels chunk serves within ∙ ap (λ l. box_under (map array_codec_of l) (chunk_level (described array) chunk) within) (no_array_codecs (documented array) alone)
 
   -- a box of a chunk, by the ranges that are asked for
   box_of_value : (within : Region) → ends_within within (first_level levels).shape ≡ true → is_bytes_alone (documented array) ≡ true → (value : Option (List ℕ)) →
@@ -117,29 +110,31 @@ module _ (array : ArrayParts) (chain : BasicChain) (levels : ChunkLevels) (optio
       (region_request list_request box_below chain levels within ≡ None → IsSome (stored.chunk_content array_meaning list_meaning bytes_meaning chain levels options value)) →
       taken_of (stored_request chain (region_request list_request box_below chain levels within)) value ≡ (if is_some value then unwrap_or (fixed_size (kind (described array))) 0 * count within else 0)
   box_of_value within inside alone None given decodes = refl
-  box_of_value within inside alone (Some value) given decodes = go (is_whole_chunk (first_level levels) within) refl (plain_of chain.to_bytes) (ap is_bytes plain_is ∙ to_bytes_is (documented array) alone) given decodes
+  box_of_value within inside alone (Some value) given decodes = go (is_whole_chunk (first_level levels) within) refl _
+      (bytes_asks (plain_of chain.to_bytes) (ap is_bytes plain_is ∙ to_bytes_is (documented array) alone) (bottom_level levels).shape (bottom_level levels).data_type its_box) given decodes
     where
       stored_is : (asked : Option (List ByteRange)) → stored_request chain asked ≡ asked
       stored_is asked = ap (λ l. if length l == 0 then asked else None) (no_byte_items alone)
 
-      go : (whole : Bool) → is_whole_chunk (first_level levels) within ≡ whole → (plain : Plain) → is_bytes plain ≡ true →
-          IsGiven (if whole then None else request_by plain (bottom_level levels).shape (bottom_level levels).data_type (below array chain levels options chunk serves within)) (given_bytes bytes_meaning chain options (Some value)) →
-          ((if whole then None else request_by plain (bottom_level levels).shape (bottom_level levels).data_type (below array chain levels options chunk serves within)) ≡ None →
-          IsSome (stored.chunk_content array_meaning list_meaning bytes_meaning chain levels options (Some value))) →
-          taken_of (stored_request chain (if whole then None else request_by plain (bottom_level levels).shape (bottom_level levels).data_type (below array chain levels options chunk serves within))) (Some value)
-          ≡ unwrap_or (fixed_size (kind (described array))) 0 * count within
-      go true whole plain is given decodes =
+      its_box : Region
+      its_box = below array chain levels chunk serves within
+
+      runs_of_box : List ByteRange
+      runs_of_box = run_ranges (element_bytes (bottom_level levels).data_type) (bottom_level levels).shape its_box
+
+      go : (whole : Bool) → is_whole_chunk (first_level levels) within ≡ whole → (asked : Option (List ByteRange)) → asked ≡ Some runs_of_box →
+          IsGiven (if whole then None else asked) (given_bytes bytes_meaning chain options (Some value)) →
+          ((if whole then None else asked) ≡ None → IsSome (stored.chunk_content array_meaning list_meaning bytes_meaning chain levels options (Some value))) →
+          taken_of (stored_request chain (if whole then None else asked)) (Some value) ≡ unwrap_or (fixed_size (kind (described array))) 0 * count within
+      go true whole asked is given decodes =
           let as_many : count within ≡ count ((described array).grid.chunk_box chunk) = eqb-true _ _ (ap (λ (l : Level). is_whole_chunk l within) (sym serves.level) ∙ whole) in
           ap (λ asked. taken_of asked (Some value)) (stored_is None)
           ∙ (whole_of_value array options chunk alone (Some value) (subst IsSome (content_as array chain levels options chunk serves (Some value)) (decodes refl))
           ∙ ap (λ (n : ℕ). unwrap_or (fixed_size (kind (described array))) 0 * n) (sym as_many))
-      go false part (plain_vlen text) is given decodes = cc
-      go false part (plain_optional inner) is given decodes = cc
-      go false part (plain_bytes order) is given decodes =
-          ap (λ asked. taken_of asked (Some value)) (stored_is (Some (run_ranges (element_bytes (bottom_level levels).data_type) (bottom_level levels).shape (below array chain levels options chunk serves within))))
-          ∙ (part_taken (element_bytes (bottom_level levels).data_type) (bottom_level levels).shape (below array chain levels options chunk serves within) value (below_inside array chain levels options chunk serves within inside)
-          (subst (λ l. IsGiven (Some (run_ranges (element_bytes (bottom_level levels).data_type) (bottom_level levels).shape (below array chain levels options chunk serves within))) (option_map (λ (v : List ℕ). Some v) (decode_bytes (byte_codecs bytes_meaning options l) value)))
-          (no_byte_items alone) given).within
+      go false part asked is given decodes =
+          ap (λ asked. taken_of asked (Some value)) (stored_is asked ∙ is)
+          ∙ (part_taken (element_bytes (bottom_level levels).data_type) (bottom_level levels).shape its_box value (below_inside array chain levels chunk serves within inside)
+          (subst₂ (λ a l. IsGiven a (option_map (λ (v : List ℕ). Some v) (decode_bytes (byte_codecs bytes_meaning options l) value))) is (no_byte_items alone) given).within
           ∙ (ap₂ (λ (b : Region) (l : Level). count b * element_bytes l.data_type) (box_is alone within) (level_is alone)
           ∙ (ap (λ (n : ℕ). count within * n) (size_is (fixed_size (kind (described array)))) ∙ swap _ _)))
 
@@ -159,25 +154,6 @@ shared_takes array region within chunk before now rank as_many takes alone =
     takes alone
     ∙ ap (λ (n : ℕ). counted before.taken (if present_in (described array) before.content chunk then unwrap_or (fixed_size (kind (described array))) 0 * n else 0))
     (as_many ∙ sym (shared_count region ((described array).grid.chunk_box chunk) rank))
-
--- what a box shares with a region that it lies within is the box
-same_span : (a b : ℕ) (m n : ℕ) → b ≤ a → a + m ≤ b + n → (max b a ≡ a) × (min (b + n) (a + m) - max b a ≡ m)
-same_span a b m n low high = (omega (arith, low), omega (arith, low, high))
-
-abbrev span_of : ℕ → ℕ → Span
-span_of a m = record { start = a; size = m }
-
-pub overlap_inside : (region box : Region) → is_within box region ≡ true → overlap_of region box ≡ box
-overlap_inside [] [] within = refl
-overlap_inside [] (own ∷ box) within = cc
-overlap_inside (span ∷ region) [] within = cc
-overlap_inside (span ∷ region) (own ∷ box) within =
-    let parts = and_parts _ (is_within box region) within in
-    let both = and_parts _ _ parts.0 in
-    let low : span.start ≤ own.start = leb-true _ _ both.0 in
-    let high : own.start + own.size ≤ span.start + span.size = leb-true _ _ both.1 in
-    let same = same_span own.start span.start own.size span.size low high in
-    ap₂ (λ (s : Span) (rest : Region). s ∷ rest) (ap₂ (λ (a m : ℕ). span_of a m) same.0 same.1) (overlap_inside region box parts.1)
 
 -- and all of a chunk that lies inside the region
 pub inside_takes : (array : ArrayParts) (region own : Region) (chunk : List ℕ) (before now : Shown) → own ≡ (described array).grid.chunk_box chunk → is_within own region ≡ true → length region ≡ length ((described array).grid.chunk_box chunk) →

@@ -1,5 +1,5 @@
 -- The steps of writing to a region.
-use Rattle.std.proofs.Common.{◌≡◌, ℕ, ◌+◌, ◌-◌, ◌*◌, ◌^◌, ◌≤◌, false, if◌then◌else◌, is_some, unwrap_or, List, [], length, take, slice_get, Some, IsSome, Result, Ok, Err, refl, sym, ap, ◌∙◌, subst, subst₂, arith, le_trans, inl, inr}
+use Rattle.std.proofs.Common.{◌≡◌, ℕ, ◌+◌, ◌-◌, ◌*◌, ◌^◌, ◌≤◌, false, if◌then◌else◌, is_some, unwrap_or, List, [], length, take, slice_get, Some, None, IsSome, Result, Ok, Err, refl, sym, ap, ◌∙◌, subst, subst₂, arith, le_trans, inl, inr}
 use Rattle.std.specs.List.{sum_by}
 use Rattle.std.proofs.lemmas.List.{take_all}
 use Rattle.zarr_model.specs.Prelude.{Region, count, Element, Kind, kind, fixed_size, ArrayBytes, meaning, has_long_element, written_elements, Array, chunks_meeting, Options, Shown, layout, chunk_content, counted, write_bytes}
@@ -22,7 +22,7 @@ use Rattle.zarr_array_regions.specs.Write.{change_of, FailsToChange, HasWrittenC
 use Rattle.zarr_array_regions.specs.PartWay.{ChangedSome, HasWrittenRegion, NotWrittenRegion}
 use Rattle.zarr_array_regions.proofs.ChunkLaws.{some_list}
 use Rattle.zarr_array_regions.proofs.StoredLaws.{chunk-changed, chunk-stops}
-use Rattle.zarr_array_regions.proofs.ToldLaws.{told_of_storage}
+use Rattle.zarr_array_regions.proofs.ToldLaws.{told_of_storage, told_why}
 use Rattle.zarr_array_regions.proofs.PartWayLaws.{changed-kept, changed-start, changed-step, changed-fails, changed-starved, met-chunks, met-once}
 use Rattle.zarr_array_regions.proofs.ReadSteps.{one_more_taken}
 
@@ -39,13 +39,13 @@ module _ (array : ArrayParts) (options : Options) (region : Region) (chunk : Lis
   box = (described array).grid.chunk_box chunk
 
   -- what is not fetched is not changed
-  pub unfetched : (before now : Shown) (kind : SessionErrorKind) → NotFetched false array options chunk before now kind → NotWrittenChunk array options change chunk before now kind
+  pub unfetched : (before now : Shown) (kind : SessionErrorKind) → NotFetched None array options chunk before now kind → NotWrittenChunk array options change chunk before now kind
   unfetched before now kind fails = record { failed = by_kind kind fails.failed; told = fails.told; asks = fails.asks; later = fails.later }
     where
-      by_kind : (kind : SessionErrorKind) → FailsToFetch (chunk_content (layout (described array) options) before.content chunk) ((described array).key chunk) before now kind →
+      by_kind : (kind : SessionErrorKind) → FailsToFetch (chunk_content (layout (described array) options) before.content chunk) false ((described array).key chunk) before now kind →
           FailsToChange (described array) options change chunk before now kind
       by_kind (NotOpened error) none = none
-      by_kind (ChunkDecode key error) (its_key, damaged) = (sym its_key, damaged, fails.same)
+      by_kind (ChunkDecode key error) (its_key, damaged, unfound) = (sym its_key, damaged, fails.same)
       by_kind Store rose = (rose, record { here = λ plain filler has. inl (fails.same ((described array).key chunk)); stays = inl (fails.same ((described array).key chunk)); others = λ other apart. fails.same other })
       by_kind OutOfMemory none = fails.same
 
@@ -71,7 +71,7 @@ module _ (array : ArrayParts) (options : Options) (region : Region) (chunk : Lis
     not_written error stores = record {
       failed = chunk-stops (described array) options region chunk key (written_elements (described array) region bytes) (chunk_list array chunk value) (chunk_list array chunk list) before
           its_key held.elements long copied mid now error asked.same stores.failed (λ e. stores.memory (ap Err e)) stores.cause.failed asked.later stores.plain;
-      told = told_of_storage false (documented array) options now error;
+      told = told_of_storage (documented array) options chunk None now error;
       asks = inr (stores.asks ∙ asked.asks);
       later = le_trans asked.later stores.cause.later;
     }
@@ -136,7 +136,7 @@ module _ (array : ArrayParts) (options : Options) (region : Region) (bytes : Arr
   stops_written k chunk before mid now kind here so_far stop = record {
     failed = changed-fails (described array) options (described_sound array options) all met (met-chunks (described array).grid region)
         k before mid now chunk kind so_far.changed here stop.failed stop.asks stop.later;
-    told = stop.told;
+    told = told_why (documented array) options None chunk now kind (met-chunks (described array).grid region k chunk here) stop.told;
   }
 
   -- a region that meets no chunk

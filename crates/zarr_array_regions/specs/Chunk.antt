@@ -1,5 +1,5 @@
 -- What is stored of a chunk.
-use Rattle.std.specs.Prelude.{◌≡◌, ◌&&◌, not, ℕ, Bool, List, Option, None}
+use Rattle.std.specs.Prelude.{◌≡◌, ◌&&◌, not, ℕ, Bool, false, List, Option, None}
 use Rattle.std.specs.List.{list_all}
 use Rattle.zarr_model.specs.Prelude.{Element, same_element, sizes, Options, Content, Rose, Shown, Description, layout}
 use Rattle.zarrs_codec_error.specs.declared.error.CodecError.{CodecError}
@@ -45,10 +45,12 @@ chunk_kind key (codec.StorageError error) = storage_kind error
 chunk_kind key codec.OutOfMemory = OutOfMemory
 chunk_kind key error = ChunkDecode key error
 
--- why a chunk with this content has no elements: its value does not decode, the store failed, or
--- memory ran out
-abbrev pub FailsToFetch : Option (List Element) → List ℕ → Shown → Shown → SessionErrorKind → Type 0
-FailsToFetch content key before now (ChunkDecode other error) = (other ≡ key) × (content ≡ None)
-FailsToFetch content key before now Store = Rose before.faults now.faults
-FailsToFetch content key before now OutOfMemory = Unit {0}
-FailsToFetch content key before now (NotOpened error) = ⊥
+-- why a chunk with this content, of which what was asked for is found or not, has no elements: its
+-- value does not decode and does not hold that, the store failed, or memory ran out
+abbrev pub FailsToFetch : Option (List Element) → Bool → List ℕ → Shown → Shown → SessionErrorKind
+    → Type 0
+FailsToFetch content found key before now (ChunkDecode other error) =
+    (other ≡ key) × (content ≡ None) × (found ≡ false)
+FailsToFetch content found key before now Store = Rose before.faults now.faults
+FailsToFetch content found key before now OutOfMemory = Unit {0}
+FailsToFetch content found key before now (NotOpened error) = ⊥

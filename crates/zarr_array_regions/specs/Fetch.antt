@@ -1,13 +1,14 @@
 -- What fetching a chunk of an array owes.
-use Rattle.std.specs.Prelude.{◌≡◌, ◌≤◌, ◌⊎◌, ℕ, Bool, false, List, Some, IsSome}
-use Rattle.zarr_model.specs.Prelude.{count, Element, kind, ArrayBytes, meaning, has_long_element, Options, Shown, chunk_content, layout, counted}
+use Rattle.std.specs.Prelude.{◌≡◌, ◌≤◌, ◌⊎◌, ℕ, false, List, Option, Some, IsSome}
+use Rattle.zarr_model.specs.Prelude.{Region, count, Element, kind, ArrayBytes, meaning, has_long_element, Options, Shown, chunk_content, layout, counted}
 use Rattle.zarrs_storage.specs.Store.{SameContent}
 use Rattle.zarr_array_parts.specs.Parts.{documented, described}
 use Rattle.zarr_array_parts.specs.declared.parts.ArrayParts.{ArrayParts}
 use Rattle.zarr_array_elements.specs.Elements.{list_in}
 use Rattle.zarr_array_regions.specs.declared.error.SessionErrorKind.{SessionErrorKind}
+use Rattle.zarr_array_regions.specs.Asked.{finds_asked}
 use Rattle.zarr_array_regions.specs.Chunk.{FailsToFetch}
-use Rattle.zarr_array_regions.specs.Told.{TellsWhy}
+use Rattle.zarr_array_regions.specs.Told.{TellsOf}
 
 -- a store was asked for one value, and nothing was changed
 pub record HasAsked (before now : Shown) : Type 0 where
@@ -33,14 +34,16 @@ pub record HasElements (array : ArrayParts) (options : Options) (chunk : List �
   pub elements : chunk_content (layout (described array) options) before.content chunk
       ≡ Some (chunk_list array chunk bytes)
 
--- a chunk was not fetched, all of it or, where parts are read, some: nothing was changed, and the
+-- a chunk was not fetched, all of it or the part that was asked for: nothing was changed, and the
 -- error has its cause and tells why
-pub record NotFetched (parts : Bool) (array : ArrayParts) (options : Options) (chunk : List ℕ)
+pub record NotFetched (asked : Option Region) (array : ArrayParts) (options : Options) (chunk : List ℕ)
     (before now : Shown) (kind : SessionErrorKind) : Type 0 where
   pub same : SameContent before now
   pub asks : (now.asks ≡ before.asks) ⊎ (now.asks ≡ counted before.asks 1)
   pub later : before.faults ≤ now.faults
   pub failed : FailsToFetch
       (chunk_content (layout (described array) options) before.content chunk)
+      (finds_asked (described array) options chunk asked
+      (before.content ((described array).key chunk)))
       ((described array).key chunk) before now kind
-  pub told : TellsWhy parts (documented array) options now kind
+  pub told : TellsOf (documented array) options chunk asked now kind

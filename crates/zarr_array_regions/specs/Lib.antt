@@ -3,6 +3,7 @@ pub use Rattle.zarr_chain_stored.specs as stored
 pub mod CommandError
 pub mod Codecs
 pub mod Chunk
+pub mod Asked
 pub mod Told
 pub mod Taken
 pub mod RegionChunks

@@ -64,4 +64,4 @@ pub record NotWrittenRegion (array : ArrayParts) (options : Options) (region : R
     (bytes : ArrayBytes) (before now : Shown) (error : CommandError) : Type 0 where
   pub failed : FailsPartWay (described array) options (change_of array region bytes)
       (chunks_meeting (described array).grid region) error.chunks_done before now error.kind
-  pub told : TellsWhy false (documented array) options now error.kind
+  pub told : TellsWhy None (documented array) options now error.kind

@@ -1,11 +1,11 @@
 -- What reading a region owes.
-use Rattle.std.specs.Prelude.{◌≡◌, ◌<◌, ◌≤◌, ◌+◌, ◌⊎◌, ℕ, List, true, length, slice_get, Some, None, IsSome, Result, MatchResult}
-use Rattle.zarr_model.specs.Prelude.{Region, count, Element, Array, kind, ArrayBytes, meaning, elements_in, chunks_meeting, chunk_content, HasMet, ChunkHas, read, present_in, bytes_under, read_bytes, Shown, Options, Description, layout, counted, Rose}
+use Rattle.std.specs.Prelude.{◌≡◌, ◌<◌, ◌≤◌, ◌+◌, ◌⊎◌, ℕ, List, true, false, length, slice_get, Some, None, IsSome, Result, MatchResult}
+use Rattle.zarr_model.specs.Prelude.{Region, count, Element, Array, kind, ArrayBytes, meaning, has_long_element, elements_in, chunks_meeting, chunk_content, HasMet, ChunkHas, read, finds_shared, present_in, bytes_under, read_bytes, Shown, Options, Description, layout, counted, Rose}
 use Rattle.zarrs_array_subset.specs.ArraySubset.{region as region_of_subset}
 use Rattle.zarrs_storage.specs.Store.{SameContent}
 use Rattle.zarrs_codec_bytes.specs.Overlap.{Copied}
 use Rattle.zarr_array_elements.specs.Elements.{list_in}
-use Rattle.zarr_array_elements.specs.BoxElements.{kind_held, box_held, list_held}
+use Rattle.zarr_array_elements.specs.BoxElements.{kind_held, box_held, list_held, HoldsShort}
 use Rattle.zarr_array_elements.specs.declared.box_elements.BoxElements.{BoxElements}
 use Rattle.zarr_array_parts.specs.Parts.{documented, described}
 use Rattle.zarr_array_parts.specs.declared.parts.ArrayParts.{ArrayParts}
@@ -13,20 +13,21 @@ use Rattle.zarr_array_regions.specs.declared.error.CommandError.{CommandError}
 use Rattle.zarr_array_regions.specs.declared.error.SessionErrorKind.{SessionErrorKind}
 use Rattle.zarr_array_regions.specs.declared.error.SessionErrorKind.TheVariants.{NotOpened, ChunkDecode, Store, OutOfMemory}
 use Rattle.zarr_array_regions.specs.declared.region_chunks.RegionChunks.{RegionChunks}
-use Rattle.zarr_array_regions.specs.RegionChunks.{chunk_at}
+use Rattle.zarr_array_regions.specs.RegionChunks.{chunk_at, asked_at}
 use Rattle.zarr_array_regions.specs.Fetch.{HasAsked, NotFetched}
 use Rattle.zarr_array_regions.specs.Shared.{IsReadable}
 use Rattle.zarr_array_regions.specs.Taken.{Takes}
 use Rattle.zarr_array_regions.specs.Told.{TellsWhy}
 
--- the cause at the next chunk after k of the region's: its value does not decode, the store failed,
--- or memory ran out
+-- the cause at the next chunk after k of the region's: its value does not decode and may not be
+-- passed over, the store failed, or memory ran out
 abbrev pub HasReadCause : Description → Options → Region → ℕ → Shown → Shown → SessionErrorKind →
     Type 0
 HasReadCause description options region k before now (ChunkDecode key error) =
     (chunk : List ℕ) × (slice_get (chunks_meeting description.grid region) k ≡ Some chunk)
-    × (description.key chunk ≡ key) × (chunk_content (layout description options) before.content
-    chunk ≡ None)
+    × (description.key chunk ≡ key)
+    × (chunk_content (layout description options) before.content chunk ≡ None)
+    × (finds_shared description options region chunk (before.content key) ≡ false)
 HasReadCause description options region k before now Store = Rose before.faults now.faults
 HasReadCause description options region k before now OutOfMemory = Unit {0}
 HasReadCause description options region k before now (NotOpened error) = ⊥
@@ -40,11 +41,13 @@ pub record FailsToRead (description : Description) (options : Options) (region :
       × (now.asks ≡ counted before.asks (k + 1)))
   pub cause : HasReadCause description options region k before now kind
 
--- elements are held over a region of an array, one for each of its places
+-- elements are held over a region of an array, one for each of its places, and none is too long for
+-- its length to be stored
 pub record HoldsRegion (array : ArrayParts) (region : Region) (elements : BoxElements) : Type 0
   where
     pub of_kind : kind_held elements ≡ kind (described array)
     pub over : box_held elements ≡ region
+    pub short : HoldsShort elements
 
 -- what a chunk and a region share was read into the region's elements, by one reading call
 pub record HasReadChunk (array : ArrayParts) (options : Options) (region : Region)
@@ -65,7 +68,7 @@ abbrev pub ReadsChunk : {T : Type 0} → RegionChunks → ℕ → Options → Bo
 ReadsChunk met number options old new before now result = MatchResult result
     (λ _. HasReadChunk met.array.now options (region_of_subset met.subset.now)
     (chunk_at met number) (list_held old) (list_held new) before now)
-    (NotFetched true met.array.now options (chunk_at met number) before now)
+    (NotFetched (asked_at met number) met.array.now options (chunk_at met number) before now)
 
 -- elements are those of a region of each array that has the elements of the chunks met, each of
 -- which was asked for once, and decodes or is passed over
@@ -85,12 +88,13 @@ pub record HasReadList (array : ArrayParts) (options : Options) (region : Region
       (present_in (described array) before.content)) before now
   pub later : before.faults ≤ now.faults
 
--- array bytes mean such elements
+-- array bytes mean such elements, none of which is too long
 pub record HasReadRegion (array : ArrayParts) (options : Options) (region : Region)
     (before now : Shown) (bytes : ArrayBytes) : Type 0 where
   pub means : IsSome (meaning (kind (described array)) (count region) bytes)
   pub read : HasReadList array options region before now
       (list_in (kind (described array)) region bytes)
+  pub short : has_long_element bytes ≡ false
 
 -- a region was not read: nothing was changed, and the error has its place and cause and tells why
 pub record NotReadRegion (array : ArrayParts) (options : Options) (region : Region)
@@ -102,4 +106,4 @@ pub record NotReadRegion (array : ArrayParts) (options : Options) (region : Regi
   pub readable : (k : ℕ) (chunk : List ℕ) → k < error.chunks_done
       → slice_get (chunks_meeting (described array).grid region) k ≡ Some chunk
       → IsReadable (described array) options region before.content chunk
-  pub told : TellsWhy true (documented array) options now error.kind
+  pub told : TellsWhy (Some region) (documented array) options now error.kind

@@ -1,6 +1,6 @@
 -- The chunks that a region of an array meets, and the levels of their codecs.
 use Rattle.std.specs.Prelude.{◌≡◌, ◌<◌, ◌^◌, ℕ, List, [], true, Option, Some, None}
-use Rattle.zarr_model.specs.Prelude.{count, tuples, tuple_at, ends_within, Description, chunks_meeting}
+use Rattle.zarr_model.specs.Prelude.{Region, count, tuples, tuple_at, ends_within, Description, chunks_meeting}
 use Rattle.zarrs_array_subset.specs.ArraySubset.{region}
 use Rattle.zarrs_array_subset.specs.declared.array_subset.ArraySubset.{ArraySubset}
 use Rattle.zarr_chain.specs.Chain.{first_level}
@@ -8,12 +8,18 @@ use Rattle.zarr_chain.specs.declared.levels.ChunkLevels.{ChunkLevels}
 use Rattle.zarr_array_parts.specs.ChunkLevels.{chunk_shape, ServesShape}
 use Rattle.zarr_array_parts.specs.Parts.{described}
 use Rattle.zarr_array_parts.specs.declared.parts.ArrayParts.{ArrayParts}
+use Rattle.zarr_array_regions.specs.Asked.{chunk_asked}
 use Rattle.zarr_array_regions.specs.declared.region_chunks.RegionChunks.{RegionChunks}
 use Rattle.zarr_array_regions.specs.declared.region_chunks.ChunkPlace.{ChunkPlace}
 
 -- the indices of the chunk of a number
 abbrev pub chunk_at : RegionChunks → ℕ → List ℕ
 chunk_at met number = tuple_at (region met.chunks) number
+
+-- the part of it that a read of the region asks for
+abbrev pub asked_at : RegionChunks → ℕ → Option Region
+asked_at met number =
+    chunk_asked (described met.array.now) (Some (region met.subset.now)) (chunk_at met number)
 
 -- the region lies inside the array, and these are the chunks that it meets
 pub record AreMet (met : RegionChunks) : Type 0 where

@@ -1,21 +1,24 @@
 -- What was fetched of a chunk for what it shares with a region.
-use Rattle.std.specs.Prelude.{◌≡◌, ◌⊎◌, ◌==◌, ◌&&◌, not, ℕ, Bool, true, false, List, length, Option, Some, None, IsSome}
-use Rattle.zarr_model.specs.Prelude.{Region, count, Element, Options, Shown, Content, Description, chunk_content, layout, chain_finds, finds_shared}
+use Rattle.std.specs.Prelude.{◌≡◌, ◌⊎◌, ℕ, Bool, true, false, List, length, Option, Some, IsSome}
+use Rattle.zarr_model.specs.Prelude.{Region, count, Element, has_long_element, Options, Shown, Content, Description, chunk_content, layout, finds_shared}
 use Rattle.zarrs_array_subset.specs.ArraySubset.{region as region_of_subset}
-use Rattle.zarr_chain_stored.specs.Regions.{GivesRegion}
+use Rattle.zarr_chain_stored.specs.Regions.{GivesRegion, fetched_bytes}
 use Rattle.zarr_chain_stored.specs.declared.fetched.Fetched.{Fetched}
 use Rattle.zarr_array_elements.specs.SharedBox.{IsSharedBy}
 use Rattle.zarr_array_parts.specs.ChunkLevels.{chunk_level}
 use Rattle.zarr_array_parts.specs.Parts.{described}
 use Rattle.zarr_array_parts.specs.declared.parts.ArrayParts.{ArrayParts}
 use Rattle.zarr_array_regions.specs.declared.shared.FetchedChunk.{FetchedChunk}
+use Rattle.zarr_array_regions.specs.Asked.{part_asked, finds_asked}
 use Rattle.zarr_array_regions.specs.RegionChunks.{IsPlaceOf}
 
--- these are elements of a chunk's list for a box inside the chunk
+-- these are elements of a chunk's list for a box inside the chunk, none of which is too long for its
+-- length to be stored
 pub record HasPart (array : ArrayParts) (chunk : List ℕ) (within : Region) (list : List Element)
     (fetched : Fetched) : Type 0 where
   pub as_long : length list ≡ count ((described array).grid.chunk_box chunk)
   pub gives : GivesRegion (chunk_level (described array) chunk) within list fetched
+  pub short : has_long_element (fetched_bytes fetched) ≡ false
 
 -- a chunk has this list, by what stands under its key
 abbrev pub HasList : ArrayParts → Options → List ℕ → Shown → List Element → Type 0
@@ -24,11 +27,8 @@ HasList array options chunk before list =
 
 -- whether what stands under a chunk's key holds a box that is not all of the chunk
 abbrev pub finds_box : Description → Options → List ℕ → Region → Option (List ℕ) → Bool
-finds_box description options chunk within None = false
-finds_box description options chunk within (Some value) =
-    not (count within == count (description.grid.chunk_box chunk))
-    && chain_finds (description.finds options) (description.chain options)
-    (chunk_level description chunk) within value
+finds_box description options chunk within value = finds_asked description options chunk
+    (part_asked (description.grid.chunk_box chunk) within) value
 
 -- a chunk decodes, or its value holds a box of it
 abbrev pub IsFound : ArrayParts → Options → List ℕ → Region → Content → Type 0

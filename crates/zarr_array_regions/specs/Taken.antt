@@ -1,15 +1,10 @@
 -- What is taken of a store where the codec `bytes` is all of an array's chain.
-use Rattle.std.specs.Prelude.{◌≡◌, ◌==◌, ◌&&◌, ◌*◌, if◌then◌else◌, ℕ, Bool, true, false, List, length, unwrap_or, Result, OnOk}
+use Rattle.std.specs.Prelude.{◌≡◌, ◌==◌, ◌&&◌, ◌*◌, if◌then◌else◌, ℕ, Bool, true, List, length, unwrap_or, Result, OnOk}
 use Rattle.zarr_model.specs.Prelude.{Region, count, fixed_size, Content, Description, kind, Shown, present_in, counted, read_bytes, write_bytes}
-use Rattle.zarr_codecs_array_to_bytes.specs.Plain.{Plain, plain_bytes, plain_vlen, plain_optional}
+use Rattle.zarr_codecs_array_to_bytes.specs.Plain.{is_bytes}
 use Rattle.zarr_array_parts.specs.Document.{ArrayDocument, describe}
 use Rattle.zarr_array_parts.specs.Parts.{documented}
 use Rattle.zarr_array_parts.specs.declared.parts.ArrayParts.{ArrayParts}
-
-abbrev pub is_bytes : Plain → Bool
-is_bytes (plain_bytes order) = true
-is_bytes (plain_vlen text) = false
-is_bytes (plain_optional inner) = false
 
 -- whether a document's chain is the codec `bytes` alone
 abbrev pub is_bytes_alone : ArrayDocument → Bool

@@ -7,7 +7,7 @@ use Rattle.zarr_array_parts.specs.declared.parts.ArrayParts.{ArrayParts}
 use Rattle.zarr_array_regions.specs.declared.error.SessionErrorKind.{SessionErrorKind}
 use Rattle.zarr_array_regions.specs.declared.error.SessionErrorKind.TheVariants.{NotOpened, ChunkDecode, Store, OutOfMemory}
 use Rattle.zarr_array_regions.specs.Taken.{Takes}
-use Rattle.zarr_array_regions.specs.Told.{TellsWhy}
+use Rattle.zarr_array_regions.specs.Told.{TellsOf}
 
 -- a chunk has an array's elements under all options, and is absent exactly where these are all fill
 -- and such chunks are not stored
@@ -85,6 +85,6 @@ pub record NotWrittenChunk (array : ArrayParts) (options : Options)
     (change : Array Element → Array Element) (chunk : List ℕ) (before now : Shown)
     (kind : SessionErrorKind) : Type 0 where
   pub failed : FailsToChange (described array) options change chunk before now kind
-  pub told : TellsWhy false (documented array) options now kind
+  pub told : TellsOf (documented array) options chunk None now kind
   pub asks : (now.asks ≡ before.asks) ⊎ (now.asks ≡ counted before.asks 1)
   pub later : before.faults ≤ now.faults

@@ -1,6 +1,6 @@
 //! The elements of the chunks that a region meets: fetched from a store, and put into it.
 
-ghost use Rattle.std.specs.Prelude.{◌≡◌, ◌<◌, false, MatchResult};
+ghost use Rattle.std.specs.Prelude.{◌≡◌, ◌<◌, false, None, MatchResult};
 ghost use Rattle.zarr_model.specs.Prelude.{count};
 ghost use Rattle.zarrs_array_subset.specs.ArraySubset.{region};
 ghost use Rattle.zarrs_codec_array_bytes.specs.Raw.{raw_of};
@@ -51,7 +51,7 @@ impl RegionChunks<'_> {
             (λ v. HasAsked (S.shown store.old) (S.shown store.new)
             × HasElements self.now.array.now (options_of options.now) (chunk_at self.now number)
             (S.shown store.old) (raw_of v))
-            (λ error. NotFetched false self.now.array.now (options_of options.now)
+            (λ error. NotFetched None self.now.array.now (options_of options.now)
             (chunk_at self.now number) (S.shown store.old) (S.shown store.new)
             (chunk_kind key.now error)) }
         ensures taken { TakesWhole self.now.array.now (chunk_at self.now number)
@@ -81,7 +81,7 @@ impl RegionChunks<'_> {
             (λ held. HasAsked (S.shown store.old) (S.shown store.new)
             × IsHeld self.now.array.now (options_of options.now) (chunk_at self.now number)
             (S.shown store.old) held)
-            (NotFetched false self.now.array.now (options_of options.now) (chunk_at self.now number)
+            (NotFetched None self.now.array.now (options_of options.now) (chunk_at self.now number)
             (S.shown store.old) (S.shown store.new)) }
         ensures taken { TakesWhole self.now.array.now (chunk_at self.now number)
             (S.shown store.old) (S.shown store.new) result }

@@ -8,7 +8,8 @@ ghost use Rattle.zarrs_codec_traits.specs.Views.{options_of};
 ghost use Rattle.zarr_array_elements.specs.BoxElements.{list_held};
 ghost use Rattle.zarr_array_parts.specs.Parts.{described};
 ghost use Rattle.zarr_array_regions.specs.Chunk.{chunk_kind};
-ghost use Rattle.zarr_array_regions.specs.RegionChunks.{chunk_at, AreMet, AreLevelsAt, IsPlaceOf};
+ghost use Rattle.zarr_array_regions.specs.RegionChunks.{chunk_at, asked_at, AreMet, AreLevelsAt, IsPlaceOf};
+ghost use Rattle.zarr_array_regions.specs.Asked.{part_asked};
 ghost use Rattle.zarr_array_regions.specs.Fetch.{HasAsked, NotFetched};
 ghost use Rattle.zarr_array_regions.specs.Read.{HoldsRegion};
 ghost use Rattle.zarr_array_regions.specs.Taken.{TakesBox, TakesShared};
@@ -58,7 +59,9 @@ impl RegionChunks<'_> {
             (λ v. HasAsked (S.shown store.old) (S.shown store.new)
             × IsPartOf self.now.array.now (options_of options.now) (chunk_at self.now number)
             (region within.now) (S.shown store.old) v)
-            (λ error. NotFetched true self.now.array.now (options_of options.now)
+            (λ error. NotFetched (part_asked
+            ((described self.now.array.now).grid.chunk_box (chunk_at self.now number))
+            (region within.now)) self.now.array.now (options_of options.now)
             (chunk_at self.now number) (S.shown store.old) (S.shown store.new)
             (chunk_kind key.now error)) }
         ensures taken { TakesBox self.now.array.now (chunk_at self.now number) (region within.now)
@@ -89,8 +92,8 @@ impl RegionChunks<'_> {
             (λ held. HasAsked (S.shown store.old) (S.shown store.new)
             × IsHeldShared self.now.array.now (options_of options.now)
             (region self.now.subset.now) (chunk_at self.now number) (S.shown store.old) held)
-            (NotFetched true self.now.array.now (options_of options.now) (chunk_at self.now number)
-            (S.shown store.old) (S.shown store.new)) }
+            (NotFetched (asked_at self.now number) self.now.array.now (options_of options.now)
+            (chunk_at self.now number) (S.shown store.old) (S.shown store.new)) }
         ensures taken { TakesShared self.now.array.now (region self.now.subset.now)
             (chunk_at self.now number) (S.shown store.old) (S.shown store.new) result }
         ensures kept { S.kept store.old store.new }

@@ -11,13 +11,17 @@ use zarrs_codec_array_bytes::ArrayBytes;
 use zarrs_codec_error::CodecError;
 use zarrs_storage::{FailingStore, MemoryStore, Store};
 
-// A write of one element, and one of four elements in four chunks.
+// A write of four elements in four chunks.
+fn middle_write(rt: &impl Abort, alloc: Global) -> Command {
+    let middle = region(rt, alloc, &[1..3, 1..3]);
+    Command::Write(middle, ArrayBytes::from(&[11, 12, 14, 15]))
+}
+
+// A write of one element, and one of four.
 fn two_writes(rt: &impl Abort, alloc: Global) -> Vec<Command> {
     let corner = region(rt, alloc, &[0..1, 0..1]);
     let first = Command::Write(corner, ArrayBytes::from(&[1]));
-    let middle = region(rt, alloc, &[1..3, 1..3]);
-    let second = Command::Write(middle, ArrayBytes::from(&[11, 12, 14, 15]));
-    vec![in alloc; first, second].expect(rt, "memory")
+    vec![in alloc; first, middle_write(rt, alloc)].expect(rt, "memory")
 }
 
 // What a session ends with.
@@ -179,4 +183,27 @@ fn read(rt: &impl Abort, alloc: Global) -> Replies {
 fn a_damaged_chunk_is_placed(rt: HostRuntime) {
     let replies = read(&rt, rt.alloc());
     assert!(rt; is_ended(replies, (1, 1), Some("c/1")));
+}
+
+// Runs commands on the square, and gives the counts of reading calls and of bytes that the store has handed out by then.
+fn counts_after(
+    rt: &impl Abort,
+    alloc: Global,
+    commands: &[Command],
+    store: &mut MemoryStore,
+) -> (u64, u64) {
+    assert!(rt; ended(rt, alloc, commands, store).is_ok());
+    (store.asks(), store.taken())
+}
+
+#[test]
+fn reads_take_what_they_need(rt: HostRuntime) {
+    let alloc = rt.alloc();
+    let all = Command::Read(region(&rt, alloc, &[0..4, 0..4]));
+    let first = vec![in alloc; middle_write(&rt, alloc), all].expect(&rt, "memory");
+    let middle = Command::Read(region(&rt, alloc, &[1..3, 1..3]));
+    let second = vec![in alloc; middle].expect(&rt, "memory");
+    let mut store = MemoryStore::new(alloc);
+    assert!(rt; counts_after(&rt, alloc, &first, &mut store) == (8, 16));
+    assert!(rt; counts_after(&rt, alloc, &second, &mut store) == (12, 20));
 }

@@ -7,3 +7,4 @@ pub mod LargeChunks
 pub mod RegionFacts
 pub mod MadeAxes
 pub mod WrittenLengths
+pub mod ReadLengths

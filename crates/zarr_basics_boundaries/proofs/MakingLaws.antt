@@ -4,8 +4,8 @@ use Rattle.zarrs_plugin.specs.Making.{Unmade, unsupported, config, other, IsUnma
 use Rattle.zarrs_plugin.specs.declared.error.PluginCreateError.{PluginCreateError}
 use Rattle.zarrs_plugin.specs.declared.error.PluginCreateError.TheVariants.{Unsupported, Config, Other, OutOfMemory}
 use Rattle.zarrs_plugin.specs.declared.error.PluginKind.{PluginKind}
-use Rattle.zarr_basics_boundaries.specs.GridForms.{ChunkGrid, grid_of}
-use Rattle.zarr_basics_boundaries.specs.Making.{over_shape}
+use Rattle.zarr_basics_boundaries.specs.GridForms.{ChunkGrid}
+use Rattle.zarr_basics_boundaries.specs.Making.{configured_grid, over_shape}
 
 -- what was made over a shape is the grid over it
 refused_over : (kind : PluginKind) (error : PluginCreateError) (shape : List ℕ) (expected : Result ChunkGrid Unmade) → IsUnmade kind error expected → IsUnmade kind error (over_shape shape expected)
@@ -24,6 +24,6 @@ refused_over kind Other shape (Err other) e = tt
 refused_over kind OutOfMemory shape expected e = tt
 
 pub made_over : {X : Type 0} (kind : PluginKind) (form_of : X → ChunkGrid) (shape_of : X → List ℕ) (result : Result X PluginCreateError) (shape : List ℕ) (expected : Result ChunkGrid Unmade) →
-    Makes kind form_of result expected → IfOk result (λ x. shape_of x ≡ shape) → Makes kind (λ x. grid_of (shape_of x) (form_of x)) result (over_shape shape expected)
-made_over kind form_of shape_of (Ok x) shape expected made over = ap (over_shape shape) made ∙ ap (λ s. Ok (grid_of s (form_of x))) (sym over)
+    Makes kind form_of result expected → IfOk result (λ x. shape_of x ≡ shape) → Makes kind (λ x. configured_grid (shape_of x) (form_of x)) result (over_shape shape expected)
+made_over kind form_of shape_of (Ok x) shape expected made over = ap (over_shape shape) made ∙ ap (λ s. Ok (configured_grid s (form_of x))) (sym over)
 made_over kind form_of shape_of (Err error) shape expected refused over = refused_over kind error shape expected refused

@@ -2,6 +2,7 @@
 
 ghost use Rattle.std.specs.Prelude.{◌≡◌, ℕ, Bool, ◌&&◌, List, Option, Some, IsTrue, false};
 ghost use Rattle.std.specs.List.{list_any};
+ghost use Rattle.serde_json.specs.Data.{Members};
 ghost use Rattle.zarr_model.specs.Prelude.{Grid, IsChunk, are_cut, chunks, starts, sizes, count, count_of, is_too_large};
 ghost use Rattle.zarrs_array_subset.specs.Boxes.{is_box};
 ghost use Rattle.zarr_basics_boundaries.specs.Configurations.{lengths_in, lengths_members};
@@ -14,6 +15,14 @@ ghost use Rattle.zarr_basics_boundaries.specs.LimitTests.{are_some};
 pub fn configuration_reads_back()
     ensures { (shape : List ℕ) (lengths : List (List ℕ)) → IsTrue (are_cut shape lengths)
         → lengths_in shape (Some (lengths_members lengths)) ≡ Some lengths }
+{}
+
+/// A configuration that says lengths is the one that is written for them.
+#[tactic(auto, using(crate::proofs::ReadLengths::is_written))]
+pub fn configuration_is_written()
+    ensures { (shape : List ℕ) (configuration : Option Members) (lengths : List (List ℕ))
+        → lengths_in shape configuration ≡ Some lengths
+        → configuration ≡ Some (lengths_members lengths) }
 {}
 
 /// Where no chunk is too large, the box of each ends within 64 bits, and does not have too many elements.

@@ -13,5 +13,7 @@ pub mod refusal;
 
 pub use axis::BoundaryAxis;
 pub use boundary_grid::BoundaryGrid;
-pub use laws::{chunks_are_small, configuration_reads_back, largest_lengths_decide};
+pub use laws::{
+    chunks_are_small, configuration_is_written, configuration_reads_back, largest_lengths_decide,
+};
 pub use making::boundaries_by;

@@ -2,14 +2,12 @@
 use Rattle.std.specs.Prelude.{ℕ, List, codes, refl, IsTrue}
 use Rattle.serde_json.specs.Data.{Members}
 use Rattle.zarr_model.specs.Prelude.{Grid, CoversShape}
-use Rattle.zarr_basics_boundaries.specs.Axes.{lengths_of}
+use Rattle.zarrs_chunk_grid_traits.specs.Making.{ConfiguredGrid}
 use Rattle.zarr_basics_boundaries.specs.BoundaryGrid.{shape_of_boundary, form_of_boundary, covers_boundary}
-use Rattle.zarr_basics_boundaries.specs.Configurations.{lengths_members}
+use Rattle.zarr_basics_boundaries.specs.Configurations.{members_of}
 use Rattle.zarr_basics_boundaries.specs.GridForms.{ChunkGrid, grid_of}
-use Rattle.zarr_basics_boundaries.specs.Lengths.{nonzeros}
-use Rattle.zarr_basics_grids.specs.Configurations.{chunk_shape_members}
 use Rattle.zarr_basics_grids.specs.GridOf.{shape_of_regular, form_of_regular, covers_regular}
-use Rattle.zarr_basics_grids.specs.Making.{is_basic}
+use Rattle.zarr_basics_grids.specs.Making.{configured_grid, is_basic}
 use Rattle.zarr_basics_grids.specs.declared.basic_grid.BasicGrid.{BasicGrid}
 use Rattle.zarr_basics_grids.specs.declared.basic_grid.BasicGrid.TheVariants.{Regular, Boundary}
 
@@ -30,8 +28,11 @@ basic_name (Regular grid) = codes "regular"
 basic_name (Boundary grid) = codes "zarr_basics.boundaries"
 
 abbrev pub basic_members : BasicGrid → Members
-basic_members (Regular grid) = chunk_shape_members (nonzeros grid.chunk_shape.items)
-basic_members (Boundary grid) = lengths_members (lengths_of grid.axes.items)
+basic_members grid = members_of (basic_form grid)
+
+-- the grid with its configuration
+abbrev pub basic_configured : BasicGrid → ConfiguredGrid
+basic_configured grid = configured_grid (basic_shape grid) (basic_form grid)
 
 -- it cuts the array into parts
 pub basic_covers : (grid : BasicGrid) → CoversShape (basic_shape grid) (basic_grid grid)

@@ -1,11 +1,10 @@
 -- The forms of the configurations of grids: that of the grid `regular`, beside that of boundaries.
 use Rattle.std.specs.Prelude.{ℕ, Bool, ◌==◌, ◌&&◌, nat_le, if◌then◌else◌, List, length, codes, Option, Some, None}
 use Rattle.std.specs.List.{list_all}
-use Rattle.serde_json.specs.Data.{Members, no_members, member}
+use Rattle.serde_json.specs.Data.{Members}
 use Rattle.zarrs_metadata_values.specs.Configuration.{only_member}
 use Rattle.zarrs_metadata_parts.specs.Reading.{◌>>=◌, whole_numbers}
-use Rattle.zarrs_metadata_parts.specs.Writing.{numbers_data}
-pub use Rattle.zarr_basics_boundaries.specs.Configurations.{lengths_in, lengths_members}
+pub use Rattle.zarr_basics_boundaries.specs.Configurations.{lengths_in, lengths_members, chunk_shape_members, members_of}
 
 -- a positive length for each dimension of a shape
 abbrev pub are_chunk_lengths : List ℕ → List ℕ → Bool
@@ -22,7 +21,3 @@ chunk_shape_in shape configuration = do
   value ← only_member (codes "chunk_shape") ms
   lengths ← whole_numbers value
   if_chunk_lengths shape lengths
-
--- it is written so
-abbrev pub chunk_shape_members : List ℕ → Members
-chunk_shape_members lengths = member (codes "chunk_shape") (numbers_data lengths) no_members

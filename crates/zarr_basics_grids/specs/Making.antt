@@ -1,15 +1,14 @@
 -- What grids are made of metadata.
 use Rattle.std.specs.Prelude.{◌≡◌, ℕ, Bool, true, false, ◌||◌, ◌↔◌, if◌then◌else◌, List, codes, bytes_eq, Option, option_map, Result, Err}
 use Rattle.serde_json.specs.Data.{Members}
-use Rattle.zarr_model.specs.Prelude.{Grid}
 use Rattle.zarrs_chunk_grid_traits.proofs.KnownNames.{refuses_names}
-use Rattle.zarrs_chunk_grid_traits.specs.Making.{RefusesNames}
+use Rattle.zarrs_chunk_grid_traits.specs.Making.{ConfiguredGrid, RefusesNames}
 use Rattle.zarrs_metadata_parts.specs.Making.{or_config}
 use Rattle.zarrs_metadata_parts.specs.MetadataV3.{Extension}
 use Rattle.zarrs_plugin.specs.Making.{Unmade, unsupported}
 use Rattle.zarr_basics_boundaries.specs.GridForms.{ChunkGrid, regular}
 use Rattle.zarr_basics_boundaries.specs.Making as boundary
-pub use Rattle.zarr_basics_boundaries.specs.Making.{over_shape, boundary_form, is_boundaries, boundary_created}
+pub use Rattle.zarr_basics_boundaries.specs.Making.{configured_grid, over_shape, boundary_form, is_boundaries, boundary_created}
 use Rattle.zarr_basics_grids.specs.Configurations.{chunk_shape_in}
 use Rattle.zarr_basics_grids.specs.declared.grid_kind.GridKind.{GridKind}
 use Rattle.zarr_basics_grids.specs.declared.grid_kind.GridKind.TheVariants.{Regular, Boundary}
@@ -27,7 +26,7 @@ abbrev pub is_regular : List ℕ → Bool
 is_regular name = bytes_eq name (codes "regular")
 
 -- the grid `regular` of metadata, which has to have its name
-abbrev pub regular_created : Extension → List ℕ → Result Grid Unmade
+abbrev pub regular_created : Extension → List ℕ → Result ConfiguredGrid Unmade
 regular_created e shape = if is_regular e.name
     then over_shape shape (or_config (regular_form shape e.configuration))
     else Err (unsupported e.name)
@@ -43,7 +42,7 @@ abbrev pub is_basic : List ℕ → Bool
 is_basic name = is_boundaries name || is_regular name
 
 -- the grid of metadata, by its name
-abbrev pub basic_created : Extension → List ℕ → Result Grid Unmade
+abbrev pub basic_created : Extension → List ℕ → Result ConfiguredGrid Unmade
 basic_created e shape = if is_boundaries e.name then boundary_created e shape
     else regular_created e shape
 

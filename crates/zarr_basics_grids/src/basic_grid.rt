@@ -1,10 +1,10 @@
 //! The chunk grids of this library as one type.
 
-ghost use Rattle.std.specs.Prelude.{◌≡◌, IfOk};
+ghost use Rattle.std.specs.Prelude.{◌≡◌, IfOk, Some};
 ghost use Rattle.zarrs_chunk_grid_traits.specs.Making.{MakesGrid};
 ghost use Rattle.zarrs_metadata_parts.specs.MetadataV3.{extension_seen};
 ghost use Rattle.zarr_basics_boundaries.specs.Making.{boundary_created};
-ghost use Rattle.zarr_basics_grids.specs.BasicGrid.{basic_shape, basic_grid};
+ghost use Rattle.zarr_basics_grids.specs.BasicGrid.{basic_shape, basic_grid, basic_configured, basic_name};
 ghost use Rattle.zarr_basics_grids.specs.Making.{regular_created};
 
 use crate::regular_grid::RegularGrid;
@@ -58,8 +58,10 @@ fn regular_of(
     metadata: &MetadataV3,
     array_shape: &[u64],
 ) -> Result<BasicGrid, PluginCreateError>
-    ensures made { MakesGrid basic_grid result
+    ensures made { MakesGrid basic_configured result
         (regular_created (extension_seen metadata.now) array_shape.now) }
+    ensures named { IfOk result (λ g.
+        Some (basic_name g) ≡ Some (extension_seen metadata.now).name) }
     ensures over { IfOk result (λ g. basic_shape g ≡ array_shape.now) }
 {
     match RegularGrid::create(alloc, metadata, array_shape) {
@@ -74,8 +76,10 @@ fn boundaries_of(
     metadata: &MetadataV3,
     array_shape: &[u64],
 ) -> Result<BasicGrid, PluginCreateError>
-    ensures made { MakesGrid basic_grid result
+    ensures made { MakesGrid basic_configured result
         (boundary_created (extension_seen metadata.now) array_shape.now) }
+    ensures named { IfOk result (λ g.
+        Some (basic_name g) ≡ Some (extension_seen metadata.now).name) }
     ensures over { IfOk result (λ g. basic_shape g ≡ array_shape.now) }
 {
     match BoundaryGrid::create(alloc, metadata, array_shape) {
@@ -85,9 +89,6 @@ fn boundaries_of(
 }
 
 impl ExtensionName for BasicGrid {
-    ghost use Rattle.std.specs.Prelude.{Some};
-    ghost use Rattle.zarr_basics_grids.specs.BasicGrid.{basic_name};
-
     ghost name_in = { λ g _. Some (basic_name g) };
 
     fn name(&self, alloc: Global, version: ZarrVersion) -> Result<Option<String>, AllocError> {

@@ -11,6 +11,6 @@ mod regular_grid;
 
 pub use basic_grid::BasicGrid;
 pub use grid_kind::GridKind;
-pub use laws::configuration_reads_back;
+pub use laws::{configuration_is_written, configuration_reads_back};
 pub use regular_grid::RegularGrid;
 pub use zarr_basics_boundaries::{BoundaryAxis, BoundaryGrid};

@@ -40,7 +40,7 @@ replied_by array options commands before now held serves stored keys undamaged r
 pub run_fault : (description : Description) (options : Options) (commands : List Command) (before now : Shown) (at : Option (ℕ × ℕ)) (kind : SessionErrorKind) →
     HasSessionCause description options commands before now at kind → IsRunFault description options commands before now (session_status kind)
 run_fault description options commands before now at (NotOpened error) cause = absurd cause
-run_fault description options commands before now None (ChunkDecode key error) cause = absurd cause
-run_fault description options commands before now (Some place) (ChunkDecode key error) cause = (undecoded-met description options commands before.content now.content key place.0 place.1 cause, cause.6)
+run_fault description options commands before now None (ChunkDecode key error) cause = absurd cause.0
+run_fault description options commands before now (Some place) (ChunkDecode key error) cause = (undecoded-met description options commands before.content now.content key place.0 place.1 cause.0, cause.0.6)
 run_fault description options commands before now at Kind.Store cause = cause.0
 run_fault description options commands before now at Kind.OutOfMemory cause = tt

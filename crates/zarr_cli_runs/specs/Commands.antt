@@ -1,12 +1,12 @@
 -- Commands that ran over a store: their replies, the keys that they may change, and why they ended
 -- early.
-use Rattle.std.specs.Prelude.{◌≡◌, ℕ, List, map, Some, true}
+use Rattle.std.specs.Prelude.{◌≡◌, ℕ, List, [], map, Ok, true}
 use Rattle.std.specs.List.{AllZip, list_any}
-use Rattle.zarr_model.specs.Prelude.{Element, Array, Options, Means, Shown, Command, Description, kind, layout, replies, Matches, LeavesArray, SeesNoDamage, RefusesRight, all_asks, counted, Rose, IsDamageMet, IsChunk, changes_chunk, TakesNeeded}
+use Rattle.zarr_model.specs.Prelude.{Element, Array, Options, Means, Shown, Command, Description, kind, layout, replies, Matches, LeavesArray, SeesNoDamage, RefusesRight, all_asks, counted, Rose, IsDamageMet, IsChunk, changes_chunk}
 use Rattle.zarr_cli_made.specs.array.Command.{answer_of}
 use Rattle.zarr_cli_made.specs.array.Stored.{StoresForAll}
-use Rattle.zarr_cli_made.specs.array.parts.Document.{ArrayDocument, describe}
-use Rattle.zarr_cli_made.specs.array.regions.Taken.{is_bytes_alone}
+use Rattle.zarr_cli_made.specs.array.parts.Document.{ArrayDocument}
+use Rattle.zarr_cli_made.specs.array.Taken.{TakesAlone}
 use Rattle.zarr_cli_made.specs.array.declared.command.Reply.{Reply}
 use Rattle.zarr_cli_runs.specs.declared.status.Status.{Status}
 use Rattle.zarr_cli_runs.specs.declared.status.Status.TheVariants.{OutOfMemory, Document, Chunk, Store}
@@ -30,11 +30,11 @@ pub record RepliedBy (description : Description) (options : Options) (commands :
   pub refusals : RefusesRight description commands (map answer_of held)
   pub asks : now.asks ≡ counted before.asks (all_asks description commands)
 
--- commands took exactly the bytes that they need, where the codec `bytes` is all of the chain and
--- presence before each is known
+-- commands that all ran took exactly the bytes that they need, where the codec `bytes` is all of
+-- the chain and presence before each is known
 abbrev pub TakesRun : ArrayDocument → Options → List Command → Shown → Shown → Type 0
-TakesRun document options commands before now = is_bytes_alone document ≡ true →
-    TakesNeeded (describe document) options commands before now
+TakesRun document options commands before now =
+    TakesAlone document options commands before now (Ok [])
 
 -- commands ended early, and the value of a damaged chunk stands
 abbrev pub IsRunFault : Description → Options → List Command → Shown → Shown → Status → Type 0

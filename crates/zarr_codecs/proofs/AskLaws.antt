@@ -26,7 +26,7 @@ use Rattle.zarrs_codec_traits.specs.Parts.{lengths_answer}
 use Rattle.zarrs_codec_traits.specs.Words.{list_at, at_box, select, Gives, IsFit}
 use Rattle.zarr_codecs.specs.BytesCodec.{stored_order, element_bytes}
 use Rattle.zarr_codecs.proofs.OrderLaws.{laid, decoded_here}
-use Rattle.zarr_codecs.specs.Ranges.{run_range, run_ranges, part_answer, parts_answer, part_length}
+use Rattle.zarr_codecs.specs.Ranges.{run_range, run_ranges, part_answer, parts_answer, even_answer}
 use Rattle.zarr_codecs.proofs.RangeLaws.{ranges_decode}
 use Rattle.zarr_codecs.proofs.PartLaws.{runs_told, runs_long}
 use Rattle.zarr_codecs.specs.Asking.{long_value}
@@ -65,7 +65,7 @@ module _ (order : Option Endianness) (under : Options) (level : Level) (box : Re
   abbrev Asked : List ByteRange
   Asked = run_ranges (element_bytes level.data_type) level.shape box
 
-  told_here : parts_answer (part_length (count box * element_bytes level.data_type) (length parts)) parts ≡
+  told_here : even_answer (count box * element_bytes level.data_type) parts ≡
       lengths_answer Asked parts
   told_here = sym (runs_told (element_bytes level.data_type) level.shape box parts inside many)
 
@@ -79,14 +79,14 @@ module _ (order : Option Endianness) (under : Options) (level : Level) (box : Re
       ∙ runs_long (element_bytes level.data_type) level.shape box parts inside many good)
 
   pub here_valid : (joined out : List ℕ) → joined ≡ concat parts → in_order component order joined ≡ Some out
-      → parts_answer (part_length (count box * element_bytes level.data_type) (length parts)) parts ≡ fine
+      → even_answer (count box * element_bytes level.data_type) parts ≡ fine
       → IsSome (list_at (at_box box level) (fixed_bytes out))
   here_valid joined out is made good = (here_decodes joined out is made (sym told_here ∙ good)).there
 
   -- and of a value that decodes the elements of the region
   pub here_value : (joined out value : List ℕ) (xs : List Element) → joined ≡ concat parts
       → in_order component order joined ≡ Some out
-      → parts_answer (part_length (count box * element_bytes level.data_type) (length parts)) parts ≡ fine
+      → even_answer (count box * element_bytes level.data_type) parts ≡ fine
       → parts ≡ slices_of Asked value
       → decode_array_to_bytes under (bytes_codec (stored_order order)) level value ≡ Some xs
       → list_at (at_box box level) (fixed_bytes out) ≡ Some (select level.shape box xs)
@@ -101,13 +101,12 @@ module _ (order : Option Endianness) (under : Options) (level : Level) (box : Re
 
   -- what errors tell
   pub here_lengths : {T : Type 0} (v : T)
-      → parts_answer (part_length (count box * element_bytes level.data_type) (length parts)) parts ≡ fine
+      → even_answer (count box * element_bytes level.data_type) parts ≡ fine
       → RefusesAs (lengths_answer Asked parts) (Ok v)
   here_lengths v good = subst (λ (t : Told). RefusesAs t (Ok v)) (sym (sym told_here ∙ good)) tt
 
   pub here_refuses : (T : Type 0) (e : CodecError)
-      → (e ≡ codec.OutOfMemory) ⊎ (told_by e ≡ parts_answer (part_length (count box * element_bytes level.data_type)
-      (length parts)) parts) → RefusesAs {T = T} (lengths_answer Asked parts) (Err e)
+      → (e ≡ codec.OutOfMemory) ⊎ (told_by e ≡ even_answer (count box * element_bytes level.data_type) parts) → RefusesAs {T = T} (lengths_answer Asked parts) (Err e)
   here_refuses T e told = subst (λ (t : Told). RefusesAs {T = T} t (Err e)) told_here (go _ told)
     where
       go : (t : Told) → (e ≡ codec.OutOfMemory) ⊎ (told_by e ≡ t) → RefusesAs {T = T} t (Err e)
@@ -120,14 +119,12 @@ module _ (order : Option Endianness) (under : Options) (level : Level) (box : Re
       go odd told = told
 
   pub only_memory : (e : CodecError)
-      → (e ≡ codec.OutOfMemory) ⊎ (told_by e ≡ parts_answer (part_length (count box * element_bytes level.data_type)
-      (length parts)) parts) → lengths_answer Asked parts ≡ fine → e ≡ codec.OutOfMemory
+      → (e ≡ codec.OutOfMemory) ⊎ (told_by e ≡ even_answer (count box * element_bytes level.data_type) parts) → lengths_answer Asked parts ≡ fine → e ≡ codec.OutOfMemory
   only_memory e (inl memory) good = memory
   only_memory e (inr told) good = absurd (says_some e (told ∙ (told_here ∙ good)))
 
   pub here_memory : (e : CodecError) (value : List ℕ) (xs : List Element)
-      → (e ≡ codec.OutOfMemory) ⊎ (told_by e ≡ parts_answer (part_length (count box * element_bytes level.data_type)
-      (length parts)) parts) → parts ≡ slices_of Asked value
+      → (e ≡ codec.OutOfMemory) ⊎ (told_by e ≡ even_answer (count box * element_bytes level.data_type) parts) → parts ≡ slices_of Asked value
       → decode_array_to_bytes under (bytes_codec (stored_order order)) level value ≡ Some xs → e ≡ codec.OutOfMemory
   here_memory e value xs told slices means =
       only_memory e told (ap (lengths_answer Asked) slices

@@ -32,6 +32,10 @@ digest_back validate bytes all is =
     let fine : (nat_le 32 (length all) && (not validate || ends_in_digest all)) ≡ true = ap₂ (λ a b. a && (not validate || b)) (le-leb _ _ room) right ∙ any validate in
     cond-true _ _ _ fine ∙ ap Some front
 
+-- each value is what some value decodes to
+pub digested : (validate : Bool) (value : List ℕ) → (stored : List ℕ) × (checksum_codec validate stored ≡ Some value)
+digested validate value = (value ++ sha256 value, digest_back validate value (value ++ sha256 value) refl)
+
 pub digest_kept : (validate : Bool) (value : List ℕ) → 32 ≤ length value → (not validate || ends_in_digest value) ≡ true → checksum_codec validate value ≡ Some (take (length value - 32) value)
 digest_kept validate value room intact = cond-true _ _ _ (ap₂ (λ a b. a && b) (le-leb _ _ room) intact)
 

@@ -1,10 +1,9 @@
 -- What is told of parts of one length, and what they are together.
 use Rattle.std.proofs.Common.{◌≡◌, ◌⊎◌, ℕ, zero, suc, ◌*◌, ◌/◌, ◌<◌, ◌==◌, Bool, true, false, nat_eq, if◌then◌else◌, List, [], ◌∷◌, ◌++◌, length, map, Result, refl, sym, ap, ap₂, ◌∙◌, arith, inl, inr, eqb-true}
 use Rattle.std.specs.List.{concat, range_with_len, AllByRecursion}
-use Rattle.std.proofs.lemmas.Bool.{cond-false, ne_eqb}
 use Rattle.std.proofs.lemmas.List.{length-append, length-map}
 use Rattle.std.proofs.lemmas.List.FromFn.{length-range_with_len}
-use Rattle.std.proofs.Math.Nat.{mul-div_left, mul_comm}
+use Rattle.std.proofs.Math.Nat.{div-zero, mul-div_left, mul_comm}
 use Rattle.zarr_model.specs.Region.{Span, Region, count, count_of, sizes, ends_within, tuples, linear_index}
 use Rattle.zarr_model.specs.Cover.{linear_indices}
 use Rattle.zarr_model.proofs.RegionLaws.{length-tuples}
@@ -15,7 +14,7 @@ use Rattle.zarrs_codec_error.specs.declared.error.CodecError.TheVariants as code
 use Rattle.zarrs_codec_array_bytes.specs.Refusals.{Told, fine, refused, wrong_length, unfit, other_fill, no_memory, odd, told_by, then_answer}
 use Rattle.zarrs_codec_array_bytes.proofs.ToldLaws.{says_some}
 use Rattle.zarrs_codec_traits.specs.Parts.{lengths_answer}
-use Rattle.zarr_codecs.specs.Ranges.{run_range, run_ranges, part_answer, parts_answer, part_length}
+use Rattle.zarr_codecs.specs.Ranges.{run_range, run_ranges, part_answer, parts_answer, even_answer}
 use Rattle.zarr_codecs.proofs.OrderLaws.{then_fine}
 
 -- the first part of another length
@@ -30,15 +29,19 @@ first_told other_fill rest e (inr told) = inr told
 first_told no_memory rest e (inr told) = inr told
 first_told odd rest e (inr told) = inr told
 
+-- no parts
+pub of_none : (total number : ℕ) → number ≡ 0 → 0 ≡ total / number
+of_none total number none = sym (ap (λ n. total / n) none ∙ div-zero total)
+
 -- one part
-one_length : (total : ℕ) → part_length total 1 ≡ total
+one_length : (total : ℕ) → total / 1 ≡ total
 one_length total = let whole : total * 1 / 1 ≡ total = mul-div_left total (let some : 0 < 1 = omega arith in some) in
     ap (λ (n : ℕ). n / 1) (let e : total ≡ total * 1 = omega arith in e) ∙ whole
 
 pub single_told : (total : ℕ) (part : List ℕ) (parts : List (List ℕ)) (r : Result (List ℕ) CodecError)
-    → parts ≡ part ∷ [] → parts_answer (part_length total (length parts)) parts ≡ part_answer total part
+    → parts ≡ part ∷ [] → even_answer total parts ≡ part_answer total part
 single_told total part parts r is =
-    ap (λ (p : List (List ℕ)). parts_answer (part_length total (length p)) p) is
+    ap (λ (p : List (List ℕ)). even_answer total p) is
     ∙ (ap (λ (n : ℕ). parts_answer n (part ∷ [])) (one_length total) ∙ then_fine (part_answer total part))
 
 pub no_more : (part : List ℕ) → part ++ [] ≡ part
@@ -94,7 +97,7 @@ runs_total shape box inside =
 -- what is told of the parts of a region's runs
 pub runs_told : (n : ℕ) (shape : List ℕ) (box : Region) (parts : List (List ℕ)) → ends_within box shape ≡ true
     → length parts ≡ length (run_ranges n shape box)
-    → lengths_answer (run_ranges n shape box) parts ≡ parts_answer (part_length (count box * n) (length parts)) parts
+    → lengths_answer (run_ranges n shape box) parts ≡ even_answer (count box * n) parts
 runs_told n shape box parts inside many = go (length parts) refl
   where
     as_many : length parts ≡ length (runs shape box)
@@ -108,9 +111,8 @@ runs_told n shape box parts inside many = go (length parts) refl
     none (part ∷ parts) a b e = cc
 
     go : (k : ℕ) → length parts ≡ k
-        → lengths_answer (run_ranges n shape box) parts ≡ parts_answer (part_length (count box * n) (length parts))
-        parts
-    go zero e = told ∙ none parts (run_length shape box * n) (part_length (count box * n) (length parts)) e
+        → lengths_answer (run_ranges n shape box) parts ≡ even_answer (count box * n) parts
+    go zero e = told ∙ none parts (run_length shape box * n) (count box * n / length parts) e
     go (suc k) e =
         let some : 0 < length parts = omega (arith, e) in
         let runs_many : length (runs shape box) * run_length shape box ≡ count box = runs_total shape box inside in
@@ -118,11 +120,9 @@ runs_told n shape box parts inside many = go (length parts) refl
         ap (λ (m : ℕ). m * n) (sym runs_many) ∙ (ap (λ (m : ℕ). m * run_length shape box * n) (sym as_many)
         ∙ (let e : length parts * run_length shape box * n ≡ length parts * (run_length shape box * n) =
         omega arith in e)) in
-        let each : part_length (count box * n) (length parts) ≡ run_length shape box * n =
-        cond-false (length parts == 0) 0 (count box * n / length parts) (ne_eqb _ _ (λ (z : length parts ≡ 0). let
-        bad : ⊥ = omega (arith, some, z) in bad))
-        ∙ (ap (λ (m : ℕ). m / length parts) (all ∙ mul_comm (length parts) (run_length shape box * n))
-        ∙ mul-div_left (run_length shape box * n) some) in
+        let each : count box * n / length parts ≡ run_length shape box * n =
+        ap (λ (m : ℕ). m / length parts) (all ∙ mul_comm (length parts) (run_length shape box * n))
+        ∙ mul-div_left (run_length shape box * n) some in
         told ∙ ap (λ (m : ℕ). parts_answer m parts) (sym each)
 
 -- parts of one length have so many bytes together

@@ -1,6 +1,6 @@
 -- The runs of a region's elements as ranges of the bytes of a value, and what is told of the parts
 -- that are read of it.
-use Rattle.std.specs.Prelude.{ℕ, ◌+◌, ◌*◌, ◌/◌, ◌==◌, if◌then◌else◌, List, [], ◌∷◌, map, Some}
+use Rattle.std.specs.Prelude.{ℕ, ◌+◌, ◌*◌, ◌/◌, List, [], ◌∷◌, length, map, Some}
 use Rattle.zarr_model.specs.Region.{Span, Region}
 use Rattle.zarrs_chunk_grid_iterators.specs.Runs.{runs}
 use Rattle.zarrs_storage.specs.declared.byte_range.ByteRange.{ByteRange}
@@ -31,6 +31,6 @@ abbrev pub parts_answer : ℕ → List (List ℕ) → Told
 parts_answer long [] = fine
 parts_answer long (part ∷ parts) = then_answer (part_answer long part) (parts_answer long parts)
 
--- the length of each of so many parts of one length that have so many bytes together
-abbrev pub part_length : ℕ → ℕ → ℕ
-part_length total number = if number == 0 then 0 else total / number
+-- the same of parts of one length that have so many bytes together
+abbrev pub even_answer : ℕ → List (List ℕ) → Told
+even_answer total parts = parts_answer (total / length parts) parts

@@ -1,6 +1,6 @@
 //! The parts of a value that hold the runs of a region, one after another.
 
-ghost use Rattle.std.specs.Prelude.{◌≡◌, ◌*◌, ◌<◌, ◌^◌, length, IfOk};
+ghost use Rattle.std.specs.Prelude.{◌≡◌, ◌*◌, ◌/◌, ◌<◌, ◌^◌, IfOk};
 ghost use Rattle.std.specs.List.{concat};
 ghost use Rattle.zarr_model.specs.Region.{count};
 ghost use Rattle.zarrs_array_subset.specs.ArraySubset.{region as box_of};
@@ -8,7 +8,7 @@ ghost use Rattle.zarrs_storage.specs.ByteRange.{parts_of};
 ghost use Rattle.zarrs_data_type_names.specs.DataType.{type_of};
 ghost use Rattle.zarrs_codec_array_bytes.specs.Refusals.{Answers};
 ghost use Rattle.zarr_codecs.specs.BytesCodec.{element_bytes};
-ghost use Rattle.zarr_codecs.specs.Ranges.{part_answer, parts_answer, part_length};
+ghost use Rattle.zarr_codecs.specs.Ranges.{part_answer, parts_answer, even_answer};
 
 use std::alloc::Global;
 use zarrs_array_subset::ArraySubset;
@@ -18,8 +18,9 @@ use zarrs_codec_traits::only_part;
 use zarrs_data_type_names::DataType;
 
 // How many bytes each of so many parts of one length has, which have so many together.
+#[tactic(auto, using(crate::proofs::PartLaws::of_none))]
 fn part_length(total: usize, number: usize) -> usize
-    ensures { result ≡ part_length total number }
+    ensures { result ≡ total / number }
 {
     if number == 0 { 0 } else { total / number }
 }
@@ -73,8 +74,7 @@ fn alone(part: Vec<u8>, expected_len: usize) -> Result<Vec<u8>, CodecError>
 #[tactic(auto, using(crate::proofs::PartLaws::single_told, crate::proofs::PartLaws::single_joined))]
 fn joined_parts(alloc: Global, parts: Vec<Vec<u8>>, total: usize) -> Result<Vec<u8>, CodecError>
     ensures value { IfOk result (λ v. v.items ≡ concat (parts_of parts)) }
-    ensures exact { Answers (parts_answer (part_length total (length (parts_of parts)))
-        (parts_of parts)) result }
+    ensures exact { Answers (even_answer total (parts_of parts)) result }
 {
     let number = parts.len();
     if number == 1 {
@@ -97,9 +97,9 @@ pub(crate) fn region_parts(
     requires few { count (box_of region.now) < 2 ^ 64 }
     requires room { count (box_of region.now) * element_bytes (type_of data_type.now) < 2 ^ 64 }
     ensures value { IfOk result (λ v. v.items ≡ concat (parts_of parts)) }
-    ensures exact { Answers (parts_answer (part_length
+    ensures exact { Answers (even_answer
         (count (box_of region.now) * element_bytes (type_of data_type.now))
-        (length (parts_of parts))) (parts_of parts)) result }
+        (parts_of parts)) result }
 {
     let total = region.num_elements() as usize * element_size(data_type);
     joined_parts(alloc, parts, total)

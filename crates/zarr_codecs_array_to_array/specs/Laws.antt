@@ -77,10 +77,10 @@ list_counted (arrays.Offset codec) level below xs long is =
 list_counted (arrays.Transpose codec) level below xs long is =
     transpose-keeps_count (order_of codec) level below xs long is
 
-pub list_decodes : (c : BasicArrayToArray) (level : Level) (below : List Element)
-    → IsSome ((array_codec_of (array_form c)).decode_list level below)
-list_decodes (arrays.Offset codec) level below = refl
-list_decodes (arrays.Transpose codec) level below = refl
+pub list_decodes : (codec : ArrayToArray) (level : Level) (below : List Element)
+    → IsSome ((array_codec_of codec).decode_list level below)
+list_decodes (offset number) level below = refl
+list_decodes (transpose order) level below = refl
 
 -- the fill value below, its element, its bytes and its length
 pub fill_decodes : (c : BasicArrayToArray) (level : Level) → Serves c level → AreBytes level.fill

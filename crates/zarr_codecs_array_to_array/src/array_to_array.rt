@@ -160,7 +160,7 @@ impl ArrayToArrayCodecTraits for BasicArrayToArray {
     ghost counted = { λ c level fill below xs served long is.
         list_counted c level below xs long is };
 
-    ghost decodes = { λ c level fill below served long. list_decodes c level below };
+    ghost decodes = { λ c level fill below served long. list_decodes (array_form c) level below };
 
     ghost fills = { λ c level fill served denotes proper. fill_decodes c level served proper };
 

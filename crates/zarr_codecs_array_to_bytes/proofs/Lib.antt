@@ -1,2 +1,4 @@
+pub mod SizeLaws
+pub mod PartLaws
 pub mod OptionalLaws
 pub mod InnerLaws

@@ -1,5 +1,5 @@
 -- What the codecs serve and take, by cases.
-use Rattle.std.specs.Prelude.{◌≡◌, ◌<◌, ◌*◌, ◌^◌, nat_le, ℕ, Bool, true, false, List, length, take, drop, Option, Some, None, refl}
+use Rattle.std.specs.Prelude.{◌≡◌, ◌<◌, ◌*◌, ◌^◌, nat_le, ℕ, Bool, true, false, List, length, take, drop, Option, Some, None, IsSome, refl}
 use Rattle.std.proofs.Common.{inl, ap, sym, ◌∙◌}
 use Rattle.zarr_model.specs.Region.{Region, ends_within}
 use Rattle.zarr_model.specs.Element.{DataType}
@@ -7,7 +7,7 @@ use Rattle.zarr_model.specs.ArrayBytes.{ArrayBytes, fixed_bytes, variable_bytes,
 use Rattle.zarr_model.specs.Codec.{Level, Options, decode_array_to_bytes}
 use Rattle.zarr_model.specs.Command.{has_long_element, invalid_mask, invalid_variable_sized_array_offsets}
 use Rattle.zarrs_storage.specs.declared.byte_range.ByteRange.{ByteRange}
-use Rattle.zarrs_storage.specs.ByteRange.{first_invalid}
+use Rattle.zarrs_storage.specs.ByteRange.{slices_of, first_invalid}
 use Rattle.zarrs_codec_error.specs.declared.error.CodecError.{CodecError}
 use Rattle.zarrs_codec_error.specs.declared.error.CodecError.TheVariants as codec
 use Rattle.zarrs_codec_array_bytes.specs.Refusals.{fine, refused, wrong_length, told_by}
@@ -15,11 +15,11 @@ use Rattle.zarrs_codec_traits.specs.Errors.{IsFormRefusal, IsNoFault}
 use Rattle.zarrs_codec_traits.proofs.FaultLaws.{told_no_fault}
 use Rattle.zarrs_codec_traits.proofs.TakenLaws.{nothing_asked}
 use Rattle.zarrs_codec_traits.specs.Words.{taken}
-use Rattle.zarrs_codec_held.specs.Reads.{IsRangeErrorOf, TellsRangeOf}
 use Rattle.zarr_codecs.specs.BytesCodec.{stored_order, element_bytes}
 use Rattle.zarr_codecs.specs.Asking.{runs_asked}
+use Rattle.zarr_codecs.proofs.FittedLaws.{runs_of_some}
 use Rattle.zarr_codecs_vlen.specs.Vlen as vlen
-use Rattle.zarr_codecs_array_to_bytes.specs.Plain.{Plain, plain_bytes, plain_vlen, plain_optional, codec_of, plain_unserved, held_type, takes_by, beyond_by, says_optional, says_by, request_by, part_says}
+use Rattle.zarr_codecs_array_to_bytes.specs.Plain.{Plain, plain_bytes, plain_vlen, plain_optional, codec_of, unserved_by, plain_unserved, held_type, takes_by, beyond_by, says_optional, says_by, request_by}
 
 -- a type that is served is so by a call that takes only some of a level
 pub plain_serves : (plain : Plain) (data_type : DataType) (with_type : Bool)
@@ -88,25 +88,17 @@ plain_asks (plain_vlen text) under level region value ranges inside some invalid
 plain_asks (plain_optional inner) under level region value ranges inside some invalid =
     absurd (nothing_asked some)
 
--- an error that tells of a range tells of one that does not lie within the value
-range_outside : (ranges : List ByteRange) (size : ℕ) (e : CodecError)
-    → IsRangeErrorOf ranges size e → ¬ (first_invalid size ranges ≡ None)
-range_outside ranges size (codec.InvalidByteRangeError error) told none =
-    let some : Some error.range ≡ None = sym told.0 ∙ none in cc
-range_outside ranges size _ told none = told
-
--- so an error of a part comes only where the value does not decode
-pub part_undecoded : (plain : Plain) (under : Options) (level : Level) (value : List ℕ)
-    (e : CodecError) → part_says plain level value e
-    → decode_array_to_bytes under (codec_of plain) level value ≡ None
-part_undecoded plain under level value e (region, inside, told) =
-    go (request_by plain level.shape level.data_type region) refl told
-  where
-    go : (asked : Option (List ByteRange))
-        → request_by plain level.shape level.data_type region ≡ asked
-        → TellsRangeOf asked (Some value) e
-        → decode_array_to_bytes under (codec_of plain) level value ≡ None
-    go None is told = absurd told
-    go (Some ranges) is told =
-        plain_asks plain under level region value ranges inside is
-        (range_outside ranges (length value) e told)
+-- a value that holds the ranges asked for has the same bytes there as some value that decodes
+pub plain_alike : (plain : Plain) (under : Options) (level : Level) (region : Region)
+    (value : List ℕ) (ranges : List ByteRange) → ends_within region level.shape ≡ true
+    → unserved_by plain level.data_type ≡ None
+    → request_by plain level.shape level.data_type region ≡ Some ranges
+    → first_invalid (length value) ranges ≡ None
+    → (other : List ℕ) × (slices_of ranges other ≡ slices_of ranges value)
+    × IsSome (decode_array_to_bytes under (codec_of plain) level other)
+plain_alike (plain_bytes order) under level region value ranges inside served some valid =
+    runs_of_some order under level region value ranges inside served some valid
+plain_alike (plain_vlen text) under level region value ranges inside served some valid =
+    absurd (nothing_asked some)
+plain_alike (plain_optional inner) under level region value ranges inside served some valid =
+    absurd (nothing_asked some)

@@ -1,7 +1,7 @@
 -- Array-to-bytes codecs as plain data: what each means, serves, takes, refuses and is written as.
 use Rattle.std.specs.Prelude.{◌≡◌, ℕ, ◌+◌, ◌*◌, ◌<◌, ◌^◌, if◌then◌else◌, Bool, true, false, nat_le, nat_lt, List, length, take, drop, codes, Option, Some, None, option_and_then}
 use Rattle.serde_json.specs.Data.{Members, no_members, member}
-use Rattle.zarr_model.specs.Region.{Region, ends_within}
+use Rattle.zarr_model.specs.Region.{Region, count_of}
 use Rattle.zarr_model.specs.Element.{DataType, optional_type}
 use Rattle.zarr_model.specs.ArrayBytes.{ArrayBytes, optional_bytes, is_mask}
 use Rattle.zarr_model.specs.Codec.{ArrayToBytes, Level, bytes_codec, vlen_codec, optional_codec}
@@ -93,11 +93,17 @@ request_by (plain_bytes order) shape data_type region =
 request_by (plain_vlen text) shape data_type region = None
 request_by (plain_optional inner) shape data_type region = None
 
--- which errors say that a part of a value does not decode: the first of the ranges that some region
--- of the level asks for does not lie within the value
-abbrev pub part_says : Plain → Level → List ℕ → CodecError → Type 0
-part_says plain level value e = (region : Region) × (ends_within region level.shape ≡ true)
-    × TellsRangeOf (request_by plain level.shape level.data_type region) (Some value) e
+-- which errors say that a region of a value is not there: where ranges are asked for, that of the
+-- first that does not lie within the value, and else those of the value
+abbrev pub asked_says : Option (List ByteRange) → (List ℕ → CodecError → Type 0) → List ℕ
+    → CodecError → Type 0
+asked_says None says value e = says value e
+asked_says (Some ranges) says value e = TellsRangeOf (Some ranges) (Some value) e
+
+abbrev pub part_says : Plain → Level → Region → List ℕ → CodecError → Type 0
+part_says plain level region value e =
+    asked_says (request_by plain level.shape level.data_type region)
+    (says_by plain (count_of level.shape) level.data_type) value e
 
 -- what is told of array bytes that are to be optional, before what is under their mask
 abbrev pub mask_answer : ℕ → ArrayBytes → Told
@@ -118,6 +124,12 @@ size_by (plain_bytes order) number data_type = FixedSize (number * element_bytes
 size_by (plain_vlen text) number data_type = UnboundedSize
 size_by (plain_optional inner) number data_type =
     with_mask number (size_by inner number (held_type data_type))
+
+-- whether it is `bytes`
+abbrev pub is_bytes : Plain → Bool
+is_bytes (plain_bytes order) = true
+is_bytes (plain_vlen text) = false
+is_bytes (plain_optional inner) = false
 
 -- `bytes` alone reads parts of values
 abbrev pub parts_by : Plain → PartialDecoderCapability

@@ -1,11 +1,12 @@
 -- Bytes-to-bytes codecs as plain data: what each means, which errors tell that it gives nothing,
 -- and what it is written as.
-use Rattle.std.specs.Prelude.{ℕ, nat_le, List, length, codes, Option}
+use Rattle.std.specs.Prelude.{◌≡◌, ℕ, nat_le, List, length, codes, Option, Some}
 use Rattle.serde_json.specs.Data.{Members, no_members}
 use Rattle.zarr_model.specs.Codec.{Options, checksum_codec}
 use Rattle.zarrs_codec_error.specs.declared.error.CodecError.{CodecError}
 use Rattle.zarrs_codec_options.specs.declared.bytes_representation.BytesRepresentation.{BytesRepresentation}
 use Rattle.zarrs_codec_traits.specs.Errors.{IsNoFault}
+use Rattle.zarr_codecs.proofs.DigestLaws.{digested}
 use Rattle.zarr_codecs.specs.Sha256.{sha256_says, digest_no_fault, with_digest_size}
 use Rattle.zarr_codecs_kinds.specs.declared.bytes_to_bytes.BasicBytesToBytes.{BasicBytesToBytes}
 use Rattle.zarr_codecs_kinds.specs.declared.bytes_to_bytes.BasicBytesToBytes.TheVariants as bytes
@@ -25,6 +26,11 @@ byte_says_by checksum value e = sha256_says value e
 pub byte_no_fault : (codec : BytesToBytes) (value : List ℕ) (e : CodecError)
     → byte_says_by codec value e → IsNoFault e
 byte_no_fault checksum value e told = digest_no_fault (nat_le 32 (length value)) value e told
+
+-- each value is what some value decodes to
+pub byte_encoded : (options : Options) (codec : BytesToBytes) (value : List ℕ)
+    → (stored : List ℕ) × (byte_codec_of options codec stored ≡ Some value)
+byte_encoded options checksum value = digested options.validate_checksums value
 
 -- how many bytes a value has, encoded
 abbrev pub byte_size_by : BytesToBytes → BytesRepresentation → BytesRepresentation

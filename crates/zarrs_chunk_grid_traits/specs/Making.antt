@@ -8,13 +8,19 @@ use Rattle.zarrs_plugin.specs.Making.{Unmade, unsupported, Makes}
 use Rattle.zarrs_plugin.specs.declared.error.PluginCreateError.{PluginCreateError}
 use Rattle.zarrs_plugin.specs.declared.error.PluginKind.TheVariants as kinds
 
+-- a grid, with the members of its configuration, all defaults set
+pub record ConfiguredGrid : Type 0 where
+  pub members : Members
+  pub grid : Grid
+
 -- a grid was made as is expected, or refused so
 abbrev pub MakesGrid : {X Y : Type 0} → (X → Y) → Result X PluginCreateError → Result Y Unmade
     → Type 0
 MakesGrid seen result expected = Makes kinds.ChunkGrid seen result expected
 
 -- metadata is refused for a name exactly where this is its name, and is not known
-abbrev pub RefusesNames : (List ℕ → Bool) → (Extension → List ℕ → Result Grid Unmade) → Type 0
+abbrev pub RefusesNames : (List ℕ → Bool)
+    → (Extension → List ℕ → Result ConfiguredGrid Unmade) → Type 0
 RefusesNames is_known created = (e : Extension) (shape name : List ℕ) →
     (created e shape ≡ Err (unsupported name)) ↔ ((name ≡ e.name) × (is_known e.name ≡ false))
 

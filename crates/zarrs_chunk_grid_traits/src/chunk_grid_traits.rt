@@ -14,7 +14,7 @@ ghost use Rattle.zarrs_plugin.specs.Making.{Unmade};
 ghost use Rattle.zarrs_plugin.specs.declared.zarr_version.ZarrVersion.TheVariants.{V3};
 ghost use Rattle.zarrs_chunk_grid_traits.specs.ChunkGrid.{AreMet, BoxFits, HasElement, IsPlaceInChunk, LastFits, are_inbounds, in_chunk, region_of_chunks};
 ghost use Rattle.zarrs_chunk_grid_traits.specs.ChunkGridErrors.{Answers, IsRankRefusal, MeetsChunks};
-ghost use Rattle.zarrs_chunk_grid_traits.specs.Making.{MakesGrid, RefusesNames};
+ghost use Rattle.zarrs_chunk_grid_traits.specs.Making.{ConfiguredGrid, MakesGrid, RefusesNames};
 
 mod bounds;
 mod chunks;
@@ -46,10 +46,11 @@ pub trait ChunkGridTraits: ExtensionName + Sized {
     // whether metadata of a name may denote a grid of this type
     ghost is_known: { List ℕ → Bool };
 
-    // the grid that metadata denotes over an array's shape
-    ghost created: { Extension → List ℕ → Result Grid Unmade };
+    // the grid that metadata denotes over an array's shape, with its configuration, or why it denotes none
+    ghost created: { Extension → List ℕ → Result ConfiguredGrid Unmade };
 
-    /// The grid that the metadata denotes over an array of this shape.
+    /// The grid that the metadata denotes over an array of this shape. Its own name and configuration are those of the
+    /// metadata, with all defaults set.
     ///
     /// # Errors
     /// `Unsupported` exactly where the name is none that this type knows; else `Config` where the configuration is not
@@ -59,8 +60,11 @@ pub trait ChunkGridTraits: ExtensionName + Sized {
         metadata: &MetadataV3,
         array_shape: &[u64],
     ) -> Result<Self, PluginCreateError>
-        ensures made { MakesGrid grid result
+        ensures made { MakesGrid
+            (λ (g : Self). record { members = configured g; grid = grid g }) result
             (created (extension_seen metadata.now) array_shape.now) }
+        ensures named { IfOk result (λ g. Self.name_in g V3
+            ≡ Some (extension_seen metadata.now).name) }
         ensures over { IfOk result (λ g. shape g ≡ array_shape.now) };
 
     /// The configuration in metadata.

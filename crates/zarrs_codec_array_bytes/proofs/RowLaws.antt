@@ -1,4 +1,4 @@
--- Boxes that are copied row by row.
+-- Boxes that are copied run by run.
 use Rattle.std.proofs.Common.{◌≡◌, ℕ, ◌*◌, ◌^◌, ◌<◌, List, length, map, true, None, Result, Ok, Err, IfOk, arith, ap, sym, subst, ◌∙◌}
 use Rattle.std.specs.List.{AllByRecursion}
 use Rattle.zarr_model.specs.Region.{Region, count, count_of, whole, contains, place, tuples}

@@ -1,4 +1,4 @@
--- Boxes whose elements are copied row by row.
+-- Boxes whose elements are copied run by run.
 use Rattle.std.specs.Prelude.{ℕ}
 use Rattle.zarr_model.specs.Region.{Region}
 use Rattle.zarrs_array_subset.specs.ArraySubset.{region}

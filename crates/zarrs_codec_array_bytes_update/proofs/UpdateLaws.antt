@@ -9,6 +9,7 @@ use Rattle.zarr_model.specs.Command.{has_long_element}
 use Rattle.zarrs_codec_error.specs.declared.error.CodecError.{CodecError}
 use Rattle.zarrs_codec_error.specs.declared.error.CodecError.TheVariants as codec
 use Rattle.zarrs_codec_bytes.specs.Picking.{AllBelow, gathered, replaced, size_in}
+use Rattle.zarrs_codec_bytes.specs.PickedRuns.{run_numbers, AreRunsOf}
 use Rattle.zarrs_codec_bytes.proofs.GatherLaws.{update_means}
 use Rattle.zarrs_codec_bytes.proofs.ReplaceLaws.{picks_below}
 use Rattle.zarrs_codec_array_bytes.specs.Selection.{linear}
@@ -34,6 +35,12 @@ pair_alike size (optional_bytes old mask) (optional_bytes new over) e = pair_ali
 -- the picks of an update are below both counts
 pub picks_in : (number : ℕ) (indices picks : List ℕ) → picks ≡ replaced indices (range_with_len number (length indices)) (range_with_len 0 number) → AllBelow (number + length indices) picks
 picks_in number indices picks is = λ k h. subst (λ l. (k : ℕ) → k < length l → get_or l k 0 < number + length indices) (sym is) (picks_below number (length indices) indices refl) k h
+
+-- the same of the runs of an indexer's places
+pub picks_within : (number given : ℕ) (shape : List ℕ) (places : List (List ℕ)) (runs picks : List (ℕ × ℕ)) → run_numbers runs ≡ linear shape places → given ≡ length places →
+    AreRunsOf number (length (run_numbers runs)) picks → AreRunsOf number given picks
+picks_within number given shape places runs picks is given_is all =
+    subst (λ m. AreRunsOf number m picks) (ap length is ∙ (length-map places (linear_index shape) ∙ sym given_is)) all
 
 -- an error is what is told first
 pub then_first : (e : CodecError) (first next : Told) → told_by e ≡ first → told_by e ≡ then_answer first next

@@ -1,4 +1,4 @@
-//! Elements of boxes in arrays, replaced row by row.
+//! Elements of boxes in arrays, replaced run by run.
 
 ghost use Rattle.std.specs.Prelude.{◌≡◌, ◌*◌, ◌<◌, ◌^◌, true, None, length, map, IfOk, IfErr};
 ghost use Rattle.std.specs.List.{AllByRecursion};

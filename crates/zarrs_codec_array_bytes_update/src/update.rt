@@ -14,7 +14,7 @@ ghost use Rattle.zarrs_codec_array_bytes.specs.Refusals.{Answers, told, first_an
 ghost use Rattle.zarrs_codec_array_bytes_update.specs.Pairs.{update_answer, both_answer, are_alike};
 ghost use Rattle.zarrs_codec_array_bytes_update.specs.Picks.{update_picks};
 
-use crate::gathering::gather;
+use crate::gathering::gather_runs;
 use crate::pairs::expect_pair;
 use crate::rows::replace_rows;
 use std::alloc::Global;
@@ -23,10 +23,10 @@ use zarrs_array_subset::shape_product;
 use zarrs_chunk_grid_indexer::Indexer;
 use zarrs_codec_array_bytes::ArrayBytes;
 use zarrs_codec_array_bytes::array_bytes::checks::{expect_fit, expect_lengths, is_fixed_inside};
-use zarrs_codec_array_bytes::array_bytes::extract::linear_indices;
+use zarrs_codec_array_bytes::array_bytes::extract::linear_runs;
 use zarrs_codec_array_bytes::array_bytes::rows::Rows;
 use zarrs_codec_array_bytes::array_bytes::step::size_bytes;
-use zarrs_codec_bytes::picks::picks_of;
+use zarrs_codec_bytes::pick_runs::replaced_runs;
 use zarrs_codec_error::CodecError;
 
 // Whether both are as long as so many elements are, the old bytes first.
@@ -49,8 +49,8 @@ fn expect_both(
     }
 }
 
-// The elements with those at the indexer's indices replaced, one by one.
-#[tactic(auto, using(crate::proofs::UpdateLaws::picks_in))]
+// The elements with those at the indexer's indices replaced, run by run.
+#[tactic(auto, using(crate::proofs::UpdateLaws::picks_within))]
 fn update_listed<I: Indexer>(
     alloc: Global,
     bytes: &ArrayBytes<'_>,
@@ -69,15 +69,17 @@ fn update_listed<I: Indexer>(
         (update_picks (count_of shape.now) (linear shape.now (I.places update_indexer.now)))
         (raw_of bytes.now) (raw_of update_bytes.now)) }
 {
-    let indices = linear_indices(alloc, update_indexer, shape)?;
+    let runs = linear_runs(alloc, update_indexer, shape)?;
     let count = shape_product(shape).unwrap();
-    let given = indices.len() as u64;
+    let Some(given) = update_indexer.checked_len() else {
+        return Err(CodecError::OutOfMemory);
+    };
     expect_both(bytes, count, update_bytes, given, size)?;
-    let picks = picks_of(alloc, count, &indices)?;
-    gather(alloc, &picks, count, bytes, given, update_bytes, size)
+    let picks = replaced_runs(alloc, count, &runs)?;
+    gather_runs(alloc, &picks, count, bytes, given, update_bytes, size)
 }
 
-// The elements with those of the box that the indexer is replaced, row by row.
+// The elements with those of the box that the indexer is replaced, run by run.
 #[tactic(auto, using(zarrs_codec_array_bytes::proofs::RowLaws::in_outer, zarrs_codec_array_bytes::proofs::RowLaws::outer_lengths))]
 fn update_rows<I: Indexer>(
     alloc: Global,
@@ -118,7 +120,7 @@ fn count_places<I: Indexer>(indexer: &I, rows: &Rows) -> u64
     rows.num_elements()
 }
 
-// The updated elements: row by row where the indexer is a box of elements of one size, else one by one.
+// The updated elements, run by run.
 fn update_any<I: Indexer>(
     alloc: Global,
     bytes: &ArrayBytes<'_>,

@@ -7,7 +7,7 @@ use Rattle.std.proofs.lemmas.List.{get_or_append_left, get_or-append_right, get_
 use Rattle.std.proofs.Math.Nat.{div-add-mod', mod-lt, mul_comm, suc-mul, mul-le-mul_right}
 use Rattle.zarr_model.specs.Prelude.{Span, Region, count, contains, is_in, place, tuple_at}
 use Rattle.zarr_model.proofs.RegionLaws.{span_in, in_span, positive_factor, place_below}
-use Rattle.zarrs_codec_bytes.specs.Overlap.{span_at, shared_from, shared_size, with_run, Copied}
+use Rattle.zarrs_codec_bytes.specs.Overlap.{span_at, shared_from, shared_size, with_run, Copied, in_bytes}
 
 -- whether a tuple's first index is below a limit
 abbrev pub is_before : ℕ → List ℕ → Bool
@@ -32,6 +32,10 @@ drop-span (span ∷ region) (suc axis) h =
     drop-span region axis (omega arith)
     ∙ (ap (λ n. span_at region axis ∷ drop n region) more
     ∙ ap (λ n. span_at region axis ∷ drop n (span ∷ region)) (sym further))
+
+pub bytes-span : (region : Region) (axis size : ℕ) → axis < length region →
+    in_bytes size (drop axis region) ≡ span_at region axis ∷ in_bytes size (drop (axis + 1) region)
+bytes-span region axis size h = ap (in_bytes size) (drop-span region axis h)
 
 -- a row lies within its rows
 pub row_within : (r n long : ℕ) → r < n → r * (long / n) + long / n ≤ long

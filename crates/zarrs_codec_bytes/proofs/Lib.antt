@@ -9,7 +9,9 @@ pub mod LeafLaws
 pub mod PickLaws
 pub mod ValueLaws
 pub mod PieceLaws
+pub mod PieceRunLaws
 pub mod ReplaceLaws
+pub mod PickRunLaws
 pub mod RowLaws
 pub mod RunLaws
 pub mod FilledLaws

@@ -40,11 +40,11 @@ picked-picks d indices xs ys e =
     (picked-range d [] xs ys 0 refl)
 
 -- the numbers that are put stay below a limit
-below_first : (limit x : ℕ) (xs : List ℕ) → x < limit → AllBelow limit xs → AllBelow limit (x ∷ xs)
+pub below_first : (limit x : ℕ) (xs : List ℕ) → x < limit → AllBelow limit xs → AllBelow limit (x ∷ xs)
 below_first limit x xs h all zero l = h
 below_first limit x xs h all (suc k) l = all k (omega (arith, l))
 
-range_below : (limit from n : ℕ) → from + n ≤ limit → AllBelow limit (range_with_len from n)
+pub range_below : (limit from n : ℕ) → from + n ≤ limit → AllBelow limit (range_with_len from n)
 range_below limit from zero h = λ k l. absurd (omega arith)
 range_below limit from (suc n) h = below_first limit from (range_with_len (from + 1) n) (omega arith) (range_below limit (from + 1) n (omega arith))
 

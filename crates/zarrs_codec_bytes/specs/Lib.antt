@@ -2,6 +2,7 @@ pub mod Elements
 pub mod Filled
 pub mod Overlap
 pub mod Picking
+pub mod PickedRuns
 pub mod Runs
 pub mod Filling
 pub mod Same

@@ -1,4 +1,4 @@
-//! Elements of one size in boxes, row by row.
+//! Elements of one size in boxes, run by run.
 
 ghost use Rattle.std.specs.Prelude.{◌≡◌, ◌*◌, ◌<◌, ◌^◌, true, length, map, IfOk};
 ghost use Rattle.std.specs.List.{flat_map, range_with_len, AllByRecursion};

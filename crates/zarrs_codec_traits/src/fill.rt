@@ -46,9 +46,9 @@ pub fn same_fill(
         result }
     ensures sized { IfOk result
         (λ _. has_size (kind_seen data_type.now) (fill_bytes fill_value.now) ≡ true) }
-    ensures value { IsSome (fill_element (kind_seen data_type.now) (fill_bytes fill_value.now))
-        → MatchResult result (λ r. fill_bytes r ≡ fill_bytes fill_value.now)
-        (λ e. e ≡ codec.OutOfMemory) }
+    ensures value { MatchResult result (λ r. fill_bytes r ≡ fill_bytes fill_value.now)
+        (λ e. IsSome (fill_element (kind_seen data_type.now) (fill_bytes fill_value.now))
+        → e ≡ codec.OutOfMemory) }
 {
     expect_size(alloc, data_type, fill_value)?;
     let copy = fill_value.try_clone(alloc)?;

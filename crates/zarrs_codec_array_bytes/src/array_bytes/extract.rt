@@ -6,6 +6,7 @@ ghost use Rattle.zarr_model.specs.Element.{Element, null};
 ghost use Rattle.zarr_model.specs.ArrayBytes.{meaning};
 ghost use Rattle.zarr_model.specs.Command.{has_long_element};
 ghost use Rattle.zarrs_codec_bytes.specs.Picking.{AllBelow, gathered, picked};
+ghost use Rattle.zarrs_codec_bytes.specs.PickedRuns.{run_numbers, AreRunsBelow};
 ghost use Rattle.zarrs_codec_array_bytes.specs.Steps.{kind_seen, bytes_seen};
 ghost use Rattle.zarrs_codec_array_bytes.specs.Raw.{raw_of};
 ghost use Rattle.zarrs_codec_array_bytes.specs.Selection.{linear};
@@ -14,12 +15,14 @@ ghost use Rattle.zarrs_codec_array_bytes.specs.Refusals.{Answers, fine, first_an
 
 use super::ArrayBytes;
 use super::checks::{expect_fit, expect_kind, expect_lengths, is_fixed_inside};
-use super::gather::select;
+use super::gather::select_runs;
 use super::rows::Rows;
 use super::step::element_size;
 use std::alloc::Global;
 use zarrs_array_subset::shape_product;
-use zarrs_chunk_grid_indexer::{Indexer, append_linearised_indices};
+use zarrs_chunk_grid_indexer::{
+    Indexer, append_contiguous_linearised_indices, append_linearised_indices,
+};
 use zarrs_codec_error::CodecError;
 use zarrs_data_type_names::DataType;
 
@@ -45,7 +48,30 @@ pub fn linear_indices<I: Indexer>(
     }
 }
 
-// The elements at the indexer's indices, one by one.
+/// The runs of linear indices of an indexer in a shape, each as its start and its length.
+///
+/// # Errors
+/// [`CodecError`] that holds the indexer's own refusal, or where memory runs out.
+pub fn linear_runs<I: Indexer>(
+    alloc: Global,
+    indexer: &I,
+    shape: &[u64],
+) -> Result<Vec<(u64, u64)>, CodecError>
+    requires { count_of shape.now < 2 ^ 64 }
+    ensures value { IfOk result
+        (λ v. run_numbers v.items ≡ linear shape.now (I.places indexer.now)) }
+    ensures within { IfOk result (λ v. AreRunsBelow (count_of shape.now) v.items) }
+    ensures answer { Answers (first_answer None (I.fits indexer.now shape.now) fine) result }
+    ensures unfit { IfErr result (IfUnfit (I.refuses indexer.now shape.now)) }
+{
+    let mut runs = Vec::new(alloc);
+    match append_contiguous_linearised_indices(&mut runs, alloc, indexer, shape) {
+        Ok(()) => Ok(runs),
+        Err(error) => Err(CodecError::from(error)),
+    }
+}
+
+// The elements at the indexer's indices, run by run.
 fn extract_listed<I: Indexer>(
     alloc: Global,
     bytes: &ArrayBytes<'_>,
@@ -60,13 +86,13 @@ fn extract_listed<I: Indexer>(
     ensures value { IfOk result (λ v. raw_of v ≡ gathered size (count_of shape.now)
         (linear shape.now (I.places indexer.now)) (raw_of bytes.now) (raw_of bytes.now)) }
 {
-    let indices = linear_indices(alloc, indexer, shape)?;
+    let runs = linear_runs(alloc, indexer, shape)?;
     let count = shape_product(shape).unwrap();
     expect_lengths(bytes, count, size)?;
-    select(alloc, &indices, count, bytes, size)
+    select_runs(alloc, &runs, count, bytes, size)
 }
 
-// The elements of the box that the indexer is, row by row.
+// The elements of the box that the indexer is, run by run.
 #[tactic(auto, using(crate::proofs::RowLaws::in_outer, crate::proofs::RowLaws::outer_lengths))]
 fn extract_rows<I: Indexer>(
     alloc: Global,
@@ -92,7 +118,7 @@ fn extract_rows<I: Indexer>(
     rows.select(alloc, bytes)
 }
 
-// The elements at the indexer's indices: row by row where it is a box of elements of one size, else one by one.
+// The elements at the indexer's indices, run by run.
 fn extract_any<I: Indexer>(
     alloc: Global,
     bytes: &ArrayBytes<'_>,

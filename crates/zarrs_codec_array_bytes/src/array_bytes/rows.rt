@@ -1,4 +1,4 @@
-//! Elements of boxes in arrays, row by row.
+//! Elements of boxes in arrays, run by run.
 
 ghost use Rattle.std.specs.Prelude.{◌≡◌, ◌*◌, ◌<◌, ◌^◌, true, None, length, map, IfOk, IfErr, IfSome};
 ghost use Rattle.std.specs.List.{AllByRecursion};
@@ -18,7 +18,7 @@ use zarrs_chunk_grid_indexer::Indexer;
 use zarrs_codec_bytes::rows::extract_rows;
 use zarrs_codec_error::CodecError;
 
-/// A box in an array, whose elements can be copied row by row.
+/// A box in an array, whose elements can be copied run by run.
 #[derive(Drop)]
 pub struct Rows {
     outer: ArraySubset,
@@ -93,7 +93,7 @@ impl Rows {
     }
 
     /// The box that an indexer is in an array of this shape, where it is one and its elements of `size` bytes can
-    /// be copied row by row.
+    /// be copied run by run.
     ///
     /// # Errors
     /// [`AllocError`] where memory runs out.

@@ -5,7 +5,7 @@ use Rattle.zarrs_codec_array_bytes.specs.Steps.{kind_seen}
 use Rattle.zarr_basics_grids.specs.BasicGrid.{basic_grid}
 use Rattle.zarr_basics_grids.specs.Limits.{has_large_chunk}
 use Rattle.zarr_codecs_array_to_bytes.specs.Views.{plain_of}
-use Rattle.zarr_array_parts.proofs.SizeLaws.{stored_unsized}
+use Rattle.zarr_codecs_array_to_bytes.proofs.SizeLaws.{stored_unsized}
 use Rattle.zarr_array_parts.proofs.limits.is_large.Goals as goal
 
 pub innermost_fill-requires : goal.innermost_fill-requires

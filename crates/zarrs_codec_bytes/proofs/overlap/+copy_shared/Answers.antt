@@ -1,21 +1,15 @@
-use Rattle.std.proofs.Common.{◌<◌, ◌+◌, ◌*◌, ◌/◌, length, arith, sym, ap, ◌∙◌, drop, refl, subst}
+use Rattle.std.proofs.Common.{◌+◌, ◌*◌, ◌/◌, arith, sym, ap, ◌∙◌, drop, refl, subst}
 use Rattle.zarrs_array_subset.specs.ArraySubset.{region}
 use Rattle.zarrs_codec_bytes.specs.Overlap.{span_at, Copied, in_bytes}
-use Rattle.zarrs_codec_bytes.proofs.CopyLaws.{drop-span, shared_none, rows_start, rows_step, rows_end, row_part}
+use Rattle.zarrs_codec_bytes.proofs.CopyLaws.{bytes-span, shared_none, rows_start, rows_step, rows_end, row_part}
 use Rattle.zarrs_codec_bytes.proofs.RunLaws.{shared_room, shared_enough, shared_copied}
 use Rattle.zarrs_codec_bytes.proofs.overlap.+copy_shared.Goals as goal
 
 pub returns-then-shared-eq0 : goal.returns-then-shared-eq0
 returns-then-shared-eq0 t c =
-    let target = region c.args.target_subset.now in
-    let source = region c.args.source_subset.now in
-    let in_target : c.args.axis < length target = omega arith in
-    let in_source : c.args.axis < length source = omega arith in
-    shared_none (span_at target c.args.axis) (span_at source c.args.axis)
-    (in_bytes c.args.size (drop c.args.axis target)) (in_bytes c.args.size (drop (c.args.axis + 1) target))
-    (in_bytes c.args.size (drop c.args.axis source)) (in_bytes c.args.size (drop (c.args.axis + 1) source))
-    (ap (in_bytes c.args.size) (drop-span target c.args.axis in_target))
-    (ap (in_bytes c.args.size) (drop-span source c.args.axis in_source)) c.args.source.now c.args.target.now
+    shared_none _ _ _ _ _ _ (bytes-span (region c.args.target_subset.now) c.args.axis c.args.size (omega arith))
+    (bytes-span (region c.args.source_subset.now) c.args.axis c.args.size (omega arith)) c.args.source.now
+    c.args.target.now
     (sym c.shared_span-shared.ensures.len ∙ c.if-shared-eq0.true)
 
 pub copy_elements_run-requires-clause-target_within : goal.copy_elements_run-requires-clause-target_within
@@ -44,43 +38,25 @@ returns-then-axis-run t c =
 
 pub loop-i-init : goal.loop-i-init
 loop-i-init t c =
-    let target = region c.args.target_subset.now in
-    let source = region c.args.source_subset.now in
-    let in_target : c.args.axis < length target = omega arith in
-    let in_source : c.args.axis < length source = omega arith in
-    rows_start (span_at target c.args.axis) (span_at source c.args.axis)
-    (in_bytes c.args.size (drop c.args.axis target)) (in_bytes c.args.size (drop (c.args.axis + 1) target))
-    (in_bytes c.args.size (drop c.args.axis source)) (in_bytes c.args.size (drop (c.args.axis + 1) source))
-    (ap (in_bytes c.args.size) (drop-span target c.args.axis in_target))
-    (ap (in_bytes c.args.size) (drop-span source c.args.axis in_source)) c.args.source.now c.args.target.now
+    rows_start _ _ _ _ _ _ (bytes-span (region c.args.target_subset.now) c.args.axis c.args.size (omega arith))
+    (bytes-span (region c.args.source_subset.now) c.args.axis c.args.size (omega arith)) c.args.source.now
+    c.args.target.now
     c.shared_span-shared.result.target_at c.shared_span-shared.ensures.target
 
 pub returns : goal.returns
 returns t c =
-    let target = region c.args.target_subset.now in
-    let source = region c.args.source_subset.now in
-    let in_target : c.args.axis < length target = omega arith in
-    let in_source : c.args.axis < length source = omega arith in
-    rows_end (span_at target c.args.axis) (span_at source c.args.axis)
-    (in_bytes c.args.size (drop c.args.axis target)) (in_bytes c.args.size (drop (c.args.axis + 1) target))
-    (in_bytes c.args.size (drop c.args.axis source)) (in_bytes c.args.size (drop (c.args.axis + 1) source))
-    (ap (in_bytes c.args.size) (drop-span target c.args.axis in_target))
-    (ap (in_bytes c.args.size) (drop-span source c.args.axis in_source)) c.args.source.now c.args.target.now
+    rows_end _ _ _ _ _ _ (bytes-span (region c.args.target_subset.now) c.args.axis c.args.size (omega arith))
+    (bytes-span (region c.args.source_subset.now) c.args.axis c.args.size (omega arith)) c.args.source.now
+    c.args.target.now
     c.loop-i.target
     c.shared_span-shared.result.target_at c.loop-i.i c.shared_span-shared.result.len
     c.shared_span-shared.ensures.target c.shared_span-shared.ensures.len (omega arith) c.loop-i.invariant
 
 pub loop-i-preserved : goal.loop-i-preserved
 loop-i-preserved t c =
-    let target = region c.args.target_subset.now in
-    let source = region c.args.source_subset.now in
-    let in_target : c.args.axis < length target = omega arith in
-    let in_source : c.args.axis < length source = omega arith in
-    rows_step (span_at target c.args.axis) (span_at source c.args.axis)
-    (in_bytes c.args.size (drop c.args.axis target)) (in_bytes c.args.size (drop (c.args.axis + 1) target))
-    (in_bytes c.args.size (drop c.args.axis source)) (in_bytes c.args.size (drop (c.args.axis + 1) source))
-    (ap (in_bytes c.args.size) (drop-span target c.args.axis in_target))
-    (ap (in_bytes c.args.size) (drop-span source c.args.axis in_source)) c.args.source.now c.args.target.now
+    rows_step _ _ _ _ _ _ (bytes-span (region c.args.target_subset.now) c.args.axis c.args.size (omega arith))
+    (bytes-span (region c.args.source_subset.now) c.args.axis c.args.size (omega arith)) c.args.source.now
+    c.args.target.now
     c.loop-i.target c.copy_shared.new.target
     c.shared_span-shared.result.target_at c.shared_span-shared.result.source_at c.shared_span-shared.result.len
     c.loop-i.i c.row_len-target_row.result c.row_len-source_row.result
@@ -101,27 +77,21 @@ copy_shared-requires t c = (
       (
         omega arith,
         (
-          let target = region c.args.target_subset.now in
-              let in_target : c.args.axis < length target = omega arith in
-              row_part (span_at target c.args.axis) (in_bytes c.args.size (drop c.args.axis target))
-              (in_bytes c.args.size (drop (c.args.axis + 1) target)) c.loop-i.target
+          row_part _ _ _ c.loop-i.target
               (c.shared_span-shared.result.target_at + c.loop-i.i) c.row_len-target_row.result
               ((c.shared_span-shared.result.target_at + c.loop-i.i) * c.row_len-target_row.result)
-              (ap (in_bytes c.args.size) (drop-span target c.args.axis in_target))
+              (bytes-span (region c.args.target_subset.now) c.args.axis c.args.size (omega arith))
               (c.loop-i.invariant.as_long ∙ c.requires.target_count)
-              (c.row_len-target_row.ensures ∙ ap (λ n. n / (span_at target c.args.axis).size)
+              (c.row_len-target_row.ensures ∙ ap (λ n. n / (span_at (region c.args.target_subset.now) c.args.axis).size)
               (sym c.loop-i.invariant.as_long)) (omega (
                 arith,
                 c.shared_span-shared.ensures.len,
                 c.shared_span-shared.ensures.target,
               )) refl,
-          let source = region c.args.source_subset.now in
-              let in_source : c.args.axis < length source = omega arith in
-              row_part (span_at source c.args.axis) (in_bytes c.args.size (drop c.args.axis source))
-              (in_bytes c.args.size (drop (c.args.axis + 1) source)) c.args.source.now
+          row_part _ _ _ c.args.source.now
               (c.shared_span-shared.result.source_at + c.loop-i.i) c.row_len-source_row.result
               ((c.shared_span-shared.result.source_at + c.loop-i.i) * c.row_len-source_row.result)
-              (ap (in_bytes c.args.size) (drop-span source c.args.axis in_source)) c.requires.source_count
+              (bytes-span (region c.args.source_subset.now) c.args.axis c.args.size (omega arith)) c.requires.source_count
               c.row_len-source_row.ensures (omega (
                 arith,
                 c.shared_span-shared.ensures.len,

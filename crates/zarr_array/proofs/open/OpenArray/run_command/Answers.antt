@@ -2,7 +2,7 @@ use Rattle.std.proofs.Common.{rules, ◌≡◌, ℕ, List, [], ◌∷◌, IfErr,
 use Rattle.zarr_model.specs.Prelude.{erase}
 use Rattle.zarrs_codec_traits.specs.Views.{options_of}
 use Rattle.zarr_array_regions.specs.Told.{TellsWhy}
-use Rattle.zarr_array.specs.Command.{command_of, is_read}
+use Rattle.zarr_array.specs.Command.{command_of, region_read}
 use Rattle.zarr_array.specs.Ended.{ended_step}
 use Rattle.zarr_array.specs.OpenArray.{documented}
 use Rattle.zarr_array.specs.Taken.{TakesAlone}
@@ -29,10 +29,10 @@ returns-in-Erase-clause-taken g c =
 
 pub returns-in-Read-clause-told : goal.returns-in-Read-clause-told
 returns-in-Read-clause-told g c =
-    subst (λ (k : Command). IfErr c.run_read.result (λ error. TellsWhy (is_read (command_of k)) (documented c.args.self.now) (options_of c.args.options.now) (g.S.Store.shown c.run_read.new.store) error.kind))
+    subst (λ (k : Command). IfErr c.run_read.result (λ error. TellsWhy (region_read (command_of k)) (documented c.args.self.now) (options_of c.args.options.now) (g.S.Store.shown c.run_read.new.store) error.kind))
     (sym c.in-Read.is) c.run_read.ensures.told
 
 pub returns-in-Write-clause-told : goal.returns-in-Write-clause-told
 returns-in-Write-clause-told g c =
-    subst (λ (k : Command). IfErr c.run_write.result (λ error. TellsWhy (is_read (command_of k)) (documented c.args.self.now) (options_of c.args.options.now) (g.S.Store.shown c.run_write.new.store) error.kind))
+    subst (λ (k : Command). IfErr c.run_write.result (λ error. TellsWhy (region_read (command_of k)) (documented c.args.self.now) (options_of c.args.options.now) (g.S.Store.shown c.run_write.new.store) error.kind))
     (sym c.in-Write.is) c.run_write.ensures.told

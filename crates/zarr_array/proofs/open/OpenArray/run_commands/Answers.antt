@@ -7,7 +7,7 @@ use Rattle.zarr_array.specs.OpenArray.{documented, described}
 use Rattle.zarr_array.specs.Runs.{Runs}
 use Rattle.zarr_array_regions.proofs.ServedLaws.{described_covers, described_sound}
 use Rattle.zarr_array.proofs.RunsLaws.{command_here, read_here, one_more_ran, stops_at, take_next, take_whole}
-use Rattle.zarr_array.proofs.SessionSteps.{told_of_list}
+use Rattle.zarr_array.proofs.SessionSteps.{told_at}
 use Rattle.zarr_array.proofs.TakenLaws.{more_takes}
 use Rattle.zarr_array.proofs.open.OpenArray.run_commands.Goals as goal
 
@@ -61,8 +61,8 @@ returns-in-Err-run_command-clause-kept g c =
 pub returns-in-Err-run_command-clause-told : goal.returns-in-Err-run_command-clause-told
 returns-in-Err-run_command-clause-told g c =
     let here = command_here command_of c.args.commands.now c.loop-number.number c.index-commands-number.result c.loop-number-test.true c.index-commands-number.is in
-    told_of_list (documented c.args.self.now) (options_of c.args.options.now) (g.S.Store.shown c.run_command.new.store) c.in-Err-run_command.error.kind
-    (map command_of c.args.commands.now) c.loop-number.number (command_of c.index-commands-number.result) here c.in-Err-run_command.ensures.told
+    told_at (documented c.args.self.now) (options_of c.args.options.now) (g.S.Store.shown c.run_command.new.store) c.in-Err-run_command.error.kind
+    (map command_of c.args.commands.now) c.loop-number.number c.in-Err-run_command.error.chunks_done (command_of c.index-commands-number.result) here c.in-Err-run_command.ensures.told
 
 pub returns-clause-taken : goal.returns-clause-taken
 returns-clause-taken g c = λ alone. subst (λ commands. TakesNeeded (described c.args.self.now) (options_of c.args.options.now) commands (g.S.Store.shown c.args.store.now) (g.S.Store.shown c.loop-number.store))

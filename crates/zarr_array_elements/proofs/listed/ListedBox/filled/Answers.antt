@@ -8,4 +8,4 @@ use Rattle.zarr_array_elements.proofs.listed.ListedBox.filled.Goals as goal
 pub invariant_of-result-clause-blank_means : goal.invariant_of-result-clause-blank_means
 invariant_of-result-clause-blank_means c =
     blank_some (fill_element (kind_seen c.args.data_type.now) (fill_bytes c.args.fill_value.now)) (kind_seen c.args.data_type.now) (raw_of c.in_ok-blank.blank)
-    c.requires.denotes c.in_ok-blank.ensures
+    c.requires.denotes c.in_ok-blank.ensures.means

@@ -8,6 +8,7 @@ use Rattle.zarr_array_elements.specs.Given.{given_alike}
 use Rattle.zarr_array_elements.specs.BoxElements.{listed_kind, listed_box}
 use Rattle.zarr_array_elements.proofs.MeansLaws.{some_list}
 use Rattle.zarr_array_elements.proofs.PutLaws.{given_alike_means, took, blanks_long}
+use Rattle.zarr_array_elements.proofs.ShortLaws.{given_short}
 use Rattle.zarr_array_elements.proofs.listed.ListedBox.put.Goals as goal
 
 pub with_piece-requires-clause-alike : goal.with_piece-requires-clause-alike
@@ -36,3 +37,12 @@ returns-clause-copied c =
     (blanks (listed_kind c.args.self.now) (count (listed_box c.args.self.now)) (raw_of c.args.self.now.blank)) (raw_of c.args.bytes.now) (raw_of c.in_ok-piece.piece) c.take-before.result c.args.self.now.given c.in_ok-given.given
     c.requires.rank (blanks_long (listed_kind c.args.self.now) (count (listed_box c.args.self.now)) (raw_of c.args.self.now.blank)) c.args.self.now.given_means c.args.self.now.below c.requires.means c.in_ok-part.ensures c.in_ok-at.ensures c.shape.ensures.value c.take-before.ensures.value
     c.in_ok-piece.ensures.selected c.in_ok-given.ensures.places c.in_ok-given.ensures.below c.in_ok-given.ensures.bytes).copied
+
+pub returns-clause-short : goal.returns-clause-short
+returns-clause-short c = λ short held.
+    let bytes = meaning (listed_kind c.args.self.now) (count (region c.args.subset.now)) (raw_of c.args.bytes.now) in
+    record {
+      blank = held.blank;
+      given = given_short (listed_kind c.args.self.now) _ c.take-before.result c.args.self.now.given c.in_ok-given.given (raw_of c.in_ok-piece.piece) _ c.take-before.ensures.value c.args.self.now.given_means
+          (c.in_ok-piece.ensures.selected _ (some_list bytes c.requires.means)) c.in_ok-given.ensures.bytes held.given (c.in_ok-piece.ensures.short short);
+    }

@@ -5,7 +5,6 @@ use Rattle.zarrs_codec_traits.specs.Views.{options_of}
 use Rattle.zarr_array_regions.specs.RegionChunks.{chunk_at}
 use Rattle.zarr_array_regions.proofs.ChunkLaws.{lent_serves, fetched_elements, given_mean}
 use Rattle.zarr_array_regions.proofs.FetchSteps.{fetch_failed}
-use Rattle.zarr_array_regions.proofs.MetLaws.{met_chunk}
 use Rattle.zarr_array_regions.proofs.TakenLaws.{whole_takes}
 use Rattle.zarr_array_regions.proofs.region_chunks.RegionChunks.fetch_elements.Goals as goal
 
@@ -21,7 +20,7 @@ returns-in_err-bytes-clause-fetched g c =
     let met = c.args.self.now in
     let serves = lent_serves met.array.now c.chain-chain.result.now c.args.levels.now (chunk_at met c.args.number) c.chain-chain.ensures c.requires.levels in
     rw (p.1, p.2) (fetch_failed met.array.now c.chain-chain.result.now c.args.levels.now (options_of c.args.options.now) (chunk_at met c.args.number) serves
-    (met_chunk met c.requires.met c.args.number c.requires.below) c.args.key.now (g.S.Store.shown c.args.store.now) (g.S.Store.shown c.fetch.new.store) _ c.requires.key
+    c.args.key.now (g.S.Store.shown c.args.store.now) (g.S.Store.shown c.fetch.new.store) _ c.requires.key
     (record { same = c.in_err-bytes.ensures.fetches.same; asks = inr c.in_err-bytes.ensures.fetches.asked.asks; later = c.in_err-bytes.ensures.fetches.asked.later }) c.in_err-bytes.ensures.fetches.why)
 
 pub returns-clause-fetched : goal.returns-clause-fetched

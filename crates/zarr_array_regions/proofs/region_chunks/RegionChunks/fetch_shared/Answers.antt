@@ -1,10 +1,12 @@
-use Rattle.std.proofs.Common.{length, sym, ap, ◌∙◌}
+use Rattle.std.proofs.Common.{length, sym, ap, ◌∙◌, subst₂}
 use Rattle.zarrs_array_subset.specs.ArraySubset.{region}
 use Rattle.zarrs_codec_traits.specs.Views.{options_of}
 use Rattle.zarr_array_parts.specs.Parts.{described}
 use Rattle.zarr_array_regions.specs.RegionChunks.{chunk_at}
+use Rattle.zarr_array_regions.specs.Fetch.{NotFetched}
+use Rattle.zarr_array_regions.proofs.AskedLaws.{shared_asked}
 use Rattle.zarr_array_regions.proofs.MetLaws.{its_rank, met_shares}
-use Rattle.zarr_array_regions.proofs.SharedSteps.{shared_lies, shared_many, held_shared}
+use Rattle.zarr_array_regions.proofs.SharedSteps.{shared_lies, shared_many, its_part, held_shared}
 use Rattle.zarr_array_regions.proofs.TakenLaws.{shared_takes}
 use Rattle.zarr_array_regions.proofs.region_chunks.RegionChunks.fetch_shared.Goals as goal
 
@@ -34,3 +36,16 @@ returns-in-Ok-clause-taken g c =
     let rank = its_rank met c.requires.met c.args.number c.requires.below in
     shared_takes met.array.now (region met.subset.now) within chunk (g.S.Store.shown c.args.store.now) (g.S.Store.shown c.fetch_part.new.store) rank
     (shared_many (region met.subset.now) (region c.args.place.subset) ((described met.array.now).grid.chunk_box chunk) within c.requires.place.lies rank c.in_ok-shared.ensures.within) c.in-Ok.ensures.taken
+
+pub returns-in-Err-clause-fetched : goal.returns-in-Err-clause-fetched
+returns-in-Err-clause-fetched g c =
+    let met = c.args.self.now in
+    let chunk = chunk_at met c.args.number in
+    let box = (described met.array.now).grid.chunk_box chunk in
+    let within = region c.in_ok-shared.shared.within in
+    let own = region c.args.place.subset in
+    let rank = its_rank met c.requires.met c.args.number c.requires.below in
+    subst₂ (λ a k. NotFetched a met.array.now (options_of c.args.options.now) chunk (g.S.Store.shown c.args.store.now) (g.S.Store.shown c.fetch_part.new.store) k)
+    (shared_asked (described met.array.now) (region met.subset.now) chunk within (its_part (region met.subset.now) own box within c.requires.place.lies c.in_ok-shared.ensures.within)
+    (shared_many (region met.subset.now) own box within c.requires.place.lies rank c.in_ok-shared.ensures.within))
+    (sym c.chunk_error.ensures) c.in-Err.ensures.fetched

@@ -7,9 +7,10 @@ use Rattle.zarrs_codec_array_bytes.specs.Raw.{raw_of}
 use Rattle.zarrs_codec_traits.specs.Views.{options_of}
 use Rattle.zarr_array_elements.specs.BoxElements.{kind_held, box_held, list_held}
 use Rattle.zarr_array_parts.proofs.ServedLaws.{chunk_counts}
+use Rattle.zarr_array_parts.specs.Parts.{described}
 use Rattle.zarr_array_regions.specs.RegionChunks.{chunk_at}
 use Rattle.zarr_array_regions.specs.Fetch.{NotFetched}
-use Rattle.zarr_array_regions.proofs.FetchSteps.{not_fetched_part}
+use Rattle.zarr_array_regions.proofs.AskedLaws.{asked_whole}
 use Rattle.zarr_array_regions.proofs.MetLaws.{its_rank, met_chunk}
 use Rattle.zarr_array_regions.proofs.ReadSteps.{chunk_put}
 use Rattle.zarr_array_regions.proofs.TakenLaws.{inside_takes}
@@ -50,5 +51,6 @@ returns-in-Err-clause-read g c =
     let options = options_of c.args.options.now in
     let before = g.S.Store.shown c.args.store.now in
     let now = g.S.Store.shown c.fetch_elements.new.store in
-    not_fetched_part met.array.now options chunk before now c.chunk_error.result
-    (subst (λ k. NotFetched false met.array.now options chunk before now k) (sym c.chunk_error.ensures) c.in-Err.ensures.fetched)
+    subst₂ (λ a k. NotFetched a met.array.now options chunk before now k)
+    (sym (asked_whole (described met.array.now) (region met.subset.now) (region c.args.place.subset) chunk c.requires.place.lies c.requires.inside))
+    (sym c.chunk_error.ensures) c.in-Err.ensures.fetched

@@ -1,0 +1,52 @@
+-- The part of a chunk that a read of a region asks for.
+use Rattle.std.proofs.Common.{◌≡◌, ℕ, ◌+◌, ◌-◌, ◌≤◌, max, min, Bool, true, false, ◌==◌, not, if◌then◌else◌, List, [], ◌∷◌, Option, Some, None, refl, ap, ap₂, subst, arith, eq-eqb}
+use Rattle.std.proofs.lemmas.Bool.{and_parts, leb-true}
+use Rattle.zarr_model.specs.Prelude.{Region, count, overlap_of, is_in_part, part_of_box, Options, Description, finds_shared}
+use Rattle.zarr_model.specs.Region.{Span}
+use Rattle.zarrs_array_subset.specs.Boxes.{is_within}
+use Rattle.zarr_array_regions.specs.Asked.{part_asked, chunk_asked, finds_asked}
+
+-- what a box shares with a region that it lies within is the box
+same_span : (a b : ℕ) (m n : ℕ) → b ≤ a → a + m ≤ b + n → (max b a ≡ a) × (min (b + n) (a + m) - max b a ≡ m)
+same_span a b m n low high = (omega (arith, low), omega (arith, low, high))
+
+abbrev span_of : ℕ → ℕ → Span
+span_of a m = record { start = a; size = m }
+
+pub overlap_inside : (region box : Region) → is_within box region ≡ true → overlap_of region box ≡ box
+overlap_inside [] [] within = refl
+overlap_inside [] (own ∷ box) within = cc
+overlap_inside (span ∷ region) [] within = cc
+overlap_inside (span ∷ region) (own ∷ box) within =
+    let parts = and_parts _ (is_within box region) within in
+    let both = and_parts _ _ parts.0 in
+    let low : span.start ≤ own.start = leb-true _ _ both.0 in
+    let high : own.start + own.size ≤ span.start + span.size = leb-true _ _ both.1 in
+    let same = same_span own.start span.start own.size span.size low high in
+    ap₂ (λ (s : Span) (rest : Region). s ∷ rest) (ap₂ (λ (a m : ℕ). span_of a m) same.0 same.1) (overlap_inside region box parts.1)
+
+-- a box that is what a region shares with a chunk is asked for so
+pub shared_asked : (description : Description) (region : Region) (chunk : List ℕ) (within : Region) → within ≡ part_of_box region (description.grid.chunk_box chunk) →
+    count within ≡ count (overlap_of region (description.grid.chunk_box chunk)) → part_asked (description.grid.chunk_box chunk) within ≡ chunk_asked description (Some region) chunk
+shared_asked description region chunk within is many =
+    ap₂ (λ (n : ℕ) (w : Region). if not (n == count (description.grid.chunk_box chunk)) then Some w else None) many is
+
+-- all of a chunk that lies inside the region is asked for
+pub asked_whole : (description : Description) (region own : Region) (chunk : List ℕ) → own ≡ description.grid.chunk_box chunk → is_within own region ≡ true → chunk_asked description (Some region) chunk ≡ None
+asked_whole description region own chunk own_is within =
+    let inside : is_within (description.grid.chunk_box chunk) region ≡ true = subst (λ b. is_within b region ≡ true) own_is within in
+    let all : (count (overlap_of region (description.grid.chunk_box chunk)) == count (description.grid.chunk_box chunk)) ≡ true =
+    eq-eqb _ _ (ap count (overlap_inside region (description.grid.chunk_box chunk) inside)) in
+    ap (λ (b : Bool). if not b then Some (part_of_box region (description.grid.chunk_box chunk)) else None) all
+
+-- a value holds it where it holds what is shared
+pub asked_shared : (description : Description) (options : Options) (region : Region) (chunk : List ℕ) (value : Option (List ℕ)) →
+    finds_asked description options chunk (chunk_asked description (Some region) chunk) value ≡ finds_shared description options region chunk value
+asked_shared description options region chunk value = go (is_in_part region (description.grid.chunk_box chunk)) refl value
+  where
+    go : (part : Bool) → is_in_part region (description.grid.chunk_box chunk) ≡ part → (value : Option (List ℕ)) →
+        finds_asked description options chunk (chunk_asked description (Some region) chunk) value ≡ finds_shared description options region chunk value
+    go true part None = rw part refl
+    go false whole None = rw whole refl
+    go true part (Some value) = rw part refl
+    go false whole (Some value) = rw whole refl
