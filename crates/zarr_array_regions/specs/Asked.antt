@@ -7,11 +7,11 @@ use Rattle.zarr_array_parts.specs.ChunkLevels.{chunk_level}
 abbrev pub part_asked : Region → Region → Option Region
 part_asked box within = if not (count within == count box) then Some within else None
 
--- of a read of a region what the region shares with a chunk, unless that is all of it; else nothing
--- less than all
+-- of a read of a region what the region shares with a chunk, unless that is all of it; else no part
 abbrev pub chunk_asked : Description → Option Region → List ℕ → Option Region
 chunk_asked description None chunk = None
-chunk_asked description (Some region) chunk = if is_in_part region (description.grid.chunk_box chunk)
+chunk_asked description (Some region) chunk =
+    if is_in_part region (description.grid.chunk_box chunk)
     then Some (part_of_box region (description.grid.chunk_box chunk)) else None
 
 -- whether a value that need not decode holds the part of a chunk that is asked for

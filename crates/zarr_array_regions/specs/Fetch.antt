@@ -36,8 +36,8 @@ pub record HasElements (array : ArrayParts) (options : Options) (chunk : List �
 
 -- a chunk was not fetched, all of it or the part that was asked for: nothing was changed, and the
 -- error has its cause and tells why
-pub record NotFetched (asked : Option Region) (array : ArrayParts) (options : Options) (chunk : List ℕ)
-    (before now : Shown) (kind : SessionErrorKind) : Type 0 where
+pub record NotFetched (asked : Option Region) (array : ArrayParts) (options : Options)
+    (chunk : List ℕ) (before now : Shown) (kind : SessionErrorKind) : Type 0 where
   pub same : SameContent before now
   pub asks : (now.asks ≡ before.asks) ⊎ (now.asks ≡ counted before.asks 1)
   pub later : before.faults ≤ now.faults

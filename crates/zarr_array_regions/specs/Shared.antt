@@ -12,8 +12,8 @@ use Rattle.zarr_array_regions.specs.declared.shared.FetchedChunk.{FetchedChunk}
 use Rattle.zarr_array_regions.specs.Asked.{part_asked, finds_asked}
 use Rattle.zarr_array_regions.specs.RegionChunks.{IsPlaceOf}
 
--- these are elements of a chunk's list for a box inside the chunk, none of which is too long for its
--- length to be stored
+-- these are elements of a chunk's list for a box inside the chunk, none of which is too long for
+-- its length to be stored
 pub record HasPart (array : ArrayParts) (chunk : List ℕ) (within : Region) (list : List Element)
     (fetched : Fetched) : Type 0 where
   pub as_long : length list ≡ count ((described array).grid.chunk_box chunk)
