@@ -1,7 +1,7 @@
 -- A run that is made from a number: its array, its summary, and what it owes.
 use Rattle.std.proofs.Common.{◌≡◌, ℕ, ◌+◌, ◌<◌, List, length, Some, None, Result, Ok, Err, IfOk, IfErr, OnOk, Vec, ◌⊎◌, ⊎_elim, inl, inr, refl, sym, ap, ◌∙◌, subst, arith}
 use Rattle.std.specs.declared.alloc.Global.{Global}
-use Rattle.zarr_model.specs.Prelude.{Options, Description, Command, Shown, Told, IsHonest, IsUntouched, Rose, layout, IsDamageMet}
+use Rattle.zarr_model.specs.Prelude.{Options, Description, Command, Shown, Told, IsHonest, IsUntouched, Rose, layout, IsDamageSeen}
 use Rattle.zarr_cli_runs.specs.making.Commands.{made_commands}
 use Rattle.zarr_cli.specs.Input.{input_limit}
 use Rattle.zarr_cli.specs.Run.{IsRunnable}
@@ -134,8 +134,8 @@ module _ (number : ℕ) (options : Options) (before now : Seen) where
   same_chunk a b e = cc
 
   fails_chunk : (status : Status) (key : List ℕ) → Fails status → ending_of status ≡ damaged_chunk key →
-      IsDamageMet made_array options (made_commands number) before.store.content key × (now.store.content key ≡ before.store.content key)
-  fails_chunk (Chunk other) key fault is = subst (λ k. IsDamageMet made_array options (made_commands number) before.store.content k × (now.store.content k ≡ before.store.content k)) (same_chunk other key is) fault
+      IsDamageSeen made_array options (made_commands number) before.store.content key × (now.store.content key ≡ before.store.content key)
+  fails_chunk (Chunk other) key fault is = subst (λ k. IsDamageSeen made_array options (made_commands number) before.store.content k × (now.store.content k ≡ before.store.content k)) (same_chunk other key is) fault
   fails_chunk Store key fault is = absurd (cc)
   fails_chunk OutOfMemory key fault is = absurd (cc)
   fails_chunk Done key fault is = absurd fault

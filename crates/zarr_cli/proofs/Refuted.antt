@@ -9,7 +9,7 @@ use Rattle.std.specs.Str.Lossy.{utf8_valid_len}
 use Rattle.std.proofs.lemmas.Str.{utf8_valid_len-IsValidUpTo, is_utf8-from_IsUtf8, IsUtf8-from_is_utf8}
 use Rattle.std.proofs.lemmas.Option.{same_Some}
 use Rattle.hex.specs.Hex.{encode_with, decode_pairs}
-use Rattle.zarr_model.specs.Prelude.{of_bytes, fixed_bytes, regular_grid, Options, Content, with_key, WhollyMeans, stored_array, Command, elements, read, write, erase, Description, layout, LeavesArray, command_chunks, asks_store, counted, Rose, Shown, Given, IsPlace, AsksUpTo, IsUndecoded, IsStopped, erases_chunk, IsDamageMet, IsDamageSeen, passes_over}
+use Rattle.zarr_model.specs.Prelude.{of_bytes, fixed_bytes, regular_grid, Options, Content, with_key, WhollyMeans, stored_array, Command, elements, read, write, erase, Description, layout, LeavesArray, command_chunks, asks_store, counted, Rose, Shown, Given, IsPlace, AsksUpTo, IsUndecoded, IsStopped, erases_chunk, IsDamageSeen, passes_over}
 use Rattle.zarr_cli_runs.specs.array.parts.Document.{ArrayDocument, describe}
 use Rattle.zarr_cli_runs.proofs.StoredLaws.{stores-none}
 use Rattle.zarr_cli_runs.specs.array.parts.Opening.{opened, open_builtin}
@@ -93,16 +93,12 @@ erase_stops new key (command, which, asks, chunk, here, its_key, same_value, une
     let same : erase (0 ∷ []) ≡ command = same_Some _ _ which in
     let e : false ≡ true = subst (λ c. asks_store c ≡ true) (sym same) asks in cc
 
--- a read meets that value, but not behind an erase of its chunk
+-- a read of the chunk
 abbrev small_read : Command
 small_read = read (record { start = 0; size = 2 } ∷ [])
 
-damage_met : IsDamageMet small_array (options_with false) (small_read ∷ []) damaged (codes "c/0")
-unfolding digits
-damage_met = (0, small_read, refl, refl, 0 ∷ [], (0, lit< tt, refl), refl, refl, refl)
-
--- it is seen by a read of all of the chunk, and of a part that is not there, and passed over by a
--- read of the part that is
+-- that value is seen by a read of all of the chunk, and of a part that is not there, and passed over
+-- by a read of the part that is
 damage_seen : IsDamageSeen small_array (options_with false) (small_read ∷ []) damaged (codes "c/0")
 unfolding digits
 damage_seen = (0, small_read, refl, refl, 0 ∷ [], (0, lit< tt, refl), refl, refl, refl, refl)
@@ -128,8 +124,9 @@ erased_first (suc zero) command chunk k which asks below here unerased =
     let e : true ≡ false = subst (λ c. list_any (erases_chunk small_array c) (erase (0 ∷ []) ∷ []) ≡ false) (sym it) unerased in cc
 erased_first (suc (suc m)) command chunk k which asks below here unerased = let e : None ≡ Some command = which in cc
 
-damage_erased : ¬ IsDamageMet small_array (options_with false) (erase (0 ∷ []) ∷ small_read ∷ []) damaged (codes "c/0")
-damage_erased (m, command, which, asks, chunk, (k, below, here), its_key, unerased, damage) = erased_first m command chunk k which asks below here unerased
+-- and not seen behind an erase of the chunk
+damage_erased : ¬ IsDamageSeen small_array (options_with false) (erase (0 ∷ []) ∷ small_read ∷ []) damaged (codes "c/0")
+damage_erased (m, command, which, asks, chunk, (k, below, here), its_key, unerased, damage, noticed) = erased_first m command chunk k which asks below here unerased
 
 -- a fault of the store at no command
 fault_nowhere : (commands : List Command) (before now : Shown) → ¬ IsStopped small_array (options_with false) commands before now None

@@ -1,6 +1,6 @@
 -- Commands that ran, and their text.
 use Rattle.std.proofs.Common.{◌≡◌, ℕ, ◌≤◌, List, ◌++◌, Result, Ok, Err, IfErr, sym, ap, ap₂, ◌∙◌, subst, arith}
-use Rattle.zarr_model.specs.Prelude.{Command, Description, kind, replies, all_asks, all_bytes, present_in, counted, TellsPresence, LeavesArray, IsDamageMet, Shown, Options}
+use Rattle.zarr_model.specs.Prelude.{Command, Description, kind, replies, all_asks, all_bytes, present_in, counted, TellsPresence, LeavesArray, IsDamageSeen, Shown, Options}
 use Rattle.zarr_cli_runs.specs.array.parts.Document.{ArrayDocument, describe}
 use Rattle.zarr_cli_runs.specs.array.Stored.{StoresForAll}
 use Rattle.zarr_cli_runs.specs.array.declared.command.Reply.{Reply}
@@ -27,7 +27,7 @@ text_replied description options commands before now held text ran is = record {
 run_fault-earlier : (description : Description) (options : Options) (commands : List Command) (before mid now : Shown) → mid.content ≡ before.content → before.faults ≤ mid.faults → (status : Status) →
     IsRunFault description options commands mid now status → IsRunFault description options commands before now status
 run_fault-earlier description options commands before mid now same later (Chunk key) fault =
-    subst (λ content. IsDamageMet description options commands content key × (now.content key ≡ content key)) same fault
+    subst (λ content. IsDamageSeen description options commands content key × (now.content key ≡ content key)) same fault
 run_fault-earlier description options commands before mid now same later Store fault = omega (arith, fault)
 run_fault-earlier description options commands before mid now same later OutOfMemory fault = tt
 run_fault-earlier description options commands before mid now same later Done fault = fault

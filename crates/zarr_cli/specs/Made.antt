@@ -1,6 +1,6 @@
 -- A run that is made from a number: what it prints, what it leaves, and what it owes.
 use Rattle.std.specs.Prelude.{◌≡◌, ℕ, ◌+◌, List}
-use Rattle.zarr_model.specs.Prelude.{Options, Content, IsHonest, Rose, layout, all_asks, counted, IsDamageMet}
+use Rattle.zarr_model.specs.Prelude.{Options, Content, IsHonest, Rose, layout, all_asks, counted, IsDamageSeen}
 use Rattle.zarr_cli_runs.specs.making.Commands.{made_commands}
 use Rattle.zarr_cli_runs.specs.Commands.{IsChangedKey}
 use Rattle.zarr_cli_runs.specs.Ending.{Ending, IsOrMemory, IsGiven, IsGivenFront, IsWritten, IsBeforeStore}
@@ -26,9 +26,9 @@ pub record AnswersMade (number : ℕ) (options : Options) (before now : Seen)
   -- nothing is read, and no ending is one of the words, the reading or an input
   pub unread : now.source ≡ before.source
   pub begun : ¬ IsBeforeStore ending
-  -- a damaged chunk is one that a command met, and its value stands
+  -- a damaged chunk is one that a command saw, and its value stands
   pub chunk : (key : List ℕ) → ending ≡ end.damaged_chunk key →
-      IsDamageMet made_array options (made_commands number) before.store.content key
+      IsDamageSeen made_array options (made_commands number) before.store.content key
       × (now.store.content key ≡ before.store.content key)
   -- a run over an honest store is done, where nothing failed
   pub complete : IsHonest (layout made_array options) before.store.content →

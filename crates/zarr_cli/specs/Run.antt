@@ -1,6 +1,6 @@
 -- A run: what its words and its input say, what it prints, and what it leaves in the store.
 use Rattle.std.specs.Prelude.{◌≡◌, ℕ, ◌+◌, ◌≤◌, Bool, List, ◌++◌, length, IsUtf8, Some}
-use Rattle.zarr_model.specs.Prelude.{Element, Array, Content, Means, IsHonest, Command, Description, layout, replies, LeavesArray, SeesNoDamage, IsDamageMet}
+use Rattle.zarr_model.specs.Prelude.{Element, Array, Content, Means, IsHonest, Command, Description, layout, replies, LeavesArray, SeesNoDamage, IsDamageSeen}
 use Rattle.zarr_cli_runs.specs.lines.Text.{commands_of, replies_text}
 use Rattle.zarr_cli_runs.specs.array.parts.Document.{ArrayDocument, describe}
 use Rattle.zarr_cli_runs.specs.array.parts.Opening.{opened, open_builtin}
@@ -54,10 +54,10 @@ abbrev pub IsRunnable : List (List ℕ) → List ℕ → Content → Type 0
 IsRunnable words input old = (run : Run words input)
     × IsHonest (layout (describe run.document) run.settings.options) (store_after_keys input old)
 
--- the cause of a damaged chunk: a run in form met its value as the key lines left it
+-- the cause of a damaged chunk: a run in form saw its value as the key lines left it
 abbrev pub HasDamage : List (List ℕ) → List ℕ → Content → List ℕ → Type 0
 HasDamage words input old key = (run : Run words input)
-    × IsDamageMet (describe run.document) run.settings.options run.commands
+    × IsDamageSeen (describe run.document) run.settings.options run.commands
     (store_after_keys input old) key
 
 -- Each key that is neither a key line's nor that of a chunk that an accepted command writes or

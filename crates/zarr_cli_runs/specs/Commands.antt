@@ -2,7 +2,7 @@
 -- early.
 use Rattle.std.specs.Prelude.{◌≡◌, ℕ, List, [], map, Ok, true}
 use Rattle.std.specs.List.{AllZip, list_any}
-use Rattle.zarr_model.specs.Prelude.{Element, Array, Options, Means, Shown, Command, Description, kind, layout, replies, Matches, LeavesArray, SeesNoDamage, RefusesRight, all_asks, counted, Rose, IsDamageMet, IsChunk, changes_chunk}
+use Rattle.zarr_model.specs.Prelude.{Element, Array, Options, Means, Shown, Command, Description, kind, layout, replies, Matches, LeavesArray, SeesNoDamage, RefusesRight, all_asks, counted, Rose, IsDamageSeen, IsChunk, changes_chunk}
 use Rattle.zarr_cli_made.specs.array.Command.{answer_of}
 use Rattle.zarr_cli_made.specs.array.Stored.{StoresForAll}
 use Rattle.zarr_cli_made.specs.array.parts.Document.{ArrayDocument}
@@ -39,7 +39,7 @@ TakesRun document options commands before now =
 -- commands ended early, and the value of a damaged chunk stands
 abbrev pub IsRunFault : Description → Options → List Command → Shown → Shown → Status → Type 0
 IsRunFault description options commands before now (Chunk key) =
-    IsDamageMet description options commands before.content key
+    IsDamageSeen description options commands before.content key
     × (now.content key ≡ before.content key)
 IsRunFault description options commands before now Store = Rose before.faults now.faults
 IsRunFault description options commands before now OutOfMemory = Unit {0}
