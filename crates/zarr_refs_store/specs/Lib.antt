@@ -1,0 +1,4 @@
+pub mod References
+pub mod Slices
+pub mod RefStore
+pub mod Kept
