@@ -1,38 +1,80 @@
 -- What a reading call keeps of a store of slices.
-use Rattle.std.specs.Prelude.{◌≡◌, ℕ, ◌≤◌, List, refl}
+use Rattle.std.specs.Prelude.{◌≡◌, ℕ, ◌+◌, ◌-◌, ◌^◌, ◌<◌, ◌≤◌, List, refl}
 use Rattle.std.specs.Borrow.{GName}
 use Rattle.std.specs.BTreeMap.{BTreeMap}
-use Rattle.std.proofs.Common.{◌∙◌, le_trans, le_refl}
+use Rattle.std.proofs.Common.{◌∙◌, arith, le_trans, le_refl}
 use Rattle.zarr_model.specs.Prelude.{Shown}
 use Rattle.zarrs_storage.specs.Store.{SameContent}
 use Rattle.zarr_refs_store.specs.declared.slices.Slice.{Slice}
 
--- the base is the same reference, with the same slices and own count of faults; it holds what it
--- held, and has failed no less
-pub record Keeps (name name_new : GName) (slices slices_new : BTreeMap (List ℕ) Slice)
-    (own own_new : ℕ) (base base_new : Shown) : Type 0 where
-  pub same_reference : name_new ≡ name
-  pub same_slices : slices_new ≡ slices
-  pub same_own : own_new ≡ own
-  pub same : SameContent base base_new
-  pub later : base.faults ≤ base_new.faults
+-- a store of slices: which reference its base is, its slices, its own counts, and what its base shows
+pub record Over : Type 0 where
+  pub name : GName
+  pub slices : BTreeMap (List ℕ) Slice
+  pub own_faults : ℕ
+  pub asks : ℕ
+  pub taken : ℕ
+  pub base : Shown
 
-pub keeps_self : (name : GName) (slices : BTreeMap (List ℕ) Slice) (own : ℕ) (base : Shown)
-    → Keeps name name slices slices own own base base
-keeps_self name slices own base = record {
-  same_reference = refl;
-  same_slices = refl;
-  same_own = refl;
-  same = λ key. refl;
-  later = le_refl _;
+abbrev pub over_of : GName → BTreeMap (List ℕ) Slice → ℕ → ℕ → ℕ → Shown → Over
+over_of name slices own_faults asks taken base = record {
+  name = name;
+  slices = slices;
+  own_faults = own_faults;
+  asks = asks;
+  taken = taken;
+  base = base;
 }
 
-pub keeps_twice : {a b c : GName} {s t u : BTreeMap (List ℕ) Slice} {m n k : ℕ} {x y z : Shown}
-    → Keeps a b s t m n x y → Keeps b c t u n k y z → Keeps a c s u m k x z
-keeps_twice first second = record {
+-- a count of its own never falls, and that of its base rose by no more, as long as its own one is
+-- below the last value
+pub record CountsNoMore (own own_new below below_new : ℕ) : Type 0 where
+  pub rises : own ≤ own_new
+  pub no_more : own_new < 2 ^ 64 - 1 → below_new + own ≤ below + own_new
+
+-- the base is the same reference, under the same slices; it holds what it held, and was asked and
+-- has handed out no more than its reads were; no failure is its own
+pub record Keeps (old new : Over) : Type 0 where
+  pub same_reference : new.name ≡ old.name
+  pub same_slices : new.slices ≡ old.slices
+  pub same_faults : new.own_faults ≡ old.own_faults
+  pub same : SameContent old.base new.base
+  pub later : old.base.faults ≤ new.base.faults
+  pub asks : CountsNoMore old.asks new.asks old.base.asks new.base.asks
+  pub taken : CountsNoMore old.taken new.taken old.base.taken new.base.taken
+
+counts_self : (own below : ℕ) → CountsNoMore own own below below
+counts_self own below = record { rises = le_refl _; no_more = λ h. le_refl _ }
+
+counts_twice : {a b c k l m : ℕ} → CountsNoMore a b k l → CountsNoMore b c l m → CountsNoMore a c k m
+counts_twice {a} {b} {c} {k} {l} {m} first second = record {
+  rises = le_trans first.rises second.rises;
+  no_more = λ below.
+      let rises : b ≤ c = second.rises in
+      let early : b < 2 ^ 64 - 1 = omega (arith, rises, below) in
+      let one = first.no_more early in
+      let two = second.no_more below in
+      omega (arith, one, two);
+}
+
+pub keeps_self : (store : Over) → Keeps store store
+keeps_self store = record {
+  same_reference = refl;
+  same_slices = refl;
+  same_faults = refl;
+  same = λ key. refl;
+  later = le_refl _;
+  asks = counts_self store.asks store.base.asks;
+  taken = counts_self store.taken store.base.taken;
+}
+
+pub keeps_twice : (a b c : Over) → Keeps a b → Keeps b c → Keeps a c
+keeps_twice a b c first second = record {
   same_reference = second.same_reference ∙ first.same_reference;
   same_slices = second.same_slices ∙ first.same_slices;
-  same_own = second.same_own ∙ first.same_own;
+  same_faults = second.same_faults ∙ first.same_faults;
   same = λ key. second.same key ∙ first.same key;
   later = le_trans first.later second.later;
+  asks = counts_twice first.asks second.asks;
+  taken = counts_twice first.taken second.taken;
 }

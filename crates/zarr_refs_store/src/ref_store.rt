@@ -63,8 +63,10 @@ fn read_parts<S: Store>(
 
 // The only part, if there is one.
 fn only_part(parts: Option<Vec<Vec<u8>>>) -> Option<Vec<u8>>
-    ensures { (bytes : List ℕ) → part_bytes parts ≡ Some (bytes ∷ []) →
+    ensures value { (bytes : List ℕ) → part_bytes parts ≡ Some (bytes ∷ []) →
         value_bytes result ≡ Some bytes }
+    ensures handed { (bytes : List ℕ) → part_bytes parts ≡ Some (bytes ∷ []) →
+        handed_out result ≡ handed_parts parts }
 {
     match parts {
         Some(mut parts) => parts.pop(),
@@ -215,12 +217,13 @@ impl<S: Store> Store for RefStore<'_, S> {
     ghost use Rattle.std.specs.Prelude.{false};
     ghost use Rattle.zarrs_storage.specs.Calls.{count_of-fits};
     ghost use Rattle.zarr_refs_store.specs.RefStore.{shown_of};
-    ghost use Rattle.zarr_refs_store.specs.Kept.{Keeps, keeps_self, keeps_twice};
+    ghost use Rattle.zarr_refs_store.specs.Kept.{over_of, Keeps, keeps_self, keeps_twice};
 
     ghost shown = { λ s. shown_of s.slices s.own_faults s.asks s.taken (S.shown s.base.now) };
 
-    ghost kept = { λ a b. Keeps a.base.ghost_name b.base.ghost_name a.slices b.slices
-        a.own_faults b.own_faults (S.shown a.base.now) (S.shown b.base.now) };
+    ghost kept = { λ a b. Keeps
+        (over_of a.base.ghost_name a.slices a.own_faults a.asks a.taken (S.shown a.base.now))
+        (over_of b.base.ghost_name b.slices b.own_faults b.asks b.taken (S.shown b.base.now)) };
 
     ghost gets_parts = { λ s. S.gets_parts s.base.now };
 
@@ -318,8 +321,11 @@ impl<S: Store> Store for RefStore<'_, S> {
       count_of-fits s.taken,
     ) };
 
-    ghost kept_self = { λ s. keeps_self s.base.ghost_name s.slices s.own_faults
-        (S.shown s.base.now) };
+    ghost kept_self = { λ s. keeps_self
+        (over_of s.base.ghost_name s.slices s.own_faults s.asks s.taken (S.shown s.base.now)) };
 
-    ghost kept_twice = { λ a b c x y. keeps_twice x y };
+    ghost kept_twice = { λ a b c. keeps_twice
+        (over_of a.base.ghost_name a.slices a.own_faults a.asks a.taken (S.shown a.base.now))
+        (over_of b.base.ghost_name b.slices b.own_faults b.asks b.taken (S.shown b.base.now))
+        (over_of c.base.ghost_name c.slices c.own_faults c.asks c.taken (S.shown c.base.now)) };
 }
