@@ -1,5 +1,5 @@
 -- What a read keeps of a store of slices.
-use Rattle.std.proofs.Common.{◌≡◌, ap, refl, subst, ℕ, ◌+◌, ◌-◌, ◌^◌, ◌≤◌, ◌<◌, min, List, arith, le_refl}
+use Rattle.std.proofs.Common.{◌≡◌, refl, ℕ, ◌+◌, ◌-◌, ◌^◌, ◌≤◌, List, arith, le_refl}
 use Rattle.std.specs.Borrow.{GName}
 use Rattle.std.specs.BTreeMap.{BTreeMap}
 use Rattle.zarr_model.specs.Prelude.{Shown, counted}

@@ -7,11 +7,11 @@ use Rattle.zarr_refs_store.proofs.ref_store.RefStoreStore.get_partial_many.Goals
 pub returns-in-Ok-clause-kept : goal.returns-in-Ok-clause-kept
 returns-in-Ok-clause-kept g c =
     let handed : CountsNoMore c.args.self.now.taken c.with_parts-self.result (g.S.Store.shown c.args.self.now.base.now).taken (g.S.Store.shown c.read_parts.new.base).taken =
-        counts_taken c.args.self.now.taken c.with_parts-self.result (handed_parts c.in-Ok.parts) _ _ (search rules) (search rules) (search rules) in
+    counts_taken c.args.self.now.taken c.with_parts-self.result (handed_parts c.in-Ok.parts) _ _ (search rules) (search rules) (search rules) in
     read_kept _ _ _ _ _ _ _ _ _ c.read_parts.ensures.same c.read_parts.ensures.cause.later (search rules) (search rules) (search rules) handed
 
 pub returns-in-Err-clause-kept : goal.returns-in-Err-clause-kept
 returns-in-Err-clause-kept g c =
     let handed : CountsNoMore c.args.self.now.taken c.args.self.now.taken (g.S.Store.shown c.args.self.now.base.now).taken (g.S.Store.shown c.read_parts.new.base).taken =
-        counts_same c.args.self.now.taken _ _ (search rules) in
+    counts_same c.args.self.now.taken _ _ (search rules) in
     read_kept _ _ _ _ _ _ _ _ _ c.read_parts.ensures.same c.read_parts.ensures.cause.later (search rules) (search rules) (search rules) handed
