@@ -1,0 +1,176 @@
+//! Slices of one value, read; and references that are refused.
+
+use std::alloc::Global;
+use std::process::Abort;
+use zarr_refs_store::{RefError, RefStore, Reference};
+use zarrs_storage::{ByteRange, FailingStore, MemoryStore, StorageError, Store, StoreKey};
+
+fn key_of(rt: &impl Abort, alloc: Global, key: &str) -> StoreKey {
+    let text = String::from_str(alloc, key).expect(rt, "memory");
+    StoreKey::new(text).ok().expect(rt, key)
+}
+
+// A reference to `length` bytes of a value from `offset` on.
+fn slice(
+    rt: &impl Abort,
+    alloc: Global,
+    key: &str,
+    base: &str,
+    offset: u64,
+    length: u64,
+) -> Reference {
+    Reference {
+        key: key_of(rt, alloc, key),
+        base: key_of(rt, alloc, base),
+        offset,
+        length,
+    }
+}
+
+// A store with five bytes under `blob`.
+fn blob(rt: &impl Abort, alloc: Global) -> MemoryStore {
+    let mut base = MemoryStore::new(alloc);
+    let key = key_of(rt, alloc, "blob");
+    base.set(alloc, &key, &[0, 1, 2, 3, 4]).expect(rt, "memory");
+    base
+}
+
+fn both(rt: &impl Abort, alloc: Global, first: Reference, second: Reference) -> Vec<Reference> {
+    let mut references = Vec::new(alloc);
+    references.push(first).ok().expect(rt, "memory");
+    references.push(second).ok().expect(rt, "memory");
+    references
+}
+
+// The first bytes of the blob but one, and the last two, the later key first.
+fn halves(rt: &impl Abort, alloc: Global) -> Vec<Reference> {
+    let first = slice(rt, alloc, "c/0", "blob", 1, 2);
+    let second = slice(rt, alloc, "c/1", "blob", 3, 2);
+    both(rt, alloc, second, first)
+}
+
+// Whether the value under a key is these bytes.
+fn holds<S: Store>(rt: &impl Abort, alloc: Global, store: &mut S, key: &str, bytes: &[u8]) -> bool {
+    let key = key_of(rt, alloc, key);
+    match store.get(alloc, &key) {
+        Ok(Some(value)) => value.as_slice() == bytes,
+        _ => false,
+    }
+}
+
+// Whether the last byte of the value under a key and all of it are these.
+fn has_parts<S: Store>(
+    rt: &impl Abort,
+    alloc: Global,
+    store: &mut S,
+    key: &str,
+    last: &[u8],
+    all: &[u8],
+) -> bool {
+    let key = key_of(rt, alloc, key);
+    let ranges = [ByteRange::Suffix(1), ByteRange::FromStart(0, None)];
+    match store.get_partial_many(alloc, &key, &ranges) {
+        Ok(Some(parts)) => match parts.as_slice() {
+            [first, second] => first.as_slice() == last && second.as_slice() == all,
+            _ => false,
+        },
+        _ => false,
+    }
+}
+
+// Whether these two keys are all that a store has.
+fn lists<S: Store>(alloc: Global, store: &mut S, first: &str, second: &str) -> bool {
+    match store.list(alloc) {
+        Ok(keys) => match keys.as_slice() {
+            [a, b] => a.as_str() == first && b.as_str() == second,
+            _ => false,
+        },
+        Err(_) => false,
+    }
+}
+
+#[test]
+fn slices_are_values(rt: HostRuntime) {
+    let alloc = rt.alloc();
+    let mut base = blob(&rt, alloc);
+    let mut store = match RefStore::new(alloc, &mut base, halves(&rt, alloc)) {
+        Ok(store) => store,
+        Err(_) => panic!(rt; "refused"),
+    };
+    assert_eq!(rt; holds(&rt, alloc, &mut store, "c/0", &[1, 2]), true);
+    assert_eq!(rt;
+        has_parts(&rt, alloc, &mut store, "c/1", &[4], &[3, 4]),
+        true
+    );
+    assert_eq!(rt; lists(alloc, &mut store, "c/0", "c/1"), true);
+    assert_eq!(rt; store.size_key(&key_of(&rt, alloc, "c/1")), Ok(Some(2)));
+    assert_eq!(rt; store.size_key(&key_of(&rt, alloc, "blob")), Ok(None));
+    assert_eq!(rt; (store.asks(), store.taken(), store.faults()), (5, 5, 0));
+    let erased = store.erase(&key_of(&rt, alloc, "c/0"));
+    assert_eq!(rt; erased, Err(StorageError::Failed));
+    assert_eq!(rt; store.faults(), 1);
+    // Of the base: a size for each reference, and two reads.
+    let base = store.into_base();
+    assert_eq!(rt; (base.asks(), base.taken(), base.faults()), (4, 5, 0));
+}
+
+// Why two references over a store are refused, or nothing.
+fn refusal<S: Store>(alloc: Global, base: &mut S, references: Vec<Reference>) -> &'static str {
+    match RefStore::new(alloc, base, references) {
+        Ok(_) => "none",
+        Err(RefError::RepeatedKey { key: _ }) => "repeated",
+        Err(RefError::MissingBase { key: _ }) => "missing",
+        Err(RefError::SliceOutOfBounds { key: _ }) => "out of bounds",
+        Err(RefError::Store) => "store",
+        Err(RefError::OutOfMemory) => "memory",
+    }
+}
+
+// Why this reference is refused behind one that is fine.
+fn behind(rt: &impl Abort, alloc: Global, second: Reference) -> &'static str {
+    let first = slice(rt, alloc, "c/0", "blob", 5, 0);
+    let mut base = blob(rt, alloc);
+    refusal(alloc, &mut base, both(rt, alloc, first, second))
+}
+
+#[test]
+fn references_are_refused(rt: HostRuntime) {
+    let alloc = rt.alloc();
+    let repeated = slice(&rt, alloc, "c/0", "none", 0, 1);
+    assert_eq!(rt; behind(&rt, alloc, repeated), "repeated");
+    let missing = slice(&rt, alloc, "c/1", "none", 0, 0);
+    assert_eq!(rt; behind(&rt, alloc, missing), "missing");
+    let past = slice(&rt, alloc, "c/1", "blob", 4, 2);
+    assert_eq!(rt; behind(&rt, alloc, past), "out of bounds");
+    let far = slice(&rt, alloc, "c/1", "blob", 18446744073709551615, 2);
+    assert_eq!(rt; behind(&rt, alloc, far), "out of bounds");
+    let whole = slice(&rt, alloc, "c/1", "blob", 0, 5);
+    assert_eq!(rt; behind(&rt, alloc, whole), "none");
+}
+
+// Why the halves are refused where a call of the base fails, or how the first read ends and how many faults there are.
+fn over_failing(rt: &impl Abort, alloc: Global, call: u64) -> (&'static str, u64) {
+    let mut failing = Vec::new(alloc);
+    failing.push(call).ok().expect(rt, "memory");
+    let mut base = FailingStore::new(blob(rt, alloc), failing);
+    match RefStore::new(alloc, &mut base, halves(rt, alloc)) {
+        Ok(mut store) => {
+            let read = match store.get(alloc, &key_of(rt, alloc, "c/0")) {
+                Err(StorageError::Failed) => "not read",
+                _ => "read",
+            };
+            (read, store.faults())
+        }
+        Err(RefError::Store) => ("not made", 0),
+        Err(_) => ("refused", 0),
+    }
+}
+
+#[test]
+fn a_base_fails(rt: HostRuntime) {
+    let alloc = rt.alloc();
+    assert_eq!(rt; over_failing(&rt, alloc, 0), ("not made", 0));
+    assert_eq!(rt; over_failing(&rt, alloc, 1), ("not made", 0));
+    assert_eq!(rt; over_failing(&rt, alloc, 2), ("not read", 1));
+    assert_eq!(rt; over_failing(&rt, alloc, 3), ("read", 0));
+}
