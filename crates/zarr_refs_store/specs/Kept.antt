@@ -1,30 +1,8 @@
 -- What a reading call keeps of a store of slices.
-use Rattle.std.specs.Prelude.{◌≡◌, ℕ, ◌+◌, ◌-◌, ◌^◌, ◌<◌, ◌≤◌, List, refl}
-use Rattle.std.specs.Borrow.{GName}
-use Rattle.std.specs.BTreeMap.{BTreeMap}
+use Rattle.std.specs.Prelude.{◌≡◌, ℕ, ◌+◌, ◌-◌, ◌^◌, ◌<◌, ◌≤◌, refl}
 use Rattle.std.proofs.Common.{◌∙◌, arith, le_trans, le_refl}
-use Rattle.zarr_model.specs.Prelude.{Shown}
 use Rattle.zarrs_storage.specs.Store.{SameContent}
-use Rattle.zarr_refs_store.specs.declared.slices.Slice.{Slice}
-
--- a store of slices: which reference its base is, its slices, its own counts, and what its base shows
-pub record Over : Type 0 where
-  pub name : GName
-  pub slices : BTreeMap (List ℕ) Slice
-  pub own_faults : ℕ
-  pub asks : ℕ
-  pub taken : ℕ
-  pub base : Shown
-
-abbrev pub over_of : GName → BTreeMap (List ℕ) Slice → ℕ → ℕ → ℕ → Shown → Over
-over_of name slices own_faults asks taken base = record {
-  name = name;
-  slices = slices;
-  own_faults = own_faults;
-  asks = asks;
-  taken = taken;
-  base = base;
-}
+use Rattle.zarr_refs_store.specs.Over.{Over}
 
 -- a count of its own never falls, and that of its base rose by no more, as long as its own one is
 -- below the last value
@@ -57,8 +35,8 @@ counts_twice {a} {b} {c} {k} {l} {m} first second = record {
       omega (arith, one, two);
 }
 
-pub keeps_self : (store : Over) → Keeps store store
-keeps_self store = record {
+pub keeps_self : {store : Over} → Keeps store store
+keeps_self {store} = record {
   same_reference = refl;
   same_slices = refl;
   same_faults = refl;
@@ -68,8 +46,8 @@ keeps_self store = record {
   taken = counts_self store.taken store.base.taken;
 }
 
-pub keeps_twice : (a b c : Over) → Keeps a b → Keeps b c → Keeps a c
-keeps_twice a b c first second = record {
+pub keeps_twice : {a b c : Over} → Keeps a b → Keeps b c → Keeps a c
+keeps_twice first second = record {
   same_reference = second.same_reference ∙ first.same_reference;
   same_slices = second.same_slices ∙ first.same_slices;
   same_faults = second.same_faults ∙ first.same_faults;

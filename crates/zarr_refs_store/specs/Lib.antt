@@ -1,4 +1,6 @@
 pub mod References
 pub mod Slices
 pub mod RefStore
+pub mod Over
 pub mod Kept
+pub mod Lent

@@ -150,8 +150,10 @@ pub struct RefStore<'s, S: Store> {
 
 impl<'s, S: Store> RefStore<'s, S> {
     ghost use Rattle.std.specs.Prelude.{◌≤◌, OnOk};
-    ghost use Rattle.zarr_refs_store.specs.References.{repeated, unfit, IsRefused, IsRefusedApart};
-    ghost use Rattle.zarr_refs_store.specs.Slices.{held_by, sliced};
+    ghost use Rattle.zarr_refs_store.specs.References.{repeated, unfit, IsRefusedApart};
+    ghost use Rattle.zarr_refs_store.specs.Slices.{sliced};
+    ghost use Rattle.zarr_refs_store.specs.Over.{shown_of};
+    ghost use Rattle.zarr_refs_store.specs.Lent.{over_of};
 
     /// The slices over their base, all of which lie in it.
     pub fn over(base: &'s mut S, slices: Slices) -> Self
@@ -183,7 +185,7 @@ impl<'s, S: Store> RefStore<'s, S> {
         ensures content { IfOk result (λ store.
             SameContent (S.shown base.old) (S.shown store.base.now)) }
         ensures sliced { IfOk result (λ store. (key : List ℕ) →
-            held_by (S.shown store.base.now).content (slice_at store.slices key)
+            (shown_of (over_of S.Store store)).content key
             ≡ sliced references.items (S.shown base.old).content key) }
         ensures later { IfOk result (λ store.
             (S.shown base.old).faults ≤ (S.shown store.base.now).faults) }
@@ -216,14 +218,13 @@ impl<'s, S: Store> RefStore<'s, S> {
 impl<S: Store> Store for RefStore<'_, S> {
     ghost use Rattle.std.specs.Prelude.{false};
     ghost use Rattle.zarrs_storage.specs.Calls.{count_of-fits};
-    ghost use Rattle.zarr_refs_store.specs.RefStore.{shown_of};
-    ghost use Rattle.zarr_refs_store.specs.Kept.{over_of, Keeps, keeps_self, keeps_twice};
+    ghost use Rattle.zarr_refs_store.specs.Over.{shown_of};
+    ghost use Rattle.zarr_refs_store.specs.Lent.{over_of};
+    ghost use Rattle.zarr_refs_store.specs.Kept.{Keeps, keeps_self, keeps_twice};
 
-    ghost shown = { λ s. shown_of s.slices s.own_faults s.asks s.taken (S.shown s.base.now) };
+    ghost shown = { λ s. shown_of (over_of S.Store s) };
 
-    ghost kept = { λ a b. Keeps
-        (over_of a.base.ghost_name a.slices a.own_faults a.asks a.taken (S.shown a.base.now))
-        (over_of b.base.ghost_name b.slices b.own_faults b.asks b.taken (S.shown b.base.now)) };
+    ghost kept = { λ a b. Keeps (over_of S.Store a) (over_of S.Store b) };
 
     ghost gets_parts = { λ s. S.gets_parts s.base.now };
 
@@ -321,11 +322,7 @@ impl<S: Store> Store for RefStore<'_, S> {
       count_of-fits s.taken,
     ) };
 
-    ghost kept_self = { λ s. keeps_self
-        (over_of s.base.ghost_name s.slices s.own_faults s.asks s.taken (S.shown s.base.now)) };
+    ghost kept_self = { λ _. keeps_self };
 
-    ghost kept_twice = { λ a b c. keeps_twice
-        (over_of a.base.ghost_name a.slices a.own_faults a.asks a.taken (S.shown a.base.now))
-        (over_of b.base.ghost_name b.slices b.own_faults b.asks b.taken (S.shown b.base.now))
-        (over_of c.base.ghost_name c.slices c.own_faults c.asks c.taken (S.shown c.base.now)) };
+    ghost kept_twice = { λ _ _ _. keeps_twice };
 }
