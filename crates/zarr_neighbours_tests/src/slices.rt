@@ -89,6 +89,26 @@ fn lists<S: Store>(alloc: Global, store: &mut S, first: &str, second: &str) -> b
     }
 }
 
+// How many bytes the value under a key has.
+fn size<S: Store>(rt: &impl Abort, alloc: Global, store: &mut S, key: &str) -> Option<u64> {
+    let key = key_of(rt, alloc, key);
+    store.size_key(&key).ok().expect(rt, "a size")
+}
+
+// Whether the halves are read, by five calls.
+fn are_halves<S: Store>(rt: &impl Abort, alloc: Global, store: &mut S) -> bool {
+    holds(rt, alloc, store, "c/0", &[1, 2])
+        && has_parts(rt, alloc, store, "c/1", &[4], &[3, 4])
+        && lists(alloc, store, "c/0", "c/1")
+        && size(rt, alloc, store, "c/1") == Some(2)
+        && size(rt, alloc, store, "blob") == None
+}
+
+// The counts of a store: of reading calls, of bytes handed out and of faults.
+fn counts<S: Store>(store: &S) -> (u64, u64, u64) {
+    (store.asks(), store.taken(), store.faults())
+}
+
 #[test]
 fn slices_are_values(rt: HostRuntime) {
     let alloc = rt.alloc();
@@ -97,21 +117,17 @@ fn slices_are_values(rt: HostRuntime) {
         Ok(store) => store,
         Err(_) => panic!(rt; "refused"),
     };
-    assert_eq!(rt; holds(&rt, alloc, &mut store, "c/0", &[1, 2]), true);
-    assert_eq!(rt;
-        has_parts(&rt, alloc, &mut store, "c/1", &[4], &[3, 4]),
-        true
-    );
-    assert_eq!(rt; lists(alloc, &mut store, "c/0", "c/1"), true);
-    assert_eq!(rt; store.size_key(&key_of(&rt, alloc, "c/1")), Ok(Some(2)));
-    assert_eq!(rt; store.size_key(&key_of(&rt, alloc, "blob")), Ok(None));
-    assert_eq!(rt; (store.asks(), store.taken(), store.faults()), (5, 5, 0));
+    let halves = are_halves(&rt, alloc, &mut store);
+    let read = counts(&store);
     let erased = store.erase(&key_of(&rt, alloc, "c/0"));
-    assert_eq!(rt; erased, Err(StorageError::Failed));
-    assert_eq!(rt; store.faults(), 1);
+    let faults = store.faults();
     // Of the base: a size for each reference, and two reads.
-    let base = store.into_base();
-    assert_eq!(rt; (base.asks(), base.taken(), base.faults()), (4, 5, 0));
+    let below = counts(store.into_base());
+    assert_eq!(rt; halves, true);
+    assert_eq!(rt; read, (5, 5, 0));
+    assert_eq!(rt; erased, Err(StorageError::Failed));
+    assert_eq!(rt; faults, 1);
+    assert_eq!(rt; below, (4, 5, 0));
 }
 
 // Why two references over a store are refused, or nothing.
