@@ -31,6 +31,8 @@ enum Kind {
     Run,
     // A run for each line after the document.
     Lines,
+    // A run for each of so many calls of the store, which fails.
+    Calls(u64),
 }
 
 /// A row of the tables.
@@ -69,6 +71,13 @@ impl Row {
             self.run.failing_reads.push(call.parse().unwrap_or(0))?;
         } else if let Some(call) = setting.strip_prefix("write ") {
             self.run.failing_writes.push(call.parse().unwrap_or(0))?;
+        } else if let Some(call) = setting.strip_prefix("store ") {
+            self.run.failing_calls.push(call.parse().unwrap_or(0))?;
+        } else if let Some(calls) = setting.strip_prefix("calls ") {
+            self.kind = Kind::Calls(calls.parse().unwrap_or(0));
+        } else if let Some(line) = setting.strip_prefix("then ") {
+            self.run.then.extend_from_slice(line.as_bytes())?;
+            self.run.then.push(b'\n')?;
         } else if setting == "lines" {
             self.kind = Kind::Lines;
         }
@@ -126,6 +135,7 @@ impl Row {
         match self.kind {
             Kind::Run => self.run.run(alloc, out),
             Kind::Lines => run_each_line(alloc, self.run.text(), out),
+            Kind::Calls(calls) => self.run.run_each_call(alloc, calls, out),
         }
     }
 }

@@ -1,9 +1,11 @@
-//! Runs of the program over an empty store in memory.
+//! Runs of the program over a store in memory, empty at first.
 
 use hex::encode;
 use std::alloc::{AllocError, Global};
 use zarr_cli::program::run_program;
-use zarrs_storage::{MemorySink, MemorySource, MemoryStore, StorageError, Store, StoreKey};
+use zarrs_storage::{
+    FailingStore, MemorySink, MemorySource, MemoryStore, StorageError, Store, StoreKey,
+};
 
 // The room of each sink.
 const ROOM: usize = 65_536;
@@ -14,7 +16,10 @@ pub struct Run {
     pub words: Vec<String>,
     pub failing_reads: Vec<u64>,
     pub failing_writes: Vec<u64>,
+    pub failing_calls: Vec<u64>,
     pub input: Vec<u8>,
+    // The lines of a second run.
+    pub then: Vec<u8>,
 }
 
 impl Run {
@@ -24,7 +29,9 @@ impl Run {
             words: Vec::new(alloc),
             failing_reads: Vec::new(alloc),
             failing_writes: Vec::new(alloc),
+            failing_calls: Vec::new(alloc),
             input: Vec::new(alloc),
+            then: Vec::new(alloc),
         }
     }
 
@@ -33,12 +40,71 @@ impl Run {
         str::from_utf8(&self.input).unwrap_or("")
     }
 
-    /// Runs the program, and appends how it ends, what it wrote and what the store holds.
-    pub fn run(self, alloc: Global, out: &mut Vec<u8>) -> Result<(), AllocError> {
-        let mut source = MemorySource::new(self.input, self.failing_reads);
-        let mut sink = MemorySink::new(alloc, self.failing_writes);
+    // The second run: the same document, and the lines of its own.
+    fn second(&self, alloc: Global) -> Result<Run, AllocError> {
+        let mut run = Run::new(alloc);
+        if let Some((document, _)) = self.text().split_once('\n') {
+            run.input.extend_from_slice(document.as_bytes())?;
+            run.input.push(b'\n')?;
+            run.input.extend_from_slice(&self.then)?;
+        }
+        Ok(run)
+    }
+
+    // Runs the program over a store, and appends how it ends, what it wrote and what the store holds, which it gives.
+    fn run_over(
+        &self,
+        alloc: Global,
+        mut store: FailingStore,
+        out: &mut Vec<u8>,
+    ) -> Result<MemoryStore, AllocError> {
+        let mut source = MemorySource::new(self.input.clone()?, self.failing_reads.clone()?);
+        let mut sink = MemorySink::new(alloc, self.failing_writes.clone()?);
         sink.reserve(ROOM)?;
-        run_between(alloc, &self.words, &mut source, &mut sink, out)
+        let code = run_program(alloc, &self.words, &mut source, &mut sink, &mut store).code();
+        push_end(alloc, code, &store, out)?;
+        out.extend_from_slice(sink.written())?;
+        let mut memory = store.into_memory();
+        push_content(alloc, &mut memory, out)?;
+        Ok(memory)
+    }
+
+    // Runs the program over an empty store with these failing calls, and what is to run then over what is left.
+    fn run_failing(
+        &self,
+        alloc: Global,
+        failing: Vec<u64>,
+        out: &mut Vec<u8>,
+    ) -> Result<(), AllocError> {
+        let empty = FailingStore::new(MemoryStore::new(alloc), failing);
+        let memory = self.run_over(alloc, empty, out)?;
+        if self.then.is_empty() {
+            return Ok(());
+        }
+        out.extend_from_slice(b"then\n")?;
+        let left = FailingStore::new(memory, Vec::new(alloc));
+        let _ = self.second(alloc)?.run_over(alloc, left, out)?;
+        Ok(())
+    }
+
+    /// Runs the program, and what is to run then, and appends what comes of it.
+    pub fn run(&self, alloc: Global, out: &mut Vec<u8>) -> Result<(), AllocError> {
+        self.run_failing(alloc, self.failing_calls.clone()?, out)
+    }
+
+    /// Runs this once for each of the first calls of the store, which fails then.
+    pub fn run_each_call(
+        &self,
+        alloc: Global,
+        calls: u64,
+        out: &mut Vec<u8>,
+    ) -> Result<(), AllocError> {
+        for call in 0..calls {
+            let name = format!(in alloc; "> {call}\n")?;
+            out.extend_from_slice(name.as_bytes())?;
+            self.run_failing(alloc, vec![in alloc; call]?, out)?;
+        }
+        Ok(())
     }
 }
 
@@ -66,28 +132,19 @@ pub fn run_each_line(alloc: Global, text: &str, out: &mut Vec<u8>) -> Result<(),
     Ok(())
 }
 
-fn run_between(
-    alloc: Global,
-    words: &[String],
-    source: &mut MemorySource,
-    sink: &mut MemorySink,
-    out: &mut Vec<u8>,
-) -> Result<(), AllocError> {
-    let mut store = MemoryStore::new(alloc);
-    let code = run_program(alloc, words, source, sink, &mut store).code();
-    push_end(alloc, code, &store, out)?;
-    out.extend_from_slice(sink.written())?;
-    push_content(alloc, &mut store, out)
-}
-
 fn push_end(
     alloc: Global,
     code: u8,
-    store: &MemoryStore,
+    store: &FailingStore,
     out: &mut Vec<u8>,
 ) -> Result<(), AllocError> {
-    let line = format!(in alloc; "= {code} asks {} taken {}\n", store.asks(), store.taken())?;
-    out.extend_from_slice(line.as_bytes())
+    let line = format!(in alloc; "= {code} asks {} taken {}", store.asks(), store.taken())?;
+    out.extend_from_slice(line.as_bytes())?;
+    if store.faults() > 0 {
+        let faults = format!(in alloc; " faults {}", store.faults())?;
+        out.extend_from_slice(faults.as_bytes())?;
+    }
+    out.extend_from_slice(b"\n")
 }
 
 // Appends a line for each key of a store.
