@@ -1,6 +1,6 @@
 -- The text of elements of one size.
-use Rattle.std.proofs.Common.{◌≡◌, ℕ, zero, suc, ◌+◌, ◌*◌, ◌<◌, ◌≤◌, List, [], ◌∷◌, ◌++◌, length, map, take, drop, flat_map, Some, None, Result, Ok, Err, OnOk, refl, sym, ap, ◌∙◌, append_assoc, rules, arith}
-use Rattle.std.proofs.lemmas.List.{drop-drop}
+use Rattle.std.proofs.Common.{◌≡◌, ℕ, zero, suc, ◌+◌, ◌*◌, ◌<◌, ◌≤◌, ◌/◌, List, [], ◌∷◌, ◌++◌, length, get_or, map, take, drop, flat_map, Some, None, Result, Ok, Err, OnOk, refl, sym, ap, ap₂, ◌∙◌, append_assoc, rules, arith}
+use Rattle.std.proofs.lemmas.List.{drop-drop, drop_more}
 use Rattle.std.proofs.lemmas.Slice.{take-put_mid}
 use Rattle.std.proofs.Math.Nat.{suc-mul}
 use Rattle.std.proofs.lemmas.Option.{same_Some}
@@ -37,6 +37,23 @@ next_slot k n width long value slots slot same fits so_far put wide =
   where
     one_more : (k + 1) * width ≡ k * width + width
     one_more = let e : suc k ≡ k + 1 = omega arith in rw (← e) (omega (arith, suc-mul k width))
+
+-- the same where each element is one byte
+one_piece : (k : ℕ) (bytes : List ℕ) → k < length bytes → take 1 (drop (k * 1) bytes) ≡ get_or bytes k 0 ∷ []
+one_piece k bytes h =
+    ap (λ n. take 1 (drop n bytes)) (let e : k * 1 ≡ k = omega arith in e) ∙ ap (take 1) (drop_more bytes k 0 h)
+
+pub next_byte : (k long : ℕ) (bytes slots slot : List ℕ) → long ≡ 4 → k * 4 + 4 ≤ length slots → k < length bytes →
+    take (k * 4) slots ≡ flat_map (λ element. 32 ∷ hex_text element) (pieces k 1 bytes) → slot ≡ 32 ∷ hex_text (get_or bytes k 0 ∷ []) → length slot ≡ 4 →
+    take ((k + 1) * 4) (put_mid (k * 4) long slots slot) ≡ flat_map (λ element. 32 ∷ hex_text element) (pieces (k + 1) 1 bytes)
+next_byte k long bytes slots slot same fits below so_far put wide =
+    next_slot k 1 4 long bytes slots slot same fits so_far (put ∙ ap (λ l. 32 ∷ hex_text l) (sym (one_piece k bytes below))) wide
+
+pub one_byte_room : (n m size width : ℕ) → size ≡ 1 → width ≡ 2 + 2 * size → m ≡ n / size * width → m ≡ n * 4
+one_byte_room n m size width one wide room =
+    let width_is : width ≡ 4 = omega (arith, one, wide) in
+    let all : n / 1 ≡ n = omega arith in
+    room ∙ ap₂ (λ (s w : ℕ). n / s * w) one width_is ∙ ap (λ (q : ℕ). q * 4) all
 
 -- the text of bytes, an element for each piece
 texts_of : (l : List (List ℕ)) → flat_map (λ element. 32 ∷ element_text element) (map of_bytes l) ≡ flat_map (λ element. 32 ∷ hex_text element) l

@@ -124,17 +124,31 @@ fn write_element(slot: &mut [u8], element: &[u8])
     requires { length slot.old ≡ 2 + 2 * length element.now }
     ensures { slot.new ≡ 32 ∷ hex_text element.now }
 {
-    // Elements of one byte are written in one piece.
-    if let [byte] = element {
-        let [high, low] = digits_of(*byte);
-        slot.copy_from_slice(&[b' ', b'h', high, low]);
-        return;
-    }
     let (front, digits) = slot.split_at_mut(2);
     front.copy_from_slice(b" h");
     let Ok(()) = hex::encode_to_slice(element, digits) else {
         unreachable!();
     };
+}
+
+// Writes a space and the text of an element of one byte, in one piece.
+fn write_byte(slot: &mut [u8], byte: u8)
+    requires { length slot.old ≡ 4 }
+    ensures { slot.new ≡ 32 ∷ hex_text (byte ∷ []) }
+{
+    let [high, low] = digits_of(byte);
+    slot.copy_from_slice(&[b' ', b'h', high, low]);
+}
+
+// The same of each byte, 4 bytes for each.
+#[tactic(auto, using(crate::proofs::TextLemmas::next_byte))]
+fn write_bytes(slots: &mut [u8], bytes: &[u8])
+    requires { length slots.old ≡ length bytes.now * 4 }
+    ensures { slots.new ≡ bytes_text 1 bytes.now }
+{
+    for k in 0..bytes.len() {
+        write_byte(&mut slots[k * 4..k * 4 + 4], bytes[k]);
+    }
 }
 
 // Writes a space and the text of each element of `size` bytes, `width` bytes for each.
@@ -153,6 +167,20 @@ fn write_elements(slots: &mut [u8], elements: &[u8], size: usize, width: usize)
     }
 }
 
+// The same, whatever the size is.
+fn write_slots(slots: &mut [u8], elements: &[u8], size: usize, width: usize)
+    requires some { 0 < size }
+    requires wide { width ≡ 2 + 2 * size }
+    requires room { length slots.old ≡ length elements.now / size * width }
+    ensures { slots.new ≡ bytes_text size elements.now }
+{
+    if size == 1 {
+        write_bytes(slots, elements);
+    } else {
+        write_elements(slots, elements, size, width);
+    }
+}
+
 /// Appends a space and the text of each element of `size` bytes. The room for them is taken first.
 ///
 /// An error comes only for want of memory.
@@ -168,6 +196,6 @@ pub(crate) fn push_fixed(text: &mut Vec<u8>, elements: &[u8], size: usize) -> Re
     };
     let before = text.len();
     push_room(text, elements.len() / size, width)?;
-    write_elements(&mut text[before..], elements, size, width);
+    write_slots(&mut text[before..], elements, size, width);
     Ok(())
 }
