@@ -1,0 +1,10 @@
+pub mod ReversedLaws
+pub mod OrderLaws
+pub mod DecodeLaws
+pub mod MeansLaws
+pub mod StepLaws
+pub mod FillLaws
+pub mod ServedLaws
+pub mod TranslatedLaws
+pub mod AlikeLaws
+pub mod SameLaws

@@ -1,0 +1,108 @@
+-- What a version 2 document says of the chunks in a store, and the document of version 3 that it is
+-- translated to.
+use Rattle.std.specs.Prelude.{◌≡◌, ◌↔◌, ◌⊎◌, ℕ, true, List, [], ◌∷◌, length, replicate, Option, Some, None, Result, Ok, Err, MatchOption}
+use Rattle.serde_json.specs.Data.{Data, null}
+use Rattle.zarr_model.specs.Prelude.{Element, of_bytes, Array, Content, Options, Means, layout, ByteOrder, v2_keys}
+use Rattle.zarr_model.specs.declared.endianness.Endianness.{Endianness}
+use Rattle.zarrs_metadata_parts.specs.Names.{separator_code}
+use Rattle.zarrs_metadata.specs.ArrayMetadata.{ArrayFields}
+use Rattle.zarrs_metadata_v2_nodes.specs.ArrayMetadataV2.{ArrayV2, HasChunks}
+use Rattle.zarrs_metadata_v2_nodes.specs.declared.array.order.ArrayMetadataV2Order.{ArrayMetadataV2Order}
+use Rattle.zarrs_metadata_v2_nodes.specs.declared.array.order.ArrayMetadataV2Order.TheVariants.{C, F}
+use Rattle.zarrs_data_type.specs.FillMetadata.{fill_of}
+use Rattle.zarr_codecs.specs.BytesCodec.{stored_order}
+use Rattle.zarr_codecs_array_to_bytes.specs.Plain.{plain_bytes}
+use Rattle.zarr_basics.specs.kinds.array_to_array.ArrayToArray.{ArrayToArray, transpose}
+use Rattle.zarr_basics_grids.specs.GridForms.{regular}
+use Rattle.zarr_basics_grids.specs.Configurations.{are_chunk_lengths}
+use Rattle.zarr_basics.specs.Registries.{builtin_names}
+use Rattle.zarr_array_parts.specs.Document.{ChainForm, ArrayDocument, describe, fill_in}
+use Rattle.zarr_array_parts.specs.Opening.{document_of, served_document, chunk_too_large}
+use Rattle.zarr_v2_translate.specs.declared.element_type.ElementType.{ElementType}
+use Rattle.zarr_v2_translate.specs.declared.element_type.ElementType.TheVariants.{Bool as BoolType, Int8, Int16, Int32, Int64, UInt8, UInt16, UInt32, UInt64}
+use Rattle.zarr_v2_translate.specs.declared.element_type.StoredType.{StoredType}
+use Rattle.zarr_v2_translate.specs.ElementType.{element_type, element_of}
+use Rattle.zarr_v2_translate.specs.Translate.{fields_v2, reversed_order, translated}
+use Rattle.zarr_v2_meaning.specs.ChunksV2.{ChunksV2, layout_v2}
+
+-- how many bytes an element has
+abbrev pub element_size : ElementType → ℕ
+element_size BoolType = 1
+element_size Int8 = 1
+element_size Int16 = 2
+element_size Int32 = 4
+element_size Int64 = 8
+element_size UInt8 = 1
+element_size UInt16 = 2
+element_size UInt32 = 4
+element_size UInt64 = 8
+
+-- the bytes of a fill value, the lowest first: null is zero bytes
+abbrev pub fill_bytes_v2 : ElementType → Data → Option (List ℕ)
+fill_bytes_v2 element null = Some (replicate (element_size element) 0)
+fill_bytes_v2 element fill = fill_of (element_type element) fill
+
+-- the chunks of elements of this type
+abbrev pub chunks_with : ArrayV2 → StoredType → List ℕ → ChunksV2
+chunks_with a stored filler = record {
+  shape = a.shape;
+  chunks = a.chunks;
+  size = element_size stored.element;
+  bytes = stored_order stored.order;
+  fill = fill_in (element_type stored.element) filler;
+  order = a.order;
+  separator = separator_code a.dimension_separator;
+}
+
+abbrev pub chunks_filled : ArrayV2 → StoredType → Option (List ℕ) → Option ChunksV2
+chunks_filled a stored None = None
+chunks_filled a stored (Some filler) = Some (chunks_with a stored filler)
+
+abbrev pub chunks_typed : ArrayV2 → Option StoredType → Option ChunksV2
+chunks_typed a None = None
+chunks_typed a (Some stored) =
+    chunks_filled a stored (fill_bytes_v2 stored.element a.fill_value)
+
+-- the chunks of a document's array, if its type and its fill value are known
+abbrev pub chunks_of : ArrayV2 → Option ChunksV2
+chunks_of a = chunks_typed a (element_of a.dtype)
+
+-- the codecs of an order: those of column-major order turn the dimensions round
+abbrev pub turning : ArrayMetadataV2Order → ℕ → List ArrayToArray
+turning C rank = []
+turning F rank = transpose (reversed_order rank) ∷ []
+
+abbrev pub chain_v2 : ArrayMetadataV2Order → ℕ → Option Endianness → ChainForm
+chain_v2 order rank bytes = record {
+  array_codecs = turning order rank;
+  to_bytes = plain_bytes bytes;
+  byte_codecs = [];
+}
+
+-- a translated document is described by its parts, up to what its chunks need
+abbrev pub IsDescribed : Type 0
+IsDescribed = (a : ArrayV2) (stored : StoredType) (fill : Data) (filler : List ℕ) →
+    are_chunk_lengths a.shape a.chunks ≡ true →
+    fill_of (element_type stored.element) fill ≡ Some filler →
+    document_of builtin_names (fields_v2 a stored fill)
+    ≡ served_document (v2_keys (separator_code a.dimension_separator))
+    (chain_v2 a.order (length a.shape) stored.order) (element_type stored.element) a.shape
+    (regular a.chunks) filler
+
+-- nothing but chunks that are too large keeps it from being opened
+abbrev pub OnlyChunksRefuse : Type 0
+OnlyChunksRefuse = (a : ArrayV2) (f : ArrayFields) → HasChunks a → translated a ≡ Ok f →
+    ((d : ArrayDocument) × (document_of builtin_names f ≡ Ok d))
+    ⊎ (document_of builtin_names f ≡ Err chunk_too_large)
+
+-- a store means the same arrays by the chunks of a version 2 document, which there are, as by a
+-- document of version 3
+abbrev pub MeansTheSame : Option ChunksV2 → ArrayDocument → Type 0
+MeansTheSame chunks d = MatchOption chunks ⊥ (λ chunks. (options : Options) (store : Content)
+    (array : Array Element) → Means (layout_v2 chunks) store array
+    ↔ Means (layout (describe d) options) store array)
+
+-- and so it does by the one that it is translated to, where that is opened
+abbrev pub TranslationMeansTheSame : Type 0
+TranslationMeansTheSame = (a : ArrayV2) (f : ArrayFields) (d : ArrayDocument) →
+    translated a ≡ Ok f → document_of builtin_names f ≡ Ok d → MeansTheSame (chunks_of a) d

@@ -1,0 +1,3 @@
+pub mod ChunksV2
+pub mod Documents
+pub mod Alike

@@ -1,0 +1,36 @@
+//! What a store of a version 2 array means, and that the document it is translated to means the same.
+//! Each function's contract is a law, and its body is empty. Nothing here is called, so nothing is public.
+#![tactic(auto)]
+
+ghost use Rattle.zarr_v2_meaning.specs.Alike.{RowsAgree, ColumnsAgree, StoresAgree};
+ghost use Rattle.zarr_v2_meaning.specs.Documents.{IsDescribed, OnlyChunksRefuse, TranslationMeansTheSame};
+
+// In row-major order a chunk of version 2 has the elements that the codec of bytes decodes.
+fn rows_agree()
+    ensures { RowsAgree }
+{}
+
+// In column-major order it has those that a transposition with the reversed order decodes from them.
+fn columns_agree()
+    ensures { ColumnsAgree }
+{}
+
+// Two layouts whose chunks decode alike mean the same arrays.
+fn stores_agree()
+    ensures { StoresAgree }
+{}
+
+// A translated document is described by its parts, up to what its chunks need.
+fn translation_is_described()
+    ensures { IsDescribed }
+{}
+
+// Nothing but chunks that are too large keeps it from being opened.
+fn only_chunks_refuse()
+    ensures { OnlyChunksRefuse }
+{}
+
+// Where it is opened, a store means the same arrays by it as by the document of version 2.
+fn translation_means_the_same()
+    ensures { TranslationMeansTheSame }
+{}
