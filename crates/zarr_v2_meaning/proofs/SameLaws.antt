@@ -43,7 +43,7 @@ only_chunks a f positive answers =
     let ranks : (length a.chunks == length a.shape) ≡ true = eq-eqb (length a.chunks) (length a.shape) made.ranks in
     let fits : are_chunk_lengths a.shape a.chunks ≡ true = rw (ranks, positive) refl in
     let is : document_of builtin_names f
-        ≡ served_document (v2_keys (separator_code a.dimension_separator)) (chain_v2 a.order (length a.shape) s.order) (element_type s.element) a.shape (regular a.chunks) fill.filler =
+    ≡ served_document (v2_keys (separator_code a.dimension_separator)) (chain_v2 a.order (length a.shape) s.order) (element_type s.element) a.shape (regular a.chunks) fill.filler =
     sym (ap (document_of builtin_names) made.fields) ∙ described a s made.fill fill.filler fits fill.denotes in
     subst (λ (answer : Result ArrayDocument OpenRefusal). ((d : ArrayDocument) × (answer ≡ Ok d)) ⊎ (answer ≡ Err chunk_too_large)) (sym is)
     (only_large (v2_keys (separator_code a.dimension_separator)) (chain_v2 a.order (length a.shape) s.order) (element_type s.element) a.shape (regular a.chunks) fill.filler
