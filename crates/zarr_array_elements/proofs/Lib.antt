@@ -4,5 +4,7 @@ pub mod MeansLaws
 pub mod PutLaws
 pub mod PlacedLaws
 pub mod ShortLaws
+pub mod GivenLaws
+pub mod PlaceRunLaws
 pub mod GatherLemmas
 pub mod HeldLaws

@@ -8,16 +8,17 @@ use Rattle.zarr_model.specs.ArrayBytes.{ArrayBytes, meaning}
 use Rattle.zarr_model.proofs.BytesLaws.{length-meaning}
 use Rattle.zarrs_array_subset.specs.Boxes.{overlap_of, moved_back}
 use Rattle.zarrs_codec_bytes.specs.Overlap.{Copied}
-use Rattle.zarrs_codec_bytes.specs.Picking.{AllBelow, picked, replaced}
+use Rattle.zarrs_codec_bytes.specs.Picking.{picked, replaced}
+use Rattle.zarrs_codec_bytes.specs.PickedRuns.{run_numbers, AreRunsBelow}
 use Rattle.zarrs_codec_bytes.proofs.ReplaceLaws.{length-replaced}
 use Rattle.zarrs_codec_array_bytes.specs.Selection.{linear}
 use Rattle.zarr_array_elements.specs.Elements.{list_in, blanks, PutsOverlap}
 use Rattle.zarr_array_elements.specs.Shared.{shared_in}
 use Rattle.zarr_array_elements.specs.Joined.{joined}
 use Rattle.zarr_array_elements.specs.Grown.{grown_bytes}
-use Rattle.zarr_array_elements.specs.Given.{given_indices, given_meaning, given_list, given_alike, given_joined}
+use Rattle.zarr_array_elements.specs.Given.{given_runs, given_indices, given_meaning, given_list, given_alike, given_joined}
 use Rattle.zarr_array_elements.specs.declared.given.Given.{Given}
-use Rattle.zarr_array_elements.proofs.ShareLaws.{places-moved, shares_first, shares_second, shared_copied}
+use Rattle.zarr_array_elements.proofs.ShareLaws.{places-moved, shares_first, shares_second, shared_copied, all_long, all_picked}
 use Rattle.zarr_array_elements.proofs.JoinLaws.{joined_means}
 use Rattle.zarr_array_elements.proofs.MeansLaws.{some_list, alike_means}
 
@@ -48,12 +49,12 @@ puts_overlap kind target source bytes old new rank means was is =
 -- what was given before, and more behind it
 pub given_long : (kind : Kind) (given : Option Given) → IsSome (given_meaning kind given) → length (given_list kind given) ≡ length (given_indices given)
 given_long kind None h = refl
-given_long kind (Some given) h = length-meaning kind (length given.indices.items) (grown_bytes given.grown) (given_list kind (Some given)) (some_list (given_meaning kind (Some given)) h)
+given_long kind (Some given) h = length-meaning kind (length (run_numbers given.runs.items)) (grown_bytes given.grown) (given_list kind (Some given)) (some_list (given_meaning kind (Some given)) h)
 
 pub given_alike_means : (kind : Kind) (given : Option Given) (m : ℕ) (piece : ArrayBytes) (ys : List Element) → IsSome (given_meaning kind given) → meaning kind m piece ≡ Some ys → given_alike given piece ≡ true
 given_alike_means kind None m piece ys h e = refl
 given_alike_means kind (Some given) m piece ys h e =
-    alike_means kind (length given.indices.items) m (grown_bytes given.grown) piece (given_list kind (Some given)) ys (some_list (given_meaning kind (Some given)) h) e
+    alike_means kind (length (run_numbers given.runs.items)) m (grown_bytes given.grown) piece (given_list kind (Some given)) ys (some_list (given_meaning kind (Some given)) h) e
 
 pub given_more : (kind : Kind) (given : Option Given) (indices more : List ℕ) (bytes piece : ArrayBytes) (ys : List Element) → IsSome (given_meaning kind given) →
     meaning kind (length more) piece ≡ Some ys → indices ≡ given_indices given ++ more → bytes ≡ given_joined given piece →
@@ -61,8 +62,8 @@ pub given_more : (kind : Kind) (given : Option Given) (indices more : List ℕ) 
 given_more kind None indices more bytes piece ys h means is joins = ap₂ (λ i b. meaning kind (length i) b) is joins ∙ means
 given_more kind (Some given) indices more bytes piece ys h means is joins =
     ap₂ (λ i b. meaning kind (length i) b) is joins
-    ∙ (ap (λ n. meaning kind n (joined (grown_bytes given.grown) piece)) (length-append given.indices.items more)
-    ∙ joined_means kind (length given.indices.items) (length more) (grown_bytes given.grown) piece (given_list kind (Some given)) ys (some_list (given_meaning kind (Some given)) h) means)
+    ∙ (ap (λ n. meaning kind n (joined (grown_bytes given.grown) piece)) (length-append (run_numbers given.runs.items) more)
+    ∙ joined_means kind (length (run_numbers given.runs.items)) (length more) (grown_bytes given.grown) piece (given_list kind (Some given)) ys (some_list (given_meaning kind (Some given)) h) means)
 
 replaced-append : {A : Type 0} (indices more : List ℕ) (xs ys list : List A) → length indices ≡ length xs → replaced (indices ++ more) (xs ++ ys) list ≡ replaced more ys (replaced indices xs list)
 replaced-append [] more [] ys list e = refl
@@ -70,26 +71,16 @@ replaced-append [] more (x ∷ xs) ys list e = absurd (omega (arith, e))
 replaced-append (i ∷ indices) more [] ys list e = absurd (omega (arith, e))
 replaced-append (i ∷ indices) more (x ∷ xs) ys list e = replaced-append indices more xs ys (set list i x) (omega (arith, e))
 
-pub below_append : (limit : ℕ) (indices more all : List ℕ) → AllBelow limit indices → AllBelow limit more → all ≡ indices ++ more → AllBelow limit all
-below_append limit indices more all a b is = subst (AllBelow limit) (sym is) at
-  where
-    at : AllBelow limit (indices ++ more)
-    at k h = go (cases_lt k (length indices))
-      where
-        go : (k < length indices) ⊎ (length indices ≤ k) → get_or (indices ++ more) k 0 < limit
-        go (inl low) = subst (λ n. n < limit) (sym (get_or_append_left indices more 0 k low)) (a k low)
-        go (inr high) = subst (λ n. n < limit) (sym (get_or-append_right indices more (length indices) k 0 refl high)) (b (k - length indices) (omega (arith, h, high, length-append indices more)))
-
 -- so the list of a box took what the piece's box shares with it
 module _ (kind : Kind) (box source : Region) (base : List Element) (bytes piece : ArrayBytes) (given : Option Given) (new : Given) (rank : length box ≡ length source)
     (base_long : length base ≡ count box) (given_means : IsSome (given_meaning kind given)) (means : IsSome (meaning kind (count source) bytes))
     (piece_means : meaning kind (length (shared_in source (overlap_of box source))) piece ≡ Some (picked null (shared_in source (overlap_of box source)) (list_in kind source bytes)))
-    (places : new.indices.items ≡ given_indices given ++ shared_in box (overlap_of box source)) (joins : grown_bytes new.grown ≡ given_joined given piece) where
+    (places : run_numbers new.runs.items ≡ given_indices given ++ shared_in box (overlap_of box source)) (joins : grown_bytes new.grown ≡ given_joined given piece) where
   abbrev taken : List Element
   taken = picked null (shared_in source (overlap_of box source)) (list_in kind source bytes)
 
   pub new_means : given_meaning kind (Some new) ≡ Some (given_list kind given ++ taken)
-  new_means = given_more kind given new.indices.items (shared_in box (overlap_of box source)) (grown_bytes new.grown) piece taken given_means
+  new_means = given_more kind given (run_numbers new.runs.items) (shared_in box (overlap_of box source)) (grown_bytes new.grown) piece taken given_means
       (ap (λ n. meaning kind n piece) (shared_long box source rank) ∙ piece_means) places joins
 
   pub listed_copied : Copied box source (list_in kind source bytes) (replaced (given_indices given) (given_list kind given) base)
@@ -113,32 +104,38 @@ piece_of : (kind : Kind) (box source part : Region) (bytes piece : ArrayBytes) �
 piece_of kind box source part bytes piece means part_is selected =
     subst (λ p. IsPiece kind source p bytes piece) part_is (record { means = selected (list_in kind source bytes) (some_list (meaning kind (count source) bytes) means) })
 
+-- bytes over a box that lies inside another one are the piece themselves
+pub whole_piece : (kind : Kind) (source : Region) (bytes : ArrayBytes) (xs : List Element) → meaning kind (count source) bytes ≡ Some xs →
+    meaning kind (length (shared_in source source)) bytes ≡ Some (picked null (shared_in source source) xs)
+whole_piece kind source bytes xs means =
+    ap (λ n. meaning kind n bytes) (all_long source) ∙ (means ∙ ap Some (sym (all_picked source null xs (length-meaning kind (count source) bytes xs means))))
+
 place_in : (box source part at : Region) → part ≡ overlap_of box source → at ≡ moved_back part (starts box) → at ≡ moved_back (overlap_of box source) (starts box)
 place_in box source part at part_is at_is = at_is ∙ ap (λ p. moved_back p (starts box)) part_is
 
 pub record Took (kind : Kind) (box source : Region) (base : List Element) (bytes : ArrayBytes) (given : Option Given) (new : Given) : Type 0 where
   pub means : IsSome (given_meaning kind (Some new))
-  pub below : AllBelow (count box) (given_indices (Some new))
+  pub below : AreRunsBelow (count box) (given_runs (Some new))
   pub copied : Copied box source (list_in kind source bytes) (replaced (given_indices given) (given_list kind given) base)
       (replaced (given_indices (Some new)) (given_list kind (Some new)) base)
 
 pub took : (kind : Kind) (box source part at : Region) (shape : List ℕ) (base : List Element) (bytes piece : ArrayBytes) (before given : Option Given) (new : Given) → length box ≡ length source →
-    length base ≡ count box → IsSome (given_meaning kind given) → AllBelow (count box) (given_indices given) → IsSome (meaning kind (count source) bytes) →
+    length base ≡ count box → IsSome (given_meaning kind given) → AreRunsBelow (count box) (given_runs given) → IsSome (meaning kind (count source) bytes) →
     part ≡ overlap_of box source → at ≡ moved_back part (starts box) → shape ≡ sizes box → before ≡ given →
     ((xs : List Element) → meaning kind (count source) bytes ≡ Some xs → meaning kind (length (shared_in source part)) piece ≡ Some (picked null (shared_in source part) xs)) →
-    new.indices.items ≡ given_indices before ++ linear shape (tuples at) → AllBelow (count_of shape) (linear shape (tuples at)) → grown_bytes new.grown ≡ given_joined before piece →
+    run_numbers new.runs.items ≡ given_indices before ++ linear shape (tuples at) → (AreRunsBelow (count_of shape) (given_runs before) → AreRunsBelow (count_of shape) new.runs.items) → grown_bytes new.grown ≡ given_joined before piece →
     Took kind box source base bytes given new
 took kind box source part at shape base bytes piece before given new rank base_long given_means below means part_is at_is shape_is before_is selected places within joins =
     let taken = piece_of kind box source part bytes piece means part_is selected in
     let at_box : at ≡ moved_back (overlap_of box source) (starts box) = place_in box source part at part_is at_is in
-    let new_places : new.indices.items ≡ given_indices given ++ shared_in box (overlap_of box source) =
+    let new_places : run_numbers new.runs.items ≡ given_indices given ++ shared_in box (overlap_of box source) =
     places ∙ (ap (λ g. given_indices g ++ linear shape (tuples at)) before_is ∙ ap₂ (λ s a. given_indices given ++ linear s (tuples a)) shape_is at_box) in
     let new_joins : grown_bytes new.grown ≡ given_joined given piece = joins ∙ ap (λ g. given_joined g piece) before_is in
-    let new_within : AllBelow (count box) (shared_in box (overlap_of box source)) =
-    subst (λ a. AllBelow (count_of (sizes box)) (linear (sizes box) (tuples a))) at_box (subst (λ s. AllBelow (count_of s) (linear s (tuples at))) shape_is within) in
+    let new_within : AreRunsBelow (count_of (sizes box)) (given_runs before) → AreRunsBelow (count_of (sizes box)) new.runs.items =
+    subst (λ s. AreRunsBelow (count_of s) (given_runs before) → AreRunsBelow (count_of s) new.runs.items) shape_is within in
     record {
       means = ap is_some (new_means kind box source base bytes piece given new rank base_long given_means means taken.means new_places new_joins);
-      below = below_append (count box) (given_indices given) (shared_in box (overlap_of box source)) new.indices.items below new_within new_places;
+      below = new_within (subst (λ g. AreRunsBelow (count box) (given_runs g)) (sym before_is) below);
       copied = listed_copied kind box source base bytes piece given new rank base_long given_means means taken.means new_places new_joins;
     }
 

@@ -1,12 +1,12 @@
 -- Replacing the elements that two boxes share, at their places, is a copy between the boxes.
-use Rattle.std.proofs.Common.{◌≡◌, ℕ, zero, suc, ◌+◌, ◌-◌, ◌*◌, ◌/◌, ◌%◌, ◌<◌, ◌≤◌, max, ◌==◌, Bool, true, false, nat_le, if◌then◌else◌, List, [], ◌∷◌, length, map, get_or, arith, ap, ap₂, sym, refl, ◌∙◌, subst, eqb-true, true≢false}
-use Rattle.std.proofs.lemmas.Bool.{cond-true, and_parts, and_from, leb-true}
+use Rattle.std.proofs.Common.{◌≡◌, ℕ, zero, suc, ◌+◌, ◌-◌, ◌*◌, ◌/◌, ◌%◌, ◌<◌, ◌≤◌, max, min, ◌==◌, Bool, true, false, nat_le, if◌then◌else◌, List, [], ◌∷◌, length, map, get_or, arith, ap, ap₂, sym, refl, ◌∙◌, subst, eqb-true, true≢false}
+use Rattle.std.proofs.lemmas.Bool.{cond-true, and_parts, and_from, leb-true, le-leb}
 use Rattle.std.proofs.lemmas.Bool.Decides.{nat_tests}
 use Rattle.std.proofs.lemmas.List.{length-map, get_or-map, same_lists, get_or_default}
 use Rattle.std.proofs.lemmas.Simd.{map-map}
-use Rattle.zarr_model.specs.Region.{Region, starts, sizes, count, count_of, whole, contains, place, tuple_at, tuples, linear_index, ends_within}
+use Rattle.zarr_model.specs.Region.{Span, Region, starts, sizes, count, count_of, whole, contains, place, tuple_at, tuples, linear_index, ends_within}
 use Rattle.zarr_model.proofs.RegionLaws.{place_below, contains-tuple_at, get_or-tuples, length-tuples, tuple_at-place, place-tuple_at, count_whole}
-use Rattle.zarrs_array_subset.specs.Boxes.{overlap_of, moved_back, starts_past}
+use Rattle.zarrs_array_subset.specs.Boxes.{is_within, overlap_of, moved_back, starts_past}
 use Rattle.zarrs_array_subset.proofs.MoveLaws.{overlap_is_both}
 use Rattle.zarr_array_elements.specs.Shared.{shared_in}
 use Rattle.zarrs_codec_bytes.specs.Overlap.{Copied}
@@ -142,3 +142,49 @@ module _ {A : Type 0} (target source : Region) (rank : length target ≡ length 
 -- the linear indices of a box inside a shape are below its count
 pub places_below : (shape : List ℕ) (box : Region) → ends_within box shape ≡ true → AllBelow (count_of shape) (map (linear_index shape) (tuples box))
 places_below shape box h = indices_below shape (tuples box) (box_inside box shape h)
+
+-- what a box shares with a region that it lies within is the box
+same_span : (a b : ℕ) (m n : ℕ) → b ≤ a → a + m ≤ b + n → (max b a ≡ a) × (min (b + n) (a + m) - max b a ≡ m)
+same_span a b m n low high = (omega (arith, low), omega (arith, low, high))
+
+abbrev span_of : ℕ → ℕ → Span
+span_of a m = record { start = a; size = m }
+
+pub overlap_inside : (region box : Region) → is_within box region ≡ true → overlap_of region box ≡ box
+overlap_inside [] [] within = refl
+overlap_inside [] (own ∷ box) within = cc
+overlap_inside (span ∷ region) [] within = cc
+overlap_inside (span ∷ region) (own ∷ box) within =
+    let parts = and_parts _ (is_within box region) within in
+    let both = and_parts _ _ parts.0 in
+    let low : span.start ≤ own.start = leb-true _ _ both.0 in
+    let high : own.start + own.size ≤ span.start + span.size = leb-true _ _ both.1 in
+    let same = same_span own.start span.start own.size span.size low high in
+    ap₂ (λ (s : Span) (rest : Region). s ∷ rest) (ap₂ (λ (a m : ℕ). span_of a m) same.0 same.1) (overlap_inside region box parts.1)
+
+-- the elements of all of a box are its list
+module _ (box : Region) where
+  all_starts : starts_past box (starts box) ≡ true
+  all_starts = go box
+    where
+      go : (box : Region) → starts_past box (starts box) ≡ true
+      go [] = refl
+      go (span ∷ box) = and_from (nat_le span.start span.start) (starts_past box (starts box)) (le-leb span.start span.start (omega arith)) (go box)
+
+  pub all_long : length (shared_in box box) ≡ count box
+  all_long = ap length (places-moved box box all_starts) ∙ (length-map (tuples box) (place box) ∙ length-tuples box)
+
+  pub all_picked : {A : Type 0} (z : A) (xs : List A) → length xs ≡ count box → picked z (shared_in box box) xs ≡ xs
+  all_picked {A = A} z xs long =
+      ap (λ l. picked z l xs) (places-moved box box all_starts)
+      ∙ same_lists (picked z (map (place box) (tuples box)) xs) xs (as_many ∙ sym long) (λ i d within. at i d (subst (λ n. i < n) as_many within))
+    where
+      as_many : length (picked z (map (place box) (tuples box)) xs) ≡ count box
+      as_many = length-map (map (place box) (tuples box)) (λ place. get_or xs place z) ∙ (length-map (tuples box) (place box) ∙ length-tuples box)
+
+      at : (i : ℕ) (d : A) → i < count box → get_or (picked z (map (place box) (tuples box)) xs) i d ≡ get_or xs i d
+      at i d below =
+          let here : i < length (tuples box) = subst (λ n. i < n) (sym (length-tuples box)) below in
+          get_or-map (λ place. get_or xs place z) (map (place box) (tuples box)) i 0 d (subst (λ n. i < n) (sym (length-map (tuples box) (place box))) here)
+          ∙ (ap (λ place. get_or xs place z) (get_or-map (place box) (tuples box) i [] 0 here ∙ (ap (place box) (get_or-tuples box i [] below) ∙ place-tuple_at box i below))
+          ∙ get_or_default xs i z d (subst (λ n. i < n) (sym long) below))

@@ -9,6 +9,7 @@ use Rattle.zarr_model.proofs.BytesLaws.{when_some}
 use Rattle.zarrs_codec_bytes.proofs.MaskLaws.{masked_parts}
 use Rattle.zarr_array_elements.specs.Joined.{joined, joined_offsets}
 use Rattle.zarr_array_elements.specs.Grown.{grown_bytes}
+use Rattle.zarrs_codec_bytes.specs.PickedRuns.{run_numbers}
 use Rattle.zarr_array_elements.specs.Given.{given_meaning, given_list, given_joined, has_long_given}
 use Rattle.zarr_array_elements.specs.declared.given.Given.{Given}
 use Rattle.zarr_array_elements.proofs.MeansLaws.{some_list}
@@ -43,7 +44,7 @@ offsets_short n m place end (first ∷ from) (start ∷ to) e f a b =
     let starts = and_parts (start == 0) (offsets_rise_to end start to) (and_parts (length to == m) ((start == 0) && offsets_rise_to end start to) f).1 in
     joined_steps place first from to rises.1 a (subst (λ n. has_long_step (n ∷ to) ≡ false) (eqb-true start 0 starts.0) b)
 
-joined_short : (kind : Kind) (n m : ℕ) (first second : ArrayBytes) (xs ys : List Element) → meaning kind n first ≡ Some xs → meaning kind m second ≡ Some ys →
+pub joined_short : (kind : Kind) (n m : ℕ) (first second : ArrayBytes) (xs ys : List Element) → meaning kind n first ≡ Some xs → meaning kind m second ≡ Some ys →
     has_long_element first ≡ false → has_long_element second ≡ false → has_long_element (joined first second) ≡ false
 joined_short (fixed size) n m (fixed_bytes value) (fixed_bytes more) xs ys e f a b = refl
 joined_short (fixed size) n m (fixed_bytes value) (variable_bytes more to) xs ys e f a b = a
@@ -72,7 +73,7 @@ pub given_short : (kind : Kind) (number : ℕ) (before given : Option Given) (ne
 given_short kind number before None new piece ys same means piece_means joins a b = ap has_long_element (joins ∙ ap (λ g. given_joined g piece) same) ∙ b
 given_short kind number before (Some given) new piece ys same means piece_means joins a b =
     ap has_long_element (joins ∙ ap (λ g. given_joined g piece) same)
-    ∙ joined_short kind (length given.indices.items) number (grown_bytes given.grown) piece (given_list kind (Some given)) ys (some_list (given_meaning kind (Some given)) means) piece_means a b
+    ∙ joined_short kind (length (run_numbers given.runs.items)) number (grown_bytes given.grown) piece (given_list kind (Some given)) ys (some_list (given_meaning kind (Some given)) means) piece_means a b
 
 -- array bytes of no element have no long one
 no_step : (end : ℕ) (offsets : List ℕ) → are_offsets 0 end offsets ≡ true → has_long_step offsets ≡ false

@@ -3,21 +3,25 @@ use Rattle.std.specs.Prelude.{ℕ, Bool, true, false, List, [], length, Option, 
 use Rattle.zarr_model.specs.Element.{Element, Kind}
 use Rattle.zarr_model.specs.ArrayBytes.{ArrayBytes, meaning}
 use Rattle.zarr_model.specs.Command.{has_long_element}
+use Rattle.zarrs_codec_bytes.specs.PickedRuns.{run_numbers}
 use Rattle.zarrs_codec_array_bytes_update.specs.Pairs.{are_alike}
 use Rattle.zarr_array_elements.specs.Joined.{joined}
 use Rattle.zarr_array_elements.specs.Grown.{grown_bytes}
 use Rattle.zarr_array_elements.specs.declared.given.Given.{Given}
 
--- the linear indices of the places
+-- the runs of linear indices of the places, and these indices
+abbrev pub given_runs : Option Given → List (ℕ × ℕ)
+given_runs None = []
+given_runs (Some given) = given.runs.items
+
 abbrev pub given_indices : Option Given → List ℕ
-given_indices None = []
-given_indices (Some given) = given.indices.items
+given_indices given = run_numbers (given_runs given)
 
 -- the elements, of a kind
 abbrev pub given_meaning : Kind → Option Given → Option (List Element)
 given_meaning kind None = Some []
 given_meaning kind (Some given) =
-    meaning kind (length given.indices.items) (grown_bytes given.grown)
+    meaning kind (length (run_numbers given.runs.items)) (grown_bytes given.grown)
 
 abbrev pub given_list : Kind → Option Given → List Element
 given_list kind given = unwrap_or (given_meaning kind given) []

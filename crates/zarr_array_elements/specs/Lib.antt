@@ -4,5 +4,6 @@ pub mod SharedBox
 pub mod Joined
 pub mod Grown
 pub mod Given
+pub mod PlaceRuns
 pub mod Placed
 pub mod BoxElements

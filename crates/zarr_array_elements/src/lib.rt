@@ -8,6 +8,7 @@ mod given;
 mod grown;
 mod listed;
 mod overlap;
+mod place_runs;
 mod placed;
 mod shared;
 

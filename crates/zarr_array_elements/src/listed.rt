@@ -1,30 +1,31 @@
 //! Elements of any kind over a box.
 
-ghost use Rattle.std.specs.Prelude.{◌≡◌, ◌+◌, ◌*◌, ◌<◌, ◌^◌, false, [], ◌∷◌, Some, IsSome, length, replicate, IfOk, OnOk};
+ghost use Rattle.std.specs.Prelude.{◌≡◌, ◌+◌, ◌*◌, ◌<◌, ◌^◌, true, false, [], ◌∷◌, Some, IsSome, length, replicate, IfOk, OnOk};
 ghost use Rattle.zarr_model.specs.Region.{count};
 ghost use Rattle.zarr_model.specs.Element.{Element, fill_element, fixed_size};
 ghost use Rattle.zarr_model.specs.ArrayBytes.{meaning};
 ghost use Rattle.zarr_model.specs.Command.{has_long_element};
 ghost use Rattle.zarrs_array_subset.specs.ArraySubset.{region};
+ghost use Rattle.zarrs_array_subset.specs.Boxes.{is_within};
 ghost use Rattle.zarrs_data_type_elements.specs.FillValue.{fill_bytes};
 ghost use Rattle.zarrs_codec_bytes.specs.Filling.{filled_with};
 ghost use Rattle.zarrs_codec_bytes.specs.Overlap.{Copied};
-ghost use Rattle.zarrs_codec_bytes.specs.Picking.{AllBelow, replaced, size_in};
+ghost use Rattle.zarrs_codec_bytes.specs.Picking.{replaced, size_in};
+ghost use Rattle.zarrs_codec_bytes.specs.PickedRuns.{AreRunsBelow};
 ghost use Rattle.zarrs_codec_array_bytes.specs.Raw.{raw_of};
 ghost use Rattle.zarrs_codec_array_bytes.specs.Steps.{kind_seen, bytes_seen};
 ghost use Rattle.zarr_array_elements.specs.Elements.{list_in, blanks};
-ghost use Rattle.zarr_array_elements.specs.Given.{given_indices, given_meaning, given_list, has_long_given};
+ghost use Rattle.zarr_array_elements.specs.Given.{given_runs, given_indices, given_meaning, given_list, has_long_given};
 
 use crate::given::{Given, with_piece};
-use crate::grown::into_array_bytes;
+use crate::grown::{append, into_array_bytes};
+use crate::place_runs::picks_over_blank;
 use crate::shared::{part_in, piece_in, shared_part};
 use std::alloc::{AllocError, Global};
 use zarrs_array_subset::ArraySubset;
 use zarrs_codec_array_bytes::ArrayBytes;
-use zarrs_codec_array_bytes::array_bytes::gather::select;
+use zarrs_codec_array_bytes::array_bytes::gather::{select, select_runs};
 use zarrs_codec_array_bytes::array_bytes::step::element_size;
-use zarrs_codec_array_bytes_update::gather;
-use zarrs_codec_bytes::picks::picks_over_one;
 use zarrs_data_type_elements::FillValue;
 use zarrs_data_type_names::DataType;
 
@@ -39,7 +40,7 @@ pub(crate) struct ListedBox<'a> {
     ghost few: { count (region subset.now) + 1 < 2 ^ 64 },
     ghost blank_means: { IsSome (meaning (kind_seen data_type.now) 1 (raw_of blank)) },
     ghost given_means: { IsSome (given_meaning (kind_seen data_type.now) given) },
-    ghost below: { AllBelow (count (region subset.now)) (given_indices given) },
+    ghost below: { AreRunsBelow (count (region subset.now)) (given_runs given) },
 }
 
 // One element, the fill value.
@@ -71,7 +72,7 @@ fn with_given(
 ) -> Result<ArrayBytes<'static>, AllocError>
     requires blank { IsSome (meaning (kind_seen data_type.now) 1 (raw_of blank.now)) }
     requires given { IsSome (given_meaning (kind_seen data_type.now) (Some given)) }
-    requires below { AllBelow count (given_indices (Some given)) }
+    requires below { AreRunsBelow count (given_runs (Some given)) }
     ensures means { IfOk result (λ v. meaning (kind_seen data_type.now) count (raw_of v)
         ≡ Some (replaced (given_indices (Some given))
         (given_list (kind_seen data_type.now) (Some given))
@@ -80,11 +81,12 @@ fn with_given(
         → has_long_given (Some given) ≡ false
         → IfOk result (λ v. has_long_element (raw_of v) ≡ false) }
 {
-    let Given { indices, grown } = given;
-    let new = into_array_bytes(grown, alloc)?;
-    let picks = picks_over_one(alloc, count, &indices)?;
+    let Given { runs, mut grown } = given;
+    append(&mut grown, blank)?;
+    let elements = into_array_bytes(grown, alloc)?;
+    let picks = picks_over_blank(alloc, count, &runs)?;
     let size = element_size(data_type);
-    match gather(alloc, &picks, 1, blank, indices.len() as u64, &new, size) {
+    match select_runs(alloc, &picks.runs, picks.total + 1, &elements, size) {
         Ok(bytes) => Ok(bytes),
         Err(_) => Err(AllocError),
     }
@@ -142,8 +144,34 @@ impl<'a> ListedBox<'a> {
         })
     }
 
-    /// Takes the elements that bytes over another box share with this one. After an error all are blank.
-    pub(crate) fn put(
+    // Takes all elements of bytes over a box inside this one. After an error all are blank.
+    fn put_whole(
+        &mut self,
+        alloc: Global,
+        bytes: &ArrayBytes<'_>,
+        subset: &ArraySubset,
+    ) -> Result<(), AllocError>
+        requires rank { length (listed_box self.old) ≡ length (region subset.now) }
+        requires inside { is_within (region subset.now) (listed_box self.old) ≡ true }
+        requires means { IsSome
+            (meaning (listed_kind self.old) (count (region subset.now)) (raw_of bytes.now)) }
+        ensures kind { listed_kind self.new ≡ listed_kind self.old }
+        ensures subset { listed_box self.new ≡ listed_box self.old }
+        ensures copied { OnOk result (Copied (listed_box self.old) (region subset.now)
+            (list_in (listed_kind self.old) (region subset.now) (raw_of bytes.now))
+            (listed_list self.old) (listed_list self.new)) }
+        ensures short { has_long_element (raw_of bytes.now) ≡ false → IsShortList self.old
+            → IsShortList self.new }
+    {
+        let at = part_in(alloc, subset, self.subset)?;
+        let before = self.given.take();
+        let given = with_piece(before, alloc, &at, self.subset.shape(), bytes)?;
+        self.given = Some(given);
+        Ok(())
+    }
+
+    // Takes the elements of the part that another box shares with this one. After an error all are blank.
+    fn put_part(
         &mut self,
         alloc: Global,
         bytes: &ArrayBytes<'_>,
@@ -170,6 +198,34 @@ impl<'a> ListedBox<'a> {
         let given = with_piece(before, alloc, &at, self.subset.shape(), &piece)?;
         self.given = Some(given);
         Ok(())
+    }
+
+    /// Takes the elements that bytes over another box share with this one. After an error all are blank.
+    pub(crate) fn put(
+        &mut self,
+        alloc: Global,
+        bytes: &ArrayBytes<'_>,
+        subset: &ArraySubset,
+    ) -> Result<(), AllocError>
+        requires rank { length (listed_box self.old) ≡ length (region subset.now) }
+        requires means { IsSome
+            (meaning (listed_kind self.old) (count (region subset.now)) (raw_of bytes.now)) }
+        requires count { count (region subset.now) + 1 < 2 ^ 64 }
+        requires bytes { count (region subset.now) * size_in (fixed_size (listed_kind self.old))
+            < 2 ^ 64 }
+        ensures kind { listed_kind self.new ≡ listed_kind self.old }
+        ensures subset { listed_box self.new ≡ listed_box self.old }
+        ensures copied { OnOk result (Copied (listed_box self.old) (region subset.now)
+            (list_in (listed_kind self.old) (region subset.now) (raw_of bytes.now))
+            (listed_list self.old) (listed_list self.new)) }
+        ensures short { has_long_element (raw_of bytes.now) ≡ false → IsShortList self.old
+            → IsShortList self.new }
+    {
+        if subset.inbounds(self.subset) {
+            self.put_whole(alloc, bytes, subset)
+        } else {
+            self.put_part(alloc, bytes, subset)
+        }
     }
 
     /// The elements as array bytes.

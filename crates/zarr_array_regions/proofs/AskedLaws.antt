@@ -4,26 +4,8 @@ use Rattle.std.proofs.lemmas.Bool.{and_parts, leb-true}
 use Rattle.zarr_model.specs.Prelude.{Region, count, overlap_of, is_in_part, part_of_box, Options, Description, finds_shared}
 use Rattle.zarr_model.specs.Region.{Span}
 use Rattle.zarrs_array_subset.specs.Boxes.{is_within}
+use Rattle.zarr_array_elements.proofs.ShareLaws.{overlap_inside}
 use Rattle.zarr_array_regions.specs.Asked.{part_asked, chunk_asked, finds_asked}
-
--- what a box shares with a region that it lies within is the box
-same_span : (a b : ℕ) (m n : ℕ) → b ≤ a → a + m ≤ b + n → (max b a ≡ a) × (min (b + n) (a + m) - max b a ≡ m)
-same_span a b m n low high = (omega (arith, low), omega (arith, low, high))
-
-abbrev span_of : ℕ → ℕ → Span
-span_of a m = record { start = a; size = m }
-
-pub overlap_inside : (region box : Region) → is_within box region ≡ true → overlap_of region box ≡ box
-overlap_inside [] [] within = refl
-overlap_inside [] (own ∷ box) within = cc
-overlap_inside (span ∷ region) [] within = cc
-overlap_inside (span ∷ region) (own ∷ box) within =
-    let parts = and_parts _ (is_within box region) within in
-    let both = and_parts _ _ parts.0 in
-    let low : span.start ≤ own.start = leb-true _ _ both.0 in
-    let high : own.start + own.size ≤ span.start + span.size = leb-true _ _ both.1 in
-    let same = same_span own.start span.start own.size span.size low high in
-    ap₂ (λ (s : Span) (rest : Region). s ∷ rest) (ap₂ (λ (a m : ℕ). span_of a m) same.0 same.1) (overlap_inside region box parts.1)
 
 -- a box that is what a region shares with a chunk is asked for so
 pub shared_asked : (description : Description) (region : Region) (chunk : List ℕ) (within : Region) → within ≡ part_of_box region (description.grid.chunk_box chunk) →

@@ -28,7 +28,7 @@ use Rattle.zarr_array_parts.specs.declared.parts.ArrayParts.{ArrayParts}
 use Rattle.zarr_array_regions.specs.Codecs.{list_request, box_below}
 use Rattle.zarr_array_regions.specs.Taken.{is_bytes_alone, Takes, box_bytes}
 use Rattle.zarr_array_regions.proofs.ChunkLaws.{content_as}
-use Rattle.zarr_array_regions.proofs.AskedLaws.{overlap_inside}
+use Rattle.zarr_array_elements.proofs.ShareLaws.{overlap_inside}
 use Rattle.zarr_array_regions.proofs.BottomLaws.{bottom_is, below, below_inside, below_is}
 use Rattle.zarr_array_regions.proofs.RunBytes.{part_taken}
 

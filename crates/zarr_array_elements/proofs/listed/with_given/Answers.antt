@@ -1,47 +1,44 @@
-use Rattle.std.proofs.Common.{rules, ◌∙◌, length, Some}
+use Rattle.std.proofs.Common.{rules, [], length, replicate, ap, ◌+◌, ◌∙◌}
+use Rattle.std.specs.List.{range_with_len}
+use Rattle.zarrs_codec_bytes.specs.Picking.{replaced}
+use Rattle.zarrs_codec_bytes.specs.PickedRuns.{run_numbers}
+use Rattle.zarrs_codec_bytes.proofs.PickRunLaws.{numbers_below}
 use Rattle.zarrs_codec_array_bytes.specs.Raw.{raw_of}
 use Rattle.zarrs_codec_array_bytes.specs.Steps.{kind_seen}
 use Rattle.zarr_array_elements.specs.Grown.{grown_bytes}
-use Rattle.zarr_array_elements.specs.Given.{given_meaning}
-use Rattle.zarr_array_elements.proofs.MeansLaws.{some_list, sound_means}
-use Rattle.zarr_array_elements.proofs.GatherLemmas.{picks_within, both_alike, blank_long, new_long, gathered_given, gathered_short}
+use Rattle.zarr_array_elements.proofs.MeansLaws.{sound_means}
+use Rattle.zarr_array_elements.proofs.GatherLemmas.{blank_alike, both_means, elements_long, gathered_given, gathered_short}
 use Rattle.zarr_array_elements.proofs.listed.with_given.Goals as goal
+
+pub append-requires : goal.append-requires
+append-requires c =
+    blank_alike (kind_seen c.args.data_type.now) c.args.count 0 0 (run_numbers c.args.given.runs.items) [] (raw_of c.args.blank.now) (grown_bytes c.args.given.grown) (grown_bytes c.args.given.grown) (grown_bytes c.args.given.grown)
+    c.requires.blank c.requires.given
 
 pub into_array_bytes-requires : goal.into_array_bytes-requires
 into_array_bytes-requires c =
-    sound_means (kind_seen c.args.data_type.now) (length c.args.given.indices.items) (grown_bytes c.args.given.grown) _
-    (some_list (given_meaning (kind_seen c.args.data_type.now) (Some c.args.given)) c.requires.given)
+    sound_means (kind_seen c.args.data_type.now) (length (run_numbers c.args.given.runs.items) + 1) (grown_bytes c.append.new.into) _
+    (both_means (kind_seen c.args.data_type.now) c.args.count 0 0 (run_numbers c.args.given.runs.items) [] (raw_of c.args.blank.now) (grown_bytes c.args.given.grown) (grown_bytes c.append.new.into) (grown_bytes c.append.new.into)
+    c.requires.blank c.requires.given c.in_ok-append.ensures)
 
-pub gather-requires-clause-within : goal.gather-requires-clause-within
-gather-requires-clause-within c =
-    picks_within (kind_seen c.args.data_type.now) c.args.count c.element_size-size.result c.len.result c.args.given.indices.items c.deref.result.now c.deref-2.result.now
-    (raw_of c.args.blank.now) (grown_bytes c.args.given.grown) (raw_of c.in_ok-new.new) c.requires.blank c.requires.given
-    c.in_ok-new.ensures c.element_size-size.ensures c.deref.ensures.value (search rules) (c.deref-2.ensures.value ∙ c.in_ok-picks.ensures)
-
-pub gather-requires-clause-alike : goal.gather-requires-clause-alike
-gather-requires-clause-alike c =
-    both_alike (kind_seen c.args.data_type.now) c.args.count c.element_size-size.result c.len.result c.args.given.indices.items c.deref.result.now c.deref-2.result.now
-    (raw_of c.args.blank.now) (grown_bytes c.args.given.grown) (raw_of c.in_ok-new.new) c.requires.blank c.requires.given
-    c.in_ok-new.ensures c.element_size-size.ensures c.deref.ensures.value (search rules) (c.deref-2.ensures.value ∙ c.in_ok-picks.ensures)
-
-pub gather-requires-clause-old_long : goal.gather-requires-clause-old_long
-gather-requires-clause-old_long c =
-    blank_long (kind_seen c.args.data_type.now) (raw_of c.args.blank.now) c.requires.blank c.element_size-size.result c.element_size-size.ensures
-
-pub gather-requires-clause-new_long : goal.gather-requires-clause-new_long
-gather-requires-clause-new_long c =
-    new_long (kind_seen c.args.data_type.now) c.args.count c.element_size-size.result c.len.result c.args.given.indices.items c.deref.result.now c.deref-2.result.now
-    (raw_of c.args.blank.now) (grown_bytes c.args.given.grown) (raw_of c.in_ok-new.new) c.requires.blank c.requires.given
-    c.in_ok-new.ensures c.element_size-size.ensures c.deref.ensures.value (search rules) (c.deref-2.ensures.value ∙ c.in_ok-picks.ensures)
+pub select_runs-requires-clause-long : goal.select_runs-requires-clause-long
+select_runs-requires-clause-long c =
+    elements_long (kind_seen c.args.data_type.now) c.args.count c.element_size-size.result c.in_ok-picks.picks.total (run_numbers c.args.given.runs.items) (run_numbers c.in_ok-picks.picks.runs.items)
+    (raw_of c.args.blank.now) (grown_bytes c.args.given.grown) (grown_bytes c.append.new.into) (raw_of c.in_ok-elements.elements) c.requires.blank c.requires.given
+    c.in_ok-append.ensures c.in_ok-elements.ensures c.element_size-size.ensures (c.in_ok-picks.ensures.total ∙ ap (λ l. length (run_numbers l)) c.deref.ensures.value)
 
 pub returns-in-Ok-clause-means : goal.returns-in-Ok-clause-means
 returns-in-Ok-clause-means c =
-    gathered_given (kind_seen c.args.data_type.now) c.args.count c.element_size-size.result c.len.result c.args.given.indices.items c.deref.result.now c.deref-2.result.now
-    (raw_of c.args.blank.now) (grown_bytes c.args.given.grown) (raw_of c.in_ok-new.new) c.requires.blank c.requires.given
-    c.in_ok-new.ensures c.element_size-size.ensures c.deref.ensures.value (search rules) (c.deref-2.ensures.value ∙ c.in_ok-picks.ensures) (raw_of c.in-Ok.bytes) c.in-Ok.ensures.value
+    gathered_given (kind_seen c.args.data_type.now) c.args.count c.element_size-size.result c.in_ok-picks.picks.total (run_numbers c.args.given.runs.items) (run_numbers c.in_ok-picks.picks.runs.items)
+    (raw_of c.args.blank.now) (grown_bytes c.args.given.grown) (grown_bytes c.append.new.into) (raw_of c.in_ok-elements.elements) c.requires.blank c.requires.given
+    c.in_ok-append.ensures c.in_ok-elements.ensures c.element_size-size.ensures (c.in_ok-picks.ensures.total ∙ ap (λ l. length (run_numbers l)) c.deref.ensures.value)
+    (numbers_below (c.in_ok-picks.picks.total + 1) c.in_ok-picks.picks.runs.items c.in_ok-picks.ensures.within)
+    (c.in_ok-picks.ensures.numbers ∙ ap (λ l. replaced (run_numbers l) (range_with_len 0 (length (run_numbers l))) (replicate c.args.count (length (run_numbers l)))) c.deref.ensures.value) (raw_of c.in-Ok.bytes) (search rules)
 
 pub returns-in-Ok-clause-short : goal.returns-in-Ok-clause-short
 returns-in-Ok-clause-short c =
-    gathered_short (kind_seen c.args.data_type.now) c.args.count c.element_size-size.result c.len.result c.args.given.indices.items c.deref.result.now c.deref-2.result.now
-    (raw_of c.args.blank.now) (grown_bytes c.args.given.grown) (raw_of c.in_ok-new.new) c.requires.blank c.requires.given
-    c.in_ok-new.ensures c.element_size-size.ensures c.deref.ensures.value (search rules) (c.deref-2.ensures.value ∙ c.in_ok-picks.ensures) (raw_of c.in-Ok.bytes) c.in-Ok.ensures.value
+    gathered_short (kind_seen c.args.data_type.now) c.args.count c.element_size-size.result c.in_ok-picks.picks.total (run_numbers c.args.given.runs.items) (run_numbers c.in_ok-picks.picks.runs.items)
+    (raw_of c.args.blank.now) (grown_bytes c.args.given.grown) (grown_bytes c.append.new.into) (raw_of c.in_ok-elements.elements) c.requires.blank c.requires.given
+    c.in_ok-append.ensures c.in_ok-elements.ensures c.element_size-size.ensures (c.in_ok-picks.ensures.total ∙ ap (λ l. length (run_numbers l)) c.deref.ensures.value)
+    (numbers_below (c.in_ok-picks.picks.total + 1) c.in_ok-picks.picks.runs.items c.in_ok-picks.ensures.within)
+    (c.in_ok-picks.ensures.numbers ∙ ap (λ l. replaced (run_numbers l) (range_with_len 0 (length (run_numbers l))) (replicate c.args.count (length (run_numbers l)))) c.deref.ensures.value) (raw_of c.in-Ok.bytes) (search rules)

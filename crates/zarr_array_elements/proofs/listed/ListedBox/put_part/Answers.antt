@@ -9,7 +9,7 @@ use Rattle.zarr_array_elements.specs.BoxElements.{listed_kind, listed_box}
 use Rattle.zarr_array_elements.proofs.MeansLaws.{some_list}
 use Rattle.zarr_array_elements.proofs.PutLaws.{given_alike_means, took, blanks_long}
 use Rattle.zarr_array_elements.proofs.ShortLaws.{given_short}
-use Rattle.zarr_array_elements.proofs.listed.ListedBox.put.Goals as goal
+use Rattle.zarr_array_elements.proofs.listed.ListedBox.put_part.Goals as goal
 
 pub with_piece-requires-clause-alike : goal.with_piece-requires-clause-alike
 with_piece-requires-clause-alike c =
@@ -22,21 +22,21 @@ invariant_of-self-2-clause-given_means c =
     (took (listed_kind c.args.self.now) (listed_box c.args.self.now) (region c.args.subset.now) (region c.in_ok-part.part) (region c.in_ok-at.at) c.shape.result.now
     (blanks (listed_kind c.args.self.now) (count (listed_box c.args.self.now)) (raw_of c.args.self.now.blank)) (raw_of c.args.bytes.now) (raw_of c.in_ok-piece.piece) c.take-before.result c.args.self.now.given c.in_ok-given.given
     c.requires.rank (blanks_long (listed_kind c.args.self.now) (count (listed_box c.args.self.now)) (raw_of c.args.self.now.blank)) c.args.self.now.given_means c.args.self.now.below c.requires.means c.in_ok-part.ensures c.in_ok-at.ensures c.shape.ensures.value c.take-before.ensures.value
-    c.in_ok-piece.ensures.selected c.in_ok-given.ensures.places c.in_ok-given.ensures.below c.in_ok-given.ensures.bytes).means
+    c.in_ok-piece.ensures.selected c.in_ok-given.ensures.places c.in_ok-given.ensures.within c.in_ok-given.ensures.bytes).means
 
 pub invariant_of-self-2-clause-below : goal.invariant_of-self-2-clause-below
 invariant_of-self-2-clause-below c =
     (took (listed_kind c.args.self.now) (listed_box c.args.self.now) (region c.args.subset.now) (region c.in_ok-part.part) (region c.in_ok-at.at) c.shape.result.now
     (blanks (listed_kind c.args.self.now) (count (listed_box c.args.self.now)) (raw_of c.args.self.now.blank)) (raw_of c.args.bytes.now) (raw_of c.in_ok-piece.piece) c.take-before.result c.args.self.now.given c.in_ok-given.given
     c.requires.rank (blanks_long (listed_kind c.args.self.now) (count (listed_box c.args.self.now)) (raw_of c.args.self.now.blank)) c.args.self.now.given_means c.args.self.now.below c.requires.means c.in_ok-part.ensures c.in_ok-at.ensures c.shape.ensures.value c.take-before.ensures.value
-    c.in_ok-piece.ensures.selected c.in_ok-given.ensures.places c.in_ok-given.ensures.below c.in_ok-given.ensures.bytes).below
+    c.in_ok-piece.ensures.selected c.in_ok-given.ensures.places c.in_ok-given.ensures.within c.in_ok-given.ensures.bytes).below
 
 pub returns-clause-copied : goal.returns-clause-copied
 returns-clause-copied c =
     (took (listed_kind c.args.self.now) (listed_box c.args.self.now) (region c.args.subset.now) (region c.in_ok-part.part) (region c.in_ok-at.at) c.shape.result.now
     (blanks (listed_kind c.args.self.now) (count (listed_box c.args.self.now)) (raw_of c.args.self.now.blank)) (raw_of c.args.bytes.now) (raw_of c.in_ok-piece.piece) c.take-before.result c.args.self.now.given c.in_ok-given.given
     c.requires.rank (blanks_long (listed_kind c.args.self.now) (count (listed_box c.args.self.now)) (raw_of c.args.self.now.blank)) c.args.self.now.given_means c.args.self.now.below c.requires.means c.in_ok-part.ensures c.in_ok-at.ensures c.shape.ensures.value c.take-before.ensures.value
-    c.in_ok-piece.ensures.selected c.in_ok-given.ensures.places c.in_ok-given.ensures.below c.in_ok-given.ensures.bytes).copied
+    c.in_ok-piece.ensures.selected c.in_ok-given.ensures.places c.in_ok-given.ensures.within c.in_ok-given.ensures.bytes).copied
 
 pub returns-clause-short : goal.returns-clause-short
 returns-clause-short c = λ short held.
