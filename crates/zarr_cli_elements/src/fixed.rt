@@ -52,33 +52,80 @@ fn decode_into(digits: &[u8], bytes: &mut [u8]) -> bool
     hex::decode_to_slice(digits, bytes).is_ok()
 }
 
-// Appends the byte that two digits denote, if both are hexadecimal. An error comes only for want of memory.
-fn push_byte(value: &mut Vec<u8>, digits: &[u8]) -> Result<bool, AllocError>
-    requires { length digits.now ≡ 2 }
-    ensures { IfOk result (λ pushed. PushesElement (element_of (fixed 1) (104 ∷ digits.now)) pushed
-        value.old.items value.new.items) }
-{
-    let mut byte = [0];
-    let decoded = decode_into(digits, &mut byte);
-    if decoded {
-        value.push(byte[0])?;
-    }
-    Ok(decoded)
-}
-
 // Appends the bytes that digits denote, if all are hexadecimal. An error comes only for want of memory.
 fn push_bytes(value: &mut Vec<u8>, digits: &[u8], size: usize) -> Result<bool, AllocError>
     requires { length digits.now ≡ 2 * size }
     ensures { IfOk result (λ pushed. PushesElement (element_of (fixed size)
         (104 ∷ digits.now)) pushed value.old.items value.new.items) }
 {
-    // One byte needs no room before it is there.
-    if size == 1 {
-        return push_byte(value, digits);
-    }
     let at = value.len();
     value.resize(at + size, 0)?;
     Ok(decode_into(digits, &mut value[at..]))
+}
+
+// The two digits of an element of one byte, and what follows the space behind them.
+#[tactic(auto, using(crate::proofs::FixedLemmas::no_digits))]
+fn pair_first(text: &[u8]) -> Option<(u8, u8, Option<&[u8]>)>
+    ensures text { IfSome result (λ first. text.now ≡ first.0 ∷ first.1 ∷ behind first.2) }
+    ensures none { IfNone result (written_bytes 1 (split_at 32 (104 ∷ text.now)) ≡ None) }
+{
+    match text {
+        [high, low] => Some((*high, *low, None)),
+        [high, low, separator, rest @ ..] => {
+            if *separator == b' ' {
+                Some((*high, *low, Some(rest)))
+            } else {
+                None
+            }
+        }
+        _ => None,
+    }
+}
+
+// The two digits of an element of one byte at the front of a text, and what follows the space behind them.
+#[tactic(auto, using(crate::proofs::FixedLemmas::no_h))]
+fn first_pair(text: &[u8]) -> Option<(u8, u8, Option<&[u8]>)>
+    ensures text { IfSome result (λ first. text.now ≡ 104 ∷ first.0 ∷ first.1 ∷ behind first.2) }
+    ensures none { IfNone result (written_bytes 1 (split_at 32 text.now) ≡ None) }
+{
+    match text {
+        [b'h', others @ ..] => pair_first(others),
+        _ => None,
+    }
+}
+
+// Appends the byte that two digits denote, if both are hexadecimal. An error comes only for want of memory.
+fn push_byte(value: &mut Vec<u8>, high: u8, low: u8) -> Result<bool, AllocError>
+    ensures { IfOk result (λ pushed. PushesElement (element_of (fixed 1)
+        (104 ∷ high ∷ low ∷ [])) pushed value.old.items value.new.items) }
+{
+    let mut byte = [0];
+    let decoded = decode_into(&[high, low], &mut byte);
+    if decoded {
+        value.push(byte[0])?;
+    }
+    Ok(decoded)
+}
+
+// The bytes of elements of one byte each, with one space between two. No text has no elements.
+#[tactic(auto, using(crate::proofs::FixedLemmas::of_words))]
+fn parse_bytes(alloc: Global, text: Option<&str>) -> Result<Option<Vec<u8>>, AllocError>
+    ensures { IfOk result (λ value. option_map (λ v. v.items) value
+        ≡ written_bytes 1 (words_left text.entry)) }
+{
+    let room = text.map_or(0, |text| text.len() / 4 + 1);
+    let mut value = Vec::with_capacity(alloc, room)?;
+    let mut left = text.map(|text| text.as_bytes());
+    'elements: while let Some(text) = left {
+        let Some((high, low, rest)) = first_pair(text) else {
+            return Ok(None);
+        };
+        if !push_byte(&mut value, high, low)? {
+            return Ok(None);
+        }
+        left = rest;
+    }
+    Ok(Some(value))
 }
 
 /// The bytes of elements of `size` bytes each, with one space between two. No text has no elements.
@@ -93,6 +140,9 @@ pub(crate) fn parse_fixed(
     ensures { IfOk result (λ value. option_map (λ v. v.items) value
         ≡ written_bytes size (words_left text.entry)) }
 {
+    if size == 1 {
+        return parse_bytes(alloc, text);
+    }
     let room = text.map_or(0, |text| text.len() / 2);
     let mut value = Vec::with_capacity(alloc, room)?;
     let mut left = text.map(|text| text.as_bytes());
