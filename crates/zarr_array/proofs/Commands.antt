@@ -1,14 +1,18 @@
 -- Reads and writes of an array as commands of the model.
-use Rattle.std.proofs.Common.{◌≡◌, Bool, true, false, [], ◌∷◌, length, Option, Some, None, refl, sym, ap, ◌∙◌}
-use Rattle.zarr_model.specs.Prelude.{Region, count, kind, ArrayBytes, meaning, bytes_refusal, has_long_element, ends_within, Options, Shown, read, write, Refusal, refusal, region_refusal, refused_if, or_then, element_too_long, answered, answered_done, LeavesKeys}
+use Rattle.std.proofs.Common.{◌≡◌, ℕ, List, inl, inr, Bool, true, false, [], ◌∷◌, length, Option, Some, None, refl, sym, ap, ◌∙◌}
+use Rattle.zarr_model.specs.Prelude.{Region, count, layout, chunks_meeting, kind, ArrayBytes, meaning, bytes_refusal, has_long_element, ends_within, Options, Shown, read, write, Refusal, refusal, region_refusal, refused_if, or_then, element_too_long, answered, answered_done, LeavesKeys}
 use Rattle.zarr_model.proofs.BytesLaws.{refusal-meaning}
 use Rattle.zarr_array_regions.specs.parts.Parts.{described}
 use Rattle.zarr_array_regions.specs.parts.declared.parts.ArrayParts.{ArrayParts}
 use Rattle.zarr_array_regions.proofs.ServedLaws.{described_covers, described_sound, accepted}
 use Rattle.zarr_array_regions.specs.declared.error.CommandError.{CommandError}
 use Rattle.zarr_array_regions.specs.Read.{HasReadRegion}
-use Rattle.zarr_array_regions.specs.Write.{IsWritable}
-use Rattle.zarr_array_regions.specs.PartWay.{HasWrittenRegion, NotWrittenRegion}
+use Rattle.zarr_array_regions.specs.Write.{IsWritable, change_of}
+use Rattle.zarr_array_regions.specs.PartWay.{StopsBefore, HasWrittenRegion, NotWrittenRegion}
+use Rattle.zarr_array_regions.specs.declared.error.SessionErrorKind.{SessionErrorKind}
+use Rattle.zarr_array_regions.specs.declared.error.SessionErrorKind.TheVariants.{NotOpened, ChunkDecode, Store, OutOfMemory}
+use Rattle.zarr_array_regions.proofs.PartWayLaws.{content-same}
+use Rattle.zarr_array.specs.WritesUpTo.{ChangedUpTo, WritesUpTo}
 use Rattle.zarr_array_regions.proofs.ChunkLaws.{some_list}
 use Rattle.zarr_array.specs.Session.{FailsAt}
 use Rattle.zarr_array.proofs.HasRun.{HasRun}
@@ -19,7 +23,7 @@ use Rattle.zarr_array.proofs.StepRuns.{read-ran}
 pub bytes-read : (array : ArrayParts) (options : Options) (region : Region) (old new : Shown) (bytes : ArrayBytes) → refusal (described array) (read region) ≡ None →
     HasReadRegion array options region old new bytes → HasRun (described array) options (read region ∷ []) old new (answered bytes ∷ [])
 bytes-read array options region old new bytes none has =
-    read-ran (described array) options region old new bytes none has.read.same has.read.readable (λ a met.
+    read-ran (described array) options (described_sound array options) region old new bytes none has.read.same has.read.readable (λ a met.
     let is = has.read.elements a met in
     ap (λ n. meaning (kind (described array)) n bytes) (ap length (sym is) ∙ has.read.as_long)
     ∙ (some_list (meaning (kind (described array)) (count region) bytes) has.means ∙ ap Some is)) has.read.asks has.read.later
@@ -55,6 +59,28 @@ module _ (array : ArrayParts) (options : Options) (region : Region) (bytes : Arr
   module _ (error : CommandError) (fails : NotWrittenRegion array options region bytes old new error) where
     pub bytes-fail : FailsAt (described array) options (write region bytes ∷ []) old new (Some (0, error.chunks_done)) error.kind
     bytes-fail = write-fails (described array) (described_covers array) options (described_sound array options) region bytes none error.chunks_done old new error.kind fails.failed
+
+    -- the first chunks were changed, and nothing else
+    pub bytes-first : WritesUpTo (described array) options region bytes error.chunks_done old new error.kind
+    bytes-first = by_kind error.kind fails.failed.stops
+      where
+        firsts : ((key : List ℕ) → new.content key ≡ fails.failed.mid.content key) → ChangedUpTo (described array) options region bytes error.chunks_done old new
+        firsts same = record {
+          decoded = fails.failed.changed.decoded;
+          holds = λ a place chunk is_fill h e had.
+              content-same (layout (described array) options) fails.failed.mid.content new.content chunk (same ((described array).key chunk))
+              ∙ (fails.failed.changed.holds a place chunk is_fill h e had).has options;
+          others = λ key apart. same key ∙ fails.failed.changed.others key apart;
+        }
+
+        by_kind : (kind : SessionErrorKind) → StopsBefore (described array) options (change_of array region bytes) (chunks_meeting (described array).grid region) error.chunks_done fails.failed.mid new kind →
+            WritesUpTo (described array) options region bytes error.chunks_done old new kind
+        by_kind (NotOpened why) stops = tt
+        by_kind Store stops = tt
+        by_kind (ChunkDecode key why) (inl (memory, same)) = firsts same
+        by_kind (ChunkDecode key why) (inr (chunk, here, (its_key, damaged, same))) = firsts same
+        by_kind OutOfMemory (inl (memory, same)) = firsts same
+        by_kind OutOfMemory (inr (chunk, here, same)) = firsts same
 
     pub bytes-fail-keys : LeavesKeys (described array) options (write region bytes ∷ []) old.content new.content
     bytes-fail-keys = write-fails-keys (described array) (described_covers array) options (described_sound array options) region bytes none error.chunks_done old new error.kind fails.failed

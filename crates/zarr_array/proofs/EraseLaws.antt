@@ -1,13 +1,16 @@
 -- An erase as a command of a session.
-use Rattle.std.proofs.Common.{◌≡◌, ℕ, zero, suc, ◌-◌, ◌^◌, ◌≤◌, ◌&&◌, ◌||◌, ◌⊎◌, true, false, if◌then◌else◌, bytes_eq, List, [], ◌∷◌, replicate, slice_get, Option, Some, None, IsSome, is_some, refl, sym, ap, ◌∙◌, subst, arith, inl, inr, ⊎_elim}
+use Rattle.std.proofs.Common.{◌≡◌, ℕ, zero, suc, ◌-◌, ◌^◌, ◌≤◌, ◌&&◌, ◌||◌, ◌⊎◌, true, false, if◌then◌else◌, bytes_eq, List, [], ◌∷◌, replicate, slice_get, Option, Some, None, IsSome, is_some, refl, sym, ap, ◌∙◌, subst, arith, inl, inr, ⊎_elim, IsTrue}
 use Rattle.std.specs.List.{list_any}
 use Rattle.std.proofs.lemmas.Bool.{cases_Bool, cond-true, cond-false, true≢false, or_parts, or_from}
-use Rattle.zarr_model.specs.Prelude.{count, Element, Array, IsChunk, CoversShape, Options, Content, IsSound, box_content, chunk_content, Shown, erase, Description, kind, layout, refusal, reply_of, array_of, after, answered_done, Matches, chunks_under, command_chunks, asks_store, is_among, present_in, present_under, present_after, erases_chunk, IsDamageSeen, SeesNoDamage, KeepsDamage, IsLeftAt, Rose, PutsKey, MayPutKey, ChunkHas, LeavesKeys, ServesWhole}
+use Rattle.zarr_model.specs.Prelude.{count, Element, Array, IsChunk, CoversShape, Options, Content, IsSound, box_content, chunk_content, Shown, erase, Description, kind, layout, refusal, reply_of, array_of, after, answered_done, Matches, chunks_under, command_chunks, asks_store, is_among, present_in, present_under, present_after, erases_chunk, IsDamageSeen, SeesNoDamage, KeepsDamage, IsLeftAt, Rose, PutsKey, MayPutKey, ChunkHas, LeavesKeys, ServesWhole, Changes, ChangedFirst, StopsAt}
 use Rattle.zarr_model.proofs.FailureLaws.{same_bytes, bytes_eq-refl, listed_is_chunk, part_way-start, part_way-fails, erase-done}
+use Rattle.zarr_model.proofs.LeftLaws.{left_at}
+use Rattle.zarr_model.proofs.RanLaws.{RanOver-erase}
 use Rattle.zarr_array_regions.specs.declared.error.SessionErrorKind.TheVariants.{Store, OutOfMemory}
 use Rattle.zarr_array.proofs.HasRun.{HasRun}
 use Rattle.zarr_array.specs.Stored.{DecodesForAll, IsChanged, StoresForAll, StaysOrDecodes}
 use Rattle.zarr_array.specs.Session.{FailsAt}
+use Rattle.zarr_array.proofs.DecodedLaws.{decoded-start}
 use Rattle.zarr_array.proofs.StepRuns.{command-starved}
 
 -- what was put may have been put
@@ -116,6 +119,7 @@ module _ (description : Description) (covers : CoversShape description.shape des
     undamaged = SeesNoDamage-erase description options chunk before.content;
     erased = λ none array other is_other. erase-presence before.content now.content puts array other is_other;
     stored = erase-stored before.content now.content puts;
+    over = RanOver-erase description options covers sound chunk before.content now.content accepted puts (KeepsDamage-erase before.content now.content puts);
     later = later;
   }
 
@@ -140,9 +144,30 @@ module _ (description : Description) (covers : CoversShape description.shape des
     keys = erase-keys old.content new.content puts;
     stored = erase-stays old.content new.content puts;
     damage = λ other is_other damaged none. (erase-keys old.content new.content puts).same_chunks other is_other none;
+    left = left_at description options covers sound (erase chunk) old.content 0 old.content none_changed chunk (ap (λ chunks. slice_get chunks 0) erase-listed) true new.content stops (λ asks. absurd (true≢false (sym asks)));
+    decoded = decoded-start description options (erase chunk) old.content;
     cause = (rose, refl, λ honest. left);
   }
     where
+      none_changed : ChangedFirst description options (after description (erase chunk)) (command_chunks description (erase chunk)) 0 old.content old.content
+      none_changed = record {
+        decoded = λ place other h e. absurd (omega (arith, h));
+        holds = λ array place other is_fill h e had. absurd (omega (arith, h));
+        others = λ key apart. refl;
+      }
+
+      stops : StopsAt description options (after description (erase chunk)) chunk (IsTrue true × Changes (erase chunk)) old.content new.content
+      stops = record {
+        here = λ array is_fill had. ⊎_elim
+            (λ (kept : new.content (description.key chunk) ≡ old.content (description.key chunk)). inl kept)
+            (λ (put : (new.content (description.key chunk) ≡ None) ⊎ (new.content (description.key chunk) ≡ None)). inr (inr (
+              (refl, tt),
+              ⊎_elim (λ (gone : new.content (description.key chunk) ≡ None). gone) (λ (gone : new.content (description.key chunk) ≡ None). gone) put,
+            )))
+            puts.here;
+        others = puts.others;
+      }
+
       left : IsLeftAt description options (erase chunk ∷ []) old.content new.content true (Some (0, 0))
       left array meant = (
         erase chunk,
@@ -161,6 +186,6 @@ module _ (description : Description) (covers : CoversShape description.shape des
       )
 
 -- memory ran out before the call of an erase
-pub erase-starved : (description : Description) → CoversShape description.shape description.grid → (options : Options) (chunk : List ℕ) (store : Shown) → store.asks ≤ 2 ^ 64 - 1 →
+pub erase-starved : (description : Description) → CoversShape description.shape description.grid → (options : Options) → IsSound (layout description options) → (chunk : List ℕ) (store : Shown) → store.asks ≤ 2 ^ 64 - 1 →
     FailsAt description options (erase chunk ∷ []) store store (Some (0, 0)) OutOfMemory
-erase-starved description covers options chunk = command-starved description covers options (erase chunk)
+erase-starved description covers options sound chunk = command-starved description covers options sound (erase chunk)

@@ -1,6 +1,6 @@
 -- What commands that ran did to a store.
 use Rattle.std.specs.Prelude.{◌≡◌, ◌≤◌, List}
-use Rattle.zarr_model.specs.Prelude.{Options, Shown, Command, Description, Answer, all_asks, counted, KeepsDamage, SeesNoDamage, ErasesKeys, ServesWhole, RefusesRight, AreRefused, IsUntouched}
+use Rattle.zarr_model.specs.Prelude.{Options, Shown, Command, Description, Answer, all_asks, counted, KeepsDamage, SeesNoDamage, ErasesKeys, ServesWhole, RefusesRight, AreRefused, IsUntouched, RanOver}
 use Rattle.zarr_array.specs.Stored.{StoresForAll}
 
 -- some commands ran over a store and were answered so
@@ -15,4 +15,5 @@ pub record HasRun (description : Description) (options : Options) (commands : Li
   pub undamaged : SeesNoDamage description options commands before.content
   pub erased : ErasesKeys description options commands before.content now.content
   pub stored : StoresForAll description options commands before.content now.content
+  pub over : RanOver description options commands before.content now.content answers
   pub later : before.faults ≤ now.faults

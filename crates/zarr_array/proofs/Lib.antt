@@ -3,6 +3,7 @@ pub use Rattle.zarr_array_regions.proofs.Documents
 pub use Rattle.zarr_array_regions.proofs.KeysApart
 pub mod RefusalLaws
 pub mod ReadCommand
+pub mod DecodedLaws
 pub mod SessionSteps
 pub mod OpenedLaws
 pub mod WriteLaws

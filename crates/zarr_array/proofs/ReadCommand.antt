@@ -1,15 +1,17 @@
 -- A read as a command of a session.
 use Rattle.std.proofs.Common.{◌≡◌, ◌+◌, ◌<◌, ◌≤◌, true, false, [], ◌∷◌, length, slice_get, Some, None, refl, sym, ap, ◌∙◌, subst, arith, inl, inr, ⊎_elim}
-use Rattle.zarr_model.specs.Prelude.{Region, chunks_meeting, Options, Shown, read, Description, region_refusal, chunks_under, command_chunks, counted, finds_shared}
+use Rattle.zarr_model.specs.Prelude.{Region, chunks_meeting, Options, Shown, read, Description, region_refusal, chunks_under, command_chunks, counted, finds_shared, array_of}
 use Rattle.zarr_model.proofs.StepLaws.{LeavesKeys-same, read-left}
+use Rattle.zarr_model.proofs.RanLaws.{unchanged-left}
 use Rattle.zarr_array_regions.specs.parts.Parts.{described}
 use Rattle.zarr_array_regions.specs.parts.declared.parts.ArrayParts.{ArrayParts}
-use Rattle.zarr_array_regions.proofs.ServedLaws.{described_covers}
+use Rattle.zarr_array_regions.proofs.ServedLaws.{described_covers, described_sound}
 use Rattle.zarr_array_regions.specs.declared.error.CommandError.{CommandError}
 use Rattle.zarr_array_regions.specs.declared.error.SessionErrorKind.{SessionErrorKind}
 use Rattle.zarr_array_regions.specs.declared.error.SessionErrorKind.TheVariants.{NotOpened, ChunkDecode, Store, OutOfMemory}
 use Rattle.zarr_array_regions.specs.Read.{HasReadCause, NotReadRegion}
-use Rattle.zarr_array.specs.Session.{HasSessionCause, FailsAt}
+use Rattle.zarr_array.specs.Session.{HasSessionCause, FailsAt, is_store}
+use Rattle.zarr_array.proofs.DecodedLaws.{decoded-one}
 
 -- the chunks of an accepted read
 pub chunks-read : (description : Description) (region : Region) → region_refusal description region ≡ None → command_chunks description (read region) ≡ chunks_meeting description.grid region
@@ -24,6 +26,10 @@ read-fails array options region old new error accepted fails = record {
   keys = LeavesKeys-same (described array) options (read region ∷ []) old.content new.content fails.same;
   stored = λ chunk is_chunk. inl (fails.same ((described array).key chunk));
   damage = λ chunk is_chunk damaged none. fails.same ((described array).key chunk);
+  left = unchanged-left (described array) options (described_covers array) (described_sound array options) (read region) error.chunks_done (is_store error.kind) old.content new.content few
+      (λ a. ap (λ w. array_of (described array) w (read region) a) accepted) fails.same;
+  decoded = decoded-one (described array) options (read region) old.content error.chunks_done
+      (λ number chunk below here. fails.readable number chunk below (ap (λ l. slice_get l number) (sym listed) ∙ here));
   cause = by_kind error.kind fails.failed.cause;
 }
   where

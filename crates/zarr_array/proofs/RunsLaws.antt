@@ -4,20 +4,24 @@ use Rattle.std.specs.List.{list_all}
 use Rattle.std.proofs.lemmas.Bool.{and_parts}
 use Rattle.std.proofs.lemmas.List.{take-append-drop, map-append, take_all, length-map}
 use Rattle.std.proofs.lemmas.List.Sums.{sum_by-append}
-use Rattle.zarr_model.specs.Prelude.{CoversShape, Element, Array, Options, Content, WhollyMeans, IsHonest, IsSound, stored_array, Command, Description, layout, refusal, Answer, array_after, asks_of, LeavesKeys, ServesArray, ServesWhole, AreRefused, IsUntouched, refusal_in, Shown}
+use Rattle.zarr_model.specs.Prelude.{CoversShape, Element, Array, Options, Content, WhollyMeans, IsHonest, IsSound, stored_array, Command, Description, layout, refusal, Answer, array_after, asks_of, LeavesKeys, ServesArray, ServesWhole, AreRefused, IsUntouched, refusal_in, Shown, RanOver}
 use Rattle.zarr_model.proofs.StoreLaws.{stored_array-meant, Means-from_whole}
 use Rattle.zarr_model.proofs.SessionLaws.{serves_from_whole, ServesWhole-append, LeavesKeys-none, LeavesKeys-append, LeavesKeys-more}
 use Rattle.zarr_model.proofs.StepLaws.{KeepsDamage-none, KeepsDamage-append, place-lifts, asks-lift, undecoded-lifts, stopped-lifts, starved-lifts}
 use Rattle.zarr_model.proofs.NeededLaws.{one_more_erased}
 use Rattle.zarr_model.proofs.SeenLaws.{SeesNoDamage-none, SeesNoDamage-append}
+use Rattle.zarr_model.proofs.JoinLaws.{RanOver-append, answers-meant}
+use Rattle.zarr_model.proofs.LiftLaws.{left-lifts}
+use Rattle.zarr_model.proofs.RanLaws.{RanOver-none}
 use Rattle.zarr_array.specs.Command.{is_read, AreReads}
-use Rattle.zarr_array.specs.Session.{HasSessionCause, FailsAt}
+use Rattle.zarr_array.specs.Session.{HasSessionCause, FailsAt, is_store}
 use Rattle.zarr_array.proofs.HasRun.{HasRun}
 use Rattle.zarr_array.proofs.StoredLaws.{stores-none, stores-append, stays-append, stays-changed, stands-append}
 use Rattle.zarr_array.specs.Stored.{DamageStands}
 use Rattle.zarr_array_regions.specs.declared.error.SessionErrorKind.{SessionErrorKind}
 use Rattle.zarr_array_regions.specs.declared.error.SessionErrorKind.TheVariants.{NotOpened, ChunkDecode, Store, OutOfMemory}
-use Rattle.zarr_array.proofs.SessionSteps.{only_memory, refused_at, noticed-lifts}
+use Rattle.zarr_array.proofs.SessionSteps.{only_memory, refused_at, noticed-lifts, only_memory_unmet}
+use Rattle.zarr_array.proofs.DecodedLaws.{decoded-lifts}
 use Rattle.zarr_array.specs.declared.command.Reply.{Reply}
 use Rattle.zarr_array.specs.declared.error.SessionError.{SessionError}
 use Rattle.zarr_array.specs.Ended.{ended}
@@ -44,6 +48,9 @@ none_ran array options store fits = record {
   refusals = refl;
   refused = λ all. record { content = λ key. refl; asks = refl; taken = refl };
   asks = omega (arith, fits);
+  unmet = λ unmet calm. tt;
+  mended = RanOver-none array options store.content;
+  answers = λ unmet meant means. tt;
   undamaged = SeesNoDamage-none array options store.content;
   erased = λ none meant chunk is_chunk. refl;
   damage = KeepsDamage-none array options store.content;
@@ -61,6 +68,9 @@ none_begun array options commands store = record {
   complete = λ honest calm. refl;
   refusals = tt;
   refused = λ all. record { content = λ key. refl; asks = refl; taken = refl };
+  unmet = λ unmet calm. refl;
+  mended = tt;
+  answers = tt;
   asks = tt;
   undamaged = tt;
   erased = tt;
@@ -74,6 +84,8 @@ none_begun array options commands store = record {
     keys = record { same_chunks = λ chunk is_chunk e. refl; other_keys = λ key apart. refl };
     stored = λ chunk is_chunk. inl refl;
     damage = λ chunk is_chunk damaged none. refl;
+    left = λ key. refl;
+    decoded = tt;
     cause = λ key. refl;
   };
 }
@@ -167,6 +179,9 @@ module _ (array : Description) (options : Options) (covers : CoversShape array.s
     refusals = map-append refusal_in answers (answer ∷ []) ∙ (ap₂ (λ a b. a ++ b) first.refusals second.refusals ∙ sym (map-append (refusal array) commands (command ∷ [])));
     refused = λ all. let parts = refused_parts array commands command all in untouched_then before mid now (first.refused parts.0) (second.refused parts.1);
     asks = omega (arith, first.asks, second.asks, sum_by-append (asks_of array) commands (command ∷ []));
+    unmet = λ unmet calm. tt;
+    mended = joined;
+    answers = answers-meant array options covers sound (commands ++ command ∷ []) before.content now.content (answers ++ answer ∷ []) joined;
     undamaged = SeesNoDamage-append array options covers commands (command ∷ []) before.content mid.content first.damage first.undamaged second.undamaged;
     erased = one_more_erased array options commands command before mid now first.erased second.erased;
     damage = KeepsDamage-append array options commands (command ∷ []) before.content mid.content now.content first.damage second.damage;
@@ -176,6 +191,9 @@ module _ (array : Description) (options : Options) (covers : CoversShape array.s
     later = le_trans first.later second.later;
     failed = tt;
   }
+    where
+      joined : RanOver array options (commands ++ command ∷ []) before.content now.content (answers ++ answer ∷ [])
+      joined = RanOver-append array options commands (command ∷ []) covers before.content mid.content now.content answers (answer ∷ []) first.mended second.mended
 
   -- a command that failed after those before it
   pub stops_at : (commands : List Command) (i : ℕ) (command : Command) (before mid now : Shown) (answers : List Answer) (k : ℕ) (kind : SessionErrorKind) →
@@ -188,6 +206,9 @@ module _ (array : Description) (options : Options) (covers : CoversShape array.s
     refusals = tt;
     refused = λ all. untouched_then before mid now (so_far.refused (refused_front array commands i all)) (single.refused (refused_at array commands i command here all));
     asks = tt;
+    unmet = λ unmet calm. only_memory_unmet array options commands before now (Some (i, k)) kind (by_kind kind single.failed.cause) unmet calm;
+    mended = tt;
+    answers = tt;
     undamaged = tt;
     erased = tt;
     damage = tt;
@@ -205,6 +226,8 @@ module _ (array : Description) (options : Options) (covers : CoversShape array.s
           single.failed.stored;
       damage = subst (λ front. DamageStands array options front before.content now.content) (sym (ap (λ n. take n commands) one ∙ take_one commands i command here))
           (stands-append array options (take i commands) (command ∷ []) before.content mid.content now.content so_far.damage.stands single.failed.damage);
+      left = left-lifts array options commands i k command (is_store kind) here before.content mid.content now.content answers so_far.mended single.failed.left;
+      decoded = decoded-lifts array options commands i command here covers before.content mid.content k so_far.damage so_far.undamaged single.failed.decoded;
       cause = by_kind kind single.failed.cause;
     };
   }
@@ -239,6 +262,9 @@ module _ (array : Description) (options : Options) (covers : CoversShape array.s
     refusals = ran.refusals;
     refused = ran.refused;
     asks = ran.asks;
+    unmet = λ unmet calm. tt;
+    mended = ran.over;
+    answers = answers-meant array options covers sound commands before.content now.content answers ran.over;
     undamaged = ran.undamaged;
     erased = ran.erased;
     damage = ran.damage;
@@ -258,6 +284,9 @@ module _ (array : Description) (options : Options) (covers : CoversShape array.s
     complete = λ honest calm. only_memory array options covers commands before now at kind fails.cause honest calm;
     refusals = tt;
     refused = refused;
+    unmet = λ unmet calm. only_memory_unmet array options commands before now at kind fails.cause unmet calm;
+    mended = tt;
+    answers = tt;
     asks = tt;
     undamaged = tt;
     erased = tt;

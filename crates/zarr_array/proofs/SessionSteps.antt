@@ -2,15 +2,17 @@
 use Rattle.std.proofs.Common.{true, false, ◌≡◌, ℕ, zero, suc, ◌&&◌, List, [], ◌∷◌, take, slice_get, Option, Some, None, IsSome, is_some, option_and_then, refl, sym, ap, ap₂, ◌∙◌, subst, ◌⊎◌, ⊎_elim}
 use Rattle.std.specs.List.{list_all, list_any}
 use Rattle.std.proofs.lemmas.Bool.{and_parts, true≢false}
-use Rattle.zarr_model.specs.Prelude.{IsChunk, CoversShape, Options, Content, IsHonest, Shown, Command, read, write, erase, Description, layout, chunk_content, command_chunks, erases_chunk, finds_shared, passes_over, refusal, IsUndecoded, KeepsDamage, Rose, AreRefused}
+use Rattle.zarr_model.specs.Prelude.{IsChunk, CoversShape, Options, Content, IsHonest, Shown, Command, read, write, erase, Description, layout, chunk_content, command_chunks, erases_chunk, finds_shared, passes_over, refusal, IsUndecoded, KeepsDamage, Rose, AreRefused, MeetsNoDamage}
 use Rattle.std.proofs.lemmas.Option.{same_Some}
 use Rattle.zarr_model.proofs.FailureLaws.{listed_is_chunk}
+use Rattle.zarr_model.proofs.RanLaws.{undecoded-unmet}
 use Rattle.zarr_array_regions.specs.declared.error.SessionErrorKind.{SessionErrorKind}
 use Rattle.zarr_array_regions.specs.declared.error.SessionErrorKind.TheVariants.{NotOpened, ChunkDecode, Store, OutOfMemory}
 use Rattle.zarr_array_regions.specs.parts.Document.{ArrayDocument}
 use Rattle.zarr_array_regions.specs.Told.{TellsWhy}
 use Rattle.zarr_array.specs.Command.{region_read, region_at}
 use Rattle.zarr_array.specs.Session.{HasSessionCause, IsNoticed}
+use Rattle.zarr_array.proofs.DecodedLaws.{passes_over-same}
 
 -- over an honest store, with no rise of the count, memory alone is wanting
 pub only_memory : (description : Description) (options : Options) → CoversShape description.shape description.grid → (commands : List Command) (before now : Shown) (at : Option (ℕ × ℕ)) (kind : SessionErrorKind) →
@@ -22,12 +24,14 @@ only_memory description options covers commands before now (Some place) (ChunkDe
 only_memory description options covers commands before now at Store cause honest calm = absurd (calm cause.0)
 only_memory description options covers commands before now at OutOfMemory cause honest calm = refl
 
--- what a command passes over is told by what stands under the key
-passes_over-same : (description : Description) (options : Options) (mid old : Content) (command : Command) (chunk : List ℕ) → mid (description.key chunk) ≡ old (description.key chunk) →
-    passes_over description options mid command chunk ≡ passes_over description options old command chunk
-passes_over-same description options mid old (read region) chunk e = ap (finds_shared description options region chunk) e
-passes_over-same description options mid old (write region value) chunk e = refl
-passes_over-same description options mid old (erase other) chunk e = refl
+-- over any store where no damage is met, too
+pub only_memory_unmet : (description : Description) (options : Options) (commands : List Command) (before now : Shown) (at : Option (ℕ × ℕ)) (kind : SessionErrorKind) →
+    HasSessionCause description options commands before now at kind → MeetsNoDamage description options commands before.content → (Rose before.faults now.faults → ⊥) → kind ≡ OutOfMemory
+only_memory_unmet description options commands before now at (NotOpened error) cause unmet calm = absurd cause
+only_memory_unmet description options commands before now at (ChunkDecode key error) cause unmet calm =
+    absurd (undecoded-unmet description options commands before.content now.content key at unmet cause.0)
+only_memory_unmet description options commands before now at Store cause unmet calm = absurd (calm cause.0)
+only_memory_unmet description options commands before now at OutOfMemory cause unmet calm = refl
 
 -- what one command may not pass over, behind others, the list may not
 pub noticed-lifts : (description : Description) (options : Options) (commands : List Command) (m : ℕ) (command : Command) → slice_get commands m ≡ Some command → CoversShape description.shape description.grid →

@@ -3,8 +3,10 @@ use Rattle.std.proofs.Common.{◌≡◌, ℕ, zero, suc, ◌+◌, ◌<◌, ◌�
 use Rattle.std.proofs.lemmas.Bool.{cases_Bool, cases_lt, cond-true, cond-false, true≢false, or_parts}
 use Rattle.std.proofs.lemmas.List.Folds.{Any-from_list_any, list_any_at}
 use Rattle.std.proofs.lemmas.Option.{slice_get_within, slice_get-get_or, get_or_from_slice_get}
-use Rattle.zarr_model.specs.Prelude.{Region, Element, ArrayBytes, Array, written, IsChunk, chunks_meeting, CoversShape, Options, Content, IsSound, WhollyMeans, chunk_content, Shown, Command, write, Description, kind, layout, refusal, written_elements, reply_of, array_of, after, answered_done, Matches, chunks_under, command_chunks, is_among, is_blank, counted, present_in, present_under, ChunkHas, IsPartWay, IsCutShort, IsDamageSeen, SeesNoDamage, KeepsDamage, IsLeftAt, LeavesKeys, ServesWhole}
+use Rattle.zarr_model.specs.Prelude.{Region, Element, ArrayBytes, Array, written, IsChunk, chunks_meeting, CoversShape, Options, Content, IsSound, WhollyMeans, chunk_content, Shown, Command, write, Description, kind, layout, refusal, written_elements, reply_of, array_of, after, answered_done, Matches, chunks_under, command_chunks, is_among, is_blank, counted, present_in, present_under, ChunkHas, IsPartWay, IsCutShort, IsDamageSeen, SeesNoDamage, KeepsDamage, IsLeftAt, LeavesKeys, ServesWhole, LeftAt, ChangedFirst}
 use Rattle.zarr_model.proofs.FailureLaws.{same_bytes, bytes_eq-refl, listed_is_chunk, chunks_under-once, part_way-end, part_way-fails}
+use Rattle.zarr_model.proofs.LeftLaws.{left_at}
+use Rattle.zarr_model.proofs.RanLaws.{changes-stay, RanOver-write}
 use Rattle.zarr_model.proofs.Choices.{alone}
 use Rattle.zarr_array_regions.specs.declared.error.SessionErrorKind.{SessionErrorKind}
 use Rattle.zarr_array_regions.specs.declared.error.SessionErrorKind.TheVariants.{NotOpened, ChunkDecode, Store, OutOfMemory}
@@ -13,7 +15,8 @@ use Rattle.zarr_array_regions.specs.PartWay.{ChangedSome, StopsBefore, FailsPart
 use Rattle.zarr_array.proofs.HasRun.{HasRun}
 use Rattle.zarr_array.proofs.StoredLaws.{stays-append}
 use Rattle.zarr_array.specs.Stored.{DecodesForAll, IsChanged, StoresForAll, StaysOrDecodes, DamageStands}
-use Rattle.zarr_array.specs.Session.{HasSessionCause, FailsAt}
+use Rattle.zarr_array.specs.Session.{HasSessionCause, FailsAt, is_store}
+use Rattle.zarr_array.proofs.DecodedLaws.{decoded-one}
 use Rattle.zarr_array_regions.proofs.PartWayLaws.{content-same, changed-kept, changed-outside, met-chunks, met-once}
 
 -- what a write does to an array
@@ -88,6 +91,16 @@ module _ (description : Description) (covers : CoversShape description.shape des
         (changed-kept description options sound (write_change description region value) (chunks_meeting description.grid region) (met-chunks description.grid region) k old now chunk changed is_chunk
         (λ place h e. apart place h (in_command place chunk e)))
         ∙ meant.each_chunk chunk is_chunk;
+  }
+
+  -- the same of the command's chunks, over any store
+  pub changed_first : (k : ℕ) (old now : Shown) → ChangedSome description options (write_change description region value) (chunks_meeting description.grid region) k old now →
+      ChangedFirst description options (after description (write region value)) (command_chunks description (write region value)) k old.content now.content
+  changed_first k old now changed = record {
+    decoded = λ place chunk h e. changed.decoded place chunk h (in_region place chunk e);
+    holds = λ array place chunk is_fill h e had. subst (λ a. ChunkHas (layout description options) now.content a chunk) (sym (write-left array))
+        ((changed.holds array place chunk is_fill h (in_region place chunk e) had).has options);
+    others = λ key apart. changed.others key (λ place chunk h e. apart place chunk h (in_command place chunk e));
   }
 
   -- what is not among the write's chunks holds what it held
@@ -183,6 +196,9 @@ module _ (description : Description) (covers : CoversShape description.shape des
       erased = λ none array chunk is_chunk. absurd (true≢false none);
       undamaged = SeesNoDamage-write description options region value old.content (λ place chunk e. decoded place chunk (in_region place chunk e));
       stored = write-stored;
+      over = RanOver-write description options covers sound region value old.content new.content accepted
+          (subst (λ n. ChangedFirst description options (after description (write region value)) (command_chunks description (write region value)) n old.content new.content) (sym full)
+          (changed_first (length (chunks_meeting description.grid region)) old new changed)) write-damage;
       later = changed.later;
     }
 
@@ -226,6 +242,46 @@ module _ (description : Description) (covers : CoversShape description.shape des
           (content-same (layout description options) old.content fails.mid.content chunk (next_kept chunk here) ∙ meant.each_chunk chunk (met-chunks description.grid region k chunk here))))
           stops.others,
     )
+
+    -- over any store
+    left_staying : (by_store : Bool) → ((key : List ℕ) → new.content key ≡ fails.mid.content key) → LeftAt description options (write region value ∷ []) 0 k by_store old.content new.content
+    left_staying by_store same = changes-stay description options covers sound (write region value) k by_store old.content new.content few (record {
+      decoded = before.decoded;
+      holds = λ array place chunk is_fill h e had.
+          content-same (layout description options) fails.mid.content new.content chunk (same (description.key chunk)) ∙ before.holds array place chunk is_fill h e had;
+      others = λ key apart. same key ∙ before.others key apart;
+    })
+      where
+        before : ChangedFirst description options (after description (write region value)) (command_chunks description (write region value)) k old.content fails.mid.content
+        before = changed_first k old fails.mid fails.changed
+
+    left_stopped : (chunk : List ℕ) → slice_get (chunks_meeting description.grid region) k ≡ Some chunk → StopsChunk description options (write_change description region value) chunk fails.mid.content new.content →
+        LeftAt description options (write region value ∷ []) 0 k true old.content new.content
+    left_stopped chunk here stops = left_at description options covers sound (write region value) old.content k fails.mid.content (changed_first k old fails.mid fails.changed) chunk (in_command k chunk here) true new.content
+        (record {
+          here = λ array is_fill had. ⊎_elim
+              (λ (held : new.content (description.key chunk) ≡ fails.mid.content (description.key chunk)). inl held)
+              (λ (rest : HoldsChunk description options (write_change description region value array) chunk new.content ⊎ (new.content (description.key chunk) ≡ None)). inr (⊎_elim
+              (λ (holds : HoldsChunk description options (write_change description region value array) chunk new.content).
+              inl (subst (λ a. ChunkHas (layout description options) new.content a chunk) (sym (write-left array)) (holds.has options)))
+              (λ (gone : new.content (description.key chunk) ≡ None). inr ((refl, tt), gone))
+              rest))
+              (stops.here array is_fill had);
+          others = stops.others;
+        })
+        (λ asks damaged. ⊎_elim
+        (λ (kept : new.content (description.key chunk) ≡ fails.mid.content (description.key chunk)). kept)
+        (λ (mended : IsSome (chunk_content (layout description options) fails.mid.content chunk) × DecodesForAll description new.content chunk).
+        absurd (true≢false (sym (subst IsSome damaged mended.0))))
+        stops.stays)
+
+    left_by : (kind : SessionErrorKind) → StopsBefore description options (write_change description region value) (chunks_meeting description.grid region) k fails.mid new kind →
+        LeftAt description options (write region value ∷ []) 0 k (is_store kind) old.content new.content
+    left_by kind (inl (memory, same)) = left_staying (is_store kind) same
+    left_by (NotOpened error) (inr (chunk, here, never)) = absurd never
+    left_by (ChunkDecode key error) (inr (chunk, here, (its_key, damaged, same))) = left_staying false same
+    left_by Store (inr (chunk, here, (rose, stops))) = left_stopped chunk here stops
+    left_by OutOfMemory (inr (chunk, here, same)) = left_staying false same
 
     write-cause : (kind : SessionErrorKind) → StopsBefore description options (write_change description region value) (chunks_meeting description.grid region) k fails.mid new kind →
         HasSessionCause description options (write region value ∷ []) old new (Some (0, k)) kind
@@ -365,5 +421,7 @@ module _ (description : Description) (covers : CoversShape description.shape des
       keys = write-fails-keys;
       stored = write-stays;
       damage = write-stands;
+      left = left_by kind fails.stops;
+      decoded = decoded-one description options (write region value) old.content k (λ number chunk below here. inl (fails.changed.decoded number chunk below (in_region number chunk here)));
       cause = write-cause kind fails.stops;
     }

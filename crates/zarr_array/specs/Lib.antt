@@ -5,7 +5,9 @@ pub mod OpenArray
 pub mod Handle
 pub mod Command
 pub mod Stored
+pub mod Decoded
 pub mod Session
+pub mod WritesUpTo
 pub mod Ended
 pub mod Runs
 pub mod Taken

@@ -1,6 +1,6 @@
 -- What running commands over a store owes.
 use Rattle.std.specs.Prelude.{◌≡◌, ◌≤◌, List, IfOk, IfErr, OnOk}
-use Rattle.zarr_model.specs.Prelude.{Options, Shown, IsHonest, Command, Description, layout, all_asks, counted, Rose, SeesNoDamage, ErasesKeys, KeepsDamage, LeavesKeys, ServesArray, RefusesRight, AreRefused, IsUntouched}
+use Rattle.zarr_model.specs.Prelude.{Options, Shown, IsHonest, Command, Description, layout, all_asks, counted, Rose, SeesNoDamage, ErasesKeys, KeepsDamage, LeavesKeys, ServesArray, RefusesRight, AreRefused, IsUntouched, MeetsNoDamage, RanOver, AnswersUndamaged}
 use Rattle.zarr_array.specs.Session.{FailsAt}
 use Rattle.zarr_array.specs.Stored.{StoresForAll}
 use Rattle.zarr_array.specs.Ended.{Ended}
@@ -15,6 +15,9 @@ pub record Runs (array : Description) (options : Options) (commands : List Comma
       ServesArray array options commands before.content now.content answers)
   pub complete : IsHonest (layout array options) before.content → ¬ Rose before.faults now.faults →
       IfErr ended (λ error. error.kind ≡ OutOfMemory)
+  -- and so over any store where no damage is met
+  pub unmet : MeetsNoDamage array options commands before.content →
+      ¬ Rose before.faults now.faults → IfErr ended (λ error. error.kind ≡ OutOfMemory)
   -- where they ran, over any store: the refusals, the reading calls, and that each chunk met
   -- decodes, but for reads of parts whose pieces are there; where all are refused, nothing is
   -- touched however they end
@@ -22,6 +25,12 @@ pub record Runs (array : Description) (options : Options) (commands : List Comma
   pub refused : AreRefused array commands → IsUntouched before now
   pub asks : OnOk ended (now.asks ≡ counted before.asks (all_asks array commands))
   pub undamaged : OnOk ended (SeesNoDamage array options commands before.content)
+  -- over any store: what is left is, without its damage, as one plain array has it; and where no
+  -- damage is met the answers are those of each array that the store means without it
+  pub mended : IfOk ended (λ answers.
+      RanOver array options commands before.content now.content answers)
+  pub answers : IfOk ended (λ answers.
+      AnswersUndamaged array options commands before.content answers)
   -- commands without a write leave exactly those chunks present that they do not erase
   pub erased : OnOk ended (ErasesKeys array options commands before.content now.content)
   -- a value that does not decode stands until its chunk is erased

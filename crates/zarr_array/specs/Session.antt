@@ -1,9 +1,10 @@
 -- When a session ends with an error, and what it then leaves.
-use Rattle.std.specs.Prelude.{◌≡◌, ℕ, false, List, slice_get, Option, Some, None, IsErrAnd}
-use Rattle.zarr_model.specs.Prelude.{Options, Content, Shown, Command, Description, command_chunks, IsPlace, begun, AsksUpTo, LeavesKeys, passes_over, IsUndecoded, IsStopped, IsStarved}
+use Rattle.std.specs.Prelude.{◌≡◌, ℕ, Bool, true, false, List, slice_get, Option, Some, None, IsErrAnd}
+use Rattle.zarr_model.specs.Prelude.{Options, Content, Shown, Command, Description, command_chunks, IsPlace, begun, AsksUpTo, LeavesKeys, passes_over, IsUndecoded, IsStopped, IsStarved, IsLeftBut}
 use Rattle.zarr_array_regions.specs.parts.Opening.{OpenRefusal}
 use Rattle.zarr_array_regions.specs.parts.OpenError.{open_refusal_of}
 use Rattle.zarr_array.specs.Ended.{Ended}
+use Rattle.zarr_array.specs.Decoded.{AreDecoded}
 use Rattle.zarr_array.specs.Stored.{StaysOrDecodes, DamageStands}
 use Rattle.zarr_array_regions.specs.declared.error.SessionErrorKind.{SessionErrorKind}
 use Rattle.zarr_array_regions.specs.declared.error.SessionErrorKind.TheVariants.{NotOpened, ChunkDecode, Store, OutOfMemory}
@@ -28,6 +29,11 @@ HasSessionCause description options commands before now at Store =
 HasSessionCause description options commands before now at OutOfMemory =
     IsStarved description options commands before.content now.content at
 
+-- whether an error is that of the store
+abbrev pub is_store : SessionErrorKind → Bool
+is_store Store = true
+is_store _ = false
+
 -- an error at a place of a run
 pub record FailsAt (description : Description) (options : Options) (commands : List Command)
     (before now : Shown) (at : Option (ℕ × ℕ)) (kind : SessionErrorKind) : Type 0 where
@@ -41,6 +47,10 @@ pub record FailsAt (description : Description) (options : Options) (commands : L
   -- and a value that does not decode stands, unless an accepted command that had begun erases
   -- its chunk
   pub damage : DamageStands description options (begun commands at) before.content now.content
+  -- and over any store, without the damage that stands it is the array's, cut short at the place
+  pub left : IsLeftBut description options commands before.content now.content (is_store kind) at
+  -- what was met before the place decodes, or may be passed over
+  pub decoded : AreDecoded description options commands before.content at
   -- and the error has its cause
   pub cause : HasSessionCause description options commands before now at kind
 

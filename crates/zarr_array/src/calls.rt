@@ -8,6 +8,7 @@ ghost use Rattle.zarrs_codec_traits.specs.Views.{options_of};
 ghost use Rattle.zarr_array_regions.specs.Told.{TellsWhy};
 ghost use Rattle.zarr_array.specs.Command.{IsShortReply};
 ghost use Rattle.zarr_array.specs.Ended.{ended_one};
+ghost use Rattle.zarr_array.specs.WritesUpTo.{WritesUpTo};
 ghost use Rattle.zarr_array.specs.Runs.{Runs};
 ghost use Rattle.zarr_array.specs.Taken.{TakesAlone};
 
@@ -69,7 +70,7 @@ impl OpenArray {
     /// # Errors
     /// `ChunkDecode` with the key of a chunk that the region meets and whose old value does not decode, also where the
     /// region covers all of it, `Store` where the store failed, or `OutOfMemory`. The command is number 0, and the error
-    /// says how many chunks were finished. After the last two they stay written in a store that was honest.
+    /// says how many chunks were finished. These stay written, and a damaged value stands.
     pub fn write<S: Store>(
         &self,
         alloc: Global,
@@ -87,7 +88,11 @@ impl OpenArray {
         // A refusal is an answer, and an error is at this command.
         ensures answered { AreRefused (described self.now)
             (write (region_of_subset region.now) (raw_of bytes.now) ∷ []) → IsOk result }
-        ensures begun { IfErr result (λ error. (k : ℕ) × (error.at ≡ Some (0, k))) }
+        // An error that is not the store's leaves the chunks before it changed, and all other keys as they were.
+        ensures begun { IfErr result (λ error. (k : ℕ) × (error.at ≡ Some (0, k))
+            × WritesUpTo (described self.now) (options_of options.now)
+            (region_of_subset region.now) (raw_of bytes.now) k
+            (S.shown store.old) (S.shown store.new) error.kind) }
         ensures told { IfErr result (λ error. TellsWhy None (documented self.now)
             (options_of options.now) (S.shown store.new) error.kind) }
     {

@@ -9,8 +9,8 @@ use zarrs_codec_array_bytes::ArrayBytes;
 pub enum Command {
     /// Reads the elements of a region.
     Read(ArraySubset),
-    /// Writes elements to a region, in its row-major order. Where the store fails or memory is wanting, the chunks that
-    /// are finished stay written in a store that was honest.
+    /// Writes elements to a region, in its row-major order. Where the store fails, memory is wanting or a chunk's value
+    /// does not decode, the chunks before it stay written.
     Write(ArraySubset, ArrayBytes<'static>),
     /// Erases the chunk of these indices: all its elements are the fill value then.
     Erase(ArrayIndices),

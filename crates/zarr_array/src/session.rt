@@ -31,8 +31,8 @@ impl OpenArray {
     /// # Errors
     /// An error says at which command, and after how many of its chunks. [`SessionErrorKind::ChunkDecode`] names a chunk
     /// that the command met and whose value does not decode, [`SessionErrorKind::Store`] comes where the store failed,
-    /// and `OutOfMemory` for want of memory. After the last two the commands before stand in a store that was honest, and
-    /// so do these chunks.
+    /// and `OutOfMemory` for want of memory. What the commands before did stands, and so do these chunks; and a damaged
+    /// value stands until its chunk is erased.
     pub fn run_commands<S: Store>(
         &self,
         alloc: Global,

@@ -8,6 +8,7 @@ ghost use Rattle.zarr_array.specs.Command.{command_of, region_read, AreReads, Is
 ghost use Rattle.zarrs_codec_traits.specs.Views.{options_of};
 ghost use Rattle.zarr_array_regions.specs.Told.{TellsWhy};
 ghost use Rattle.zarr_array.specs.Ended.{ended_step};
+ghost use Rattle.zarr_array.specs.WritesUpTo.{WritesUpTo};
 ghost use Rattle.zarr_array.specs.Runs.{Runs};
 ghost use Rattle.zarr_array.specs.Taken.{TakesAlone};
 
@@ -71,6 +72,9 @@ impl OpenArray {
             (S.shown store.old) (S.shown store.new) (ended_step result) }
         ensures answered { AreRefused (described self.now)
             (write (region subset.now) (raw_of bytes.now) ∷ []) → IsOk result }
+        ensures first { IfErr result (λ error. WritesUpTo (described self.now)
+            (options_of options.now) (region subset.now) (raw_of bytes.now) error.chunks_done
+            (S.shown store.old) (S.shown store.new) error.kind) }
         ensures told { IfErr result (λ error. TellsWhy None (documented self.now)
             (options_of options.now) (S.shown store.new) error.kind) }
     {

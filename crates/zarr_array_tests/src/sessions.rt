@@ -185,6 +185,33 @@ fn a_damaged_chunk_is_placed(rt: HostRuntime) {
     assert!(rt; is_ended(replies, (1, 1), Some("c/1")));
 }
 
+// A write of four elements into the first two chunks of the line.
+fn line_write(rt: &impl Abort, alloc: Global) -> Vec<Command> {
+    let front = region(rt, alloc, &[0..4]);
+    let write = Command::Write(front, ArrayBytes::from(&[1, 0, 2, 0, 3, 0, 4, 0]));
+    vec![in alloc; write].expect(rt, "memory")
+}
+
+// Whether a key of a store has this value.
+fn holds(rt: &impl Abort, alloc: Global, store: &mut MemoryStore, key: &str, value: &[u8]) -> bool {
+    match store.get(alloc, &key_of(rt, alloc, key)) {
+        Ok(Some(held)) => held.as_slice() == value,
+        _ => false,
+    }
+}
+
+#[test]
+fn a_write_ends_at_a_damaged_chunk(rt: HostRuntime) {
+    let alloc = rt.alloc();
+    let registries = builtin_registries(alloc).expect(&rt, "memory");
+    let (commands, options) = (line_write(&rt, alloc), CodecOptions::default());
+    let mut store = damaged(&rt, alloc, "c/1");
+    let replies = run_session(alloc, LINE, &registries, &commands, &mut store, &options);
+    assert!(rt; is_ended(replies, (0, 1), Some("c/1")));
+    assert!(rt; holds(&rt, alloc, &mut store, "c/0", &[0, 1, 0, 2]));
+    assert!(rt; holds(&rt, alloc, &mut store, "c/1", &[1]));
+}
+
 // Runs commands on the square, and gives the counts of reading calls and of bytes that the store has handed out by then.
 fn counts_after(
     rt: &impl Abort,

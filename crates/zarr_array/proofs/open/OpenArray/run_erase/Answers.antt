@@ -13,7 +13,7 @@ pub returns-in_err-key-clause-runs : goal.returns-in_err-key-clause-runs
 returns-in_err-key-clause-runs g c =
     let p = err_from_is_err_and c.from_residual.result c.from_residual.ensures.1 in
     rw (p.1, p.2) (failed_gives (described c.args.self.now) (options_of c.args.options.now) (described_covers c.args.self.now.parts) (described_sound c.args.self.now.parts (options_of c.args.options.now)) (erase c.args.chunk_indices.now ∷ []) (g.S.Store.shown c.args.store.now) (g.S.Store.shown c.args.store.now) _ _
-    (erase-starved (described c.args.self.now) (described_covers c.args.self.now.parts) (options_of c.args.options.now) c.args.chunk_indices.now
+    (erase-starved (described c.args.self.now) (described_covers c.args.self.now.parts) (options_of c.args.options.now) (described_sound c.args.self.now.parts (options_of c.args.options.now)) c.args.chunk_indices.now
     (g.S.Store.shown c.args.store.now) (g.met.S.Store.counts_fit c.args.store.now).1)
     (search rules) (search rules) (search rules))
 

@@ -8,7 +8,7 @@ use Rattle.zarrs_codec_traits.specs.Views.{options_of}
 use Rattle.zarr_array_regions.proofs.ServedLaws.{described_covers, described_sound}
 use Rattle.zarr_array.proofs.RunsLaws.{ran_gives, failed_gives}
 use Rattle.zarr_array.proofs.TakenLaws.{write_takes}
-use Rattle.zarr_array.proofs.Commands.{inside, writable, bytes-written, bytes-fail, bytes-fail-keys}
+use Rattle.zarr_array.proofs.Commands.{inside, writable, bytes-written, bytes-fail, bytes-fail-keys, bytes-first}
 use Rattle.zarr_array.proofs.open.OpenArray.run_write.Goals as goal
 
 pub write_elements-requires : goal.write_elements-requires
@@ -29,6 +29,13 @@ returns-in_err-write_elements-clause-runs g c =
     (g.S.Store.shown c.args.store.now) (g.S.Store.shown c.write_elements.new.store)
     _ c.in_err-write_elements.ensures)
     (le_trans c.in_err-write_elements.ensures.failed.changed.later c.in_err-write_elements.ensures.failed.later))
+
+pub returns-in_err-write_elements-clause-first : goal.returns-in_err-write_elements-clause-first
+returns-in_err-write_elements-clause-first g c =
+    let p = err_from_is_err_and c.from_residual.result c.from_residual.ensures.1 in
+    rw (p.1, p.2) (bytes-first c.args.self.now.parts (options_of c.args.options.now) (region c.args.subset.now) (raw_of c.args.bytes.now) (search rules)
+    (g.S.Store.shown c.args.store.now) (g.S.Store.shown c.write_elements.new.store)
+    _ c.in_err-write_elements.ensures)
 
 pub returns-clause-runs : goal.returns-clause-runs
 returns-clause-runs g c = ran_gives (described c.args.self.now) (options_of c.args.options.now) (described_covers c.args.self.now.parts) (described_sound c.args.self.now.parts (options_of c.args.options.now)) (write (region c.args.subset.now) (raw_of c.args.bytes.now) ∷ []) (g.S.Store.shown c.args.store.now) (g.S.Store.shown c.write_elements.new.store) _
