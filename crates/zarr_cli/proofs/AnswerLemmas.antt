@@ -3,9 +3,11 @@ use Rattle.std.proofs.Common.{◌≡◌, ℕ, ◌<◌, ◌≤◌, List, [], leng
 use Rattle.zarr_model.specs.Prelude.{Rose}
 use Rattle.zarr_cli_runs.specs.array.parts.Opening.{OpenRefusal}
 use Rattle.zarr_cli_runs.specs.array.parts.OpenError.{open_refusal_of}
-use Rattle.zarr_cli.specs.Input.{input_limit, HasLongInput}
+use Rattle.zarr_cli_runs.specs.array.parts.Document.{describe}
+use Rattle.zarr_cli_runs.proofs.BetweenLaws.{between_last}
+use Rattle.zarr_cli.specs.Input.{input_limit, input_entries, HasLongInput}
 use Rattle.zarr_cli_runs.specs.Ending.{Ending, IsGiven, IsGivenFront, IsOrMemory, IsWritten}
-use Rattle.zarr_cli.specs.Run.{IsRunnable, SameButChanged}
+use Rattle.zarr_cli.specs.Run.{IsRunnable, LeavesInput, SameButChanged}
 use Rattle.zarr_cli_runs.specs.Ending as end
 use Rattle.zarr_cli_runs.specs.Status.{ending_of}
 use Rattle.zarr_cli.specs.Steps.{PrintsInput, RefusesInput, IsToldFault, IsUnaskedIfRefused}
@@ -14,7 +16,7 @@ use Rattle.zarr_cli.specs.Answers.{Answers}
 use Rattle.zarr_cli_runs.specs.declared.status.Status.{Status}
 use Rattle.zarr_cli_runs.specs.declared.status.Status.TheVariants.{Done, BadWords, BadInput, Document, Chunk, Store, Read, Write, TooLong, OutOfMemory}
 use Rattle.zarr_cli.proofs.EndingLemmas.{is_done, is_bad_input, is_write, is_too_long}
-use Rattle.zarr_cli.proofs.EndLemmas.{went, did_asks, did_taken, did_refused, not_reading, not_long, not_bad, not_refused, told_chunk, told_opening, told_input, told_document}
+use Rattle.zarr_cli.proofs.EndLemmas.{went, did_asks, did_taken, did_refused, did_left, not_reading, not_long, not_bad, not_refused, told_chunk, told_opening, told_input, told_document}
 
 module _ (words : List (List ℕ)) (input : List ℕ) (before now : Seen) where
   -- the replies were written
@@ -38,6 +40,7 @@ module _ (words : List (List ℕ)) (input : List ℕ) (before now : Seen) where
     complete = λ runs source sink store. inl refl;
     front = λ is. absurd (cc);
     unchanged = lines;
+    between = did_left words input before.store now.store text did _;
     unasked = unasked;
     taken = λ run written none. did_taken words input before.store now.store text did run none;
     refused = λ run written all none.
@@ -65,6 +68,7 @@ module _ (words : List (List ℕ)) (input : List ℕ) (before now : Seen) where
     front = λ is. went words input before.store now.store text
         (λ output. IsGivenFront output before.sink.bytes now.sink.bytes) did given;
     unchanged = lines;
+    between = did_left words input before.store now.store text did _;
     unasked = unasked;
     taken = λ run written none. did_taken words input before.store now.store text did run none;
     refused = λ run written all none.
@@ -102,11 +106,11 @@ module _ (words : List (List ℕ)) (input : List ℕ) (before now : Seen) where
       written
 
   -- it ended before the replies were written
-  pub answers_early : (status last : Status) → (last ≡ status) ⊎ (last ≡ OutOfMemory) → IsToldFault words input (Rose before.source.faults now.source.faults) before.store now.store status →
+  pub answers_early : (status last : Status) → (last ≡ status) ⊎ (last ≡ OutOfMemory) → (status ≡ Store → last ≡ Store) → IsToldFault words input (Rose before.source.faults now.source.faults) before.store now.store status →
       (IsRunnable words input before.store.content → ¬ Rose before.source.faults now.source.faults → ¬ Rose before.store.faults now.store.faults → status ≡ OutOfMemory) →
-      SameButChanged words input before.store.content now.store.content → IsUnaskedIfRefused words input before.store now.store →
+      SameButChanged words input before.store.content now.store.content → LeavesInput words input before.store now.store (ending_of status) → IsUnaskedIfRefused words input before.store now.store →
       Answers words input before now (ending_of last)
-  answers_early status last which told complete lines unasked = record {
+  answers_early status last which kept told complete lines left unasked = record {
     done = λ is. absurd (told_at status last which told Done (is_done last is) (λ e. cc));
     read_whole = λ is. absurd (told_at status last which told Done (is_done last is) (λ e. cc));
     asks = λ run written. absurd (unwritten status last which told written);
@@ -120,6 +124,7 @@ module _ (words : List (List ℕ)) (input : List ℕ) (before now : Seen) where
     complete = λ runs source sink store. or_memory status last end.done which (inr (ap ending_of (complete runs source store)));
     front = λ is. absurd (told_at status last which told Write (is_write last is) (λ e. cc));
     unchanged = lines;
+    between = λ run. between_last (describe run.document) run.settings.options (input_entries input) run.commands before.store now.store status last which kept (left run);
     unasked = unasked;
     taken = λ run written none. absurd (unwritten status last which told written);
     refused = λ run written all none. absurd (unwritten status last which told written);

@@ -9,13 +9,15 @@ use Rattle.zarr_cli_runs.specs.array.parts.OpenError.{open_refusal_of}
 use Rattle.zarr_cli_runs.specs.array.Command.{command_of}
 use Rattle.zarr_cli_runs.specs.lines.Parts.{entry_view}
 use Rattle.zarr_cli.specs.Words.{Settings, ReadsBy, settings_of, IsReading}
-use Rattle.zarr_cli.specs.Run.{Run, HasDamage, WentThrough}
+use Rattle.zarr_cli.specs.Run.{Run, HasDamage, IsCutAtDamage, WentThrough, LeavesInput}
 use Rattle.zarr_cli.specs.Input.{input_limit, input_entries, with_entries, store_after_keys, HasBadLine, HasRefusedDocument, HasLongInput}
 use Rattle.zarr_cli_runs.specs.Ending.{Ending, bad_input, refused_document, damaged_chunk, IsOrMemory}
 use Rattle.zarr_cli_runs.specs.Status.{ending_of, refused_by}
 use Rattle.zarr_cli.specs.Steps.{SaysInput, PrintsAll, PrintsInput, IsReadFault, RefusesInput, IsToldFault, IsPlainFault}
 use Rattle.zarr_cli_runs.specs.Keys.{CountsDump}
+use Rattle.zarr_cli_runs.specs.Between.{LeavesBetween}
 use Rattle.zarr_cli_runs.specs.Commands.{TakesRun, IsRunFault}
+use Rattle.zarr_cli_runs.proofs.BetweenLaws.{between_ran}
 use Rattle.zarr_cli.proofs.ProgramLaws.{one_run}
 use Rattle.zarr_cli.proofs.OutcomeLemmas.{did_run, run_told, run_not_bad, run_not_refused, refused_not_bad, one_bad_line}
 use Rattle.zarr_cli.specs.declared.input.ParsedInput.{ParsedInput}
@@ -124,6 +126,14 @@ did_refused words input before now text did run all none =
     did.refused (subst (λ commands. AreRefused (describe did.run.document) commands) same.2 (subst (λ document. AreRefused (describe document) run.commands) same.1 all))
     (sym (ap (λ settings. settings.dump) same.0) ∙ none)
 
+pub did_left : (words : List (List ℕ)) (input : List ℕ) (before now : Shown) (text : List ℕ) → PrintsInput words input before now text → (ending : Ending) → LeavesInput words input before now ending
+did_left words input before now text did ending run =
+    let same = one_run words input did.run.settings did.run.document did.run.commands did.run.are_words.0 did.run.is_opened did.run.are_commands run in
+    subst (λ settings. LeavesBetween (describe run.document) settings.options (input_entries input) run.commands before now ending) (sym same.0)
+    (subst (λ commands. LeavesBetween (describe run.document) did.run.settings.options (input_entries input) commands before now ending) (sym same.2)
+    (subst (λ document. LeavesBetween (describe document) did.run.settings.options (input_entries input) did.run.commands before now ending) (sym same.1)
+    (between_ran (describe did.run.document) did.run.settings.options (input_entries input) did.run.commands before now ending did.prints.left did.prints.mended)))
+
 -- a run excludes the causes that lie in the input
 pub not_long : (words : List (List ℕ)) (input : List ℕ) → Run words input → HasLongInput words input → ⊥
 not_long words input run long = let within : length input ≤ input_limit = run.within in let above : input_limit < length input = long.1 in omega arith
@@ -143,9 +153,9 @@ refused_not_chunk None key e = cc
 refused_not_chunk (Some why) key e = cc
 
 told_damage : (words : List (List ℕ)) (input : List ℕ) (rose : Type 0) (before now : Shown) (status : Status) (key : List ℕ) → IsToldFault words input rose before now status →
-    ending_of status ≡ damaged_chunk key → HasDamage words input before.content key × (now.content key ≡ store_after_keys input before.content key)
+    ending_of status ≡ damaged_chunk key → HasDamage words input before.content key × (now.content key ≡ store_after_keys input before.content key) × IsCutAtDamage words input before now key
 told_damage words input rose before now (Chunk other) key told e =
-    subst (λ k. HasDamage words input before.content k × (now.content k ≡ store_after_keys input before.content k)) (same_chunk other key e) told
+    subst (λ k. HasDamage words input before.content k × (now.content k ≡ store_after_keys input before.content k) × IsCutAtDamage words input before now k) (same_chunk other key e) told
 told_damage words input rose before now (Document error) key told e = absurd (refused_not_chunk (open_refusal_of error) key e)
 told_damage words input rose before now BadWords key told e = absurd (cc)
 told_damage words input rose before now (BadInput line) key told e = absurd (cc)
@@ -158,7 +168,7 @@ told_damage words input rose before now Write key told e = absurd told
 
 pub told_chunk : (words : List (List ℕ)) (input : List ℕ) (rose : Type 0) (before now : Shown) (status end : Status) (key : List ℕ) → (end ≡ status) ⊎ (end ≡ OutOfMemory) →
     IsToldFault words input rose before now status → ending_of end ≡ damaged_chunk key →
-    HasDamage words input before.content key × (now.content key ≡ store_after_keys input before.content key)
+    HasDamage words input before.content key × (now.content key ≡ store_after_keys input before.content key) × IsCutAtDamage words input before now key
 told_chunk words input rose before now status end key (inl same) told e = told_damage words input rose before now status key told (sym (ap ending_of same) ∙ e)
 told_chunk words input rose before now status end key (inr memory) told e = absurd (let none : ending_of OutOfMemory ≡ damaged_chunk key = sym (ap ending_of memory) ∙ e in cc)
 

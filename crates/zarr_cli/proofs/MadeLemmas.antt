@@ -1,11 +1,13 @@
 -- A run that is made from a number: its array, its summary, and what it owes.
-use Rattle.std.proofs.Common.{◌≡◌, ℕ, ◌+◌, ◌<◌, List, length, Some, None, Result, Ok, Err, IfOk, IfErr, OnOk, Vec, ◌⊎◌, ⊎_elim, inl, inr, refl, sym, ap, ◌∙◌, subst, arith}
+use Rattle.std.proofs.Common.{◌≡◌, ℕ, ◌+◌, ◌<◌, List, [], length, Some, None, Result, Ok, Err, IfOk, IfErr, OnOk, Vec, ◌⊎◌, ⊎_elim, inl, inr, refl, sym, ap, ◌∙◌, subst, arith}
 use Rattle.std.specs.declared.alloc.Global.{Global}
-use Rattle.zarr_model.specs.Prelude.{Options, Description, Command, Shown, Told, IsHonest, IsUntouched, Rose, layout, IsDamageSeen}
+use Rattle.zarr_model.specs.Prelude.{Options, Description, Command, Shown, Told, Rose, IsDamageSeen, SeesNoDamage}
 use Rattle.zarr_cli_runs.specs.making.Commands.{made_commands}
 use Rattle.zarr_cli.specs.Input.{input_limit}
 use Rattle.zarr_cli.specs.Run.{IsRunnable}
-use Rattle.zarr_cli_runs.specs.Commands.{IsChangedKey, IsRunFault}
+use Rattle.zarr_cli_runs.specs.Between.{LeavesBetween}
+use Rattle.zarr_cli_runs.specs.Commands.{IsChangedKey, IsRunFault, EndsAtDamage}
+use Rattle.zarr_cli_runs.proofs.BetweenLaws.{between_ran, between_last}
 use Rattle.zarr_cli_runs.specs.Ending.{IsGiven, IsGivenFront, IsBeforeStore, damaged_chunk}
 use Rattle.zarr_cli_runs.specs.Ending as end
 use Rattle.zarr_cli.specs.Words.{settings_of}
@@ -19,34 +21,6 @@ use Rattle.zarr_cli.proofs.EndingLemmas.{is_done, is_write}
 use Rattle.zarr_cli_runs.specs.declared.status.Status.{Status}
 use Rattle.zarr_cli_runs.specs.declared.status.Status.TheVariants.{Done, BadWords, BadInput, Document, Chunk, Store, Read, Write, TooLong, OutOfMemory}
 
--- what a made run came to
-pub ran_made : (number : ℕ) (options : Options) (source : Told) (before now : Shown) (result : Result (Vec ℕ Global) Status) →
-    IfOk result (λ text. SumsAll made_array options (made_commands number) before now text.items) →
-    IfErr result (λ status. IsRunFault made_array options (made_commands number) before now status) →
-    (IsHonest (layout made_array options) before.content → ¬ Rose before.faults now.faults → IfErr result (λ status. status ≡ OutOfMemory)) →
-    ((key : List ℕ) → ¬ IsChangedKey made_array (made_commands number) key → now.content key ≡ before.content key) →
-    RanMade number options source source before now result
-ran_made number options source before now (Ok text) ran fault complete unchanged = record { told = ran; unread = refl; complete = complete; unchanged = unchanged }
-ran_made number options source before now (Err status) ran fault complete unchanged = record { told = fault; unread = refl; complete = complete; unchanged = unchanged }
-
-plain_fault : (words : List (List ℕ)) (source_rose : Type 0) (description : Description) (options : Options) (commands : List Command) (before now : Shown) (status : Status) →
-    IsRunFault description options commands before now status → IsPlainFault words source_rose (Rose before.faults now.faults) status
-plain_fault words source_rose description options commands before now (Chunk key) fault = tt
-plain_fault words source_rose description options commands before now Store fault = fault
-plain_fault words source_rose description options commands before now OutOfMemory fault = tt
-plain_fault words source_rose description options commands before now Done fault = absurd fault
-plain_fault words source_rose description options commands before now BadWords fault = absurd fault
-plain_fault words source_rose description options commands before now (BadInput line) fault = absurd fault
-plain_fault words source_rose description options commands before now (Document error) fault = absurd fault
-plain_fault words source_rose description options commands before now Read fault = absurd fault
-plain_fault words source_rose description options commands before now Write fault = absurd fault
-plain_fault words source_rose description options commands before now TooLong fault = absurd fault
-
-pub made_plain : (words : List (List ℕ)) (source_rose : Type 0) (description : Description) (options : Options) (commands : List Command) (before now : Shown) (result : Result (Vec ℕ Global) Status) →
-    IfErr result (λ status. IsRunFault description options commands before now status) → IfErr result (λ status. IsPlainFault words source_rose (Rose before.faults now.faults) status)
-made_plain words source_rose description options commands before now (Ok text) fault = tt
-made_plain words source_rose description options commands before now (Err status) fault = plain_fault words source_rose description options commands before now status fault
-
 -- a made run ends after it began with the store
 begun : (description : Description) (options : Options) (commands : List Command) (before now : Shown) (status : Status) → IsRunFault description options commands before now status → ¬ IsBeforeStore (ending_of status)
 begun description options commands before now (Chunk key) fault = λ b. b
@@ -59,11 +33,6 @@ begun description options commands before now (Document error) fault = absurd fa
 begun description options commands before now Read fault = absurd fault
 begun description options commands before now Write fault = absurd fault
 begun description options commands before now TooLong fault = absurd fault
-
-pub made_touches : (description : Description) (options : Options) (commands : List Command) (before now : Shown) (result : Result (Vec ℕ Global) Status) →
-    IfErr result (λ status. IsRunFault description options commands before now status) → IfErr result (λ status. IsBeforeStore (ending_of status) → IsUntouched before now)
-made_touches description options commands before now (Ok text) fault = tt
-made_touches description options commands before now (Err status) fault = λ b. absurd (begun description options commands before now status fault b)
 
 -- what an input came to
 pub on_ok : {T E : Type 0} (P : Type 0) (result : Result T E) → P → OnOk result P
@@ -84,15 +53,6 @@ read_memory words input old_store before now (Chunk key) e runs calm fault = abs
 read_memory words input old_store before now Store e runs calm fault = absurd fault
 read_memory words input old_store before now Write e runs calm fault = absurd fault
 
-pub ran_bad : (words : List (List ℕ)) (input : List ℕ) (source : Told) (store : Shown) → settings_of words ≡ None → RanInput {Z = Global} words input source source store store (Err BadWords)
-ran_bad words input source store bad = record {
-  told = bad;
-  read_whole = tt;
-  complete = λ runs calm still. absurd (let both : None ≡ Some runs.0.settings = sym bad ∙ runs.0.are_words.0 in cc);
-  unchanged = λ key free. refl;
-  unasked = λ run all none. (refl, refl);
-}
-
 -- what a made run owes, from each of its ends
 module _ (number : ℕ) (options : Options) (before now : Seen) where
   pub made_done : (text : List ℕ) → SumsAll made_array options (made_commands number) before.store now.store text → IsGiven text before.sink.bytes now.sink.bytes → now.source ≡ before.source →
@@ -104,7 +64,8 @@ module _ (number : ℕ) (options : Options) (before now : Seen) where
     unread = unread;
     begun = λ b. b;
     chunk = λ key is. absurd (cc);
-    complete = λ honest sink store. inl refl;
+    between = between_ran made_array options [] (made_commands number) before.store now.store _ did.sums.left did.sums.mended;
+    complete = λ unseen sink store. inl refl;
     front = λ is. absurd (cc);
     unchanged = unchanged;
   }
@@ -118,7 +79,8 @@ module _ (number : ℕ) (options : Options) (before now : Seen) where
     unread = unread;
     begun = λ b. b;
     chunk = λ key is. absurd (cc);
-    complete = λ honest sink store. absurd (sink rose);
+    between = between_ran made_array options [] (made_commands number) before.store now.store _ did.sums.left did.sums.mended;
+    complete = λ unseen sink store. absurd (sink rose);
     front = λ is. (text, did.sums, given);
     unchanged = unchanged;
   }
@@ -134,8 +96,8 @@ module _ (number : ℕ) (options : Options) (before now : Seen) where
   same_chunk a b e = cc
 
   fails_chunk : (status : Status) (key : List ℕ) → Fails status → ending_of status ≡ damaged_chunk key →
-      IsDamageSeen made_array options (made_commands number) before.store.content key × (now.store.content key ≡ before.store.content key)
-  fails_chunk (Chunk other) key fault is = subst (λ k. IsDamageSeen made_array options (made_commands number) before.store.content k × (now.store.content k ≡ before.store.content k)) (same_chunk other key is) fault
+      IsDamageSeen made_array options (made_commands number) before.store.content key × (now.store.content key ≡ before.store.content key) × EndsAtDamage made_array options (made_commands number) before.store now.store key
+  fails_chunk (Chunk other) key fault is = subst (λ k. IsDamageSeen made_array options (made_commands number) before.store.content k × (now.store.content k ≡ before.store.content k) × EndsAtDamage made_array options (made_commands number) before.store now.store k) (same_chunk other key is) fault
   fails_chunk Store key fault is = absurd (cc)
   fails_chunk OutOfMemory key fault is = absurd (cc)
   fails_chunk Done key fault is = absurd fault
@@ -156,11 +118,12 @@ module _ (number : ℕ) (options : Options) (before now : Seen) where
   fails_write : (status : Status) → Fails status → status ≡ Write → ⊥
   fails_write status fault is = subst Fails is fault
 
-  pub made_early : (status last : Status) → (last ≡ status) ⊎ (last ≡ OutOfMemory) → Fails status → now.source ≡ before.source →
-      (IsHonest (layout made_array options) before.store.content → ¬ Rose before.store.faults now.store.faults → status ≡ OutOfMemory) →
+  pub made_early : (status last : Status) → (last ≡ status) ⊎ (last ≡ OutOfMemory) → (status ≡ Store → last ≡ Store) → Fails status → now.source ≡ before.source →
+      (SeesNoDamage made_array options (made_commands number) before.store.content → ¬ Rose before.store.faults now.store.faults → status ≡ OutOfMemory) →
+      LeavesBetween made_array options [] (made_commands number) before.store now.store (ending_of status) →
       ((key : List ℕ) → ¬ IsChangedKey made_array (made_commands number) key → now.store.content key ≡ before.store.content key) →
       AnswersMade number options before now (ending_of last)
-  made_early status last which fault unread complete unchanged = let ends = last_fails status last which fault in record {
+  made_early status last which kept fault unread complete left unchanged = let ends = last_fails status last which fault in record {
     done = λ is. absurd (fails_done last ends (is_done last is));
     asks = λ written. absurd (⊎_elim
         (λ (is : ending_of last ≡ end.done). fails_done last ends (is_done last is))
@@ -169,7 +132,8 @@ module _ (number : ℕ) (options : Options) (before now : Seen) where
     unread = unread;
     begun = begun made_array options (made_commands number) before.store now.store last ends;
     chunk = λ key is. fails_chunk last key ends is;
-    complete = λ honest sink store. inr (last_memory status last which (complete honest store));
+    between = between_last made_array options [] (made_commands number) before.store now.store status last which kept left;
+    complete = λ unseen sink store. inr (last_memory status last which (complete unseen store));
     front = λ is. absurd (fails_write last ends (is_write last is));
     unchanged = unchanged;
   }

@@ -1,8 +1,8 @@
 -- What an input in form comes to, and that the causes of the statuses exclude one another.
-use Rattle.std.proofs.Common.{◌≡◌, ℕ, ◌+◌, ◌<◌, ◌≤◌, false, List, length, map, Option, Some, None, is_some, IsUtf8, inl, inr, refl, sym, ap, ◌∙◌, subst, arith}
+use Rattle.std.proofs.Common.{◌≡◌, ℕ, ◌+◌, ◌<◌, ◌≤◌, false, List, length, map, Option, Some, None, is_some, IsUtf8, Result, Ok, Err, IfErr, inl, inr, refl, sym, ap, ◌∙◌, subst, arith}
 use Rattle.std.specs.Str.{IsValidUpTo}
 use Rattle.std.proofs.lemmas.Str.{utf8_valid_len-IsUtf8, utf8_valid_len-IsValidUpTo}
-use Rattle.zarr_model.specs.Prelude.{Content, IsHonest, with_keys, Shown, layout, AreRefused, IsUntouched}
+use Rattle.zarr_model.specs.Prelude.{Content, SeesNoDamage, with_keys, Shown, AreRefused, IsUntouched}
 use Rattle.zarr_cli_runs.specs.array.parts.Document.{describe}
 use Rattle.zarr_cli_runs.specs.array.parts.Opening.{OpenRefusal, opened, not_opened, open_builtin}
 use Rattle.zarr_cli_runs.specs.array.OpenArray.{documented, described}
@@ -12,10 +12,14 @@ use Rattle.zarr_cli_runs.specs.lines.Text.{good_lines, line_at}
 use Rattle.zarr_cli_runs.specs.lines.Parts.{entry_view}
 use Rattle.zarr_cli_runs.proofs.TextLaws.{good_lines_all}
 use Rattle.zarr_cli.specs.Words.{Settings, ReadsBy}
-use Rattle.zarr_cli.specs.Run.{Run, IsRunnable}
-use Rattle.zarr_cli.specs.Input.{input_limit, command_grammar, document_line, lines_after_document, store_after_keys, with_entries, IsBadLine}
+use Rattle.zarr_cli.specs.Run.{Run, IsRunnable, LeavesInput}
+use Rattle.zarr_cli.specs.Input.{input_limit, command_grammar, document_line, lines_after_document, input_entries, store_after_keys, with_entries, IsBadLine}
 use Rattle.zarr_cli.specs.Steps.{SaysInput, PrintsAll, PrintsInput, IsInputFault, RefusesInput, IsToldFault}
+use Rattle.zarr_cli_runs.specs.Between.{LeavesBetween}
+use Rattle.zarr_cli_runs.specs.Ending.{Ending}
+use Rattle.zarr_cli_runs.specs.Status.{ending_of}
 use Rattle.zarr_cli_runs.specs.Commands.{IsRunFault, TakesRun}
+use Rattle.zarr_cli_runs.proofs.BetweenLaws.{between_untouched}
 use Rattle.zarr_cli_runs.specs.Opening.{IsRefusal}
 use Rattle.zarr_cli.proofs.ProgramLaws.{one_run}
 use Rattle.zarr_cli.specs.declared.input.ParsedInput.{ParsedInput}
@@ -58,7 +62,7 @@ pub run_told : (words : List (List ℕ)) (settings : Settings) (input : List ℕ
     IsToldFault words input ⊥ before now status
 run_told words settings input parsed before now reads within says (Chunk key) fault =
     let met = subst (λ entries. IsRunFault (described parsed.array) settings.options (map command_of parsed.commands.items) (with_entries entries before) now (Chunk key)) says.entries_are fault in
-    ((its_run words settings input parsed reads within says, met.0), met.1)
+    ((its_run words settings input parsed reads within says, met.0), met.1, (its_run words settings input parsed reads within says, met.2))
 run_told words settings input parsed before now reads within says Store fault = (its_run words settings input parsed reads within says, fault)
 run_told words settings input parsed before now reads within says OutOfMemory fault = tt
 run_told words settings input parsed before now reads within says Done fault = absurd fault
@@ -71,12 +75,32 @@ run_told words settings input parsed before now reads within says TooLong fault 
 
 -- a run in form is that of the parsed input
 pub runnable : (words : List (List ℕ)) (settings : Settings) (input : List ℕ) (parsed : ParsedInput) (old : Content) → ReadsBy words settings → SaysInput input parsed → IsRunnable words input old →
-    IsHonest (layout (described parsed.array) settings.options) (with_keys (map entry_view parsed.entries.items) old)
-runnable words settings input parsed old reads says (run, honest) =
+    SeesNoDamage (described parsed.array) settings.options (map command_of parsed.commands.items) (with_keys (map entry_view parsed.entries.items) old)
+runnable words settings input parsed old reads says (run, unseen) =
     let same = one_run words input settings (documented parsed.array) (map command_of parsed.commands.items) reads.0 says.is_opened says.commands_are run in
-    subst (λ entries. IsHonest (layout (described parsed.array) settings.options) (with_keys entries old)) (sym says.entries_are)
-    (subst (λ document. IsHonest (layout (describe document) settings.options) (store_after_keys input old)) same.1
-    (subst (λ set. IsHonest (layout (describe run.document) set.options) (store_after_keys input old)) same.0 honest))
+    subst (λ entries. SeesNoDamage (described parsed.array) settings.options (map command_of parsed.commands.items) (with_keys entries old)) (sym says.entries_are)
+    (subst (λ commands. SeesNoDamage (described parsed.array) settings.options commands (store_after_keys input old)) same.2
+    (subst (λ document. SeesNoDamage (describe document) settings.options run.commands (store_after_keys input old)) same.1
+    (subst (λ set. SeesNoDamage (describe run.document) set.options run.commands (store_after_keys input old)) same.0 unseen)))
+
+-- what the parsed input leaves is what its run leaves
+left_by_run : (words : List (List ℕ)) (settings : Settings) (input : List ℕ) (parsed : ParsedInput) (before now : Shown) (ending : Ending) → ReadsBy words settings → SaysInput input parsed →
+    LeavesBetween (described parsed.array) settings.options (map entry_view parsed.entries.items) (map command_of parsed.commands.items) before now ending → LeavesInput words input before now ending
+left_by_run words settings input parsed before now ending reads says left run =
+    let same = one_run words input settings (documented parsed.array) (map command_of parsed.commands.items) reads.0 says.is_opened says.commands_are run in
+    subst (λ set. LeavesBetween (describe run.document) set.options (input_entries input) run.commands before now ending) (sym same.0)
+    (subst (λ commands. LeavesBetween (describe run.document) settings.options (input_entries input) commands before now ending) (sym same.2)
+    (subst (λ document. LeavesBetween (describe document) settings.options (input_entries input) (map command_of parsed.commands.items) before now ending) (sym same.1)
+    (subst (λ entries. LeavesBetween (described parsed.array) settings.options entries (map command_of parsed.commands.items) before now ending) says.entries_are left)))
+
+pub input_left : {T : Type 0} (words : List (List ℕ)) (settings : Settings) (input : List ℕ) (parsed : ParsedInput) (before now : Shown) (result : Result T Status) → ReadsBy words settings → SaysInput input parsed →
+    IfErr result (λ status. LeavesBetween (described parsed.array) settings.options (map entry_view parsed.entries.items) (map command_of parsed.commands.items) before now (ending_of status)) → IfErr result (λ status. LeavesInput words input before now (ending_of status))
+input_left words settings input parsed before now (Ok value) reads says left = tt
+input_left words settings input parsed before now (Err status) reads says left = left_by_run words settings input parsed before now (ending_of status) reads says left
+
+-- a run that did not begin with the store
+pub none_left : (words : List (List ℕ)) (input : List ℕ) (store : Shown) (ending : Ending) → LeavesInput words input store store ending
+none_left words input store ending run = between_untouched (describe run.document) run.settings.options (input_entries input) run.commands store store ending (λ key. refl)
 
 -- UTF-8 has no first bad byte
 valid_up_to-not : (input : List ℕ) (n : ℕ) → IsUtf8 input → IsValidUpTo input n → ⊥

@@ -12,6 +12,7 @@ use Rattle.hex.specs.Hex.{encode_with, decode_pairs}
 use Rattle.zarr_model.specs.Prelude.{of_bytes, fixed_bytes, regular_grid, Options, Content, with_key, WhollyMeans, stored_array, Command, elements, read, write, erase, Description, layout, LeavesArray, command_chunks, asks_store, counted, Rose, Shown, Given, IsPlace, AsksUpTo, IsUndecoded, IsStopped, erases_chunk, IsDamageSeen, passes_over}
 use Rattle.zarr_cli_runs.specs.array.parts.Document.{ArrayDocument, describe}
 use Rattle.zarr_cli_runs.proofs.StoredLaws.{stores-none}
+use Rattle.zarr_cli_runs.proofs.BetweenLaws.{means_undamaged}
 use Rattle.zarr_cli_runs.specs.array.parts.Opening.{opened, open_builtin}
 use Rattle.zarr_cli.specs.Input.{input_limit, document_line, lines_after_document, store_after_keys, command_grammar, IsBadLine}
 use Rattle.zarr_cli_runs.specs.Keys.{ListsStore, IsDump, IsDumpAsks}
@@ -196,9 +197,11 @@ other_document went =
     let (output, runs, given) = went_through [] square_input nothing nothing (λ text. text ≡ codes "refused IncompatibleDimensionality\n")
     first_settings (plain_document (4 ∷ 4 ∷ []) (2 ∷ 2 ∷ []) 0) (read (record { start = 3; size = 1 } ∷ record { start = 3; size = 1 } ∷ []) ∷ []) refl square_opens refl went in
     let (keys, dump, text) = runs.replied (stored_array (layout (describe (plain_document (4 ∷ 4 ∷ []) (2 ∷ 2 ∷ []) 0)) first_settings.options) nothing)
+    (means_undamaged (describe (plain_document (4 ∷ 4 ∷ []) (2 ∷ 2 ∷ []) 0)) first_settings.options (read (record { start = 3; size = 1 } ∷ record { start = 3; size = 1 } ∷ []) ∷ []) nothing
+    (stored_array (layout (describe (plain_document (4 ∷ 4 ∷ []) (2 ∷ 2 ∷ []) 0)) first_settings.options) nothing)
     (Means-from_whole (layout (describe (plain_document (4 ∷ 4 ∷ []) (2 ∷ 2 ∷ []) 0)) first_settings.options)
     (regular_grid-covers (4 ∷ 4 ∷ []) (2 ∷ 2 ∷ []) (omega arith, (omega arith, tt))) nothing
-    (stored_array (layout (describe (plain_document (4 ∷ 4 ∷ []) (2 ∷ 2 ∷ []) 0)) first_settings.options) nothing) square_meant) in
+    (stored_array (layout (describe (plain_document (4 ∷ 4 ∷ []) (2 ∷ 2 ∷ []) 0)) first_settings.options) nothing) square_meant)) in
     let e : ◌≡◌ {A = ℕ} 114 111 = ap (λ line. slice_index line 0) (sym given ∙ (text ∙ ap (λ more. codes "ok h00\n" ++ more) dump)) in omega arith
 
 -- what is right is not refused: the line of that byte, and a run that reads the fill
@@ -240,8 +243,13 @@ right_run = (
       [],
       refl,
       ap (λ e. replies_text (elements (e ∷ []) ∷ []) ++ [])
-          (meant.inside (1 ∷ 1 ∷ []) (of_bytes (0 ∷ []) ∷ of_bytes (0 ∷ []) ∷ of_bytes (0 ∷ []) ∷ of_bytes (0 ∷ []) ∷ []) (3 ∷ 3 ∷ []) refl refl refl refl),
+          (meant.1.inside (1 ∷ 1 ∷ []) (of_bytes (0 ∷ []) ∷ of_bytes (0 ∷ []) ∷ of_bytes (0 ∷ []) ∷ of_bytes (0 ∷ []) ∷ []) (3 ∷ 3 ∷ []) refl refl refl refl),
     );
+    mended = record {
+      keeps = record { each = λ chunk is_chunk. inr (refl, refl); stands = λ chunk is_chunk damaged none. refl };
+      whole = λ array meant. meant;
+      keys = record { same_chunks = λ chunk is_chunk e. refl; other_keys = λ key apart. refl };
+    };
     left = record {
       array_left = λ array meant. meant;
       whole_chunks = λ array meant. meant;

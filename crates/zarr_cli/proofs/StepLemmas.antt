@@ -1,10 +1,8 @@
 -- The steps of the program: what was taken from a source, what key lines set, and the first line out of form.
-use Rattle.std.proofs.Common.{◌≡◌, ℕ, ◌+◌, ◌^◌, ◌<◌, ◌≤◌, Bool, true, false, List, [], ◌∷◌, ◌++◌, length, take, drop, map, get_or, Option, Some, None, IsSome, IsUtf8, ◌↔◌, inr, rules, if◌then◌else◌, bytes_eq, refl, sym, ap, ap₂, add-one, ◌∙◌, subst, arith, append_assoc, append-nil, length-append, true≢false}
+use Rattle.std.proofs.Common.{◌≡◌, ℕ, zero, suc, slice_get, ◌+◌, ◌^◌, ◌<◌, ◌≤◌, Bool, true, false, List, [], ◌∷◌, ◌++◌, length, take, drop, map, get_or, Option, Some, None, IsSome, IsUtf8, ◌↔◌, inr, rules, if◌then◌else◌, bytes_eq, refl, sym, ap, ap₂, add-one, ◌∙◌, subst, arith, append_assoc, append-nil, length-append, true≢false}
 use Rattle.std.proofs.Math.Path.{fun_ext}
-use Rattle.std.proofs.Math.Seq.{drop-cons}
-use Rattle.std.proofs.lemmas.List.{get_or-map, length-map}
-use Rattle.zarr_model.specs.Prelude.{Kind, Command, Content, kind, with_key, with_keys, ReadsNext, PutsKey}
-use Rattle.zarr_model.proofs.FailureLaws.{same_bytes, bytes_eq-refl}
+use Rattle.std.proofs.lemmas.List.{get_or-map, length-map, take_all}
+use Rattle.zarr_model.specs.Prelude.{Kind, Command, Content, kind, with_keys, ReadsNext}
 use Rattle.zarr_cli_runs.specs.array.parts.Opening.{opened, open_builtin}
 use Rattle.zarr_cli_runs.specs.array.OpenArray.{documented, described}
 use Rattle.zarr_cli_runs.specs.array.Command.{command_of}
@@ -72,20 +70,17 @@ taken_length (Some all) (Some rest) taken h left e =
     let parts : left ≡ taken ++ rest = same ∙ h in
     omega (arith, ap length parts, length-append taken rest)
 
--- a key that was put is the content with this key
-pub put_is : (old new : Content) (key value : List ℕ) → PutsKey old new key (Some value) → new ≡ with_key key value old
-put_is old new key value put = fun_ext (λ other. go other (bytes_eq other key) refl)
-  where
-    go : (other : List ℕ) (b : Bool) → bytes_eq other key ≡ b → new other ≡ (if b then Some value else old other)
-    go other true e = ap new (same_bytes other key e) ∙ put.here
-    go other false e = put.others other (λ same. true≢false (sym (bytes_eq-refl key) ∙ (ap (λ k. bytes_eq k key) (sym same) ∙ e)))
+-- an entry of a slice, as a key line
+pub entry_here : {E : Type 0} (view : E → List ℕ × List ℕ) (entries : List E) (i : ℕ) (entry : E) → i < length entries → get_or entries i entry ≡ entry → slice_get (map view entries) i ≡ Some (view entry)
+entry_here view [] i entry within is = absurd (omega arith)
+entry_here view (first ∷ entries) zero entry within is = ap (λ e. Some (view e)) is
+entry_here view (first ∷ entries) (suc i) entry within is = entry_here view entries i entry (omega arith) is
 
--- one key line more
-pub set_step : {E : Type 0} (view : E → List ℕ × List ℕ) (entries : List E) (i : ℕ) (entry : E) (mid new all : Content) → i < length entries → get_or entries i entry ≡ entry →
-    new ≡ with_key (view entry).0 (view entry).1 mid → with_keys (map view (drop i entries)) mid ≡ all → with_keys (map view (drop (i + 1) entries)) new ≡ all
-set_step {E} view entries i entry mid new all within here put so_far =
-    let dropped : drop i entries ≡ entry ∷ drop (i + 1) entries = drop-cons entries i entry within ∙ ap₂ (λ e n. e ∷ drop n entries) here (sym (add-one i)) in
-    ap (with_keys (map view (drop (i + 1) entries))) put ∙ (sym (ap (λ l. with_keys (map view l) mid) dropped) ∙ so_far)
+-- all key lines are set
+pub set_all : {E : Type 0} (view : E → List ℕ × List ℕ) (entries : List E) (i : ℕ) (old new : Content) → length entries ≤ i →
+    ((key : List ℕ) → new key ≡ with_keys (take i (map view entries)) old key) → new ≡ with_keys (map view entries) old
+set_all view entries i old new over so_far =
+    fun_ext (λ key. so_far key ∙ ap (λ es. with_keys es old key) (take_all i (map view entries) (let mapped = length-map entries view in omega (arith, over, mapped))))
 
 -- an entry of a list is among its keys
 pub listed_key : {E : Type 0} (view : E → List ℕ × List ℕ) (entries : List E) (i : ℕ) (entry : E) → i < length entries → get_or entries i entry ≡ entry → (key : List ℕ) →

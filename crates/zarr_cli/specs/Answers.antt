@@ -5,7 +5,7 @@ use Rattle.zarr_cli_runs.specs.array.parts.Document.{describe}
 use Rattle.zarr_cli_runs.specs.array.parts.Opening.{OpenRefusal}
 use Rattle.zarr_cli.specs.Words.{HasBadWords}
 use Rattle.zarr_cli.specs.Input.{input_entries, with_entries, store_after_keys, HasLongInput, HasBadLine, HasRefusedDocument}
-use Rattle.zarr_cli.specs.Run.{Run, HasDamage, WentThrough, IsRunnable, SameButChanged}
+use Rattle.zarr_cli.specs.Run.{Run, HasDamage, IsCutAtDamage, WentThrough, IsRunnable, LeavesInput, SameButChanged}
 use Rattle.zarr_cli_runs.specs.Commands.{TakesRun}
 use Rattle.zarr_cli_runs.specs.Keys.{IsDumpAsks}
 use Rattle.zarr_cli_runs.specs.Ending.{Ending, IsOrMemory, IsWritten, IsGiven, IsGivenFront, IsGivenLine, ending_line, IsBeforeStore}
@@ -36,10 +36,12 @@ pub record Answers (words : List (List ℕ)) (input : List ℕ) (before now : Se
   pub document : (why : OpenRefusal) → ending ≡ end.refused_document why →
       HasRefusedDocument words input why
   pub too_long : ending ≡ end.too_long → HasLongInput words input
-  -- a damaged chunk is one that a command met, and its value stands
+  -- a damaged chunk is the first that a command saw, and its value stands; the run ended there as a
+  -- session does
   pub chunk : (key : List ℕ) → ending ≡ end.damaged_chunk key →
       HasDamage words input before.store.content key
       × (now.store.content key ≡ store_after_keys input before.store.content key)
+      × IsCutAtDamage words input before.store now.store key
   -- where the source did not fail, each cause in the input has its answer, but for want of memory
   pub exactly_long : ¬ Rose before.source.faults now.source.faults → HasLongInput words input →
       IsOrMemory ending end.too_long
@@ -48,7 +50,7 @@ pub record Answers (words : List (List ℕ)) (input : List ℕ) (before now : Se
       IsOrMemory ending (end.bad_input line)
   pub exactly_document : (why : OpenRefusal) → ¬ Rose before.source.faults now.source.faults →
       HasRefusedDocument words input why → IsOrMemory ending (end.refused_document why)
-  -- a run in form over an honest store is done, where nothing failed
+  -- a run in form that sees no damage, as over an honest store, is done, where nothing failed
   pub complete : IsRunnable words input before.store.content →
       ¬ Rose before.source.faults now.source.faults →
       ¬ Rose before.sink.faults now.sink.faults → ¬ Rose before.store.faults now.store.faults →
@@ -60,6 +62,9 @@ pub record Answers (words : List (List ℕ)) (input : List ℕ) (before now : Se
   -- after every end: all keys but those of key lines and of chunks that an accepted command changes
   -- are as before
   pub unchanged : SameButChanged words input before.store.content now.store.content
+  -- after every end the store has some key lines set, is left as by a session with this error, or as
+  -- by all commands
+  pub between : LeavesInput words input before.store now.store ending
   -- where replies are written, all commands are refused and no keys are asked for, the store is as
   -- the key lines left it
   pub refused : (run : Run words input) → IsWritten ending →

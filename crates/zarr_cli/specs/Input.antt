@@ -1,10 +1,11 @@
 -- The input: a document, key lines and command lines.
 use Rattle.std.specs.Prelude.{◌≡◌, ℕ, ◌+◌, ◌<◌, ◌≤◌, ◌⊎◌, List, [], ◌∷◌, length, drop, IsUtf8, Contains, Option}
 use Rattle.std.specs.Str.{IsValidUpTo}
-use Rattle.zarr_model.specs.Prelude.{Content, with_keys, Shown, Command, kind}
+use Rattle.zarr_model.specs.Prelude.{Content, with_keys, Command, kind}
 use Rattle.zarr_cli_runs.specs.lines.Text.{line_command, input_lines, first_entries, good_lines, line_at}
 use Rattle.zarr_cli_runs.specs.array.parts.Document.{ArrayDocument, describe}
 use Rattle.zarr_cli_runs.specs.array.parts.Opening.{OpenRefusal, opened, not_opened, open_builtin}
+pub use Rattle.zarr_cli_runs.specs.Between.{with_entries}
 use Rattle.zarr_cli.specs.Words.{IsReading}
 
 -- the greatest number of bytes that an input may have
@@ -30,12 +31,9 @@ input_entries input = first_entries (lines_after_document input)
 abbrev pub IsLineKey : List ℕ → List ℕ → Type 0
 IsLineKey input key = (value : List ℕ) × Contains (input_entries input) (key, value)
 
--- a store once its key lines are set, and what it shows then
+-- what a store holds once its key lines are set
 abbrev pub store_after_keys : List ℕ → Content → Content
 store_after_keys input store = with_keys (input_entries input) store
-
-abbrev pub with_entries : List (List ℕ × List ℕ) → Shown → Shown
-with_entries entries store = record store { content = with_keys entries store.content }
 
 -- the grammar of command lines under a document
 abbrev pub command_grammar : ArrayDocument → List ℕ → Option Command

@@ -1,8 +1,9 @@
 -- A run that is made from a number: what it prints, what it leaves, and what it owes.
-use Rattle.std.specs.Prelude.{◌≡◌, ℕ, ◌+◌, List}
-use Rattle.zarr_model.specs.Prelude.{Options, Content, IsHonest, Rose, layout, all_asks, counted, IsDamageSeen}
+use Rattle.std.specs.Prelude.{◌≡◌, ℕ, ◌+◌, List, []}
+use Rattle.zarr_model.specs.Prelude.{Options, Content, Rose, all_asks, counted, IsDamageSeen, SeesNoDamage}
 use Rattle.zarr_cli_runs.specs.making.Commands.{made_commands}
-use Rattle.zarr_cli_runs.specs.Commands.{IsChangedKey}
+use Rattle.zarr_cli_runs.specs.Between.{LeavesBetween}
+use Rattle.zarr_cli_runs.specs.Commands.{IsChangedKey, EndsAtDamage}
 use Rattle.zarr_cli_runs.specs.Ending.{Ending, IsOrMemory, IsGiven, IsGivenFront, IsWritten, IsBeforeStore}
 use Rattle.zarr_cli_runs.specs.Ending as end
 use Rattle.zarr_cli.specs.Seen.{Seen}
@@ -26,12 +27,18 @@ pub record AnswersMade (number : ℕ) (options : Options) (before now : Seen)
   -- nothing is read, and no ending is one of the words, the reading or an input
   pub unread : now.source ≡ before.source
   pub begun : ¬ IsBeforeStore ending
-  -- a damaged chunk is one that a command saw, and its value stands
+  -- a damaged chunk is the first that a command saw, and its value stands; the run ended there as a
+  -- session does
   pub chunk : (key : List ℕ) → ending ≡ end.damaged_chunk key →
       IsDamageSeen made_array options (made_commands number) before.store.content key
       × (now.store.content key ≡ before.store.content key)
-  -- a run over an honest store is done, where nothing failed
-  pub complete : IsHonest (layout made_array options) before.store.content →
+      × EndsAtDamage made_array options (made_commands number) before.store now.store key
+  -- after every end the store is unchanged, left as by a session with this error, or as by all
+  -- commands
+  pub between : LeavesBetween made_array options [] (made_commands number) before.store now.store
+      ending
+  -- a run that sees no damage, as over an honest store, is done, where nothing failed
+  pub complete : SeesNoDamage made_array options (made_commands number) before.store.content →
       ¬ Rose before.sink.faults now.sink.faults → ¬ Rose before.store.faults now.store.faults →
       IsOrMemory ending end.done
   -- a sink that failed on the summary has a front of it

@@ -1,9 +1,11 @@
 -- What each step of a run that is made from a number promises to the next one.
 use Rattle.std.specs.Prelude.{◌≡◌, ℕ, List, [], Some, Result, IfErr, OnOk, MatchResult, Vec}
-use Rattle.zarr_model.specs.Prelude.{Options, IsHonest, Shown, Told, layout, Rose}
+use Rattle.zarr_model.specs.Prelude.{Options, Shown, Told, SeesNoDamage, Rose}
 use Rattle.zarr_cli_runs.specs.making.Commands.{made_commands}
-use Rattle.zarr_cli.specs.Run.{IsRunnable, SameButChanged}
+use Rattle.zarr_cli.specs.Run.{IsRunnable, LeavesInput, SameButChanged}
+use Rattle.zarr_cli_runs.specs.Between.{LeavesBetween}
 use Rattle.zarr_cli_runs.specs.Commands.{IsChangedKey, IsRunFault}
+use Rattle.zarr_cli_runs.specs.Status.{ending_of}
 use Rattle.zarr_cli_runs.specs.Made.{made_array, SumsAll}
 use Rattle.zarr_cli.specs.Steps.{PrintsInput, IsToldFault, IsUnaskedIfRefused}
 use Rattle.zarr_cli_runs.specs.declared.status.Status.{Status}
@@ -16,7 +18,10 @@ pub record RanMade {Z : Type 0} (number : ℕ) (options : Options) (source_befor
       (λ text. SumsAll made_array options (made_commands number) before now text.items)
       (λ status. IsRunFault made_array options (made_commands number) before now status)
   pub unread : source_now ≡ source_before
-  pub complete : IsHonest (layout made_array options) before.content →
+  pub between :
+      IfErr result (λ status. LeavesBetween made_array options [] (made_commands number) before now
+      (ending_of status))
+  pub complete : SeesNoDamage made_array options (made_commands number) before.content →
       ¬ Rose before.faults now.faults → IfErr result (λ status. status ≡ OutOfMemory)
   pub unchanged : (key : List ℕ) → ¬ IsChangedKey made_array (made_commands number) key →
       now.content key ≡ before.content key
@@ -30,6 +35,7 @@ pub record RanInput {Z : Type 0} (words : List (List ℕ)) (input : List ℕ)
       (λ status. IsToldFault words input (Rose source_before.faults source_now.faults) before now
       status)
   pub read_whole : OnOk result (source_now.left ≡ Some [])
+  pub between : IfErr result (λ status. LeavesInput words input before now (ending_of status))
   pub complete : IsRunnable words input before.content →
       ¬ Rose source_before.faults source_now.faults → ¬ Rose before.faults now.faults →
       IfErr result (λ status. status ≡ OutOfMemory)

@@ -1,14 +1,16 @@
 -- A run: what its words and its input say, what it prints, and what it leaves in the store.
 use Rattle.std.specs.Prelude.{◌≡◌, ℕ, ◌+◌, ◌≤◌, Bool, List, ◌++◌, length, IsUtf8, Some}
-use Rattle.zarr_model.specs.Prelude.{Element, Array, Content, Means, IsHonest, Command, Description, layout, replies, LeavesArray, SeesNoDamage, IsDamageSeen}
+use Rattle.zarr_model.specs.Prelude.{Element, Array, Content, Shown, Command, Description, replies, LeavesArray, SeesNoDamage, IsDamageSeen}
 use Rattle.zarr_cli_runs.specs.lines.Text.{commands_of, replies_text}
 use Rattle.zarr_cli_runs.specs.array.parts.Document.{ArrayDocument, describe}
 use Rattle.zarr_cli_runs.specs.array.parts.Opening.{opened, open_builtin}
 use Rattle.zarr_cli_runs.specs.array.Stored.{StoresForAll}
 use Rattle.zarr_cli.specs.Words.{Settings, ReadsBy}
-use Rattle.zarr_cli.specs.Input.{input_limit, document_line, lines_after_document, command_grammar, store_after_keys, IsLineKey}
+use Rattle.zarr_cli.specs.Input.{input_limit, document_line, lines_after_document, command_grammar, input_entries, store_after_keys, with_entries, IsLineKey}
 use Rattle.zarr_cli_runs.specs.Keys.{IsDump}
-use Rattle.zarr_cli_runs.specs.Commands.{IsChangedKey}
+use Rattle.zarr_cli_runs.specs.Ending.{Ending}
+use Rattle.zarr_cli_runs.specs.Between.{LeavesBetween}
+use Rattle.zarr_cli_runs.specs.Commands.{IsChangedKey, MeansUndamaged, LeavesUndamaged, EndsAtDamage}
 
 -- what the words and the input of a run say, where all of them have their form: there is one such
 -- run, or none
@@ -31,10 +33,14 @@ IsOutput description commands array dump store output = (keys : List ℕ) × IsD
 -- commands ran to their end over a store, and this was printed
 pub record Prints (description : Description) (settings : Settings) (commands : List Command)
     (old new : Content) (output : List ℕ) : Type 0 where
-  -- the replies of one plain array that the store meant, and the final keys
-  pub replied : (array : Array Element) → Means (layout description settings.options) old array →
+  -- the replies of one plain array that the store meant without the damage that was not met, and the
+  -- final keys
+  pub replied : (array : Array Element) →
+      MeansUndamaged description settings.options commands old array →
       IsOutput description commands array settings.dump new output
-  -- the store is left as that array's, and what was stored decodes so under all options
+  -- the store is left as that array's, without damage and with it, and what was stored decodes so
+  -- under all options
+  pub mended : LeavesUndamaged description settings.options commands old new
   pub left : LeavesArray description settings.options commands old new
   pub stored : StoresForAll description settings.options commands old new
   -- each value that was met decodes, but for reads of parts whose pieces are there
@@ -49,16 +55,29 @@ WentThrough words input old new wrote = (run : Run words input) × (output : Lis
     × Prints (describe run.document) run.settings run.commands (store_after_keys input old) new
     output × wrote output
 
--- the store is honest once the key lines of a run in form are set
+-- a run in form sees no damage once its key lines are set
 abbrev pub IsRunnable : List (List ℕ) → List ℕ → Content → Type 0
 IsRunnable words input old = (run : Run words input)
-    × IsHonest (layout (describe run.document) run.settings.options) (store_after_keys input old)
+    × SeesNoDamage (describe run.document) run.settings.options run.commands
+    (store_after_keys input old)
 
 -- the cause of a damaged chunk: a run in form saw its value as the key lines left it
 abbrev pub HasDamage : List (List ℕ) → List ℕ → Content → List ℕ → Type 0
 HasDamage words input old key = (run : Run words input)
     × IsDamageSeen (describe run.document) run.settings.options run.commands
     (store_after_keys input old) key
+
+-- a run in form ended as a session does at a damaged chunk
+abbrev pub IsCutAtDamage : List (List ℕ) → List ℕ → Shown → Shown → List ℕ → Type 0
+IsCutAtDamage words input before now key = (run : Run words input)
+    × EndsAtDamage (describe run.document) run.settings.options run.commands
+    (with_entries (input_entries input) before) now key
+
+-- what a run in form leaves, by its ending
+abbrev pub LeavesInput : List (List ℕ) → List ℕ → Shown → Shown → Ending → Type 0
+LeavesInput words input before now ending = (run : Run words input) →
+    LeavesBetween (describe run.document) run.settings.options (input_entries input) run.commands
+    before now ending
 
 -- Each key that is neither a key line's nor that of a chunk that an accepted command writes or
 -- erases holds what it held. Without a run in form each key does.

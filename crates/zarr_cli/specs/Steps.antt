@@ -1,6 +1,6 @@
 -- What each step of the program promises to the next one.
 use Rattle.std.specs.Prelude.{◌≡◌, ℕ, ◌+◌, ◌<◌, false, List, ◌++◌, length, map, IsUtf8, Contains, Option, Some, None}
-use Rattle.zarr_model.specs.Prelude.{Element, Array, Options, Means, Shown, Told, Command, Description, layout, replies, LeavesArray, AreRefused, IsUntouched, all_asks, counted, Rose, SeesNoDamage}
+use Rattle.zarr_model.specs.Prelude.{Element, Array, Content, Options, SetsSome, Shown, Told, Command, Description, replies, LeavesArray, AreRefused, IsUntouched, all_asks, counted, Rose, SeesNoDamage}
 use Rattle.zarr_cli_runs.specs.array.parts.Document.{describe}
 use Rattle.zarr_cli_runs.specs.array.parts.Opening.{OpenRefusal, opened, open_builtin}
 use Rattle.zarr_cli_runs.specs.array.OpenArray.{documented}
@@ -11,11 +11,11 @@ use Rattle.zarr_cli_runs.specs.lines.Text.{commands_of, replies_text}
 use Rattle.zarr_cli_runs.specs.lines.Parts.{entry_view}
 use Rattle.zarr_cli.specs.Words.{Settings, HasBadWords}
 use Rattle.zarr_cli.specs.Input.{input_limit, document_line, lines_after_document, command_grammar, input_entries, with_entries, store_after_keys, IsBadLine, HasLongInput, HasBadLine, HasRefusedDocument}
-use Rattle.zarr_cli.specs.Run.{Run, Prints, HasDamage}
+use Rattle.zarr_cli.specs.Run.{Run, Prints, HasDamage, IsCutAtDamage}
 use Rattle.zarr_cli_runs.specs.declared.status.Status.{Status}
 use Rattle.zarr_cli_runs.specs.declared.status.Status.TheVariants.{BadWords, BadInput, Document, Chunk, Store, Read, TooLong, OutOfMemory}
 use Rattle.zarr_cli.specs.declared.input.ParsedInput.{ParsedInput}
-use Rattle.zarr_cli_runs.specs.Commands.{TakesRun}
+use Rattle.zarr_cli_runs.specs.Commands.{TakesRun, MeansUndamaged, LeavesUndamaged}
 use Rattle.zarr_cli_runs.specs.Keys.{CountsDump}
 use Rattle.zarr_cli_runs.specs.Opening.{IsRefusal}
 
@@ -59,8 +59,10 @@ IsInputFault _ _ = ⊥
 -- commands were run over a store, and the text is that of their replies
 pub record RepliesTo (description : Description) (options : Options) (commands : List Command)
     (before now : Shown) (text : List ℕ) : Type 0 where
-  pub replied : (array : Array Element) → Means (layout description options) before.content array →
+  pub replied : (array : Array Element) →
+      MeansUndamaged description options commands before.content array →
       text ≡ replies_text (replies description commands array)
+  pub mended : LeavesUndamaged description options commands before.content now.content
   pub left : LeavesArray description options commands before.content now.content
   pub stored : StoresForAll description options commands before.content now.content
   pub undamaged : SeesNoDamage description options commands before.content
@@ -72,6 +74,10 @@ pub record PrintsAll (description : Description) (settings : Settings) (commands
     (before now : Shown) (text : List ℕ) : Type 0 where
   pub prints : Prints description settings commands before.content now.content text
   pub asks : CountsDump settings.dump (all_asks description commands) before now
+
+-- some first key lines are set, and the next one perhaps
+abbrev pub SetsPart : List (List ℕ × List ℕ) → Content → Content → Type 0
+SetsPart entries old new = (n : ℕ) × SetsSome entries n old new
 
 -- a key is one of some entries
 abbrev pub IsKeyOf : List (List ℕ × List ℕ) → List ℕ → Type 0
@@ -114,6 +120,7 @@ IsToldFault words input source_rose before now (Document error) =
 IsToldFault words input source_rose before now (Chunk key) =
     HasDamage words input before.content key
     × (now.content key ≡ store_after_keys input before.content key)
+    × IsCutAtDamage words input before now key
 IsToldFault words input source_rose before now Store = Run words input
     × Rose before.faults now.faults
 IsToldFault words input source_rose before now Read = source_rose

@@ -1,10 +1,10 @@
 //! The program: words, a document, key lines and commands in, the replies of one array and its final keys out.
 
-ghost use Rattle.std.specs.Prelude.{◌≡◌, ◌≤◌, List, ℕ, [], length, Some, Err, IfErr, OnOk, MatchResult};
+ghost use Rattle.std.specs.Prelude.{◌≡◌, ◌≤◌, List, ℕ, [], length, Some, Err, IfErr, OnOk, OnErr, MatchResult};
 ghost use Rattle.zarr_model.specs.Prelude.{Rose, IsUntouched, Options};
 ghost use Rattle.zarr_cli.specs.Words.{ReadsBy, HasBadWords, MakesFrom, MakesNothing};
 ghost use Rattle.zarr_cli.specs.Input.{input_limit};
-ghost use Rattle.zarr_cli.specs.Run.{IsRunnable, SameButChanged};
+ghost use Rattle.zarr_cli.specs.Run.{IsRunnable, LeavesInput, SameButChanged};
 ghost use Rattle.zarr_cli_runs.specs.Ending.{IsBeforeStore};
 ghost use Rattle.zarr_cli.specs.Status.{words_of, settings_view};
 ghost use Rattle.zarr_cli_runs.specs.Status.{ending_of};
@@ -44,6 +44,9 @@ fn run_bytes<S: Store>(
     ensures unasked { (words : List (List ℕ)) →
         ReadsBy words (settings_view settings.now) →
         IsUnaskedIfRefused words input.now (S.shown store.old) (S.shown store.new) }
+    ensures between { (words : List (List ℕ)) → ReadsBy words (settings_view settings.now) →
+        IfErr result (λ status. LeavesInput words input.now (S.shown store.old)
+        (S.shown store.new) (ending_of status)) }
     ensures complete { (words : List (List ℕ)) →
         ReadsBy words (settings_view settings.now) →
         IsRunnable words input.now (S.shown store.old).content →

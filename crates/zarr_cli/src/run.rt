@@ -1,16 +1,18 @@
 //! Running the commands of an input over a store.
 
-ghost use Rattle.std.specs.Prelude.{◌≡◌, ◌≤◌, false, map, List, ℕ, IfOk, IfErr, OnOk};
-ghost use Rattle.zarr_model.specs.Prelude.{Rose, HasCause, IsHonest, with_keys, layout, AreRefused, IsUntouched};
+ghost use Rattle.std.specs.Prelude.{◌≡◌, ◌≤◌, false, map, List, [], ℕ, IfOk, IfErr, OnOk, OnErr};
+ghost use Rattle.zarr_model.specs.Prelude.{Rose, HasCause, SeesNoDamage, with_keys, AreRefused, IsUntouched};
 ghost use Rattle.zarrs_storage.specs.Store.{IsFault as IsStoreFault, IsPlain};
 ghost use Rattle.zarr_cli_runs.specs.array.OpenArray.{documented, described};
 ghost use Rattle.zarr_cli_runs.specs.array.Command.{command_of};
 ghost use Rattle.zarrs_codec_traits.specs.Views.{options_of};
 ghost use Rattle.zarr_cli_runs.specs.lines.Parts.{entry_view};
 ghost use Rattle.zarr_cli.specs.Input.{with_entries};
+ghost use Rattle.zarr_cli_runs.specs.Between.{LeavesBetween};
 ghost use Rattle.zarr_cli_runs.specs.Commands.{IsChangedKey, TakesRun, IsRunFault};
+ghost use Rattle.zarr_cli_runs.specs.Status.{ending_of};
 ghost use Rattle.zarr_cli.specs.Status.{settings_view};
-ghost use Rattle.zarr_cli.specs.Steps.{RepliesTo, PrintsAll, IsKeyOf, IsUnasked};
+ghost use Rattle.zarr_cli.specs.Steps.{RepliesTo, PrintsAll, SetsPart, IsKeyOf, IsUnasked};
 
 use crate::input::ParsedInput;
 use crate::words::Settings;
@@ -28,6 +30,8 @@ fn set_entries<S: Store>(
 ) -> Result<(), StorageError>
     ensures set { OnOk result ((S.shown store.new).content
         ≡ with_keys (map entry_view entries.now) (S.shown store.old).content) }
+    ensures failed { OnErr result (SetsPart (map entry_view entries.now)
+        (S.shown store.old).content (S.shown store.new).content) }
     ensures elsewhere { (key : List ℕ) → ¬ IsKeyOf (map entry_view entries.now) key →
         (S.shown store.new).content key ≡ (S.shown store.old).content key }
     ensures asks { (S.shown store.new).asks ≡ (S.shown store.old).asks }
@@ -63,8 +67,11 @@ fn text_of_commands<S: Store>(
     ensures fault { IfErr result (λ status.
         IsRunFault (described array.now) (options_of options.now)
         (map command_of commands.now) (S.shown store.old) (S.shown store.new) status) }
-    ensures complete { IsHonest (layout (described array.now) (options_of options.now))
-        (S.shown store.old).content →
+    ensures between { IfErr result (λ status. LeavesBetween (described array.now)
+        (options_of options.now) [] (map command_of commands.now) (S.shown store.old)
+        (S.shown store.new) (ending_of status)) }
+    ensures complete { SeesNoDamage (described array.now) (options_of options.now)
+        (map command_of commands.now) (S.shown store.old).content →
         ¬ Rose (S.shown store.old).faults (S.shown store.new).faults →
         IfErr result (λ status. status ≡ Status.OutOfMemory) }
 {
@@ -96,8 +103,12 @@ fn text_of_all<S: Store>(
     ensures fault { IfErr result (λ status.
         IsRunFault (described array.now) (options_of settings.now.options)
         (map command_of commands.now) (S.shown store.old) (S.shown store.new) status) }
-    ensures complete { IsHonest (layout (described array.now) (options_of settings.now.options))
-        (S.shown store.old).content → ¬ Rose (S.shown store.old).faults (S.shown store.new).faults →
+    ensures between { IfErr result (λ status. LeavesBetween (described array.now)
+        (options_of settings.now.options) [] (map command_of commands.now) (S.shown store.old)
+        (S.shown store.new) (ending_of status)) }
+    ensures complete { SeesNoDamage (described array.now) (options_of settings.now.options)
+        (map command_of commands.now) (S.shown store.old).content →
+        ¬ Rose (S.shown store.old).faults (S.shown store.new).faults →
         IfErr result (λ status. status ≡ Status.OutOfMemory) }
 {
     match text_of_commands(alloc, array, commands, store, &settings.options) {
@@ -143,8 +154,12 @@ pub(crate) fn run_input<S: Store>(
         (map command_of parsed.now.commands.items)
         (with_entries (map entry_view parsed.now.entries.items) (S.shown store.old))
         (S.shown store.new) status) }
-    ensures complete { IsHonest (layout (described parsed.now.array)
-        (options_of settings.now.options))
+    ensures between { IfErr result (λ status. LeavesBetween (described parsed.now.array)
+        (options_of settings.now.options) (map entry_view parsed.now.entries.items)
+        (map command_of parsed.now.commands.items) (S.shown store.old) (S.shown store.new)
+        (ending_of status)) }
+    ensures complete { SeesNoDamage (described parsed.now.array)
+        (options_of settings.now.options) (map command_of parsed.now.commands.items)
         (with_entries (map entry_view parsed.now.entries.items) (S.shown store.old)).content →
         ¬ Rose (S.shown store.old).faults (S.shown store.new).faults →
         IfErr result (λ status. status ≡ Status.OutOfMemory) }

@@ -56,9 +56,15 @@ fn write_line<W: Sink>(sink: &mut W, line: &str)
 /// Writes the line of a status in place of replies, and answers the status, or want of memory where the line found none.
 pub(crate) fn end_with<W: Sink>(alloc: Global, status: Status, sink: &mut W) -> Status
     ensures status { (result ≡ status) ⊎ (result ≡ Status.OutOfMemory) }
+    ensures store { status ≡ Status.Store → result ≡ Status.Store }
     ensures line { IsGivenLine (ending_line (ending_of result)) (W.shown sink.old)
         (W.shown sink.new) }
 {
+    // What a fault of the store leaves is told by its own status, so this line takes no memory.
+    if let Status::Store = status {
+        write_line(sink, "store\n");
+        return Status::Store;
+    }
     let Ok(line) = status_line(alloc, &status) else {
         return Status::OutOfMemory;
     };

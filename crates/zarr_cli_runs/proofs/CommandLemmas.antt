@@ -1,29 +1,33 @@
 -- Commands that ran.
-use Rattle.std.proofs.Common.{◌≡◌, ℕ, ◌<◌, false, List, length, map, slice_get, Option, Some, None, IsSome, refl, sym, ap, ◌∙◌, subst, subst₂}
-use Rattle.zarr_model.specs.Prelude.{Element, Array, Content, IsHonest, WhollyMeans, Command, Description, layout, all_asks, counted, LeavesKeys, ServesArray, RefusesRight, SeesNoDamage, Shown, Options, command_chunks, passes_over, IsUndecoded, IsDamageSeen}
-use Rattle.std.proofs.lemmas.Option.{same_Some, slice_get_within, get_or_from_slice_get}
+use Rattle.std.proofs.Common.{◌≡◌, ℕ, List, map, Option, Some, None, IsSome, refl, sym, subst}
+use Rattle.zarr_model.specs.Prelude.{Element, Array, Content, Rose, IsHonest, WhollyMeans, Command, Description, layout, all_asks, counted, LeavesKeys, ServesArray, RefusesRight, SeesNoDamage, AnswersUndamaged, RanOver, Shown, Options}
 use Rattle.zarr_cli_made.specs.array.OpenArray.{described}
 use Rattle.zarr_cli_made.specs.array.Command.{answer_of}
-use Rattle.zarr_cli_made.specs.array.Session.{HasSessionCause, IsNoticed}
+use Rattle.zarr_cli_made.specs.array.Session.{FailsAt}
 use Rattle.zarr_cli_made.specs.array.Stored.{StoresForAll}
 use Rattle.zarr_cli_made.specs.array.declared.open.OpenArray.{OpenArray}
 use Rattle.zarr_cli_made.specs.array.declared.command.Reply.{Reply}
 use Rattle.zarr_cli_made.specs.array.regions.declared.error.SessionErrorKind.{SessionErrorKind}
 use Rattle.zarr_cli_made.specs.array.regions.declared.error.SessionErrorKind.TheVariants.{NotOpened, ChunkDecode}
 use Rattle.zarr_cli_runs.specs.Commands.{IsRunFault, session_status, RepliedBy}
+use Rattle.zarr_cli_runs.specs.declared.status.Status.{Status}
+use Rattle.zarr_cli_runs.specs.declared.status.Status.TheVariants.{Done, BadWords, BadInput, Document, Chunk, Store, Read, Write, TooLong, OutOfMemory}
+use Rattle.zarr_cli_runs.proofs.BetweenLaws.{noticed_seen}
 use Rattle.zarr_cli_made.specs.array.regions.declared.error.SessionErrorKind.TheVariants as Kind
 
 wholly_honest : (description : Description) (options : Options) (store : Content) (array : Array Element) → WhollyMeans (layout description options) store array → IsHonest (layout description options) store
 wholly_honest description options store array meant chunk is_chunk = subst IsSome (sym (meant.each_chunk chunk is_chunk)) refl
 
 pub replied_by : (array : OpenArray) (options : Options) (commands : List Command) (before now : Shown) (held : List Reply) →
+    AnswersUndamaged (described array) options commands before.content (map answer_of held) → RanOver (described array) options commands before.content now.content (map answer_of held) →
     (IsHonest (layout (described array) options) before.content → ServesArray (described array) options commands before.content now.content (map answer_of held)) →
     StoresForAll (described array) options commands before.content now.content →
     LeavesKeys (described array) options commands before.content now.content → SeesNoDamage (described array) options commands before.content →
     RefusesRight (described array) commands (map answer_of held) →
     now.asks ≡ counted before.asks (all_asks (described array) commands) → RepliedBy (described array) options commands before now held
-replied_by array options commands before now held serves stored keys undamaged refusals asks = record {
-  matched = λ meant means. (serves means.honest).answers_match meant means;
+replied_by array options commands before now held answers over serves stored keys undamaged refusals asks = record {
+  matched = λ meant means. answers means.0 meant means.1;
+  mended = record { keeps = over.keeps; whole = over.whole; keys = keys };
   left = record {
     array_left = λ meant means. (serves means.honest).left.array_left meant means;
     whole_chunks = λ meant means. (serves (wholly_honest (described array) options before.content meant means)).left.whole_chunks meant means;
@@ -36,30 +40,34 @@ replied_by array options commands before now held serves stored keys undamaged r
   asks = asks;
 }
 
--- a value at a place that does not decode, and that the command there may not pass over, was seen
-noticed_seen : (description : Description) (options : Options) (commands : List Command) (old new : Content) (key : List ℕ) (m k : ℕ) → IsUndecoded description options commands old new key (Some (m, k)) →
-    IsNoticed description options commands old (Some (m, k)) → IsDamageSeen description options commands old key
-noticed_seen description options commands old new key m k (command, which, asks, chunk, here, its_key, same_value, unerased, damage) (other, too, another, there, noticed) =
-    let same : other ≡ command = same_Some other command (sym too ∙ which) in
-    let its : another ≡ chunk = same_Some another chunk (sym there ∙ (ap (λ c. slice_get (command_chunks description c) k) same ∙ here)) in
-    let within : k < length (command_chunks description command) = slice_get_within (command_chunks description command) k chunk here in (
-      m,
-      command,
-      which,
-      asks,
-      chunk,
-      (k, within, get_or_from_slice_get (command_chunks description command) k chunk chunk here),
-      its_key,
-      unerased,
-      damage,
-      subst₂ (λ c i. passes_over description options old c i ≡ false) same its noticed,
-    )
-
 -- why commands ended early
 pub run_fault : (description : Description) (options : Options) (commands : List Command) (before now : Shown) (at : Option (ℕ × ℕ)) (kind : SessionErrorKind) →
-    HasSessionCause description options commands before now at kind → IsRunFault description options commands before now (session_status kind)
-run_fault description options commands before now at (NotOpened error) cause = absurd cause
-run_fault description options commands before now None (ChunkDecode key error) cause = absurd cause.0
-run_fault description options commands before now (Some place) (ChunkDecode key error) cause = (noticed_seen description options commands before.content now.content key place.0 place.1 cause.0 cause.1, cause.0.6)
-run_fault description options commands before now at Kind.Store cause = cause.0
-run_fault description options commands before now at Kind.OutOfMemory cause = tt
+    FailsAt description options commands before now at kind → IsRunFault description options commands before now (session_status kind)
+run_fault description options commands before now at (NotOpened error) fails = absurd fails.cause
+run_fault description options commands before now None (ChunkDecode key error) fails = absurd fails.cause.0
+run_fault description options commands before now (Some place) (ChunkDecode key error) fails = (
+  noticed_seen description options commands before.content now.content key place.0 place.1 fails.cause.0 fails.cause.1,
+  fails.cause.0.6,
+  (Some place, ChunkDecode key error, refl, fails),
+)
+run_fault description options commands before now at Kind.Store fails = fails.cause.0
+run_fault description options commands before now at Kind.OutOfMemory fails = tt
+
+-- where no damage is seen, and the store does not fail, memory alone is wanting
+only_memory : (description : Description) (options : Options) (commands : List Command) (before now : Shown) (status : Status) → IsRunFault description options commands before now status →
+    SeesNoDamage description options commands before.content → ¬ Rose before.faults now.faults → status ≡ OutOfMemory
+only_memory description options commands before now (Chunk key) fault unseen calm = absurd (unseen.no_key key fault.0)
+only_memory description options commands before now Store fault unseen calm = absurd (calm fault)
+only_memory description options commands before now OutOfMemory fault unseen calm = refl
+only_memory description options commands before now Done fault unseen calm = absurd fault
+only_memory description options commands before now BadWords fault unseen calm = absurd fault
+only_memory description options commands before now (BadInput line) fault unseen calm = absurd fault
+only_memory description options commands before now (Document error) fault unseen calm = absurd fault
+only_memory description options commands before now Read fault unseen calm = absurd fault
+only_memory description options commands before now Write fault unseen calm = absurd fault
+only_memory description options commands before now TooLong fault unseen calm = absurd fault
+
+pub run_memory : (description : Description) (options : Options) (commands : List Command) (before now : Shown) (at : Option (ℕ × ℕ)) (kind : SessionErrorKind) →
+    FailsAt description options commands before now at kind → SeesNoDamage description options commands before.content → ¬ Rose before.faults now.faults → session_status kind ≡ OutOfMemory
+run_memory description options commands before now at kind fails =
+    only_memory description options commands before now (session_status kind) (run_fault description options commands before now at kind fails)

@@ -5,6 +5,7 @@ pub use Rattle.zarr_cli_made.proofs.SplitLemmas
 pub use Rattle.zarr_cli_made.proofs.StoredLaws
 pub use Rattle.zarr_cli_made.proofs.TextLaws
 pub mod ChangeLaws
+pub mod BetweenLaws
 pub mod CommandLemmas
 pub mod KeyLemmas
 pub mod CountLemmas

@@ -16,7 +16,7 @@ use Rattle.zarr_cli_made.specs.Document.{made_document}
 use Rattle.zarr_cli_made.specs.Summary.{summary_text}
 use Rattle.zarr_cli_runs.specs.Opening.{IsRefusal, OpensLine}
 use Rattle.zarr_cli_runs.specs.Made.{made_array, SumsAll}
-use Rattle.zarr_cli_runs.specs.Commands.{RepliedBy}
+use Rattle.zarr_cli_runs.specs.Commands.{RepliedBy, LeavesUndamaged}
 use Rattle.zarr_cli_made.specs.Tally.{summary_held}
 use Rattle.zarr_cli_made.proofs.DescribedLaws.{same_opened}
 use Rattle.zarr_cli_runs.proofs.KeyLemmas.{counted_more}
@@ -78,6 +78,7 @@ summed_up description n count options commands before mid now held text sized ra
   sums = record {
     summed = λ array means. (keys.0, keys.1, sums (Model.replies description commands array) (subst (λ k. AllZip (Matches k) (map answer_of held) (Model.replies description commands array)) sized (ran.matched array means)) ∙ ap (summary_text (Model.replies description commands array)) keys.2);
     numbers = counts n count description commands held now.content text is.0 ran.refusals keys is.1;
+    mended = subst (λ content. LeavesUndamaged description options commands before.content content) (sym same) ran.mended;
     left = subst (λ content. LeavesArray description options commands before.content content) (sym same) ran.left;
     stored = subst (λ content. StoresForAll description options commands before.content content) (sym same) ran.stored;
     undamaged = ran.undamaged;

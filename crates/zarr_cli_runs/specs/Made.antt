@@ -1,10 +1,11 @@
 -- A run that is made from a number: its array, its summary, and what it leaves.
 use Rattle.std.specs.Prelude.{◌≡◌, ℕ, ◌+◌, List, length, Option, Some, None}
 use Rattle.std.specs.List.{sum_by}
-use Rattle.zarr_model.specs.Prelude.{Element, Array, Options, Content, Means, Command, Refusal, Description, refusal, layout, replies, all_asks, counted, LeavesArray, SeesNoDamage, Shown}
+use Rattle.zarr_model.specs.Prelude.{Element, Array, Options, Content, Command, Refusal, Description, refusal, replies, all_asks, counted, LeavesArray, SeesNoDamage, Shown}
 use Rattle.zarrs_storage.specs.Store.{ListsKeys}
 use Rattle.zarr_cli_made.specs.array.parts.Document.{describe}
 use Rattle.zarr_cli_made.specs.array.Stored.{StoresForAll}
+use Rattle.zarr_cli_runs.specs.Commands.{MeansUndamaged, LeavesUndamaged}
 use Rattle.zarr_cli_made.specs.Document.{made_document}
 use Rattle.zarr_cli_made.specs.Summary.{summary_lines, summary_text}
 
@@ -45,12 +46,15 @@ pub record Counts (description : Description) (commands : List Command) (store :
 -- commands ran to their end over a store, and this was printed
 pub record SumsUp (description : Description) (options : Options) (commands : List Command)
     (old new : Content) (output : List ℕ) : Type 0 where
-  -- the summary of the replies of one plain array that the store meant, and of the keys at the end
-  pub summed : (array : Array Element) → Means (layout description options) old array →
+  -- the summary of the replies of one plain array that the store meant without the damage that was
+  -- not met, and of the keys at the end
+  pub summed : (array : Array Element) → MeansUndamaged description options commands old array →
       IsSummary description commands array new output
   -- whatever the store meant, its lines are those of a summary
   pub numbers : Counts description commands new output
-  -- the store is left as that array's, and what was stored decodes so under all options
+  -- the store is left as that array's, without damage and with it, and what was stored decodes so
+  -- under all options
+  pub mended : LeavesUndamaged description options commands old new
   pub left : LeavesArray description options commands old new
   pub stored : StoresForAll description options commands old new
   -- each value that was met decodes, but for reads of parts whose pieces are there

@@ -1,12 +1,14 @@
 //! Commands run over a store, and the text of their replies.
 
-ghost use Rattle.std.specs.Prelude.{◌≡◌, ◌<◌, ◌≤◌, map, List, ℕ, IfOk, IfErr, OnOk};
-ghost use Rattle.zarr_model.specs.Prelude.{fixed, Rose, IsHonest, layout, AreRefused, IsUntouched};
+ghost use Rattle.std.specs.Prelude.{◌≡◌, ◌<◌, ◌≤◌, map, List, [], ℕ, IfOk, IfErr, OnOk, OnErr};
+ghost use Rattle.zarr_model.specs.Prelude.{fixed, Rose, SeesNoDamage, AreRefused, IsUntouched};
 ghost use Rattle.zarr_cli_made.specs.array.OpenArray.{documented, described};
 ghost use Rattle.zarr_cli_made.specs.array.Command.{command_of, AreReads};
 ghost use Rattle.zarrs_codec_traits.specs.Views.{options_of};
 ghost use Rattle.zarrs_codec_array_bytes.specs.Steps.{kind_seen};
 ghost use Rattle.zarr_cli_made.specs.lines.Parts.{IsTextOf};
+ghost use Rattle.zarr_cli_runs.specs.Between.{LeavesBetween};
+ghost use Rattle.zarr_cli_runs.specs.Status.{ending_of};
 ghost use Rattle.zarr_cli_runs.specs.Commands.{IsChangedKey, RepliedBy, TakesRun, IsRunFault, session_status};
 
 use crate::status::Status;
@@ -70,8 +72,11 @@ pub fn replies_of<S: Store>(
     ensures fault { IfErr result (λ status.
         IsRunFault (described array.now) (options_of options.now)
         (map command_of commands.now) (S.shown store.old) (S.shown store.new) status) }
-    ensures complete { IsHonest (layout (described array.now) (options_of options.now))
-        (S.shown store.old).content →
+    ensures between { IfErr result (λ status. LeavesBetween (described array.now)
+        (options_of options.now) [] (map command_of commands.now) (S.shown store.old)
+        (S.shown store.new) (ending_of status)) }
+    ensures complete { SeesNoDamage (described array.now) (options_of options.now)
+        (map command_of commands.now) (S.shown store.old).content →
         ¬ Rose (S.shown store.old).faults (S.shown store.new).faults →
         IfErr result (λ status. status ≡ Status.OutOfMemory) }
     ensures kept { AreReads (map command_of commands.now) → S.kept store.old store.new }

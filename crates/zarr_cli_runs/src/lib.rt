@@ -4,6 +4,7 @@
 
 pub mod commands;
 pub mod keys;
+pub mod laws;
 pub mod made;
 pub mod opening;
 pub mod status;

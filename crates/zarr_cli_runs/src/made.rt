@@ -1,8 +1,8 @@
 //! A run that is made from a number.
 
-ghost use Rattle.std.specs.Prelude.{◌≡◌, ◌<◌, map, List, ℕ, IfOk, IfErr};
+ghost use Rattle.std.specs.Prelude.{◌≡◌, ◌<◌, map, List, [], ℕ, IfOk, IfErr, OnErr};
 ghost use Rattle.std.specs.List.{AllZip};
-ghost use Rattle.zarr_model.specs.Prelude.{Rose, IsHonest, layout, kind, fixed, Matches};
+ghost use Rattle.zarr_model.specs.Prelude.{Rose, SeesNoDamage, kind, fixed, Matches};
 ghost use Rattle.zarr_model.specs.Command as Model;
 ghost use Rattle.zarr_cli_made.specs.array.OpenArray.{described};
 ghost use Rattle.zarr_cli_made.specs.array.Command.{command_of, answer_of};
@@ -11,6 +11,8 @@ ghost use Rattle.zarrs_codec_array_bytes.specs.Steps.{kind_seen};
 ghost use Rattle.zarr_cli_made.specs.Commands.{made_commands};
 ghost use Rattle.zarr_cli_made.specs.Summary.{summary_text};
 ghost use Rattle.zarr_cli_made.specs.Tally.{summary_held};
+ghost use Rattle.zarr_cli_runs.specs.Between.{LeavesBetween};
+ghost use Rattle.zarr_cli_runs.specs.Status.{ending_of};
 ghost use Rattle.zarr_cli_runs.specs.Commands.{IsChangedKey, IsRunFault};
 ghost use Rattle.zarr_cli_runs.specs.Made.{made_array, SumsAll};
 
@@ -76,8 +78,11 @@ fn summary_of_commands<S: Store>(
     ensures fault { IfErr result (λ status.
         IsRunFault (described array.now) (options_of options.now)
         (map command_of commands.now) (S.shown store.old) (S.shown store.new) status) }
-    ensures complete { IsHonest (layout (described array.now) (options_of options.now))
-        (S.shown store.old).content →
+    ensures between { IfErr result (λ status. LeavesBetween (described array.now)
+        (options_of options.now) [] (map command_of commands.now) (S.shown store.old)
+        (S.shown store.new) (ending_of status)) }
+    ensures complete { SeesNoDamage (described array.now) (options_of options.now)
+        (map command_of commands.now) (S.shown store.old).content →
         ¬ Rose (S.shown store.old).faults (S.shown store.new).faults →
         IfErr result (λ status. status ≡ Status.OutOfMemory) }
 {
@@ -107,8 +112,11 @@ fn summary_from<S: Store>(
     ensures fault { IfErr result (λ status.
         IsRunFault (described array.now) (options_of options.now)
         (made_commands number) (S.shown store.old) (S.shown store.new) status) }
-    ensures complete { IsHonest (layout (described array.now) (options_of options.now))
-        (S.shown store.old).content →
+    ensures between { IfErr result (λ status. LeavesBetween (described array.now)
+        (options_of options.now) [] (made_commands number) (S.shown store.old)
+        (S.shown store.new) (ending_of status)) }
+    ensures complete { SeesNoDamage (described array.now) (options_of options.now)
+        (made_commands number) (S.shown store.old).content →
         ¬ Rose (S.shown store.old).faults (S.shown store.new).faults →
         IfErr result (λ status. status ≡ Status.OutOfMemory) }
 {
@@ -134,8 +142,10 @@ pub fn run_made<S: Store>(
     ensures fault { IfErr result (λ status.
         IsRunFault made_array (options_of options.now)
         (made_commands number) (S.shown store.old) (S.shown store.new) status) }
-    ensures complete { IsHonest (layout made_array (options_of options.now))
-        (S.shown store.old).content →
+    ensures between { IfErr result (λ status. LeavesBetween made_array (options_of options.now)
+        [] (made_commands number) (S.shown store.old) (S.shown store.new) (ending_of status)) }
+    ensures complete { SeesNoDamage made_array (options_of options.now)
+        (made_commands number) (S.shown store.old).content →
         ¬ Rose (S.shown store.old).faults (S.shown store.new).faults →
         IfErr result (λ status. status ≡ Status.OutOfMemory) }
 {

@@ -1,5 +1,5 @@
 use Rattle.zarr_cli.specs.Status.{settings_view}
-use Rattle.zarr_cli.proofs.OutcomeLemmas.{runnable, input_told, only_memory}
+use Rattle.zarr_cli.proofs.OutcomeLemmas.{runnable, input_left, none_left, input_told, only_memory}
 use Rattle.zarr_cli.proofs.RefusingLemmas.{same_but_changed, unasked_if_refused}
 use Rattle.zarr_cli.proofs.EndLemmas.{bytes_told}
 use Rattle.zarr_cli.proofs.program.run_bytes.Goals as goal
@@ -30,3 +30,11 @@ pub returns-in-Ok-clause-unasked : goal.returns-in-Ok-clause-unasked
 returns-in-Ok-clause-unasked g c = λ words set.
     unasked_if_refused words (settings_view c.args.settings.now) c.args.input.now c.in-Ok.parsed (g.S.Store.shown c.args.store.now) (g.S.Store.shown c.run_input.new.store)
     set.0 c.in-Ok.ensures.says c.run_input.ensures.unasked
+
+pub returns-in-Ok-clause-between : goal.returns-in-Ok-clause-between
+returns-in-Ok-clause-between g c = λ words set.
+    input_left words (settings_view c.args.settings.now) c.args.input.now c.in-Ok.parsed (g.S.Store.shown c.args.store.now) (g.S.Store.shown c.run_input.new.store)
+    c.run_input.result set c.in-Ok.ensures.says c.run_input.ensures.between
+
+pub returns-in-Err-clause-between : goal.returns-in-Err-clause-between
+returns-in-Err-clause-between g c = λ words set. none_left words c.args.input.now (g.S.Store.shown c.args.store.now) _

@@ -16,8 +16,8 @@ returns-in-Ok-clause-told g c = λ nothing input e. answers_write (words_of c.ar
     (c.write_text.ensures.front c.if-write_text.false).0 (c.output_of.ensures.read nothing input e).unchanged (c.output_of.ensures.read nothing input e).unasked
 
 pub returns-clause-told : goal.returns-clause-told
-returns-clause-told g c = λ nothing input e. answers_early (words_of c.args.words.now) input _ _ c.in-Err.status c.end_with.result c.end_with.ensures.status (c.in-Err.ensures.read nothing input e).told
-    (c.in-Err.ensures.read nothing input e).complete (c.output_of.ensures.read nothing input e).unchanged (c.output_of.ensures.read nothing input e).unasked
+returns-clause-told g c = λ nothing input e. answers_early (words_of c.args.words.now) input _ _ c.in-Err.status c.end_with.result c.end_with.ensures.status c.end_with.ensures.store (c.in-Err.ensures.read nothing input e).told
+    (c.in-Err.ensures.read nothing input e).complete (c.output_of.ensures.read nothing input e).unchanged (c.in-Err.ensures.read nothing input e).between (c.output_of.ensures.read nothing input e).unasked
 
 pub returns-then-write_text-clause-made : goal.returns-then-write_text-clause-made
 returns-then-write_text-clause-made g c = λ number options makes.
@@ -33,5 +33,5 @@ returns-in-Ok-clause-made g c = λ number options makes.
 
 pub returns-clause-made : goal.returns-clause-made
 returns-clause-made g c = λ number options makes.
-    made_early number options _ _ c.in-Err.status c.end_with.result c.end_with.ensures.status (c.in-Err.ensures.made number options makes).told
-    (c.output_of.ensures.made number options makes).unread (c.in-Err.ensures.made number options makes).complete (c.output_of.ensures.made number options makes).unchanged
+    made_early number options _ _ c.in-Err.status c.end_with.result c.end_with.ensures.status c.end_with.ensures.store (c.in-Err.ensures.made number options makes).told
+    (c.output_of.ensures.made number options makes).unread (c.in-Err.ensures.made number options makes).complete (c.in-Err.ensures.made number options makes).between (c.output_of.ensures.made number options makes).unchanged

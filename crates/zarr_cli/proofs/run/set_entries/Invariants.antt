@@ -1,4 +1,4 @@
-use Rattle.std.proofs.Common.{◌≡◌, ◌≤◌, ℕ, List, map, drop}
+use Rattle.std.proofs.Common.{◌≡◌, ◌≤◌, ℕ, List, map, take}
 use Rattle.zarr_model.specs.Prelude.{with_keys}
 use Rattle.zarr_cli_runs.specs.lines.Parts.{entry_view}
 use Rattle.zarr_cli.specs.Steps.{IsKeyOf}
@@ -6,7 +6,7 @@ use Rattle.zarr_cli.proofs.run.set_entries.Given as goal
 
 abbrev pub invariant-loop-entry : goal.invariant-loop-entry
 invariant-loop-entry g l = record {
-  set : with_keys (map entry_view (drop l.entry-index l.entries)) (g.S.Store.shown l.store).content ≡ with_keys (map entry_view l.entries) (g.S.Store.shown l.fn.store).content;
+  set : (key : List ℕ) → (g.S.Store.shown l.store).content key ≡ with_keys (take l.entry-index (map entry_view l.entries)) (g.S.Store.shown l.fn.store).content key;
   elsewhere : (key : List ℕ) → ¬ IsKeyOf (map entry_view l.entries) key → (g.S.Store.shown l.store).content key ≡ (g.S.Store.shown l.fn.store).content key;
   asks : (g.S.Store.shown l.store).asks ≡ (g.S.Store.shown l.fn.store).asks;
   taken : (g.S.Store.shown l.store).taken ≡ (g.S.Store.shown l.fn.store).taken;

@@ -1,5 +1,5 @@
 use Rattle.std.proofs.Common.{sym, subst}
-use Rattle.zarr_model.specs.Prelude.{IsHonest, layout}
+use Rattle.zarr_model.specs.Prelude.{SeesNoDamage}
 use Rattle.zarrs_codec_traits.specs.Views.{options_of}
 use Rattle.zarr_cli_made.specs.Commands.{made_commands}
 use Rattle.zarr_cli_runs.specs.Commands.{IsChangedKey}
@@ -10,5 +10,5 @@ returns-in-Ok-clause-unchanged g c = λ key free.
     c.summary_from.ensures.unchanged key (subst (λ array. ¬ IsChangedKey array (made_commands c.args.number) key) (sym c.in-Ok.ensures.array) free)
 
 pub returns-in-Ok-clause-complete : goal.returns-in-Ok-clause-complete
-returns-in-Ok-clause-complete g c = λ honest calm.
-    c.summary_from.ensures.complete (subst (λ array. IsHonest (layout array (options_of c.args.options.now)) (g.S.Store.shown c.args.store.now).content) (sym c.in-Ok.ensures.array) honest) calm
+returns-in-Ok-clause-complete g c = λ unseen calm.
+    c.summary_from.ensures.complete (subst (λ array. SeesNoDamage array (options_of c.args.options.now) (made_commands c.args.number) (g.S.Store.shown c.args.store.now).content) (sym c.in-Ok.ensures.array) unseen) calm
