@@ -1,11 +1,14 @@
 -- Elements of one size, from their digits and into them.
-use Rattle.std.proofs.Common.{◌≡◌, ◌≢◌, ℕ, ◌*◌, ◌<◌, ◌==◌, ◌++◌, Bool, true, false, List, [], ◌∷◌, length, get_or, take, drop, map, flat_map, Option, Some, None, option_map, option_and_then, Result, Ok, Err, refl, sym, ap, subst, ◌∙◌, arith, cond, eq-eqb, eqb-true, append-nil, append_assoc, length-append, slice_index, ◌/◌, ◌%◌}
+use Rattle.std.proofs.Common.{◌≡◌, ◌≢◌, ℕ, suc, ◌+◌, ◌*◌, ◌<◌, ◌≤◌, ◌==◌, ◌++◌, Bool, true, false, List, [], ◌∷◌, length, get_or, take, drop, map, flat_map, Option, Some, None, option_map, option_and_then, Result, Ok, Err, refl, sym, ap, subst, ◌∙◌, arith, cond, eq-eqb, eqb-true, append-nil, append_assoc, length-append, slice_index, ◌/◌, ◌%◌}
 use Rattle.std.specs.Option.{option_map_or}
 use Rattle.std.specs.Borrow.{Bor}
 use Rattle.std.specs.Result.{result_ok}
 use Rattle.std.specs.List.{All, AllPass, onto_first}
 use Rattle.std.proofs.lemmas.Bool.{cond-true}
+use Rattle.std.proofs.Math.Nat.{add-div_left, suc-mul}
 use Rattle.std.proofs.lemmas.List.{take_at, drop_at}
+use Rattle.std.proofs.lemmas.Slice.{take-put_mid}
+use borrow.Rule.Slice.PartMut.{put_mid}
 use Rattle.std.proofs.lemmas.List.Elements.{All-cons}
 use Rattle.std.proofs.lemmas.List.Splits.{slice_split-cons_yes, slice_split-cons_no, slice_split_none, slice_split_at}
 use Rattle.hex.specs.Hex.{encode_with, encode_lower, lower_digits, is_hex_digit, decode_of, decode_sized}
@@ -13,7 +16,7 @@ use Rattle.hex.specs.declared.error.FromHexError.{FromHexError}
 use Rattle.hex.proofs.HexLemmas.{decode_of-ok, decode_sized-twice}
 use Rattle.zarr_model.specs.Prelude.{Element, fixed, of_bytes, bytes_of}
 use Rattle.zarr_cli_elements.specs.Text.{split_at, words_left, all_some, fixed_element, element_of}
-use Rattle.zarr_cli_elements.specs.Fixed.{behind, IsElement, PushesElement, written_bytes}
+use Rattle.zarr_cli_elements.specs.Fixed.{behind, IsElement, PushesElement, written_bytes, room_left}
 
 -- nothing, or a space and what follows it
 abbrev after : Option (List ℕ) → List ℕ
@@ -167,6 +170,31 @@ word_none n text digits rest before now all long joined none e = no_words n text
     undecoded_first : (rest : Option (Bor (List ℕ))) → text ≡ 104 ∷ (digits ++ behind rest) → written_bytes n (split_at 32 text) ≡ None
     undecoded_first None joined = undecoded n text digits None long joined none
     undecoded_first (Some others) joined = undecoded n text digits (Some others.now) long joined none
+
+-- bytes put behind the first `at` are pushed behind them, if they are an element's
+pub element_put : (o : Option Element) (found : Bool) (at long to : ℕ) (places bytes : List ℕ) → IsElement o found bytes → to ≡ at + length bytes → at ≤ length places →
+    PushesElement o found (take at places) (take to (put_mid at long places bytes))
+element_put o true at long to places bytes is ends within = (bytes, is, take-put_mid at long places bytes to ends within)
+element_put o false at long to places bytes is ends within = is
+
+-- an element takes its part of the room
+one_less : (n all k : ℕ) → all ≡ 2 * (n + 1) + k → all / 2 / (n + 1) * n ≡ k / 2 / (n + 1) * n + n
+one_less n all k e =
+    let half : all / 2 ≡ (n + 1) + k / 2 = omega (arith, e) in
+    let some : 0 < n + 1 = omega arith in
+    let next : suc (k / 2 / (n + 1)) ≡ k / 2 / (n + 1) + 1 = omega arith in
+    ap (λ (m : ℕ). m / (n + 1) * n) half ∙ (ap (λ (m : ℕ). m * n) (add-div_left (k / 2) some ∙ sym next) ∙ suc-mul (k / 2 / (n + 1)) n)
+
+pub room_step : (n : ℕ) (text digits : List ℕ) (rest : Option (Bor (List ℕ))) (at long : ℕ) → text ≡ 104 ∷ (digits ++ behind rest) → length digits ≡ 2 * n →
+    at + (length text + 1) / 2 / (n + 1) * n ≤ long → at + n + room_left n rest ≤ long
+room_step n text digits None at long joined wide fits =
+    let count = ap (λ l. length l) joined in
+    let all : length text + 1 ≡ 2 * (n + 1) + 0 = omega (arith, count, wide, length-append digits []) in
+    let less = one_less n (length text + 1) 0 all in omega (arith, less, fits)
+room_step n text digits (Some others) at long joined wide fits =
+    let count = ap (λ l. length l) joined in
+    let all : length text + 1 ≡ 2 * (n + 1) + (length others.now + 1) = omega (arith, count, wide, length-append digits (32 ∷ others.now)) in
+    let less = one_less n (length text + 1) (length others.now + 1) all in omega (arith, less, fits)
 
 pub ruleset no_digits = (too_short, no_space)
 

@@ -1,5 +1,5 @@
 -- Elements of one size, from their digits, and as text.
-use Rattle.std.specs.Prelude.{◌≡◌, ℕ, Bool, true, false, List, [], ◌∷◌, ◌++◌, map, flat_map, Option, Some, None, option_map, if◌then◌else◌}
+use Rattle.std.specs.Prelude.{◌≡◌, ℕ, ◌+◌, ◌*◌, ◌/◌, Bool, true, false, List, [], ◌∷◌, ◌++◌, length, map, flat_map, Option, Some, None, option_map, if◌then◌else◌}
 use Rattle.std.specs.Option.{option_map_or}
 use Rattle.std.specs.Borrow.{Bor}
 use Rattle.zarr_model.specs.Prelude.{Element, fixed, of_bytes, bytes_of}
@@ -24,6 +24,10 @@ PushesElement element false before now = element ≡ None
 abbrev pub written_bytes : ℕ → List (List ℕ) → Option (List ℕ)
 written_bytes n words =
     option_map (flat_map bytes_of) (all_some (map (element_of (fixed n)) words))
+
+-- how many bytes the elements in what is left of a text have at most
+abbrev pub room_left : ℕ → Option (Bor (List ℕ)) → ℕ
+room_left n text = option_map_or (λ rest. (length rest.now + 1) / 2 / (n + 1) * n) text 0
 
 -- the text of elements of n bytes: a space before each one
 abbrev pub bytes_text : ℕ → List ℕ → List ℕ

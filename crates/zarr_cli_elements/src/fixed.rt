@@ -1,10 +1,10 @@
 //! Elements of one size: `h` and two hexadecimal digits for each byte, and a space between two elements.
 
-ghost use Rattle.std.specs.Prelude.{◌≡◌, ◌<◌, ◌+◌, ◌*◌, ◌/◌, [], ◌∷◌, ◌++◌, length, None, IfOk, IfSome, IfNone, OnOk, option_map};
+ghost use Rattle.std.specs.Prelude.{◌≡◌, ◌<◌, ◌≤◌, ◌+◌, ◌*◌, ◌/◌, [], ◌∷◌, ◌++◌, length, take, if◌then◌else◌, Some, None, IfOk, IfSome, IfNone, OnOk, option_map};
 ghost use Rattle.hex.specs.Hex.{encode_lower};
 ghost use Rattle.zarr_model.specs.Prelude.{fixed};
 ghost use Rattle.zarr_cli_elements.specs.Text.{split_at, words_left, element_of, hex_text};
-ghost use Rattle.zarr_cli_elements.specs.Fixed.{behind, IsElement, PushesElement, written_bytes, bytes_text};
+ghost use Rattle.zarr_cli_elements.specs.Fixed.{behind, IsElement, PushesElement, written_bytes, room_left, bytes_text};
 
 use crate::digits::push_room;
 use std::alloc::{AllocError, Global};
@@ -52,15 +52,16 @@ fn decode_into(digits: &[u8], bytes: &mut [u8]) -> bool
     hex::decode_to_slice(digits, bytes).is_ok()
 }
 
-// Appends the bytes that digits denote, if all are hexadecimal. An error comes only for want of memory.
-fn push_bytes(value: &mut Vec<u8>, digits: &[u8], size: usize) -> Result<bool, AllocError>
-    requires { length digits.now ≡ 2 * size }
-    ensures { IfOk result (λ pushed. PushesElement (element_of (fixed size)
-        (104 ∷ digits.now)) pushed value.old.items value.new.items) }
+// Decodes digits into the places from `at` on, if all are hexadecimal.
+#[tactic(auto, using(crate::proofs::FixedLemmas::element_put))]
+fn put_bytes(places: &mut [u8], at: usize, digits: &[u8], size: usize) -> bool
+    requires digits { length digits.now ≡ 2 * size }
+    requires room { at + size ≤ length places.old }
+    ensures pushes { PushesElement (element_of (fixed size) (104 ∷ digits.now)) result
+        (take at places.old) (take (at + size) places.new) }
+    ensures length { length places.new ≡ length places.old }
 {
-    let at = value.len();
-    value.resize(at + size, 0)?;
-    Ok(decode_into(digits, &mut value[at..]))
+    decode_into(digits, &mut places[at..at + size])
 }
 
 // The two digits of an element of one byte, and what follows the space behind them.
@@ -128,10 +129,52 @@ fn parse_bytes(alloc: Global, text: Option<&str>) -> Result<Option<Vec<u8>>, All
     Ok(Some(value))
 }
 
+// How many bytes the elements of a text have at most. Each stands there by its `h`, two digits a byte and a space.
+fn room_for(text: Option<&str>, size: usize) -> usize
+    ensures { result ≡ room_left size text.entry }
+{
+    let Some(text) = text else {
+        return 0;
+    };
+    (text.len() + 1) / 2 / size.saturating_add(1) * size
+}
+
+// Decodes the words of a text into places that have room for them, and counts the bytes, if each is an element.
+#[tactic(auto, using(crate::proofs::FixedLemmas::of_words))]
+fn decode_words(places: &mut [u8], text: Option<&str>, size: usize) -> Option<usize>
+    requires { room_left size text ≤ length places.old }
+    ensures { option_map (λ count. take count places.new) result
+        ≡ written_bytes size (words_left text.entry) }
+{
+    let mut at = 0;
+    let mut left = text.map(|text| text.as_bytes());
+    'elements: while let Some(text) = left {
+        let (digits, rest) = first_digits(text, size)?;
+        if !put_bytes(places, at, digits, size) {
+            return None;
+        }
+        at += size;
+        left = rest;
+    }
+    Some(at)
+}
+
+// Decodes the words of a text into bytes that have room for them, and cuts off what is left, if each is an element.
+fn fill_room(value: &mut Vec<u8>, text: Option<&str>, size: usize) -> bool
+    requires { room_left size text ≤ length value.old.items }
+    ensures { (if result then Some value.new.items else None)
+        ≡ written_bytes size (words_left text.entry) }
+{
+    let Some(count) = decode_words(value.as_mut_slice(), text, size) else {
+        return false;
+    };
+    value.truncate(count);
+    true
+}
+
 /// The bytes of elements of `size` bytes each, with one space between two. No text has no elements.
 ///
 /// An error comes only for want of memory.
-#[tactic(auto, using(crate::proofs::FixedLemmas::of_words))]
 pub(crate) fn parse_fixed(
     alloc: Global,
     text: Option<&str>,
@@ -143,19 +186,13 @@ pub(crate) fn parse_fixed(
     if size == 1 {
         return parse_bytes(alloc, text);
     }
-    let room = text.map_or(0, |text| text.len() / 2);
-    let mut value = Vec::with_capacity(alloc, room)?;
-    let mut left = text.map(|text| text.as_bytes());
-    'elements: while let Some(text) = left {
-        let Some((digits, rest)) = first_digits(text, size) else {
-            return Ok(None);
-        };
-        if !push_bytes(&mut value, digits, size)? {
-            return Ok(None);
-        }
-        left = rest;
+    let mut value = Vec::new(alloc);
+    value.resize(room_for(text, size), 0)?;
+    if fill_room(&mut value, text, size) {
+        Ok(Some(value))
+    } else {
+        Ok(None)
     }
-    Ok(Some(value))
 }
 
 // The two lower-case digits of a byte.
@@ -175,7 +212,8 @@ fn write_element(slot: &mut [u8], element: &[u8])
     ensures { slot.new ≡ 32 ∷ hex_text element.now }
 {
     let (front, digits) = slot.split_at_mut(2);
-    front.copy_from_slice(b" h");
+    front[0] = b' ';
+    front[1] = b'h';
     let Ok(()) = hex::encode_to_slice(element, digits) else {
         unreachable!();
     };
@@ -187,7 +225,10 @@ fn write_byte(slot: &mut [u8], byte: u8)
     ensures { slot.new ≡ 32 ∷ hex_text (byte ∷ []) }
 {
     let [high, low] = digits_of(byte);
-    slot.copy_from_slice(&[b' ', b'h', high, low]);
+    slot[0] = b' ';
+    slot[1] = b'h';
+    slot[2] = high;
+    slot[3] = low;
 }
 
 // The same of each byte, 4 bytes for each.

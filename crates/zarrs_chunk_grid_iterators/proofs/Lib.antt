@@ -1,4 +1,5 @@
 pub mod Linears
+pub mod RowLaws
 pub mod Lefts
 pub mod RunCover
 pub mod RunShapes

@@ -1,5 +1,5 @@
 -- What iterators give, place by place.
-use Rattle.std.specs.Prelude.{◌≡◌, ℕ, ◌-◌, ◌+◌, ◌≤◌, ◌^◌, min, List, [], ◌∷◌, ◌++◌, length, Option, Result, IfOk, IsOk, MatchOption}
+use Rattle.std.specs.Prelude.{◌≡◌, ℕ, ◌-◌, ◌+◌, ◌*◌, ◌<◌, ◌≤◌, ◌^◌, min, List, [], ◌∷◌, ◌++◌, length, Option, Result, IfOk, IsOk, MatchOption}
 use Rattle.std.specs.List.{range_with_len}
 use Rattle.std.specs.declared.alloc.AllocError.{AllocError}
 use Rattle.std.specs.declared.ops.Bound.{Bound}
@@ -14,6 +14,11 @@ places a b = range_with_len a (b - a)
 -- the linear index of the tuple at a place
 abbrev pub linear_at : List ℕ → Region → ℕ → ℕ
 linear_at shape region place = linear_index shape (tuple_at region place)
+
+-- the linear indices of so many places as are left, from one on, rise by a step after an index
+abbrev pub Rises : List ℕ → Region → ℕ → ℕ → ℕ → ℕ → Type 0
+Rises shape region place index step left =
+    (k : ℕ) → k < left → linear_at shape region (place + k) ≡ index + (k + 1) * step
 
 -- the next number, at most the greatest
 abbrev pub after : ℕ → ℕ

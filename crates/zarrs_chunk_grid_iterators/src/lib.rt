@@ -8,6 +8,7 @@ mod gathered;
 mod indices_iterator;
 mod laws;
 mod linearised_indices_iterator;
+mod rows;
 mod runs;
 
 pub use contiguous_indices_iterator::{

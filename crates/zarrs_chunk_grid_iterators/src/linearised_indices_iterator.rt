@@ -1,15 +1,15 @@
 //! The linear indices of an array subset inside an array's shape.
 
-ghost use Rattle.std.specs.Prelude.{◌≡◌, ◌<◌, ◌≤◌, ◌-◌, ◌^◌, true, length, Some, IfOk, IfErr, IfSome, IsTrue, nat_eq};
+ghost use Rattle.std.specs.Prelude.{◌≡◌, ◌<◌, ◌≤◌, ◌+◌, ◌-◌, ◌^◌, true, length, Some, IfOk, IfErr, IfSome, IsTrue, nat_eq};
 ghost use Rattle.std.specs.Iterator.{YieldsFirst, YieldsLast, item_count, UpTo};
 ghost use Rattle.std.specs.Iterator.SizeHint.{IsWithinCount};
-ghost use Rattle.zarr_model.specs.Region.{count, count_of, ends_within, linear_index, tuple_at};
+ghost use Rattle.zarr_model.specs.Region.{count, count_of, ends_within};
 ghost use Rattle.zarr_model.specs.Cover.{linear_indices};
-ghost use Rattle.zarrs_array_subset.specs.Boxes.{is_box, region_of};
 ghost use Rattle.zarrs_array_subset.specs.ArraySubset.{region};
 ghost use Rattle.zarrs_array_subset.specs.Errors.{RefusesShape};
-ghost use Rattle.zarrs_chunk_grid_iterators.specs.Places.{linear_at};
+ghost use Rattle.zarrs_chunk_grid_iterators.specs.Places.{linear_at, Rises};
 
+use crate::rows::{Row, row_of_place};
 use std::alloc::Global;
 use zarrs_array_subset::{ArrayShape, ArraySubset, IndexerError};
 
@@ -100,58 +100,52 @@ impl LinearisedIndices {
             indices: self,
             start: 0,
             end: self.total,
+            row: Row::NONE,
         }
     }
 
     // The linear index at a place.
-    #[tactic(auto, using(crate::proofs::Lefts::of_parts))]
     fn at(&self, place: u64) -> u64
         requires { place < self.now.total }
         ensures { result ≡ linear_at self.now.array_shape.items (region self.now.subset) place }
     {
-        let (start, shape) = (self.subset.start(), self.subset.shape());
-        let (index, _) = linear_of_place(start, shape, &self.array_shape, place, self.total);
-        index
+        self.row_at(place).index
     }
-}
 
-// The linear index of the tuple at a place, and the number of indices of the array's shape.
-#[tactic(auto, using(crate::proofs::Linears::of_linear))]
-fn linear_of_place(
-    start: &[u64],
-    shape: &[u64],
-    array_shape: &[u64],
-    place: u64,
-    total: u64,
-) -> (u64, u64)
-    requires fits { is_box start.now shape.now ≡ true }
-    requires inside { ends_within (region_of start.now shape.now) array_shape.now ≡ true }
-    requires whole { total ≡ count_of shape.now }
-    requires below { place < total }
-    requires small { count_of array_shape.now < 2 ^ 64 }
-    ensures index { result.0
-        ≡ linear_index array_shape.now (tuple_at (region_of start.now shape.now) place) }
-    ensures stride { result.1 ≡ count_of array_shape.now }
-{
-    match shape {
-        [] => (0, 1),
-        [n, shape @ ..] => match start {
-            [] => (0, 1),
-            [first, start @ ..] => match array_shape {
-                [] => (0, 1),
-                [m, array_shape @ ..] => {
-                    let total = total / *n;
-                    let (rest, stride) = linear_of_place(
-                        start,
-                        shape,
-                        array_shape,
-                        place % total,
-                        total,
-                    );
-                    ((*first + place / total) * stride + rest, *m * stride)
-                }
-            },
-        },
+    // The row from a place on.
+    #[tactic(auto, using(crate::proofs::Lefts::of_parts))]
+    fn row_at(&self, place: u64) -> Row
+        requires { place < self.now.total }
+        ensures index { result.index
+            ≡ linear_at self.now.array_shape.items (region self.now.subset) place }
+        ensures rises { Rises self.now.array_shape.items (region self.now.subset) (place + 1)
+            result.index result.step result.left }
+    {
+        let (start, shape) = (self.subset.start(), self.subset.shape());
+        let (row, _) = row_of_place(start, shape, &self.array_shape, place, self.total);
+        row
+    }
+
+    // The row from a place on, of the row from the place before it on, by adding as long as that is in
+    // the row.
+    #[tactic(auto, using(crate::proofs::RowLaws::of_next))]
+    fn row_after(&self, row: Row, place: u64) -> Row
+        requires below { place < self.now.total }
+        requires rises { Rises self.now.array_shape.items (region self.now.subset) place
+            row.index row.step row.left }
+        ensures index { result.index
+            ≡ linear_at self.now.array_shape.items (region self.now.subset) place }
+        ensures rises { Rises self.now.array_shape.items (region self.now.subset) (place + 1)
+            result.index result.step result.left }
+    {
+        if row.left == 0 {
+            return self.row_at(place);
+        }
+        Row {
+            index: row.index + row.step,
+            step: row.step,
+            left: row.left - 1,
+        }
     }
 }
 
@@ -170,6 +164,7 @@ impl IntoIterator for LinearisedIndices {
             indices: self,
             start: 0,
             end,
+            row: Row::NONE,
         }
     }
 }
@@ -194,7 +189,10 @@ pub struct LinearisedIndicesIterator<'a> {
     indices: &'a LinearisedIndices,
     start: u64,
     end: u64,
+    row: Row,
     ghost within: { end ≤ indices.now.total },
+    ghost rises: { Rises indices.now.array_shape.items (region indices.now.subset) start
+        row.index row.step row.left },
 }
 
 #[tactic(auto, using(crate::proofs::Lefts::of_places))]
@@ -209,9 +207,9 @@ impl Iterator for LinearisedIndicesIterator<'_> {
 
     fn next(&mut self) -> Option<u64> {
         if self.start < self.end {
-            let index = self.indices.at(self.start);
+            self.row = self.indices.row_after(self.row, self.start);
             self.start += 1;
-            Some(index)
+            Some(self.row.index)
         } else {
             None
         }
@@ -257,7 +255,10 @@ pub struct LinearisedIndicesIntoIterator {
     indices: LinearisedIndices,
     start: u64,
     end: u64,
+    row: Row,
     ghost within: { end ≤ indices.total },
+    ghost rises: { Rises indices.array_shape.items (region indices.subset) start
+        row.index row.step row.left },
 }
 
 #[tactic(auto, using(crate::proofs::Lefts::of_places))]
@@ -272,9 +273,9 @@ impl Iterator for LinearisedIndicesIntoIterator {
 
     fn next(&mut self) -> Option<u64> {
         if self.start < self.end {
-            let index = self.indices.at(self.start);
+            self.row = self.indices.row_after(self.row, self.start);
             self.start += 1;
-            Some(index)
+            Some(self.row.index)
         } else {
             None
         }
