@@ -2,17 +2,17 @@
 
 ghost use Rattle.std.specs.Prelude.{◌≡◌, ℕ, Option, Some, option_map};
 ghost use Rattle.zarr_model.specs.Command as Model;
-ghost use Rattle.zarr_model.specs.Prelude.{write, erase, region_refusal, refusal, refusal_name, is_too_large, has_long_element, fixed_size, kind, count};
+ghost use Rattle.zarr_model.specs.Prelude.{write, erase, region_refusal, refusal, refusal_name, is_too_large, fixed_size, kind, count};
 ghost use Rattle.zarrs_array_subset.specs.ArraySubset.{region};
 ghost use Rattle.zarrs_codec_array_bytes.specs.Raw.{raw_of};
 ghost use Rattle.zarrs_codec_array_bytes.specs.Refusals.{told_by, sized_answer};
 ghost use Rattle.zarr_array.specs.Command.{refusal_of};
 
 use crate::open::OpenArray;
-use zarr_array_regions::vlen_fits;
 use zarrs_array_subset::ArraySubset;
 use zarrs_chunk_grid_traits::ChunkGridTraits;
 use zarrs_codec_array_bytes::ArrayBytes;
+use zarrs_codec_array_bytes::array_bytes::long::has_long_element;
 use zarrs_codec_error::CodecError;
 
 /// Why a command is refused, in the order in which it is tested. A refused command changes nothing and asks the store
@@ -76,17 +76,6 @@ fn refusal_by(error: CodecError) -> Refusal
         CodecError::UnexpectedChunkDecodedSize(_) => Refusal::UnexpectedChunkDecodedSize,
         // No other error is told of bytes.
         _ => Refusal::InvalidVariableSizedArrayOffsets,
-    }
-}
-
-// Whether an element is too long for its length to be stored.
-fn has_long_element(bytes: &ArrayBytes<'_>) -> bool
-    ensures { result ≡ has_long_element (raw_of bytes.now) }
-{
-    match bytes {
-        ArrayBytes::Fixed(_) => false,
-        ArrayBytes::Variable(variable) => !vlen_fits(variable.numbers()),
-        ArrayBytes::Optional(optional) => has_long_element(optional.data()),
     }
 }
 

@@ -15,5 +15,5 @@ pub use open_error::OpenError;
 pub use parts::ArrayParts;
 pub use zarr_basics::{
     BasicArrayToArray, BasicBytesToBytes, BasicGrid, ChunkKeyKind, CodecKind, DataTypeKind,
-    GridKind, Registries, builtin_registries, vlen_fits,
+    GridKind, Registries, builtin_registries,
 };

@@ -15,6 +15,6 @@ pub use read::read_elements;
 pub use write::write_elements;
 pub use zarr_array_parts::{
     ArrayParts, BasicArrayToArray, BasicBytesToBytes, BasicChain, BasicGrid, ChunkKeyKind,
-    CodecKind, DataTypeKind, GridKind, OpenError, Registries, builtin_registries, vlen_fits,
+    CodecKind, DataTypeKind, GridKind, OpenError, Registries, builtin_registries,
 };
 pub use zarr_chain_stored::ChainHandle;

@@ -17,6 +17,6 @@ pub use registries::{ChunkKeyKind, Registries, builtin_registries};
 pub use zarr_basics_grids::{BasicGrid, BoundaryAxis, BoundaryGrid, GridKind, RegularGrid};
 pub use zarr_codecs_kinds::{
     BasicArrayToArray, BasicArrayToBytes, BasicBytesToBytes, BasicCodec, BytesCodec, CodecKind,
-    OffsetCodec, OptionalCodec, Sha256Codec, TransposeCodec, VlenCodec, vlen_fits,
+    OffsetCodec, OptionalCodec, Sha256Codec, TransposeCodec, VlenCodec,
 };
 pub use zarrs_data_type_names::DataTypeKind;

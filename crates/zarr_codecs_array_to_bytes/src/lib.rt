@@ -15,4 +15,4 @@ mod serving;
 
 pub use codecs::{BasicArrayToBytes, OptionalCodec};
 pub use inner::{inner_metadata, inner_reads_back};
-pub use zarr_codecs_vlen::{VlenCodec, vlen_fits};
+pub use zarr_codecs_vlen::VlenCodec;

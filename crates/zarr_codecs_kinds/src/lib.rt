@@ -9,4 +9,4 @@ pub use bytes_to_bytes::BasicBytesToBytes;
 pub use codec_kind::{BasicCodec, CodecKind};
 pub use zarr_codecs::{BytesCodec, Sha256Codec};
 pub use zarr_codecs_array_to_array::{BasicArrayToArray, OffsetCodec, TransposeCodec};
-pub use zarr_codecs_array_to_bytes::{BasicArrayToBytes, OptionalCodec, VlenCodec, vlen_fits};
+pub use zarr_codecs_array_to_bytes::{BasicArrayToBytes, OptionalCodec, VlenCodec};

@@ -5,7 +5,7 @@ use std::alloc::{AllocError, Global};
 use std::borrow::CowSlice;
 use std::num::NonZeroU64;
 use std::process::Abort;
-use zarr_codecs_vlen::{VlenCodec, vlen_fits};
+use zarr_codecs_vlen::VlenCodec;
 use zarrs_codec_array_bytes::{ArrayBytes, ArrayBytesOffsets};
 use zarrs_codec_error::CodecError;
 use zarrs_codec_options::CodecOptions;
@@ -91,14 +91,4 @@ fn values_have_one_form(rt: HostRuntime) {
     is_text(&rt, taken(&rt, alloc, &[0, 0, 0, 0]), wrong);
     is_text(&rt, taken(&rt, alloc, &[255, 255, 255, 255]), wrong);
     is_text(&rt, taken(&rt, alloc, &[1, 0, 0]), wrong);
-}
-
-#[test]
-fn lengths_fit_four_bytes(rt: HostRuntime) {
-    assert!(&rt; vlen_fits(&[]));
-    assert!(&rt; vlen_fits(&[0, 4294967295]));
-    assert!(&rt; !vlen_fits(&[0, 4294967296]));
-    assert!(&rt; vlen_fits(&[7, (1 << 32) + 6]));
-    assert!(&rt; !vlen_fits(&[7, (1 << 32) + 7]));
-    assert!(&rt; !vlen_fits(&[0, 3, (1 << 32) + 3, (1 << 32) + 4]));
 }

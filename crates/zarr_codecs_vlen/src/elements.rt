@@ -15,7 +15,8 @@ ghost use Rattle.zarr_codecs_vlen_bytes.specs.Vlen.{elements_between, AreValues}
 ghost use Rattle.zarr_codecs_vlen.specs.Vlen.{vlen_beyond};
 
 use std::alloc::Global;
-use zarr_codecs_vlen_bytes::{decode_values, encode_values, vlen_fits};
+use zarr_codecs_vlen_bytes::{decode_values, encode_values};
+use zarrs_codec_array_bytes::array_bytes::long::vlen_fits;
 use zarrs_codec_array_bytes::{ArrayBytes, ArrayBytesVariableLength};
 use zarrs_codec_error::CodecError;
 

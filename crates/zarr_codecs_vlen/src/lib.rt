@@ -7,4 +7,3 @@ mod elements;
 mod vlen_codec;
 
 pub use vlen_codec::VlenCodec;
-pub use zarr_codecs_vlen_bytes::vlen_fits;

@@ -3,9 +3,7 @@
 
 mod laws;
 mod numbers;
-mod offsets;
 mod values;
 
 pub use laws::values_have_one_form;
-pub use offsets::vlen_fits;
 pub use values::{decode_values, encode_values};

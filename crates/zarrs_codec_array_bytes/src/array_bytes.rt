@@ -9,6 +9,7 @@ mod equality;
 pub mod extract;
 mod fill;
 pub mod gather;
+pub mod long;
 mod offsets;
 mod optional;
 mod owned;

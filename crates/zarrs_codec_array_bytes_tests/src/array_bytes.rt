@@ -12,6 +12,7 @@ use zarr_model::DataTypeSize;
 use zarrs_array_subset::ArraySubset;
 use zarrs_chunk_grid_indexer::Indexer;
 use zarrs_codec_array_bytes::array_bytes::bytes_in;
+use zarrs_codec_array_bytes::array_bytes::long::vlen_fits;
 use zarrs_codec_array_bytes::{ArrayBytes, ArrayBytesOffsets};
 use zarrs_codec_array_bytes_update::update_array_bytes;
 use zarrs_codec_error::CodecError;
@@ -405,4 +406,14 @@ fn a_fill_value_is_repeated(rt: HostRuntime) {
         let (words, want) = cut(row);
         is_text(&rt, filled_row(&rt, alloc, words), want);
     }
+}
+
+#[test]
+fn lengths_fit_four_bytes(rt: HostRuntime) {
+    assert!(&rt; vlen_fits(&[]));
+    assert!(&rt; vlen_fits(&[0, 4294967295]));
+    assert!(&rt; !vlen_fits(&[0, 4294967296]));
+    assert!(&rt; vlen_fits(&[7, (1 << 32) + 6]));
+    assert!(&rt; !vlen_fits(&[7, (1 << 32) + 7]));
+    assert!(&rt; !vlen_fits(&[0, 3, (1 << 32) + 3, (1 << 32) + 4]));
 }

@@ -1,7 +1,10 @@
-//! Offsets of elements of any length.
+//! Elements that are too long for their lengths to be stored.
 
 ghost use Rattle.std.specs.Prelude.{◌≡◌, ◌∷◌, not};
-ghost use Rattle.zarr_model.specs.Command.{has_long_step};
+ghost use Rattle.zarr_model.specs.Command.{has_long_step, has_long_element};
+ghost use Rattle.zarrs_codec_array_bytes.specs.Raw.{raw_of};
+
+use super::ArrayBytes;
 
 /// Whether the length of each element between these offsets fits 4 bytes: no two neighbouring ones differ by 2^32 or
 /// more. An offset that is below the one before it makes no long element.
@@ -26,4 +29,15 @@ fn steps_fit(first: usize, rest: &[usize]) -> bool
         from = *to;
     }
     true
+}
+
+/// Whether an element has 2^32 bytes or more, under a null or not.
+pub fn has_long_element(bytes: &ArrayBytes<'_>) -> bool
+    ensures { result ≡ has_long_element (raw_of bytes.now) }
+{
+    match bytes {
+        ArrayBytes::Fixed(_) => false,
+        ArrayBytes::Variable(variable) => !vlen_fits(variable.numbers()),
+        ArrayBytes::Optional(optional) => has_long_element(optional.data()),
+    }
 }
