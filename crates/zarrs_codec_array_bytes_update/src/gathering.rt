@@ -1,7 +1,7 @@
 //! Elements picked out of two array bytes.
 
-ghost use Rattle.std.specs.Prelude.{◌≡◌, ◌+◌, true, None, IfOk, IfErr};
-ghost use Rattle.zarrs_codec_bytes.specs.Picking.{AllBelow, gathered};
+ghost use Rattle.std.specs.Prelude.{◌≡◌, true, None, IfOk, IfErr};
+ghost use Rattle.zarrs_codec_bytes.specs.Picking.{gathered};
 ghost use Rattle.zarrs_codec_bytes.specs.PickedRuns.{run_numbers, AreRunsOf};
 ghost use Rattle.zarrs_codec_array_bytes.specs.Raw.{raw_of};
 ghost use Rattle.zarrs_codec_array_bytes.specs.Refusals.{lengths_refusal};
@@ -13,7 +13,6 @@ use std::borrow::CowSlice;
 use zarrs_codec_array_bytes::array_bytes::bytes_in;
 use zarrs_codec_array_bytes::array_bytes::gather::optional_of;
 use zarrs_codec_array_bytes::{ArrayBytes, ArrayBytesVariableLength};
-use zarrs_codec_bytes::pick_runs::runs_of;
 use zarrs_codec_bytes::piece_runs::gather_piece_runs;
 use zarrs_codec_bytes::value_runs::gather_value_runs;
 use zarrs_codec_error::CodecError;
@@ -86,30 +85,4 @@ pub(crate) fn gather_runs(
             ArrayBytes::Variable(_) => unreachable!(),
         },
     }
-}
-
-/// The elements that the picks name: those below the count of the old ones, the others of the new ones. Both are of one
-/// kind, level by level.
-///
-/// # Errors
-/// [`CodecError::OutOfMemory`] where memory runs out.
-pub fn gather(
-    alloc: Global,
-    picks: &[u64],
-    count: u64,
-    old: &ArrayBytes<'_>,
-    new_count: u64,
-    new: &ArrayBytes<'_>,
-    size: usize,
-) -> Result<ArrayBytes<'static>, CodecError>
-    requires within { AllBelow (count + new_count) picks.now }
-    requires alike { are_alike (raw_of old.now) (raw_of new.now) ≡ true }
-    requires old_long { lengths_refusal size count (raw_of old.now) ≡ None }
-    requires new_long { lengths_refusal size new_count (raw_of new.now) ≡ None }
-    ensures value { IfOk result (λ v. raw_of v
-        ≡ gathered size count picks.now (raw_of old.now) (raw_of new.now)) }
-    ensures memory { IfErr result (λ e. e ≡ codec.OutOfMemory) }
-{
-    let runs = runs_of(alloc, picks, count, new_count)?;
-    gather_runs(alloc, &runs, count, old, new_count, new, size)
 }

@@ -6,5 +6,4 @@ mod pairs;
 mod rows;
 mod update;
 
-pub use gathering::gather;
 pub use update::update_array_bytes;

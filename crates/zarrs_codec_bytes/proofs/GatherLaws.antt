@@ -1,5 +1,5 @@
 -- What is gathered means the elements that are picked.
-use Rattle.std.proofs.Common.{◌≡◌, ℕ, zero, suc, ◌+◌, ◌-◌, ◌*◌, ◌<◌, ◌≤◌, Bool, true, false, nat_lt, nat_le, ◌==◌, if◌then◌else◌, List, [], ◌∷◌, ◌++◌, length, take, drop, map, get_or, replicate, Option, Some, None, option_map, arith, ap, ap₂, sym, refl, ◌∙◌, subst, eq-eqb, inl, inr, ◌⊎◌}
+use Rattle.std.proofs.Common.{◌≡◌, ℕ, zero, suc, ◌+◌, ◌-◌, ◌*◌, ◌<◌, ◌≤◌, Bool, true, false, nat_lt, nat_le, ◌==◌, if◌then◌else◌, List, [], ◌∷◌, ◌++◌, length, take, drop, map, get_or, Option, Some, None, option_map, arith, ap, ap₂, sym, refl, ◌∙◌, subst, eq-eqb, inl, inr, ◌⊎◌}
 use Rattle.std.specs.List.{flat_map, list_all}
 use Rattle.std.proofs.lemmas.Bool.{and_parts, and_from, cond-true, cond-false, cases_lt}
 use Rattle.std.proofs.lemmas.Bool.Decides.{nat_tests}
@@ -11,7 +11,7 @@ use Rattle.zarr_model.proofs.ListLaws.{list_all-at, list_all_joined, mask_over-a
 use Rattle.zarrs_codec_bytes.specs.Picking.{AllBelow, piece_of, value_of, picked, picked_piece, picked_value, gathered, size_in, replaced}
 use Rattle.zarrs_codec_bytes.proofs.PieceLaws.{piece_ends}
 use Rattle.zarrs_codec_bytes.proofs.LeafLaws.{below_rest, map_below, pick_of, fixed_at, fixed_long, variable_at, joined_fixed, joined_variable}
-use Rattle.zarrs_codec_bytes.proofs.ReplaceLaws.{picks_below, length-picks, picked-picks, over_one_below, length-over_one, picked-over_one}
+use Rattle.zarrs_codec_bytes.proofs.ReplaceLaws.{picks_below, length-picks, picked-picks}
 use Rattle.std.specs.List.{range_with_len}
 
 is_below : (w number : ℕ) → w < number → nat_lt w number ≡ true
@@ -161,16 +161,6 @@ update_means kind number indices old new xs ys e f =
     ∙ (gathered_means kind number (length indices) picks old new xs ys (picks_below number (length indices) indices refl) e f
     ∙ ap Some (ap (λ k. picked null (replaced indices (range_with_len k (length indices)) (range_with_len 0 k)) (xs ++ ys)) (sym long)
     ∙ picked-picks null indices xs ys (sym (length-meaning kind (length indices) new ys f))))
-
--- one over a single element that stands at all places means the list in which that is replaced
-pub over_one_means : (kind : Kind) (number : ℕ) (indices : List ℕ) (old new : ArrayBytes) (x : Element) (ys : List Element) →
-    meaning kind 1 old ≡ Some (x ∷ []) → meaning kind (length indices) new ≡ Some ys →
-    meaning kind number (gathered (size_in (fixed_size kind)) 1 (replaced indices (range_with_len 1 (length indices)) (replicate number 0)) old new) ≡ Some (replaced indices ys (replicate number x))
-over_one_means kind number indices old new x ys e f =
-    let picks = replaced indices (range_with_len 1 (length indices)) (replicate number 0) in
-    ap (λ k. meaning kind k (gathered (size_in (fixed_size kind)) 1 picks old new)) (sym (length-over_one number indices))
-    ∙ (gathered_means kind 1 (length indices) picks old new (x ∷ []) ys (over_one_below number indices) e f
-    ∙ ap Some (picked-over_one null x number indices ys (sym (length-meaning kind (length indices) new ys f))))
 
 -- an extraction means the selected list, whatever stands in the place of an update
 pub extract_means : (kind : Kind) (number : ℕ) (indices : List ℕ) (old : ArrayBytes) (xs : List Element) → AllBelow number indices → meaning kind number old ≡ Some xs →

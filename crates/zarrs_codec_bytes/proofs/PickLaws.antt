@@ -1,15 +1,12 @@
 -- Places that are picked.
-use Rattle.std.proofs.Common.{◌≡◌, ℕ, zero, suc, ◌+◌, ◌-◌, ◌<◌, List, [], ◌∷◌, ◌++◌, length, drop, get_or, set, replicate, ap, refl, arith, ◌∙◌}
-use Rattle.std.proofs.lemmas.List.{drop_more, append_assoc, length-replicate}
+use Rattle.std.proofs.Common.{◌≡◌, ℕ, zero, suc, ◌+◌, ◌-◌, ◌<◌, List, [], ◌∷◌, ◌++◌, length, drop, get_or, set, ap, refl, arith, ◌∙◌}
+use Rattle.std.proofs.lemmas.List.{drop_more, append_assoc}
 use Rattle.zarrs_codec_bytes.specs.Picking.{replaced}
 use Rattle.std.specs.List.{range_with_len}
 
 pub length_of_places : (from n : ℕ) → length (range_with_len from n) ≡ n
 length_of_places from zero = refl
 length_of_places from (suc n) = ap suc (length_of_places (from + 1) n)
-
-pub zeros_long : (n : ℕ) → length {A = ℕ} (replicate n 0) ≡ n
-zeros_long n = length-replicate n 0
 
 -- one more is put
 pub put_step : (indices picks : List ℕ) (i next : ℕ) → i < length indices →

@@ -3,7 +3,7 @@ use Rattle.std.proofs.Common.{◌≡◌, ℕ, zero, suc, ◌+◌, ◌<◌, ◌�
 use Rattle.std.specs.List.{range_with_len}
 use Rattle.std.proofs.lemmas.Bool.{cases_eq, cond-true, cond-false}
 use Rattle.std.proofs.lemmas.Bool.Decides.{nat_tests}
-use Rattle.std.proofs.lemmas.List.{length-set, map-set, get_or_at, get_or-set_same, get_or-set_other, append_assoc, append-nil, length-append, length-replicate}
+use Rattle.std.proofs.lemmas.List.{length-set, map-set, get_or_at, get_or-set_same, get_or-set_other, append_assoc, append-nil, length-append}
 use Rattle.zarrs_codec_bytes.specs.Picking.{AllBelow, picked, replaced, last_given}
 use Rattle.zarrs_codec_bytes.proofs.PickLaws.{length_of_places}
 use Rattle.zarrs_codec_bytes.proofs.LeafLaws.{below_rest}
@@ -66,7 +66,7 @@ picks_below number m indices e = replaced_below (number + m) indices (range_with
 pub length-picks : (number : ℕ) (indices : List ℕ) → length (replaced indices (range_with_len number (length indices)) (range_with_len 0 number)) ≡ number
 length-picks number indices = length-replaced indices (range_with_len number (length indices)) (range_with_len 0 number) ∙ length_of_places 0 number
 
--- the same over one element that stands at all places
+-- one element picked for all places
 pub zeros_pick : {A : Type 0} (d x : A) (ys : List A) (n : ℕ) → picked d (replicate n 0) (x ∷ ys) ≡ replicate n x
 zeros_pick d x ys zero = refl
 zeros_pick d x ys (suc n) = ap (λ l. x ∷ l) (zeros_pick d x ys n)
@@ -74,21 +74,6 @@ zeros_pick d x ys (suc n) = ap (λ l. x ∷ l) (zeros_pick d x ys n)
 pub zeros_below : (limit n : ℕ) → 0 < limit → AllBelow limit (replicate n 0)
 zeros_below limit zero h = λ k l. absurd (omega arith)
 zeros_below limit (suc n) h = below_first limit 0 (replicate n 0) h (zeros_below limit n h)
-
-pub picked-over_one : {A : Type 0} (d x : A) (number : ℕ) (indices : List ℕ) (ys : List A) → length indices ≡ length ys →
-    picked d (replaced indices (range_with_len 1 (length indices)) (replicate number 0)) (x ∷ ys) ≡ replaced indices ys (replicate number x)
-picked-over_one d x number indices ys e =
-    picked-replaced d (x ∷ ys) indices (range_with_len 1 (length indices)) (replicate number 0)
-    ∙ ap₂ (replaced indices)
-    (ap₂ (λ n l. picked d (range_with_len 1 n) (x ∷ l)) e (sym (append-nil ys)) ∙ picked-range d (x ∷ []) ys [] 1 refl)
-    (zeros_pick d x ys number)
-
-pub over_one_below : (number : ℕ) (indices : List ℕ) → AllBelow (1 + length indices) (replaced indices (range_with_len 1 (length indices)) (replicate number 0))
-over_one_below number indices = replaced_below (1 + length indices) indices (range_with_len 1 (length indices)) (replicate number 0)
-    (range_below (1 + length indices) 1 (length indices) (omega arith)) (zeros_below (1 + length indices) number (omega arith))
-
-pub length-over_one : (number : ℕ) (indices : List ℕ) → length (replaced indices (range_with_len 1 (length indices)) (replicate number 0)) ≡ number
-length-over_one number indices = length-replaced indices (range_with_len 1 (length indices)) (replicate number 0) ∙ length-replicate number 0
 
 -- after an update a place has the last element that was given to it, else the one from before
 pub get_or-replaced : {A : Type 0} (d : A) (place : ℕ) (indices : List ℕ) (given list : List A) → place < length list →

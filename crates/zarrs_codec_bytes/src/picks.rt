@@ -1,6 +1,6 @@
 //! Which element of two lists stands at each place once some are replaced.
 
-ghost use Rattle.std.specs.Prelude.{◌≡◌, ◌+◌, ◌<◌, ◌≤◌, ◌^◌, length, replicate, IfOk};
+ghost use Rattle.std.specs.Prelude.{◌≡◌, ◌+◌, ◌<◌, ◌≤◌, ◌^◌, length, IfOk};
 ghost use Rattle.std.specs.List.{range_with_len};
 ghost use Rattle.zarrs_codec_bytes.specs.Picking.{AllBelow, replaced};
 
@@ -56,25 +56,5 @@ pub fn picks_of(alloc: Global, count: u64, indices: &[u64]) -> Result<Vec<u64>, 
     }
     let mut picks = places(alloc, count)?;
     put_in(&mut picks, indices, count);
-    Ok(picks)
-}
-
-/// For each place below the count, which element stands there where all places hold one element until those at the
-/// indices are replaced in order: that one, named by 0, or the last new one that was given to the place, named by one
-/// more than its number.
-///
-/// # Errors
-/// [`AllocError`] where memory runs out.
-#[tactic(auto, using(crate::proofs::PickLaws::zeros_long))]
-pub fn picks_over_one(alloc: Global, count: u64, indices: &[u64]) -> Result<Vec<u64>, AllocError>
-    requires within { AllBelow count indices.now }
-    ensures { IfOk result (λ v. v.items ≡ replaced indices.now
-        (range_with_len 1 (length indices.now)) (replicate count 0)) }
-{
-    if (indices.len() as u64).checked_add(1).is_none() {
-        return Err(AllocError);
-    }
-    let mut picks = vec![in alloc; 0; count as usize]?;
-    put_in(&mut picks, indices, 1);
     Ok(picks)
 }
