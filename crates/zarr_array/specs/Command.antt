@@ -1,7 +1,8 @@
 -- What commands, replies and refusals stand for in the model of an array.
-use Rattle.std.specs.Prelude.{◌≡◌, ℕ, Bool, true, false, List, slice_get, Option, Some, None, option_and_then}
+use Rattle.std.specs.Prelude.{◌≡◌, ℕ, Bool, true, false, List, slice_get, Option, Some, None, IsSome, option_and_then}
 use Rattle.std.specs.List.{list_all}
-use Rattle.zarr_model.specs.Region.{Region}
+use Rattle.zarr_model.specs.Region.{Region, count}
+use Rattle.zarr_model.specs.ArrayBytes.{meaning}
 use Rattle.zarr_model.specs.Command as Model
 use Rattle.zarrs_codec_array_bytes.specs.Raw.{raw_of}
 use Rattle.zarrs_array_subset.specs.ArraySubset.{region as region_of}
@@ -59,3 +60,11 @@ abbrev pub IsShortReply : Reply → Type 0
 IsShortReply (Elements bytes) = Model.has_long_element (raw_of bytes) ≡ false
 IsShortReply Done = Unit {0}
 IsShortReply (Refused why) = Unit {0}
+
+-- the elements of a reply, if it has some, are those of a region: as many, and of the array's kind;
+-- and it is not that of a command that changes something
+abbrev pub IsReadReply : Model.Description → Region → Reply → Type 0
+IsReadReply description region (Elements bytes) =
+    IsSome (meaning (Model.kind description) (count region) (raw_of bytes))
+IsReadReply description region Done = ⊥
+IsReadReply description region (Refused why) = Unit {0}

@@ -6,7 +6,7 @@ ghost use Rattle.zarr_model.specs.Prelude.{read, write, erase, AreRefused};
 ghost use Rattle.zarrs_array_subset.specs.ArraySubset.{region as region_of_subset};
 ghost use Rattle.zarrs_codec_traits.specs.Views.{options_of};
 ghost use Rattle.zarr_array_regions.specs.Told.{TellsWhy};
-ghost use Rattle.zarr_array.specs.Command.{IsShortReply};
+ghost use Rattle.zarr_array.specs.Command.{IsReadReply, IsShortReply};
 ghost use Rattle.zarr_array.specs.Ended.{ended_one};
 ghost use Rattle.zarr_array.specs.WritesUpTo.{WritesUpTo};
 ghost use Rattle.zarr_array.specs.Runs.{Runs};
@@ -52,7 +52,9 @@ impl OpenArray {
         ensures same { (key : List ℕ) →
             (S.shown store.new).content key ≡ (S.shown store.old).content key }
         ensures kept { S.kept store.old store.new }
-        // No element that is read has 2^32 bytes or more.
+        // A reply that is no refusal has the region's elements, and none of them has 2^32 bytes or more.
+        ensures valid { IfOk result
+            (IsReadReply (described self.now) (region_of_subset region.now)) }
         ensures short { IfOk result IsShortReply }
         ensures told { IfErr result (λ error. TellsWhy (Some (region_of_subset region.now))
             (documented self.now) (options_of options.now) (S.shown store.new) error.kind) }

@@ -27,5 +27,6 @@ pub use zarrs_codec_array_bytes::{ArrayBytes, ArrayBytesOffsets};
 pub use zarrs_codec_error::CodecError;
 pub use zarrs_codec_options::CodecOptions;
 pub use zarrs_data_type::{DataType, FillValue};
+pub use zarrs_metadata::ArrayMetadataV3;
 pub use zarrs_plugin::NamePattern;
 pub use zarrs_storage::{MemoryStore, Store, StoreKey};

@@ -4,6 +4,7 @@
 
 ghost use Rattle.std.specs.Prelude.{◌≡◌, ◌<◌, ℕ, length, Some, IfOk};
 ghost use Rattle.zarr_model.specs.Prelude.{fixed, kind_of, fill_element, sizes, IsChunk};
+ghost use Rattle.zarrs_metadata.specs.ArrayMetadata.{array_seen};
 ghost use Rattle.zarrs_chunk_grid_traits.specs.ChunkGridErrors.{Answers};
 ghost use Rattle.zarrs_chunk_grid_traits.specs.ChunkGrid.{in_chunk};
 ghost use Rattle.zarrs_codec_traits.specs.Views.{lengths};
@@ -11,7 +12,8 @@ ghost use Rattle.zarrs_data_type.specs.FillValue.{fill_bytes};
 ghost use Rattle.zarrs_data_type.specs.DataType.{type_of};
 ghost use Rattle.zarr_array_regions.specs.parts.basics.BasicGrid.{basic_form, basic_grid, basic_shape};
 ghost use Rattle.zarr_array_regions.specs.parts.basics.Registries.{names_of};
-ghost use Rattle.zarr_array_regions.specs.parts.Opening.{open_document};
+ghost use Rattle.zarr_array_regions.specs.parts.Opening.{document_of, open_document};
+ghost use Rattle.zarr_array_regions.specs.parts.Parts.{Opens};
 ghost use Rattle.zarr_array_regions.specs.parts.Chain.{chain_form};
 ghost use Rattle.zarr_array_regions.specs.parts.ChunkLevels.{ServesShape, chunk_shape};
 ghost use Rattle.zarr_array_regions.specs.parts.Sizes.{have_chunks};
@@ -22,6 +24,7 @@ use zarr_chain::ChunkLevels;
 use zarrs_array_subset::ChunkShape;
 use zarrs_chunk_grid_traits::{ChunkGridError, ChunkGridTraits};
 use zarrs_data_type::{DataType, FillValue};
+use zarrs_metadata::ArrayMetadataV3;
 use zarrs_storage::StoreKey;
 
 /// An array that a document describes.
@@ -47,6 +50,23 @@ impl OpenArray {
         ensures { OpensAs result (open_document (names_of registries.now) text.now) }
     {
         let parts = ArrayParts::open(alloc, text, registries)?;
+        Ok(OpenArray { parts })
+    }
+
+    /// Opens the array that the fields of a document describe, as [`open`](OpenArray::open) has it of a text; floats in its
+    /// attributes are not looked for.
+    ///
+    /// # Errors
+    /// The first of [`OpenError`] from `UnsupportedField` on that applies to the fields, or `OutOfMemory`.
+    pub fn from_metadata(
+        alloc: Global,
+        metadata: &ArrayMetadataV3,
+        registries: &Registries,
+    ) -> Result<OpenArray, OpenError>
+        ensures { Opens documented result (document_of (names_of registries.now)
+            (array_seen metadata.now)) }
+    {
+        let parts = ArrayParts::from_metadata(alloc, metadata, registries)?;
         Ok(OpenArray { parts })
     }
 

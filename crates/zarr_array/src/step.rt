@@ -4,7 +4,7 @@ ghost use Rattle.std.specs.Prelude.{IfOk, IfErr, ◌≡◌, ℕ, List, [], ◌�
 ghost use Rattle.zarrs_codec_array_bytes.specs.Raw.{raw_of};
 ghost use Rattle.zarr_model.specs.Prelude.{read, write, erase, AreRefused};
 ghost use Rattle.zarrs_array_subset.specs.ArraySubset.{region};
-ghost use Rattle.zarr_array.specs.Command.{command_of, region_read, AreReads, IsShortReply};
+ghost use Rattle.zarr_array.specs.Command.{command_of, region_read, AreReads, IsReadReply, IsShortReply};
 ghost use Rattle.zarrs_codec_traits.specs.Views.{options_of};
 ghost use Rattle.zarr_array_regions.specs.Told.{TellsWhy};
 ghost use Rattle.zarr_array.specs.Ended.{ended_step};
@@ -44,6 +44,7 @@ impl OpenArray {
         ensures same { (key : List ℕ) →
             (S.shown store.new).content key ≡ (S.shown store.old).content key }
         ensures kept { S.kept store.old store.new }
+        ensures valid { IfOk result (IsReadReply (described self.now) (region subset.now)) }
         ensures short { IfOk result IsShortReply }
         ensures told { IfErr result (λ error. TellsWhy (Some (region subset.now))
             (documented self.now) (options_of options.now) (S.shown store.new) error.kind) }

@@ -92,9 +92,12 @@ impl ArrayParts {
         })
     }
 
-    // The array that the fields of a document describe.
+    /// The array that the fields of a document describe, by the names of some registries, as `open` has it of a text.
+    ///
+    /// # Errors
+    /// The first of [`OpenError`] that applies to the fields, or `OutOfMemory`.
     #[tactic(auto, unfolding(crate::specs::Opening::document_of), using(crate::proofs::OpeningLaws::fails_after))]
-    fn from_metadata(
+    pub fn from_metadata(
         alloc: Global,
         metadata: &ArrayMetadataV3,
         registries: &Registries,
