@@ -1,5 +1,5 @@
 -- Reads and writes of an array as commands of the model.
-use Rattle.std.proofs.Common.{◌≡◌, ℕ, List, inl, inr, Bool, true, false, [], ◌∷◌, length, Option, Some, None, refl, sym, ap, ◌∙◌}
+use Rattle.std.proofs.Common.{◌≡◌, ◌≤◌, ◌^◌, ◌-◌, ℕ, List, inl, inr, Bool, true, false, [], ◌∷◌, length, Option, Some, None, refl, sym, ap, ◌∙◌}
 use Rattle.zarr_model.specs.Prelude.{Region, count, layout, chunks_meeting, kind, ArrayBytes, meaning, bytes_refusal, has_long_element, ends_within, Options, Shown, read, write, Refusal, refusal, region_refusal, refused_if, or_then, element_too_long, answered, answered_done, LeavesKeys}
 use Rattle.zarr_model.proofs.BytesLaws.{refusal-meaning}
 use Rattle.zarr_array_regions.specs.parts.Parts.{described}
@@ -21,12 +21,12 @@ use Rattle.zarr_array.proofs.StepRuns.{read-ran}
 
 -- array bytes that mean the region of each array that has the chunks met answer a read
 pub bytes-read : (array : ArrayParts) (options : Options) (region : Region) (old new : Shown) (bytes : ArrayBytes) → refusal (described array) (read region) ≡ None →
-    HasReadRegion array options region old new bytes → HasRun (described array) options (read region ∷ []) old new (answered bytes ∷ [])
-bytes-read array options region old new bytes none has =
+    HasReadRegion array options region old new bytes → new.puts ≡ old.puts → old.puts ≤ 2 ^ 64 - 1 → HasRun (described array) options (read region ∷ []) old new (answered bytes ∷ [])
+bytes-read array options region old new bytes none has unput few =
     read-ran (described array) options (described_sound array options) region old new bytes none has.read.same has.read.readable (λ a met.
     let is = has.read.elements a met in
     ap (λ n. meaning (kind (described array)) n bytes) (ap length (sym is) ∙ has.read.as_long)
-    ∙ (some_list (meaning (kind (described array)) (count region) bytes) has.means ∙ ap Some is)) has.read.asks has.read.later
+    ∙ (some_list (meaning (kind (described array)) (count region) bytes) has.means ∙ ap Some is)) has.read.asks unput few has.read.later
 
 -- what is not refused can be written
 none_then : (o : Option Refusal) (next : Option Refusal) → or_then o next ≡ None → (o ≡ None) × (next ≡ None)

@@ -1,8 +1,8 @@
 -- An erase as a command of a session.
-use Rattle.std.proofs.Common.{◌≡◌, ℕ, zero, suc, ◌-◌, ◌^◌, ◌≤◌, ◌&&◌, ◌||◌, ◌⊎◌, true, false, if◌then◌else◌, bytes_eq, List, [], ◌∷◌, replicate, slice_get, Option, Some, None, IsSome, is_some, refl, sym, ap, ◌∙◌, subst, arith, inl, inr, ⊎_elim, IsTrue}
+use Rattle.std.proofs.Common.{◌≡◌, ℕ, zero, suc, ◌-◌, ◌^◌, ◌≤◌, ◌&&◌, ◌||◌, ◌⊎◌, true, false, if◌then◌else◌, bytes_eq, List, [], ◌∷◌, replicate, slice_get, Option, Some, None, IsSome, is_some, refl, sym, ap, ◌∙◌, subst, arith, inl, inr, ⊎_elim, IsTrue, length}
 use Rattle.std.specs.List.{list_any}
 use Rattle.std.proofs.lemmas.Bool.{cases_Bool, cond-true, cond-false, true≢false, or_parts, or_from}
-use Rattle.zarr_model.specs.Prelude.{count, Element, Array, IsChunk, CoversShape, Options, Content, IsSound, box_content, chunk_content, Shown, erase, Description, kind, layout, refusal, reply_of, array_of, after, answered_done, Matches, chunks_under, command_chunks, asks_store, is_among, present_in, present_under, present_after, erases_chunk, IsDamageSeen, SeesNoDamage, KeepsDamage, IsLeftAt, Rose, PutsKey, MayPutKey, ChunkHas, LeavesKeys, ServesWhole, Changes, ChangedFirst, StopsAt}
+use Rattle.zarr_model.specs.Prelude.{count, Element, Array, IsChunk, CoversShape, Options, Content, IsSound, box_content, chunk_content, Shown, erase, Description, kind, layout, refusal, reply_of, array_of, after, answered_done, Matches, chunks_under, command_chunks, asks_store, is_among, present_in, present_under, present_after, erases_chunk, IsDamageSeen, SeesNoDamage, KeepsDamage, IsLeftAt, Rose, PutsKey, MayPutKey, ChunkHas, LeavesKeys, ServesWhole, Changes, ChangedFirst, StopsAt, counted}
 use Rattle.zarr_model.proofs.FailureLaws.{same_bytes, bytes_eq-refl, listed_is_chunk, part_way-start, part_way-fails, erase-done}
 use Rattle.zarr_model.proofs.LeftLaws.{left_at}
 use Rattle.zarr_model.proofs.RanLaws.{RanOver-erase}
@@ -109,12 +109,13 @@ module _ (description : Description) (covers : CoversShape description.shape des
 
   -- an erase whose key is gone ran
   pub erase-ran : (before now : Shown) → PutsKey before.content now.content (description.key chunk) None → now.asks ≡ before.asks → before.asks ≤ 2 ^ 64 - 1 →
-      before.faults ≤ now.faults → HasRun description options (erase chunk ∷ []) before now (answered_done ∷ [])
-  erase-ran before now puts asked fits later = record {
+      now.puts ≡ counted before.puts 1 → before.faults ≤ now.faults → HasRun description options (erase chunk ∷ []) before now (answered_done ∷ [])
+  erase-ran before now puts asked fits put later = record {
     serves = erase-serves before.content now.content puts;
     refusals = ap (λ why. why ∷ []) (sym accepted);
     refused = λ all. absurd (true≢false (sym all ∙ ap (λ why. is_some why && true) accepted));
     asks = omega (arith, asked, fits);
+    puts = omega (arith, put, ap length erase-listed);
     damage = KeepsDamage-erase before.content now.content puts;
     undamaged = SeesNoDamage-erase description options chunk before.content;
     erased = λ none array other is_other. erase-presence before.content now.content puts array other is_other;
@@ -137,10 +138,11 @@ module _ (description : Description) (covers : CoversShape description.shape des
 
   -- the store failed in an erase: the chunk's key is old.content or absent
   pub erase-fails : (old new : Shown) → MayPutKey old.content new.content (description.key chunk) None → Rose old.faults new.faults →
-      new.asks ≡ old.asks → old.asks ≤ 2 ^ 64 - 1 → FailsAt description options (erase chunk ∷ []) old new (Some (0, 0)) Store
-  erase-fails old new puts rose asked fits = record {
+      new.asks ≡ old.asks → old.asks ≤ 2 ^ 64 - 1 → new.puts ≡ counted old.puts 1 → FailsAt description options (erase chunk ∷ []) old new (Some (0, 0)) Store
+  erase-fails old new puts rose asked fits put = record {
     place = (erase chunk, refl, omega arith);
     asks = (erase chunk, refl, inl (omega (arith, asked, fits)));
+    puts = (erase chunk, refl, inr (let one = ap length erase-listed in omega (arith, one), put));
     keys = erase-keys old.content new.content puts;
     stored = erase-stays old.content new.content puts;
     damage = λ other is_other damaged none. (erase-keys old.content new.content puts).same_chunks other is_other none;
@@ -186,6 +188,6 @@ module _ (description : Description) (covers : CoversShape description.shape des
       )
 
 -- memory ran out before the call of an erase
-pub erase-starved : (description : Description) → CoversShape description.shape description.grid → (options : Options) → IsSound (layout description options) → (chunk : List ℕ) (store : Shown) → store.asks ≤ 2 ^ 64 - 1 →
+pub erase-starved : (description : Description) → CoversShape description.shape description.grid → (options : Options) → IsSound (layout description options) → (chunk : List ℕ) (store : Shown) → store.asks ≤ 2 ^ 64 - 1 → store.puts ≤ 2 ^ 64 - 1 →
     FailsAt description options (erase chunk ∷ []) store store (Some (0, 0)) OutOfMemory
 erase-starved description covers options sound chunk = command-starved description covers options sound (erase chunk)

@@ -1,5 +1,5 @@
 -- A read as a command of a session.
-use Rattle.std.proofs.Common.{◌≡◌, ◌+◌, ◌<◌, ◌≤◌, true, false, [], ◌∷◌, length, slice_get, Some, None, refl, sym, ap, ◌∙◌, subst, arith, inl, inr, ⊎_elim}
+use Rattle.std.proofs.Common.{◌≡◌, ◌+◌, ◌-◌, ◌^◌, ◌<◌, ◌≤◌, true, false, [], ◌∷◌, length, slice_get, Some, None, refl, sym, ap, ◌∙◌, subst, arith, inl, inr, ⊎_elim}
 use Rattle.zarr_model.specs.Prelude.{Region, chunks_meeting, Options, Shown, read, Description, region_refusal, chunks_under, command_chunks, counted, finds_shared, array_of}
 use Rattle.zarr_model.proofs.StepLaws.{LeavesKeys-same, read-left}
 use Rattle.zarr_model.proofs.RanLaws.{unchanged-left}
@@ -19,10 +19,11 @@ chunks-read description region accepted = ap (λ why. chunks_under description w
 
 -- a read that failed
 pub read-fails : (array : ArrayParts) (options : Options) (region : Region) (old new : Shown) (error : CommandError) → region_refusal (described array) region ≡ None →
-    NotReadRegion array options region old new error → FailsAt (described array) options (read region ∷ []) old new (Some (0, error.chunks_done)) error.kind
-read-fails array options region old new error accepted fails = record {
+    NotReadRegion array options region old new error → new.puts ≡ old.puts → old.puts ≤ 2 ^ 64 - 1 → FailsAt (described array) options (read region ∷ []) old new (Some (0, error.chunks_done)) error.kind
+read-fails array options region old new error accepted fails unput few_puts = record {
   place = (read region, refl, few);
   asks = (read region, refl, ⊎_elim (λ (done : new.asks ≡ counted old.asks error.chunks_done). inl (omega (arith, done))) (λ (next : (error.chunks_done < length (chunks_meeting (described array).grid region)) × (new.asks ≡ counted old.asks (error.chunks_done + 1))). inr (subst (λ l. error.chunks_done < length l) (sym listed) next.0, omega (arith, next.1))) fails.failed.asks);
+  puts = (read region, refl, inl (omega (arith, unput, few_puts)));
   keys = LeavesKeys-same (described array) options (read region ∷ []) old.content new.content fails.same;
   stored = λ chunk is_chunk. inl (fails.same ((described array).key chunk));
   damage = λ chunk is_chunk damaged none. fails.same ((described array).key chunk);

@@ -4,10 +4,10 @@ use Rattle.std.specs.List.{list_all}
 use Rattle.std.proofs.lemmas.Bool.{and_parts}
 use Rattle.std.proofs.lemmas.List.{take-append-drop, map-append, take_all, length-map}
 use Rattle.std.proofs.lemmas.List.Sums.{sum_by-append}
-use Rattle.zarr_model.specs.Prelude.{CoversShape, Element, Array, Options, Content, WhollyMeans, IsHonest, IsSound, stored_array, Command, Description, layout, refusal, Answer, array_after, asks_of, LeavesKeys, ServesArray, ServesWhole, AreRefused, IsUntouched, refusal_in, Shown, RanOver}
+use Rattle.zarr_model.specs.Prelude.{CoversShape, Element, Array, Options, Content, WhollyMeans, IsHonest, IsSound, stored_array, Command, Description, layout, refusal, Answer, array_after, asks_store, puts_chunks, asks_of, puts_of, LeavesKeys, ServesArray, ServesWhole, AreRefused, IsUntouched, refusal_in, Shown, RanOver}
 use Rattle.zarr_model.proofs.StoreLaws.{stored_array-meant, Means-from_whole}
 use Rattle.zarr_model.proofs.SessionLaws.{serves_from_whole, ServesWhole-append, LeavesKeys-none, LeavesKeys-append, LeavesKeys-more}
-use Rattle.zarr_model.proofs.StepLaws.{KeepsDamage-none, KeepsDamage-append, place-lifts, asks-lift, undecoded-lifts, stopped-lifts, starved-lifts}
+use Rattle.zarr_model.proofs.StepLaws.{KeepsDamage-none, KeepsDamage-append, place-lifts, calls-lift, undecoded-lifts, stopped-lifts, starved-lifts}
 use Rattle.zarr_model.proofs.NeededLaws.{one_more_erased}
 use Rattle.zarr_model.proofs.SeenLaws.{SeesNoDamage-none, SeesNoDamage-append}
 use Rattle.zarr_model.proofs.JoinLaws.{RanOver-append, answers-meant}
@@ -33,8 +33,8 @@ err_of P (Ok replies) h = tt
 err_of P (Err error) h = h
 
 -- no command
-pub none_ran : (array : Description) (options : Options) (store : Shown) → store.asks ≤ 2 ^ 64 - 1 → Runs array options [] store store (Ok [])
-none_ran array options store fits = record {
+pub none_ran : (array : Description) (options : Options) (store : Shown) → store.asks ≤ 2 ^ 64 - 1 → store.puts ≤ 2 ^ 64 - 1 → Runs array options [] store store (Ok [])
+none_ran array options store fits few = record {
   serves = λ honest. record {
     answers_match = λ meant means. tt;
     left = record {
@@ -46,8 +46,9 @@ none_ran array options store fits = record {
   };
   complete = λ honest calm. tt;
   refusals = refl;
-  refused = λ all. record { content = λ key. refl; asks = refl; taken = refl };
+  refused = λ all. record { content = λ key. refl; asks = refl; taken = refl; puts = refl };
   asks = omega (arith, fits);
+  puts = omega (arith, few);
   unmet = λ unmet calm. tt;
   mended = RanOver-none array options store.content;
   answers = λ unmet meant means. tt;
@@ -67,11 +68,12 @@ none_begun array options commands store = record {
   serves = tt;
   complete = λ honest calm. refl;
   refusals = tt;
-  refused = λ all. record { content = λ key. refl; asks = refl; taken = refl };
+  refused = λ all. record { content = λ key. refl; asks = refl; taken = refl; puts = refl };
   unmet = λ unmet calm. refl;
   mended = tt;
   answers = tt;
   asks = tt;
+  puts = tt;
   undamaged = tt;
   erased = tt;
   damage = tt;
@@ -81,6 +83,7 @@ none_begun array options commands store = record {
   failed = record {
     place = tt;
     asks = refl;
+    puts = refl;
     keys = record { same_chunks = λ chunk is_chunk e. refl; other_keys = λ key apart. refl };
     stored = λ chunk is_chunk. inl refl;
     damage = λ chunk is_chunk damaged none. refl;
@@ -95,6 +98,7 @@ untouched_then before mid now first second = record {
   content = λ key. second.content key ∙ first.content key;
   asks = second.asks ∙ first.asks;
   taken = second.taken ∙ first.taken;
+  puts = second.puts ∙ first.puts;
 }
 
 refused_parts : (array : Description) (commands : List Command) (command : Command) → AreRefused array (commands ++ command ∷ []) →
@@ -179,6 +183,7 @@ module _ (array : Description) (options : Options) (covers : CoversShape array.s
     refusals = map-append refusal_in answers (answer ∷ []) ∙ (ap₂ (λ a b. a ++ b) first.refusals second.refusals ∙ sym (map-append (refusal array) commands (command ∷ [])));
     refused = λ all. let parts = refused_parts array commands command all in untouched_then before mid now (first.refused parts.0) (second.refused parts.1);
     asks = omega (arith, first.asks, second.asks, sum_by-append (asks_of array) commands (command ∷ []));
+    puts = omega (arith, first.puts, second.puts, sum_by-append (puts_of array) commands (command ∷ []));
     unmet = λ unmet calm. tt;
     mended = joined;
     answers = answers-meant array options covers sound (commands ++ command ∷ []) before.content now.content (answers ++ answer ∷ []) joined;
@@ -206,6 +211,7 @@ module _ (array : Description) (options : Options) (covers : CoversShape array.s
     refusals = tt;
     refused = λ all. untouched_then before mid now (so_far.refused (refused_front array commands i all)) (single.refused (refused_at array commands i command here all));
     asks = tt;
+    puts = tt;
     unmet = λ unmet calm. only_memory_unmet array options commands before now (Some (i, k)) kind (by_kind kind single.failed.cause) unmet calm;
     mended = tt;
     answers = tt;
@@ -219,7 +225,8 @@ module _ (array : Description) (options : Options) (covers : CoversShape array.s
     later = le_trans so_far.later single.later;
     failed = record {
       place = place-lifts array options commands i command here k single.failed.place;
-      asks = asks-lift array options commands i command here before.asks mid.asks now.asks k so_far.asks single.failed.asks;
+      asks = calls-lift array options commands i command here asks_store before.asks mid.asks now.asks k so_far.asks single.failed.asks;
+      puts = calls-lift array options commands i command here puts_chunks before.puts mid.puts now.puts k so_far.puts single.failed.puts;
       keys = left;
       stored = stays-append array before.content mid.content now.content
           (stays-changed array options (take i commands) before.content mid.content so_far.keys so_far.stored)
@@ -262,6 +269,7 @@ module _ (array : Description) (options : Options) (covers : CoversShape array.s
     refusals = ran.refusals;
     refused = ran.refused;
     asks = ran.asks;
+    puts = ran.puts;
     unmet = λ unmet calm. tt;
     mended = ran.over;
     answers = answers-meant array options covers sound commands before.content now.content answers ran.over;
@@ -288,6 +296,7 @@ module _ (array : Description) (options : Options) (covers : CoversShape array.s
     mended = tt;
     answers = tt;
     asks = tt;
+    puts = tt;
     undamaged = tt;
     erased = tt;
     damage = tt;

@@ -192,6 +192,7 @@ module _ (description : Description) (covers : CoversShape description.shape des
       refusals = ap (λ why. why ∷ []) (sym accepted);
       refused = λ all. absurd (true≢false (sym all ∙ ap (λ why. is_some why && true) accepted));
       asks = omega (arith, changed.asks, full);
+      puts = omega (arith, changed.puts, full);
       damage = write-damage;
       erased = λ none array chunk is_chunk. absurd (true≢false none);
       undamaged = SeesNoDamage-write description options region value old.content (λ place chunk e. decoded place chunk (in_region place chunk e));
@@ -417,6 +418,15 @@ module _ (description : Description) (covers : CoversShape description.shape des
             (λ (next : (k < length (chunks_meeting description.grid region)) × (new.asks ≡ counted old.asks (k + 1))).
             inr (subst (λ chunks. k < length chunks) (sym write-listed) next.0, omega (arith, next.1)))
             fails.asks,
+      );
+      puts = (
+        write region value,
+        refl,
+        ⊎_elim
+            (λ (done : new.puts ≡ counted old.puts k). inl (omega (arith, done)))
+            (λ (next : (k < length (chunks_meeting description.grid region)) × (new.puts ≡ counted old.puts (k + 1))).
+            inr (subst (λ chunks. k < length chunks) (sym write-listed) next.0, omega (arith, next.1)))
+            fails.puts,
       );
       keys = write-fails-keys;
       stored = write-stays;

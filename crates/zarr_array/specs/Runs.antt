@@ -1,6 +1,6 @@
 -- What running commands over a store owes.
 use Rattle.std.specs.Prelude.{◌≡◌, ◌≤◌, List, IfOk, IfErr, OnOk}
-use Rattle.zarr_model.specs.Prelude.{Options, Shown, IsHonest, Command, Description, layout, all_asks, counted, Rose, SeesNoDamage, ErasesKeys, KeepsDamage, LeavesKeys, ServesArray, RefusesRight, AreRefused, IsUntouched, MeetsNoDamage, RanOver, AnswersUndamaged}
+use Rattle.zarr_model.specs.Prelude.{Options, Shown, IsHonest, Command, Description, layout, all_asks, all_puts, counted, Rose, SeesNoDamage, ErasesKeys, KeepsDamage, LeavesKeys, ServesArray, RefusesRight, AreRefused, IsUntouched, MeetsNoDamage, RanOver, AnswersUndamaged}
 use Rattle.zarr_array.specs.Session.{FailsAt}
 use Rattle.zarr_array.specs.Stored.{StoresForAll}
 use Rattle.zarr_array.specs.Ended.{Ended}
@@ -24,6 +24,8 @@ pub record Runs (array : Description) (options : Options) (commands : List Comma
   pub refusals : IfOk ended (λ answers. RefusesRight array commands answers)
   pub refused : AreRefused array commands → IsUntouched before now
   pub asks : OnOk ended (now.asks ≡ counted before.asks (all_asks array commands))
+  -- and as many writing calls as chunks that the commands change
+  pub puts : OnOk ended (now.puts ≡ counted before.puts (all_puts array commands))
   pub undamaged : OnOk ended (SeesNoDamage array options commands before.content)
   -- over any store: what is left is, without its damage, as one plain array has it; and where no
   -- damage is met the answers are those of each array that the store means without it
@@ -40,5 +42,5 @@ pub record Runs (array : Description) (options : Options) (commands : List Comma
   -- after every end: the keys that stay
   pub keys : LeavesKeys array options commands before.content now.content
   pub later : before.faults ≤ now.faults
-  -- an error has its place, the reading calls up to it, and its cause
+  -- an error has its place, the calls up to it, and its cause
   pub failed : IfErr ended (λ error. FailsAt array options commands before now error.at error.kind)

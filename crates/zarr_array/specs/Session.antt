@@ -1,6 +1,6 @@
 -- When a session ends with an error, and what it then leaves.
 use Rattle.std.specs.Prelude.{◌≡◌, ℕ, Bool, true, false, List, slice_get, Option, Some, None, IsErrAnd}
-use Rattle.zarr_model.specs.Prelude.{Options, Content, Shown, Command, Description, command_chunks, IsPlace, begun, AsksUpTo, LeavesKeys, passes_over, IsUndecoded, IsStopped, IsStarved, IsLeftBut}
+use Rattle.zarr_model.specs.Prelude.{Options, Content, Shown, Command, Description, command_chunks, IsPlace, begun, AsksUpTo, PutsUpTo, LeavesKeys, passes_over, IsUndecoded, IsStopped, IsStarved, IsLeftBut}
 use Rattle.zarr_array_regions.specs.parts.Opening.{OpenRefusal}
 use Rattle.zarr_array_regions.specs.parts.OpenError.{open_refusal_of}
 use Rattle.zarr_array.specs.Ended.{Ended}
@@ -37,9 +37,10 @@ is_store _ = false
 -- an error at a place of a run
 pub record FailsAt (description : Description) (options : Options) (commands : List Command)
     (before now : Shown) (at : Option (ℕ × ℕ)) (kind : SessionErrorKind) : Type 0 where
-  -- the place is one of the run, and the reading calls are those up to it
+  -- the place is one of the run, and the reading and writing calls are those up to it
   pub place : IsPlace description commands at
   pub asks : AsksUpTo description commands before.asks now.asks at
+  pub puts : PutsUpTo description commands before.puts now.puts at
   -- only commands that had begun change keys
   pub keys : LeavesKeys description options (begun commands at) before.content now.content
   -- each chunk holds after it what it held, or decodes under all options

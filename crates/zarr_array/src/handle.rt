@@ -115,7 +115,7 @@ impl<'s, S: Store> ChainHandle<'s, S> {
         self.held.partial_encode(alloc, region, bytes, options)
     }
 
-    /// Leaves the chunk's key absent, so that all its elements are the fill value. No reading call.
+    /// Leaves the chunk's key absent, so that all its elements are the fill value. One writing call, no reading call.
     ///
     /// # Errors
     /// [`CodecError::StorageError`] where the store fails.

@@ -8,3 +8,5 @@ pub mod GivenLaws
 pub mod PlaceRunLaws
 pub mod GatherLemmas
 pub mod HeldLaws
+pub mod ReadLaws
+pub mod DecodeLaws

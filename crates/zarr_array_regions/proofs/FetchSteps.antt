@@ -40,6 +40,7 @@ use Rattle.zarr_array_regions.proofs.ToldLaws.{no_fault_says, told_of_storage, s
 pub record MayHaveAsked (before now : Shown) : Type 0 where
   pub same : SameContent before now
   pub asks : (now.asks ≡ before.asks) ⊎ (now.asks ≡ counted before.asks 1)
+  pub puts : now.puts ≡ before.puts
   pub later : before.faults ≤ now.faults
 
 -- no more than one, where memory ran out before
@@ -94,6 +95,7 @@ module _ (array : ArrayParts) (chain : BasicChain) (levels : ChunkLevels) (optio
     not_fetched why = record {
       same = may.same;
       asks = may.asks;
+      puts = may.puts;
       later = may.later;
       failed = failed why;
       told = told why;
@@ -175,7 +177,7 @@ module _ (array : ArrayParts) (chain : BasicChain) (levels : ChunkLevels) (optio
 module _ (asked : Option Region) (array : ArrayParts) (options : Options) (chunk : List ℕ) where
   -- memory ran out after it, or before
   pub starved_after : (before now : Shown) → HasAsked before now → NotFetched asked array options chunk before now OutOfMemory
-  starved_after before now has = record { same = has.same; asks = inr has.asks; later = has.later; failed = tt; told = tt }
+  starved_after before now has = record { same = has.same; asks = inr has.asks; puts = has.puts; later = has.later; failed = tt; told = tt }
 
   pub starved_before : (store : Shown) → NotFetched asked array options chunk store store OutOfMemory
-  starved_before store = record { same = λ key. refl; asks = inl refl; later = omega arith; failed = tt; told = tt }
+  starved_before store = record { same = λ key. refl; asks = inl refl; puts = refl; later = omega arith; failed = tt; told = tt }

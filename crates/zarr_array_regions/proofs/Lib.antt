@@ -16,8 +16,6 @@ pub mod TakenLaws
 pub mod FetchSteps
 pub mod SharedLaws
 pub mod SharedSteps
-pub mod ReadLaws
-pub mod DecodeLaws
 pub mod ShortLaws
 pub mod ReadSteps
 pub mod StoredLaws

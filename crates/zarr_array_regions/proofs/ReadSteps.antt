@@ -9,6 +9,8 @@ use Rattle.zarr_model.proofs.NeededLaws.{read_needs}
 use Rattle.zarrs_storage.specs.Store.{SameContent}
 use Rattle.zarrs_codec_bytes.specs.Overlap.{Copied}
 use Rattle.zarr_array_elements.specs.Elements.{list_in}
+use Rattle.zarr_array_elements.proofs.ReadLaws.{HasRead, read-start, read-step, read-end, chunk_copied}
+use Rattle.zarr_array_elements.proofs.DecodeLaws.{each-step, each-all}
 use Rattle.zarr_array_parts.specs.Parts.{documented, described}
 use Rattle.zarr_array_parts.specs.declared.parts.ArrayParts.{ArrayParts}
 use Rattle.zarr_array_parts.proofs.ServedLaws.{described_covers}
@@ -23,9 +25,7 @@ use Rattle.zarr_array_regions.specs.Shared.{HoldsShared, IsReadable, IsHeldShare
 use Rattle.zarr_array_regions.specs.declared.shared.FetchedChunk.{FetchedChunk}
 use Rattle.zarr_array_regions.specs.Taken.{Takes}
 use Rattle.zarr_array_regions.specs.Read.{HasReadCause, FailsToRead, HasReadChunk, HasReadList, HasReadRegion, NotReadRegion}
-use Rattle.zarr_array_regions.proofs.ReadLaws.{HasRead, read-start, read-step, read-end, chunk_copied}
 use Rattle.zarr_array_regions.proofs.AskedLaws.{asked_shared}
-use Rattle.zarr_array_regions.proofs.DecodeLaws.{each-step, each-all}
 use Rattle.zarr_array_regions.proofs.PartWayLaws.{met-chunks}
 use Rattle.zarr_array_regions.proofs.ToldLaws.{told_why}
 

@@ -1,5 +1,5 @@
 -- The steps of writing to a region.
-use Rattle.std.proofs.Common.{◌≡◌, ℕ, ◌+◌, ◌-◌, ◌*◌, ◌^◌, ◌≤◌, false, if◌then◌else◌, is_some, unwrap_or, List, [], length, take, slice_get, Some, None, IsSome, Result, Ok, Err, refl, sym, ap, ◌∙◌, subst, subst₂, arith, le_trans, inl, inr}
+use Rattle.std.proofs.Common.{◌≡◌, ℕ, ◌+◌, ◌-◌, ◌*◌, ◌^◌, ◌≤◌, false, if◌then◌else◌, is_some, unwrap_or, List, [], length, take, slice_get, Some, None, IsSome, Result, Ok, Err, refl, sym, ap, ◌∙◌, subst, subst₂, arith, le_trans, inl, inr, ⊎_elim}
 use Rattle.std.specs.List.{sum_by}
 use Rattle.std.proofs.lemmas.List.{take_all}
 use Rattle.zarr_model.specs.Prelude.{Region, count, Element, Kind, kind, fixed_size, ArrayBytes, meaning, has_long_element, written_elements, Array, chunks_meeting, Options, Shown, layout, chunk_content, counted, write_bytes}
@@ -40,7 +40,7 @@ module _ (array : ArrayParts) (options : Options) (region : Region) (chunk : Lis
 
   -- what is not fetched is not changed
   pub unfetched : (before now : Shown) (kind : SessionErrorKind) → NotFetched None array options chunk before now kind → NotWrittenChunk array options change chunk before now kind
-  unfetched before now kind fails = record { failed = by_kind kind fails.failed; told = fails.told; asks = fails.asks; later = fails.later }
+  unfetched before now kind fails = record { failed = by_kind kind fails.failed; told = fails.told; asks = fails.asks; puts = inl fails.puts; later = fails.later }
     where
       by_kind : (kind : SessionErrorKind) → FailsToFetch (chunk_content (layout (described array) options) before.content chunk) false ((described array).key chunk) before now kind →
           FailsToChange (described array) options change chunk before now kind
@@ -61,6 +61,7 @@ module _ (array : ArrayParts) (options : Options) (region : Region) (chunk : Lis
       changed = chunk-changed (described array) options region chunk key (written_elements (described array) region bytes) (chunk_list array chunk value) (chunk_list array chunk list) before
           its_key held.elements long copied mid.content now.content asked.same stores.ok;
       asks = stores.asks ∙ asked.asks;
+      puts = stores.puts ∙ ap (λ n. counted n 1) asked.puts;
       taken = λ alone. stores.taken ∙ takes alone;
       later = le_trans asked.later stores.cause.later;
     }
@@ -73,6 +74,7 @@ module _ (array : ArrayParts) (options : Options) (region : Region) (chunk : Lis
           its_key held.elements long copied mid now error asked.same stores.failed (λ e. stores.memory (ap Err e)) stores.cause.failed asked.later stores.plain;
       told = told_of_storage (documented array) options chunk None now error;
       asks = inr (stores.asks ∙ asked.asks);
+      puts = ⊎_elim (λ (none : now.puts ≡ mid.puts). inl (none ∙ asked.puts)) (λ (one : now.puts ≡ counted mid.puts 1). inr (one ∙ ap (λ n. counted n 1) asked.puts)) stores.puts;
       later = le_trans asked.later stores.cause.later;
     }
 
@@ -103,9 +105,9 @@ module _ (array : ArrayParts) (options : Options) (region : Region) (bytes : Arr
     pub changed : ChangedSome (described array) options all met k before now
     pub taken : Takes (documented array) (sum_by (write_bytes (described array) before.content) (take k met)) before now
 
-  pub none_written : (store : Shown) → store.asks ≤ 2 ^ 64 - 1 → store.taken ≤ 2 ^ 64 - 1 → HasWrittenSome 0 store store
-  none_written store fits room = record {
-    changed = changed-start (described array) options (described_sound array options) all met (met-chunks (described array).grid region) store fits;
+  pub none_written : (store : Shown) → store.asks ≤ 2 ^ 64 - 1 → store.taken ≤ 2 ^ 64 - 1 → store.puts ≤ 2 ^ 64 - 1 → HasWrittenSome 0 store store
+  none_written store fits room few = record {
+    changed = changed-start (described array) options (described_sound array options) all met (met-chunks (described array).grid region) store fits few;
     taken = λ alone. omega (arith, room);
   }
 
@@ -113,7 +115,7 @@ module _ (array : ArrayParts) (options : Options) (region : Region) (bytes : Arr
       HasWrittenChunk array options all chunk mid now → HasWrittenSome (k + 1) before now
   one_written k chunk before mid now here so_far step = record {
     changed = changed-step (described array) options (described_sound array options) all met (met-chunks (described array).grid region)
-        (met-once (described array) region) k before mid now chunk so_far.changed here step.changed step.asks step.later;
+        (met-once (described array) region) k before mid now chunk so_far.changed here step.changed step.asks step.puts step.later;
     taken = λ alone. one_more_taken met k chunk here (write_bytes (described array) before.content) before mid now (so_far.taken alone)
         (step.taken alone ∙ ap (λ v. counted mid.taken (if is_some v then unwrap_or (fixed_size (kind (described array))) 0 * count ((described array).grid.chunk_box chunk) else 0)) was);
   }
@@ -135,17 +137,17 @@ module _ (array : ArrayParts) (options : Options) (region : Region) (bytes : Arr
       NotWrittenChunk array options all chunk mid now kind → NotWrittenRegion array options region bytes before now (record { chunks_done = k; kind = kind })
   stops_written k chunk before mid now kind here so_far stop = record {
     failed = changed-fails (described array) options (described_sound array options) all met (met-chunks (described array).grid region)
-        k before mid now chunk kind so_far.changed here stop.failed stop.asks stop.later;
+        k before mid now chunk kind so_far.changed here stop.failed stop.asks stop.puts stop.later;
     told = told_why (documented array) options None chunk now kind (met-chunks (described array).grid region k chunk here) stop.told;
   }
 
   -- a region that meets no chunk
-  pub none_to_write : (store : Shown) → met ≡ [] → store.asks ≤ 2 ^ 64 - 1 → store.taken ≤ 2 ^ 64 - 1 → HasWrittenRegion array options region bytes store store
-  none_to_write store none fits room = all_written 0 store store (sym (ap length none)) (none_written store fits room)
+  pub none_to_write : (store : Shown) → met ≡ [] → store.asks ≤ 2 ^ 64 - 1 → store.taken ≤ 2 ^ 64 - 1 → store.puts ≤ 2 ^ 64 - 1 → HasWrittenRegion array options region bytes store store
+  none_to_write store none fits room few = all_written 0 store store (sym (ap length none)) (none_written store fits room few)
 
   -- memory ran out before the first chunk
-  pub starved_writing : (store : Shown) → store.asks ≤ 2 ^ 64 - 1 → NotWrittenRegion array options region bytes store store before_chunks
-  starved_writing store fits = record {
-    failed = changed-starved (described array) options (described_sound array options) all met (met-chunks (described array).grid region) store fits;
+  pub starved_writing : (store : Shown) → store.asks ≤ 2 ^ 64 - 1 → store.puts ≤ 2 ^ 64 - 1 → NotWrittenRegion array options region bytes store store before_chunks
+  starved_writing store fits few = record {
+    failed = changed-starved (described array) options (described_sound array options) all met (met-chunks (described array).grid region) store fits few;
     told = tt;
   }

@@ -10,10 +10,11 @@ use Rattle.zarr_array_regions.specs.Asked.{finds_asked}
 use Rattle.zarr_array_regions.specs.Chunk.{FailsToFetch}
 use Rattle.zarr_array_regions.specs.Told.{TellsOf}
 
--- a store was asked for one value, and nothing was changed
+-- a store was asked for one value, and nothing was written or changed
 pub record HasAsked (before now : Shown) : Type 0 where
   pub same : SameContent before now
   pub asks : now.asks ≡ counted before.asks 1
+  pub puts : now.puts ≡ before.puts
   pub later : before.faults ≤ now.faults
 
 -- the elements of a chunk that array bytes mean
@@ -40,6 +41,7 @@ pub record NotFetched (asked : Option Region) (array : ArrayParts) (options : Op
     (chunk : List ℕ) (before now : Shown) (kind : SessionErrorKind) : Type 0 where
   pub same : SameContent before now
   pub asks : (now.asks ≡ before.asks) ⊎ (now.asks ≡ counted before.asks 1)
+  pub puts : now.puts ≡ before.puts
   pub later : before.faults ≤ now.faults
   pub failed : FailsToFetch
       (chunk_content (layout (described array) options) before.content chunk)

@@ -10,7 +10,8 @@ use Rattle.zarr_array_regions.specs.Taken.{Takes}
 use Rattle.zarr_array_regions.specs.Told.{TellsWhy}
 use Rattle.zarr_array_regions.specs.Write.{HoldsChunk, change_of, FailsToChange}
 
--- the first k of some chunks were changed, with one reading call for each, and no other key was
+-- the first k of some chunks were changed, with one reading and one writing call for each, and no
+-- other key was
 pub record ChangedSome (description : Description) (options : Options) (change : Array Element →
     Array Element)
     (chunks : List (List ℕ)) (k : ℕ) (before now : Shown) : Type 0 where
@@ -26,7 +27,13 @@ pub record ChangedSome (description : Description) (options : Options) (change :
       slice_get chunks place ≡ Some chunk →
       ¬ (key ≡ description.key chunk)) → now.content key ≡ before.content key
   pub asks : now.asks ≡ counted before.asks k
+  pub puts : now.puts ≡ counted before.puts k
   pub later : before.faults ≤ now.faults
+
+-- one call for each of the first k of some chunks, and perhaps one for the next
+abbrev pub CountsFirst : ℕ → ℕ → ℕ → ℕ → Type 0
+CountsFirst k all before now = (now ≡ counted before k)
+    ⊎ ((k < all) × (now ≡ counted before (k + 1)))
 
 -- why the next chunk after k was not changed: memory ran out before it, or it could not be changed
 abbrev pub StopsBefore : Description → Options → (Array Element → Array Element) → List (List ℕ) →
@@ -46,8 +53,8 @@ pub record FailsPartWay (description : Description) (options : Options) (change 
   pub few : k ≤ length chunks
   pub changed : ChangedSome description options change chunks k before mid
   pub stops : StopsBefore description options change chunks k mid now kind
-  pub asks : (now.asks ≡ counted before.asks k)
-      ⊎ ((k < length chunks) × (now.asks ≡ counted before.asks (k + 1)))
+  pub asks : CountsFirst k (length chunks) before.asks now.asks
+  pub puts : CountsFirst k (length chunks) before.puts now.puts
   pub later : mid.faults ≤ now.faults
 
 -- bytes were written to a region: each chunk that it meets was changed

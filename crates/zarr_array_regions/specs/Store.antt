@@ -6,10 +6,11 @@ use Rattle.zarrs_storage.specs.declared.store.StorageError.{StorageError}
 use Rattle.zarrs_storage.specs.declared.store.StorageError.TheVariants as Storage
 use Rattle.zarr_array_parts.specs.Parts.{described}
 use Rattle.zarr_array_parts.specs.declared.parts.ArrayParts.{ArrayParts}
+use Rattle.zarr_chain_stored.specs.Seen.{PutsOnce}
 use Rattle.zarr_array_regions.specs.Chunk.{PutsElements, MayPutElements}
 
--- a chunk's elements were put under a key, or may have been where the store failed; want of memory
--- changes nothing
+-- a chunk's elements were put under a key by one writing call, or may have been where the store
+-- failed; want of memory changes nothing
 pub record StoresElements (array : ArrayParts) (options : Options) (chunk : List ℕ)
     (list : List Element) (key : List ℕ) (before now : Shown)
     {T : Type 0} (result : Result T StorageError) : Type 0 where
@@ -18,6 +19,7 @@ pub record StoresElements (array : ArrayParts) (options : Options) (chunk : List
   pub failed : OnErr result
       (MayPutElements (described array) options chunk list before.content now.content key)
   pub memory : IsErrOf result Storage.OutOfMemory → SameContent before now
+  pub puts : PutsOnce before.puts now.puts result
   pub asks : now.asks ≡ before.asks
   pub taken : now.taken ≡ before.taken
   pub plain : IfErr result IsPlain

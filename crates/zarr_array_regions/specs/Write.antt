@@ -76,6 +76,7 @@ pub record HasWrittenChunk (array : ArrayParts) (options : Options)
     (change : Array Element → Array Element) (chunk : List ℕ) (before now : Shown) : Type 0 where
   pub changed : ChangesChunk (described array) options change chunk before.content now.content
   pub asks : now.asks ≡ counted before.asks 1
+  pub puts : now.puts ≡ counted before.puts 1
   pub taken : Takes (documented array) (write_bytes (described array) before.content chunk)
       before now
   pub later : before.faults ≤ now.faults
@@ -87,4 +88,5 @@ pub record NotWrittenChunk (array : ArrayParts) (options : Options)
   pub failed : FailsToChange (described array) options change chunk before now kind
   pub told : TellsOf (documented array) options chunk None now kind
   pub asks : (now.asks ≡ before.asks) ⊎ (now.asks ≡ counted before.asks 1)
+  pub puts : (now.puts ≡ before.puts) ⊎ (now.puts ≡ counted before.puts 1)
   pub later : before.faults ≤ now.faults

@@ -93,7 +93,7 @@ impl RegionChunks<'_> {
     }
 
     /// Stores elements as those of the chunk of a number, or erases its key where all are the fill value and such chunks
-    /// are not stored.
+    /// are not stored. One writing call.
     pub(crate) fn store_elements<S: Store>(
         &self,
         alloc: Global,

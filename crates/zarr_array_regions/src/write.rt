@@ -140,7 +140,7 @@ impl RegionChunks<'_> {
 }
 
 /// Writes array bytes that mean the elements of a region inside an array, in row-major order, to it. Each chunk that the
-/// region meets is asked for once, in row-major order, and then stored or erased.
+/// region meets is asked for once, in row-major order, and then stored or erased by one call.
 ///
 /// # Errors
 /// What a chunk's value or the store told, or want of memory, and how many chunks were finished.

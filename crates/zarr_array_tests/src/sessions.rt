@@ -139,6 +139,8 @@ fn is_end(rt: &impl Abort, alloc: Global, call: u64, end: &End) {
         }
     );
     assert!(rt; (store.faults(), store.asks()) == (end.faults, end.asks));
+    let calls = call.saturating_add(1).min(10);
+    assert!(rt; store.asks().checked_add(store.puts()) == Some(calls));
     assert!(rt; number_of_keys(rt, alloc, store.memory()) == end.keys);
     let mut memory = store.into_memory();
     assert!(rt; has_square(rt, alloc, &mut memory, &end.elements));

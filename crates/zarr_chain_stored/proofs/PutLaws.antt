@@ -1,5 +1,5 @@
 -- When a chunk is blank, and what a value that was set leaves of one.
-use Rattle.std.proofs.Common.{◌≡◌, ◌↔◌, ◌⊎◌, inl, inr, ⊎_elim, ℕ, ◌<◌, Bool, false, true, List, [], ◌∷◌, length, replicate, Some, None, Result, Ok, Err, OnOk, OnErr, refl, sym, ap, ◌∙◌, subst₂, IsTrue}
+use Rattle.std.proofs.Common.{◌≡◌, ◌↔◌, ◌⊎◌, inl, inr, ⊎_elim, ℕ, ◌<◌, Bool, false, true, List, [], ◌∷◌, length, replicate, Some, None, Result, Ok, Err, OnOk, OnErr, refl, sym, ap, ◌∙◌, subst, subst₂, Option, option_map, IsTrue}
 use Rattle.std.specs.List.{list_all}
 use Rattle.zarr_model.specs.Region.{count_of}
 use Rattle.zarr_model.specs.Element.{Element, same_element}
@@ -11,6 +11,7 @@ use Rattle.zarrs_codec_traits.proofs.CountLaws.{lengths_some}
 use Rattle.zarr_chain.specs.declared.representation.ChunkRepresentation.{ChunkRepresentation}
 use Rattle.zarr_chain.specs.Levels.{level_at, first_of}
 use Rattle.zarr_chain_stored.specs.Put.{Decoding, IsPut, PutsChunk, MayPutChunk}
+use Rattle.zarr_chain_stored.specs.Update.{MayUpdateChunk}
 
 pub blank_is : (answer : Bool) (number : ℕ) (x : Element) (xs : List Element) → length xs ≡ number → (IsTrue answer ↔ (xs ≡ replicate number x)) → answer ≡ list_all (same_element x) xs
 blank_is true number x xs long tells = sym (ap (list_all (same_element x)) (tells.0 refl) ∙ all_same x number)
@@ -46,3 +47,15 @@ module _ (decode : Decoding) (answer drops : Bool) (list : List Element) (value 
         puts.here;
     others = puts.others;
   }
+
+-- a chunk that may have been put in place of one with these elements
+pub may_update : (decode : Decoding) (drops : List Element → Bool) (change : List Element → List Element) (content : Option (List Element)) (list : List Element) (old mid new : Content) (key : List ℕ) → content ≡ Some list →
+    ((other : List ℕ) → mid other ≡ old other) → MayPutChunk decode (drops (change list)) (change list) mid new key → MayUpdateChunk decode drops (option_map change content) old new key
+may_update decode drops change content list old mid new key is same may =
+    subst (λ o. MayUpdateChunk decode drops o old new key) (sym (ap (option_map change) is)) earlier
+  where
+    earlier : MayPutChunk decode (drops (change list)) (change list) old new key
+    earlier = record {
+      here = ⊎_elim (λ (stays : new key ≡ mid key). inl (stays ∙ same key)) (λ (put : IsPut decode (drops (change list)) (change list) (new key) ⊎ (new key ≡ None)). inr put) may.here;
+      others = λ other apart. may.others other apart ∙ same other;
+    }

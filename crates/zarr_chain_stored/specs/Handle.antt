@@ -1,5 +1,6 @@
 -- What a handle is made of, and what its calls leave of it.
 use Rattle.std.specs.Prelude.{◌≡◌, ◌≤◌, ℕ, List, None, Result, OnOk, OnErr, IfErr}
+use Rattle.zarr_model.specs.Cost.{counted}
 use Rattle.zarr_model.specs.Outside.{PutsKey, MayPutKey}
 use Rattle.zarr_model.specs.Shown.{Shown}
 use Rattle.zarrs_codec_error.specs.declared.error.CodecError.{CodecError}
@@ -28,12 +29,13 @@ pub record ReadsHandle {S A B C : Type 0} (keeps : S → S → Type 0) (old new 
   pub handle : KeepsHandle old new
   pub kept : keeps old.storage.now new.storage.now
 
--- a key was left absent without a reading call, or the store failed
+-- a key was left absent by one writing call and no reading call, or the store failed
 pub record ErasesKey {T : Type 0} (key : List ℕ) (before now : Shown)
     (result : Result T CodecError) : Type 0 where
   pub done : OnOk result (PutsKey before.content now.content key None)
   pub cut : OnErr result (MayPutKey before.content now.content key None)
   pub why : IfErr result (IsFault before.faults now.faults)
   pub later : before.faults ≤ now.faults
+  pub puts : now.puts ≡ counted before.puts 1
   pub asks : now.asks ≡ before.asks
   pub taken : now.taken ≡ before.taken

@@ -1,5 +1,5 @@
 -- A chain over the chunks of one shape, as contracts see it, and what its calls owe.
-use Rattle.std.specs.Prelude.{◌≡◌, ◌==◌, ◌≤◌, ◌⊎◌, ◌&&◌, ◌||◌, not, is_some, ℕ, Bool, true, false, List, length, Option, Some, None, IsSome, option_map, Result, IfOk, IfErr, OnOk, OnErr, IsErrOf, MatchResult}
+use Rattle.std.specs.Prelude.{◌≡◌, ◌==◌, ◌≤◌, ◌⊎◌, ◌&&◌, ◌||◌, not, is_some, ℕ, Bool, true, false, List, length, Option, Some, None, IsSome, option_map, Result, Ok, Err, IfOk, IfErr, OnOk, OnErr, IsErrOf, MatchResult}
 use Rattle.zarr_model.specs.ArrayBytes.{ArrayBytes}
 use Rattle.zarr_model.specs.Codec.{Level, Options}
 use Rattle.zarr_model.specs.Command.{has_long_element}
@@ -178,6 +178,11 @@ abbrev pub ReadsPart : ChainSeen → Options → Region → List ℕ → Shown �
 ReadsPart chain under region key before now result =
     ReadsBy chain under region (chain.request region) key before now result
 
+-- one writing call was made, or none where the call failed before it
+abbrev pub PutsOnce : {T E : Type 0} → ℕ → ℕ → Result T E → Type 0
+PutsOnce before now (Ok v) = now ≡ counted before 1
+PutsOnce before now (Err e) = (now ≡ before) ⊎ (now ≡ counted before 1)
+
 -- elements that may be put as the chunk
 pub record CanPut (chain : ChainSeen) (bytes : ArrayBytes) : Type 0 where
   pub serves : chain.serves
@@ -199,7 +204,8 @@ pub record StoresChunk {T : Type 0} (chain : ChainSeen) (under : Options) (bytes
   pub unchanged : IsErrOf result storage.OutOfMemory → SameContent before now
   pub plain : IfErr result IsPlain
   pub cause : HasCause IsFault before.faults now.faults result
-  -- nothing is read
+  -- by one writing call, and nothing is read
+  pub puts : PutsOnce before.puts now.puts result
   pub asks : now.asks ≡ before.asks
   pub taken : now.taken ≡ before.taken
 
@@ -226,6 +232,7 @@ pub record WritesRegion {T : Type 0} (chain : ChainSeen) (under : Options) (regi
       (option_map (with_box chain.level.shape region new)
       (chain.content under (before.content key))) before.content now.content key)
   pub unchanged : UnlessFault result (SameContent before now)
+  pub puts : PutsOnce before.puts now.puts result
   pub why : IfErr result
       (ChunkTells chain under (before.content key) before.faults now.faults)
   pub asked : AsksWhole key before now result

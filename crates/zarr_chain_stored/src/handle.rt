@@ -120,7 +120,7 @@ impl<
         )
     }
 
-    /// Leaves the chunk's key absent, so that all its elements are the fill value. No reading call.
+    /// Leaves the chunk's key absent, so that all its elements are the fill value. One writing call, no reading call.
     ///
     /// # Errors
     /// [`CodecError::StorageError`] where the store fails.

@@ -16,7 +16,7 @@ use Rattle.zarr_cli.specs.Answers.{Answers}
 use Rattle.zarr_cli_runs.specs.declared.status.Status.{Status}
 use Rattle.zarr_cli_runs.specs.declared.status.Status.TheVariants.{Done, BadWords, BadInput, Document, Chunk, Store, Read, Write, TooLong, OutOfMemory}
 use Rattle.zarr_cli.proofs.EndingLemmas.{is_done, is_bad_input, is_write, is_too_long}
-use Rattle.zarr_cli.proofs.EndLemmas.{went, did_asks, did_taken, did_refused, did_left, not_reading, not_long, not_bad, not_refused, told_chunk, told_opening, told_input, told_document}
+use Rattle.zarr_cli.proofs.EndLemmas.{went, did_asks, did_puts, did_taken, did_refused, did_left, not_reading, not_long, not_bad, not_refused, told_chunk, told_opening, told_input, told_document}
 
 module _ (words : List (List ℕ)) (input : List ℕ) (before now : Seen) where
   -- the replies were written
@@ -30,6 +30,7 @@ module _ (words : List (List ℕ)) (input : List ℕ) (before now : Seen) where
         (λ output. IsGiven output before.sink.bytes now.sink.bytes) did given;
     read_whole = λ is. whole;
     asks = λ run is. did_asks words input before.store now.store text did run;
+    puts = λ run is. did_puts words input before.store now.store text did run;
     bad_input = λ line is. absurd (cc);
     document = λ why is. absurd (cc);
     chunk = λ key is. absurd (cc);
@@ -57,6 +58,7 @@ module _ (words : List (List ℕ)) (input : List ℕ) (before now : Seen) where
     done = λ is. absurd (cc);
     read_whole = λ is. absurd (cc);
     asks = λ run is. did_asks words input before.store now.store text did run;
+    puts = λ run is. did_puts words input before.store now.store text did run;
     bad_input = λ line is. absurd (cc);
     document = λ why is. absurd (cc);
     chunk = λ key is. absurd (cc);
@@ -114,6 +116,7 @@ module _ (words : List (List ℕ)) (input : List ℕ) (before now : Seen) where
     done = λ is. absurd (told_at status last which told Done (is_done last is) (λ e. cc));
     read_whole = λ is. absurd (told_at status last which told Done (is_done last is) (λ e. cc));
     asks = λ run written. absurd (unwritten status last which told written);
+    puts = λ run written. absurd (unwritten status last which told written);
     bad_input = λ line is. told_at status last which told (BadInput line) (is_bad_input last line is) (λ e. cc);
     document = λ why is. told_opening words input (Rose before.source.faults now.source.faults) before.store now.store status last why which told is;
     chunk = λ key is. told_chunk words input (Rose before.source.faults now.source.faults) before.store now.store status last key which told is;

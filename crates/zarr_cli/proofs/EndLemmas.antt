@@ -1,7 +1,7 @@
 -- From the run of an input to the clauses of the program.
-use Rattle.std.proofs.Common.{◌≡◌, ℕ, ◌<◌, ◌≤◌, false, List, length, map, Option, Some, None, Result, Ok, Err, IfOk, IfErr, OnOk, MatchResult, ◌⊎◌, inl, inr, refl, sym, ap, ◌∙◌, subst, arith, Vec}
+use Rattle.std.proofs.Common.{◌≡◌, ℕ, ◌+◌, ◌<◌, ◌≤◌, false, List, length, map, Option, Some, None, Result, Ok, Err, IfOk, IfErr, OnOk, MatchResult, ◌⊎◌, inl, inr, refl, sym, ap, ◌∙◌, subst, arith, Vec}
 use Rattle.std.specs.declared.alloc.Global.{Global}
-use Rattle.zarr_model.specs.Prelude.{Shown, Told, AreRefused, IsUntouched, all_asks, Rose}
+use Rattle.zarr_model.specs.Prelude.{Shown, Told, AreRefused, IsUntouched, all_asks, all_puts, counted, Rose}
 use Rattle.zarr_cli_runs.specs.array.parts.Document.{describe}
 use Rattle.zarr_cli_runs.specs.array.parts.Opening.{OpenRefusal}
 use Rattle.zarr_cli_runs.specs.array.OpenArray.{documented, described}
@@ -108,6 +108,13 @@ did_asks words input before now text did run =
     subst (λ settings. CountsDump settings.dump (all_asks (describe run.document) run.commands) before now) (sym same.0)
     (subst (λ commands. CountsDump did.run.settings.dump (all_asks (describe run.document) commands) before now) (sym same.2)
     (subst (λ document. CountsDump did.run.settings.dump (all_asks (describe document) did.run.commands) before now) (sym same.1) did.asks))
+
+pub did_puts : (words : List (List ℕ)) (input : List ℕ) (before now : Shown) (text : List ℕ) → PrintsInput words input before now text →
+    (run : Run words input) → now.puts ≡ counted before.puts (length (input_entries input) + all_puts (describe run.document) run.commands)
+did_puts words input before now text did run =
+    let same = one_run words input did.run.settings did.run.document did.run.commands did.run.are_words.0 did.run.is_opened did.run.are_commands run in
+    subst (λ commands. now.puts ≡ counted before.puts (length (input_entries input) + all_puts (describe run.document) commands)) (sym same.2)
+    (subst (λ document. now.puts ≡ counted before.puts (length (input_entries input) + all_puts (describe document) did.run.commands)) (sym same.1) did.puts)
 
 pub did_taken : (words : List (List ℕ)) (input : List ℕ) (before now : Shown) (text : List ℕ) → PrintsInput words input before now text →
     (run : Run words input) → run.settings.dump ≡ false → TakesRun run.document run.settings.options run.commands (with_entries (input_entries input) before) now

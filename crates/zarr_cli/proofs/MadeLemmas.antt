@@ -8,7 +8,7 @@ use Rattle.zarr_cli.specs.Run.{IsRunnable}
 use Rattle.zarr_cli_runs.specs.Between.{LeavesBetween}
 use Rattle.zarr_cli_runs.specs.Commands.{IsChangedKey, IsRunFault, EndsAtDamage}
 use Rattle.zarr_cli_runs.proofs.BetweenLaws.{between_ran, between_last}
-use Rattle.zarr_cli_runs.specs.Ending.{IsGiven, IsGivenFront, IsBeforeStore, damaged_chunk}
+use Rattle.zarr_cli_runs.specs.Ending.{IsGiven, IsGivenFront, IsWritten, IsBeforeStore, damaged_chunk}
 use Rattle.zarr_cli_runs.specs.Ending as end
 use Rattle.zarr_cli.specs.Words.{settings_of}
 use Rattle.zarr_cli_runs.specs.Status.{ending_of}
@@ -61,6 +61,7 @@ module _ (number : ℕ) (options : Options) (before now : Seen) where
   made_done text did given unread unchanged = record {
     done = λ is. (text, did.sums, given);
     asks = λ written. did.asks;
+    puts = λ written. did.puts;
     unread = unread;
     begun = λ b. b;
     chunk = λ key is. absurd (cc);
@@ -76,6 +77,7 @@ module _ (number : ℕ) (options : Options) (before now : Seen) where
   made_write text did given rose unread unchanged = record {
     done = λ is. absurd (cc);
     asks = λ written. did.asks;
+    puts = λ written. did.puts;
     unread = unread;
     begun = λ b. b;
     chunk = λ key is. absurd (cc);
@@ -118,6 +120,12 @@ module _ (number : ℕ) (options : Options) (before now : Seen) where
   fails_write : (status : Status) → Fails status → status ≡ Write → ⊥
   fails_write status fault is = subst Fails is fault
 
+  unwritten : (status : Status) → Fails status → IsWritten (ending_of status) → ⊥
+  unwritten status fault written = ⊎_elim
+      (λ (is : ending_of status ≡ end.done). fails_done status fault (is_done status is))
+      (λ (is : ending_of status ≡ end.write_fault). fails_write status fault (is_write status is))
+      written
+
   pub made_early : (status last : Status) → (last ≡ status) ⊎ (last ≡ OutOfMemory) → (status ≡ Store → last ≡ Store) → Fails status → now.source ≡ before.source →
       (SeesNoDamage made_array options (made_commands number) before.store.content → ¬ Rose before.store.faults now.store.faults → status ≡ OutOfMemory) →
       LeavesBetween made_array options [] (made_commands number) before.store now.store (ending_of status) →
@@ -125,10 +133,8 @@ module _ (number : ℕ) (options : Options) (before now : Seen) where
       AnswersMade number options before now (ending_of last)
   made_early status last which kept fault unread complete left unchanged = let ends = last_fails status last which fault in record {
     done = λ is. absurd (fails_done last ends (is_done last is));
-    asks = λ written. absurd (⊎_elim
-        (λ (is : ending_of last ≡ end.done). fails_done last ends (is_done last is))
-        (λ (is : ending_of last ≡ end.write_fault). fails_write last ends (is_write last is))
-        written);
+    asks = λ written. absurd (unwritten last ends written);
+    puts = λ written. absurd (unwritten last ends written);
     unread = unread;
     begun = begun made_array options (made_commands number) before.store now.store last ends;
     chunk = λ key is. fails_chunk last key ends is;

@@ -53,6 +53,7 @@ did_run words settings input parsed before now text reads within says ran taken 
       run = its_run words settings input parsed reads within says;
       prints = runs.prints;
       asks = runs.asks;
+      puts = (let put = runs.puts in omega (arith, put));
       taken = λ none. subst (λ entries. TakesRun (documented parsed.array) settings.options (map command_of parsed.commands.items) (with_entries entries before) now) says.entries_are (taken none);
       refused = λ all none. subst (λ entries. IsUntouched (with_entries entries before) now) says.entries_are (refused all none);
     }

@@ -1,6 +1,6 @@
 -- Commands that ran, and their text.
-use Rattle.std.proofs.Common.{◌≡◌, ℕ, ◌+◌, ◌≤◌, List, [], ◌++◌, Vec, Result, Ok, Err, IfOk, IfErr, OnErr, sym, ap, ap₂, ◌∙◌, subst, arith}
-use Rattle.zarr_model.specs.Prelude.{Command, Description, kind, replies, all_asks, all_bytes, present_in, counted, TellsPresence, LeavesArray, IsDamageSeen, Shown, Options, with_keys}
+use Rattle.std.proofs.Common.{◌≡◌, ℕ, ◌+◌, ◌≤◌, List, [], ◌++◌, length, Vec, Result, Ok, Err, IfOk, IfErr, OnErr, sym, ap, ap₂, ◌∙◌, subst, arith}
+use Rattle.zarr_model.specs.Prelude.{Command, Description, kind, replies, all_asks, all_puts, all_bytes, present_in, counted, TellsPresence, LeavesArray, IsDamageSeen, Shown, Options, with_keys}
 use Rattle.zarr_cli_runs.specs.array.parts.Document.{ArrayDocument, describe}
 use Rattle.zarr_cli_runs.specs.array.Stored.{StoresForAll}
 use Rattle.zarr_cli_runs.specs.array.declared.command.Reply.{Reply}
@@ -27,38 +27,40 @@ text_replied description options commands before now held text ran is = record {
   stored = ran.stored;
   undamaged = ran.undamaged;
   asks = ran.asks;
+  puts = ran.puts;
 }
 
 -- the same seen from before the key lines were set
-run_fault-earlier : (description : Description) (options : Options) (commands : List Command) (before mid now : Shown) → mid.content ≡ before.content → mid.asks ≡ before.asks → before.faults ≤ mid.faults → (status : Status) →
+run_fault-earlier : (description : Description) (options : Options) (commands : List Command) (before mid now : Shown) → mid.content ≡ before.content → mid.asks ≡ before.asks → mid.puts ≡ before.puts → before.faults ≤ mid.faults → (status : Status) →
     IsRunFault description options commands mid now status → IsRunFault description options commands before now status
-run_fault-earlier description options commands before mid now same asks later (Chunk key) fault = (
+run_fault-earlier description options commands before mid now same asks puts later (Chunk key) fault = (
   subst (λ content. IsDamageSeen description options commands content key) same fault.0,
   subst (λ content. now.content key ≡ content key) same fault.1,
-  (fault.2.0, fault.2.1, fault.2.2, earlier_failed description options commands before mid now same asks later fault.2.0 fault.2.1 fault.2.3),
+  (fault.2.0, fault.2.1, fault.2.2, earlier_failed description options commands before mid now same asks puts later fault.2.0 fault.2.1 fault.2.3),
 )
-run_fault-earlier description options commands before mid now same asks later Store fault = omega (arith, fault)
-run_fault-earlier description options commands before mid now same asks later OutOfMemory fault = tt
-run_fault-earlier description options commands before mid now same asks later Done fault = fault
-run_fault-earlier description options commands before mid now same asks later BadWords fault = fault
-run_fault-earlier description options commands before mid now same asks later (BadInput line) fault = fault
-run_fault-earlier description options commands before mid now same asks later (Document error) fault = fault
-run_fault-earlier description options commands before mid now same asks later Read fault = fault
-run_fault-earlier description options commands before mid now same asks later Write fault = fault
-run_fault-earlier description options commands before mid now same asks later TooLong fault = fault
+run_fault-earlier description options commands before mid now same asks puts later Store fault = omega (arith, fault)
+run_fault-earlier description options commands before mid now same asks puts later OutOfMemory fault = tt
+run_fault-earlier description options commands before mid now same asks puts later Done fault = fault
+run_fault-earlier description options commands before mid now same asks puts later BadWords fault = fault
+run_fault-earlier description options commands before mid now same asks puts later (BadInput line) fault = fault
+run_fault-earlier description options commands before mid now same asks puts later (Document error) fault = fault
+run_fault-earlier description options commands before mid now same asks puts later Read fault = fault
+run_fault-earlier description options commands before mid now same asks puts later Write fault = fault
+run_fault-earlier description options commands before mid now same asks puts later TooLong fault = fault
 
-pub earlier_fault : {T : Type 0} (description : Description) (options : Options) (commands : List Command) (before mid now : Shown) → mid.content ≡ before.content → mid.asks ≡ before.asks → before.faults ≤ mid.faults → (result : Result T Status) →
+pub earlier_fault : {T : Type 0} (description : Description) (options : Options) (commands : List Command) (before mid now : Shown) → mid.content ≡ before.content → mid.asks ≡ before.asks → mid.puts ≡ before.puts → before.faults ≤ mid.faults → (result : Result T Status) →
     IfErr result (λ status. IsRunFault description options commands mid now status) → IfErr result (λ status. IsRunFault description options commands before now status)
-earlier_fault description options commands before mid now same asks later (Ok value) fault = tt
-earlier_fault description options commands before mid now same asks later (Err status) fault = run_fault-earlier description options commands before mid now same asks later status fault
+earlier_fault description options commands before mid now same asks puts later (Ok value) fault = tt
+earlier_fault description options commands before mid now same asks puts later (Err status) fault = run_fault-earlier description options commands before mid now same asks puts later status fault
 
-pub earlier_prints : {Z : Type 0} (description : Description) (settings : Settings) (commands : List Command) (before mid now : Shown) → mid.content ≡ before.content → mid.asks ≡ before.asks → (result : Result (Vec ℕ Z) Status) →
+pub earlier_prints : {Z : Type 0} (description : Description) (settings : Settings) (commands : List Command) (before mid now : Shown) → mid.content ≡ before.content → mid.asks ≡ before.asks → mid.puts ≡ before.puts → (result : Result (Vec ℕ Z) Status) →
     IfOk result (λ text. PrintsAll description settings commands mid now text.items) → IfOk result (λ text. PrintsAll description settings commands before now text.items)
-earlier_prints description settings commands before mid now same asks (Ok text) ran = record {
+earlier_prints description settings commands before mid now same asks puts (Ok text) ran = record {
   prints = subst (λ content. Prints description settings commands content now.content text.items) same ran.prints;
   asks = (ran.asks.0, ran.asks.1, ran.asks.2 ∙ ap (λ (n : ℕ). counted n (all_asks description commands + ran.asks.0)) asks);
+  puts = ran.puts ∙ ap (λ (n : ℕ). counted n (all_puts description commands)) puts;
 }
-earlier_prints description settings commands before mid now same asks (Err status) ran = tt
+earlier_prints description settings commands before mid now same asks puts (Err status) ran = tt
 
 -- commands that ran, and then a dump
 pub ran_all : (description : Description) (settings : Settings) (commands : List Command) (before mid now : Shown) (replied text : List ℕ) →
@@ -74,6 +76,7 @@ ran_all description settings commands before mid now replied text ran dumps = re
     dumped = (replied, dumps.text.0, dumps.text.1, dumps.text.2);
   };
   asks = (dumps.asks.0, dumps.asks.1, counted_more before.asks mid.asks now.asks (all_asks description commands) dumps.asks.0 ran.asks dumps.asks.2);
+  puts = dumps.puts ∙ ran.puts;
 }
 
 -- a fault of the dump is one of the run
@@ -109,10 +112,10 @@ on_err P (Err error) p = p
 
 -- what commands leave, seen from before the key lines were set
 pub behind_keys : {T : Type 0} (description : Description) (options : Options) (entries : List (List ℕ × List ℕ)) (commands : List Command) (before mid now : Shown) →
-    mid.content ≡ with_keys entries before.content → mid.asks ≡ before.asks → before.faults ≤ mid.faults → (result : Result T Status) →
+    mid.content ≡ with_keys entries before.content → mid.asks ≡ before.asks → mid.puts ≡ counted before.puts (length entries) → before.faults ≤ mid.faults → (result : Result T Status) →
     IfErr result (λ status. LeavesBetween description options [] commands mid now (ending_of status)) → IfErr result (λ status. LeavesBetween description options entries commands before now (ending_of status))
-behind_keys description options entries commands before mid now set asks later (Ok value) left = tt
-behind_keys description options entries commands before mid now set asks later (Err status) left = between_keys description options entries commands before mid now (ending_of status) set asks later left
+behind_keys description options entries commands before mid now set asks puts later (Ok value) left = tt
+behind_keys description options entries commands before mid now set asks puts later (Err status) left = between_keys description options entries commands before mid now (ending_of status) set asks puts later left
 
 -- and where one of these failed
 pub some_keys : (description : Description) (options : Options) (entries : List (List ℕ × List ℕ)) (commands : List Command) (before now : Shown) (ending : Ending) →

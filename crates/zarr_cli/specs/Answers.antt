@@ -1,6 +1,6 @@
 -- What a run of the program owes.
-use Rattle.std.specs.Prelude.{◌≡◌, ℕ, ◌+◌, List, [], false, Some}
-use Rattle.zarr_model.specs.Prelude.{Rose, all_asks, counted, AreRefused, IsUntouched}
+use Rattle.std.specs.Prelude.{◌≡◌, ℕ, ◌+◌, List, [], length, false, Some}
+use Rattle.zarr_model.specs.Prelude.{Rose, all_asks, all_puts, counted, AreRefused, IsUntouched}
 use Rattle.zarr_cli_runs.specs.array.parts.Document.{describe}
 use Rattle.zarr_cli_runs.specs.array.parts.Opening.{OpenRefusal}
 use Rattle.zarr_cli.specs.Words.{HasBadWords}
@@ -26,6 +26,10 @@ pub record Answers (words : List (List ℕ)) (input : List ℕ) (before now : Se
       (more : ℕ) × IsDumpAsks run.settings.dump now.store.content more
       × (now.store.asks ≡ counted before.store.asks
       (all_asks (describe run.document) run.commands + more))
+  -- as many writing calls as key lines and chunks that its writes and erases change
+  pub puts : (run : Run words input) → IsWritten ending →
+      now.store.puts ≡ counted before.store.puts
+      (length (input_entries input) + all_puts (describe run.document) run.commands)
   -- and where the codec `bytes` is all of the chain and no keys are asked for, exactly the bytes
   -- that its commands need were taken, where presence before each is known
   pub taken : (run : Run words input) → IsWritten ending → run.settings.dump ≡ false →

@@ -1,6 +1,6 @@
 -- A run that is made from a number: what it prints, what it leaves, and what it owes.
 use Rattle.std.specs.Prelude.{◌≡◌, ℕ, ◌+◌, List, []}
-use Rattle.zarr_model.specs.Prelude.{Options, Content, Rose, all_asks, counted, IsDamageSeen, SeesNoDamage}
+use Rattle.zarr_model.specs.Prelude.{Options, Content, Rose, all_asks, all_puts, counted, IsDamageSeen, SeesNoDamage}
 use Rattle.zarr_cli_runs.specs.making.Commands.{made_commands}
 use Rattle.zarr_cli_runs.specs.Between.{LeavesBetween}
 use Rattle.zarr_cli_runs.specs.Commands.{IsChangedKey, EndsAtDamage}
@@ -24,6 +24,9 @@ pub record AnswersMade (number : ℕ) (options : Options) (before now : Seen)
   -- meet, and one for the keys
   pub asks : IsWritten ending → now.store.asks
       ≡ counted before.store.asks (all_asks made_array (made_commands number) + 1)
+  -- and as many writing calls as chunks that writes and erases change
+  pub puts : IsWritten ending → now.store.puts
+      ≡ counted before.store.puts (all_puts made_array (made_commands number))
   -- nothing is read, and no ending is one of the words, the reading or an input
   pub unread : now.source ≡ before.source
   pub begun : ¬ IsBeforeStore ending

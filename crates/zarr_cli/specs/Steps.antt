@@ -1,6 +1,6 @@
 -- What each step of the program promises to the next one.
 use Rattle.std.specs.Prelude.{◌≡◌, ℕ, ◌+◌, ◌<◌, false, List, ◌++◌, length, map, IsUtf8, Contains, Option, Some, None}
-use Rattle.zarr_model.specs.Prelude.{Element, Array, Content, Options, SetsSome, Shown, Told, Command, Description, replies, LeavesArray, AreRefused, IsUntouched, all_asks, counted, Rose, SeesNoDamage}
+use Rattle.zarr_model.specs.Prelude.{Element, Array, Content, Options, SetsSome, Shown, Told, Command, Description, replies, LeavesArray, AreRefused, IsUntouched, all_asks, all_puts, counted, Rose, SeesNoDamage}
 use Rattle.zarr_cli_runs.specs.array.parts.Document.{describe}
 use Rattle.zarr_cli_runs.specs.array.parts.Opening.{OpenRefusal, opened, open_builtin}
 use Rattle.zarr_cli_runs.specs.array.OpenArray.{documented}
@@ -67,6 +67,7 @@ pub record RepliesTo (description : Description) (options : Options) (commands :
   pub stored : StoresForAll description options commands before.content now.content
   pub undamaged : SeesNoDamage description options commands before.content
   pub asks : now.asks ≡ counted before.asks (all_asks description commands)
+  pub puts : now.puts ≡ counted before.puts (all_puts description commands)
 
 -- commands were run over a store, and the text is what they print, at the cost of the calls that
 -- they make
@@ -74,6 +75,7 @@ pub record PrintsAll (description : Description) (settings : Settings) (commands
     (before now : Shown) (text : List ℕ) : Type 0 where
   pub prints : Prints description settings commands before.content now.content text
   pub asks : CountsDump settings.dump (all_asks description commands) before now
+  pub puts : now.puts ≡ counted before.puts (all_puts description commands)
 
 -- some first key lines are set, and the next one perhaps
 abbrev pub SetsPart : List (List ℕ × List ℕ) → Content → Content → Type 0
@@ -90,6 +92,8 @@ pub record PrintsInput (words : List (List ℕ)) (input : List ℕ) (before now 
   pub prints : Prints (describe run.document) run.settings run.commands
       (store_after_keys input before.content) now.content text
   pub asks : CountsDump run.settings.dump (all_asks (describe run.document) run.commands) before now
+  pub puts : now.puts ≡ counted before.puts
+      (length (input_entries input) + all_puts (describe run.document) run.commands)
   pub taken : run.settings.dump ≡ false → TakesRun run.document run.settings.options run.commands
       (with_entries (input_entries input) before) now
   pub refused : AreRefused (describe run.document) run.commands → run.settings.dump ≡ false →

@@ -1,7 +1,7 @@
 //! Running the commands of an input over a store.
 
-ghost use Rattle.std.specs.Prelude.{◌≡◌, ◌≤◌, false, map, List, [], ℕ, IfOk, IfErr, OnOk, OnErr};
-ghost use Rattle.zarr_model.specs.Prelude.{Rose, HasCause, SeesNoDamage, with_keys, AreRefused, IsUntouched};
+ghost use Rattle.std.specs.Prelude.{◌≡◌, ◌≤◌, false, map, length, List, [], ℕ, IfOk, IfErr, OnOk, OnErr};
+ghost use Rattle.zarr_model.specs.Prelude.{Rose, HasCause, SeesNoDamage, counted, with_keys, AreRefused, IsUntouched};
 ghost use Rattle.zarrs_storage.specs.Store.{IsFault as IsStoreFault, IsPlain};
 ghost use Rattle.zarr_cli_runs.specs.array.OpenArray.{documented, described};
 ghost use Rattle.zarr_cli_runs.specs.array.Command.{command_of};
@@ -22,7 +22,7 @@ use zarr_cli_runs::keys::push_dump;
 use zarr_cli_runs::{CodecOptions, Command, Entry, OpenArray, Status};
 use zarrs_storage::{StorageError, Store};
 
-// Sets the key lines, the first one first.
+// Sets the key lines, the first one first, each by one writing call.
 fn set_entries<S: Store>(
     alloc: Global,
     entries: &[Entry],
@@ -36,6 +36,8 @@ fn set_entries<S: Store>(
         (S.shown store.new).content key ≡ (S.shown store.old).content key }
     ensures asks { (S.shown store.new).asks ≡ (S.shown store.old).asks }
     ensures taken { (S.shown store.new).taken ≡ (S.shown store.old).taken }
+    ensures puts { OnOk result ((S.shown store.new).puts
+        ≡ counted (S.shown store.old).puts (length (map entry_view entries.now))) }
     ensures plain { IfErr result IsPlain }
     ensures cause { HasCause IsStoreFault (S.shown store.old).faults (S.shown store.new).faults
         result }

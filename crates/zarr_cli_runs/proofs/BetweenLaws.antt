@@ -1,8 +1,8 @@
 -- What a run leaves, also where it ended early.
-use Rattle.std.proofs.Common.{◌≡◌, ◌<◌, ◌≤◌, ℕ, zero, suc, true, false, take, slice_get, Bool, List, [], length, Option, Some, None, IsSome, inl, inr, ⊎_elim, ◌⊎◌, refl, sym, ap, ◌∙◌, subst, subst₂, arith, not}
+use Rattle.std.proofs.Common.{◌≡◌, ◌+◌, ◌-◌, ◌^◌, ◌<◌, ◌≤◌, ℕ, zero, suc, true, false, take, slice_get, Bool, List, [], length, Option, Some, None, IsSome, inl, inr, ⊎_elim, ◌⊎◌, refl, sym, ap, ◌∙◌, subst, subst₂, arith, not}
 use Rattle.std.proofs.Math.Path.{fun_ext}
 use Rattle.std.proofs.lemmas.Option.{same_Some, slice_get_within, get_or_from_slice_get}
-use Rattle.zarr_model.specs.Prelude.{Element, Array, Means, undamaged, is_damaged, Options, Content, IsHonest, IsChunk, Refusal, read, write, erase, asks_store, with_keys, Command, Description, layout, chunk_content, Shown, Rose, EndsBetween, SetsSome, LeavesArray, LeavesKeys, AsksUpTo, begun, IsLeftAt, IsLeftBut, IsStarved, IsUndecoded, SeesNoDamage, IsDamageSeen, MeetsNoDamage, command_chunks, passes_over, refusal}
+use Rattle.zarr_model.specs.Prelude.{Element, Array, Means, undamaged, is_damaged, Options, Content, IsHonest, IsChunk, Refusal, read, write, erase, asks_store, with_keys, Command, Description, layout, chunk_content, Shown, Rose, EndsBetween, SetsSome, LeavesArray, LeavesKeys, AsksUpTo, PutsUpTo, counted, begun, IsLeftAt, IsLeftBut, IsStarved, IsUndecoded, SeesNoDamage, IsDamageSeen, MeetsNoDamage, command_chunks, passes_over, refusal}
 use Rattle.zarr_model.proofs.KeyLineLaws.{key-lines}
 use Rattle.zarr_model.proofs.WithoutLaws.{without-none}
 use Rattle.zarr_model.proofs.Choices.{none_some}
@@ -94,6 +94,31 @@ module _ (description : Description) (options : Options) (entries : List (List �
       LeavesBetween description options entries commands before now ending
   between_ran left mended = record { honest = λ honest. inl (inr (inr left)); along = inr (inr mended) }
 
+-- an error at a place, seen from a store that shows the same
+module _ (description : Description) (options : Options) (commands : List Command) (before mid now : Shown) (content : mid.content ≡ before.content) (asks : mid.asks ≡ before.asks) (puts : mid.puts ≡ before.puts) (later : before.faults ≤ mid.faults) where
+  earlier_cause : (at : Option (ℕ × ℕ)) (kind : SessionErrorKind) → HasSessionCause description options commands mid now at kind → HasSessionCause description options commands before now at kind
+  earlier_cause at (NotOpened error) cause = cause
+  earlier_cause at (ChunkDecode key error) cause = subst (λ store. IsUndecoded description options commands store now.content key at × IsNoticed description options commands store at) content cause
+  earlier_cause at Kind.Store cause = (
+    (let above = cause.0 in omega (arith, above)),
+    cause.1,
+    subst (λ store. IsHonest (layout description options) store → IsLeftAt description options commands store now.content true at) content cause.2,
+  )
+  earlier_cause at Kind.OutOfMemory cause = subst (λ store. IsStarved description options commands store now.content at) content cause
+
+  pub earlier_failed : (at : Option (ℕ × ℕ)) (kind : SessionErrorKind) → FailsAt description options commands mid now at kind → FailsAt description options commands before now at kind
+  earlier_failed at kind fails = record {
+    place = fails.place;
+    asks = subst (λ (n : ℕ). AsksUpTo description commands n now.asks at) asks fails.asks;
+    puts = subst (λ (n : ℕ). PutsUpTo description commands n now.puts at) puts fails.puts;
+    keys = subst (λ store. LeavesKeys description options (begun commands at) store now.content) content fails.keys;
+    stored = subst (λ store. StaysOrDecodes description store now.content) content fails.stored;
+    damage = subst (λ store. DamageStands description options (begun commands at) store now.content) content fails.damage;
+    left = subst (λ store. IsLeftBut description options commands store now.content (is_store kind) at) content fails.left;
+    decoded = subst (λ store. AreDecoded description options commands store at) content fails.decoded;
+    cause = earlier_cause at kind fails.cause;
+  }
+
 module _ (description : Description) (options : Options) (commands : List Command) (before now : Shown) where
   -- a session ended at a place, over an honest store
   honest_ended : (at : Option (ℕ × ℕ)) (kind : SessionErrorKind) → HasSessionCause description options commands before now at kind →
@@ -124,11 +149,16 @@ module _ (description : Description) (options : Options) (commands : List Comman
   told_by at Kind.OutOfMemory cause = refl
 
   -- and over any store
-  pub between_failed : (at : Option (ℕ × ℕ)) (kind : SessionErrorKind) → FailsAt description options commands before now at kind →
+  pub between_failed : before.puts ≤ 2 ^ 64 - 1 → (at : Option (ℕ × ℕ)) (kind : SessionErrorKind) → FailsAt description options commands before now at kind →
       LeavesBetween description options [] commands before now (ending_of (session_status kind))
-  between_failed at kind fails = record {
+  between_failed few at kind fails = record {
     honest = honest_ended at kind fails.cause;
-    along = inr (inl (at, kind, told_by at kind fails.cause, fails));
+    along = inr (inl (
+      at,
+      kind,
+      told_by at kind fails.cause,
+      earlier_failed description options commands (with_entries [] before) before now refl refl (omega (arith, few)) (omega arith) at kind fails,
+    ));
   }
 
   -- what commands leave is left where nothing more was changed
@@ -137,35 +167,11 @@ module _ (description : Description) (options : Options) (commands : List Comman
   between_still mid ending left mended same = between_ran description options [] commands before now ending
       (subst (LeavesArray description options commands before.content) (sym same) left) (subst (LeavesUndamaged description options commands before.content) (sym same) mended)
 
--- an error at a place, seen from before the key lines were set
-module _ (description : Description) (options : Options) (commands : List Command) (before mid now : Shown) (content : mid.content ≡ before.content) (asks : mid.asks ≡ before.asks) (later : before.faults ≤ mid.faults) where
-  earlier_cause : (at : Option (ℕ × ℕ)) (kind : SessionErrorKind) → HasSessionCause description options commands mid now at kind → HasSessionCause description options commands before now at kind
-  earlier_cause at (NotOpened error) cause = cause
-  earlier_cause at (ChunkDecode key error) cause = subst (λ store. IsUndecoded description options commands store now.content key at × IsNoticed description options commands store at) content cause
-  earlier_cause at Kind.Store cause = (
-    (let above = cause.0 in omega (arith, above)),
-    cause.1,
-    subst (λ store. IsHonest (layout description options) store → IsLeftAt description options commands store now.content true at) content cause.2,
-  )
-  earlier_cause at Kind.OutOfMemory cause = subst (λ store. IsStarved description options commands store now.content at) content cause
-
-  pub earlier_failed : (at : Option (ℕ × ℕ)) (kind : SessionErrorKind) → FailsAt description options commands mid now at kind → FailsAt description options commands before now at kind
-  earlier_failed at kind fails = record {
-    place = fails.place;
-    asks = subst (λ (n : ℕ). AsksUpTo description commands n now.asks at) asks fails.asks;
-    keys = subst (λ store. LeavesKeys description options (begun commands at) store now.content) content fails.keys;
-    stored = subst (λ store. StaysOrDecodes description store now.content) content fails.stored;
-    damage = subst (λ store. DamageStands description options (begun commands at) store now.content) content fails.damage;
-    left = subst (λ store. IsLeftBut description options commands store now.content (is_store kind) at) content fails.left;
-    decoded = subst (λ store. AreDecoded description options commands store at) content fails.decoded;
-    cause = earlier_cause at kind fails.cause;
-  }
-
 -- commands behind key lines that are set
 pub between_keys : (description : Description) (options : Options) (entries : List (List ℕ × List ℕ)) (commands : List Command) (before mid now : Shown) (ending : Ending) →
-    mid.content ≡ with_keys entries before.content → mid.asks ≡ before.asks → before.faults ≤ mid.faults →
+    mid.content ≡ with_keys entries before.content → mid.asks ≡ before.asks → mid.puts ≡ counted before.puts (length entries) → before.faults ≤ mid.faults →
     LeavesBetween description options [] commands mid now ending → LeavesBetween description options entries commands before now ending
-between_keys description options entries commands before mid now ending set asks later left = record {
+between_keys description options entries commands before mid now ending set asks puts later left = record {
   honest = λ honest.
       ⊎_elim
       (λ (ends : EndsBetween description options [] commands false mid.content now.content). inl (behind false ends))
@@ -190,7 +196,7 @@ between_keys description options entries commands before mid now ending set asks
 
     beyond : EndsAlong description options [] commands mid now ending → EndsAlong description options entries commands before now ending
     beyond (inl (n, some)) = inl (length entries, all_set n some)
-    beyond (inr (inl (at, kind, told, fails))) = inr (inl (at, kind, told, earlier_failed description options commands (with_entries entries before) mid now set asks later at kind fails))
+    beyond (inr (inl (at, kind, told, fails))) = inr (inl (at, kind, told, earlier_failed description options commands (with_entries entries before) (with_entries no_entries mid) now set asks (omega (arith, puts)) later at kind fails))
     beyond (inr (inr mended)) = inr (inr (subst (λ store. LeavesUndamaged description options commands store now.content) set mended))
 
 -- the line of a status other than that of a fault of the store may want memory

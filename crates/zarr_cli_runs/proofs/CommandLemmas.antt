@@ -1,6 +1,6 @@
 -- Commands that ran.
 use Rattle.std.proofs.Common.{◌≡◌, ℕ, List, map, Option, Some, None, IsSome, refl, sym, subst}
-use Rattle.zarr_model.specs.Prelude.{Element, Array, Content, Rose, IsHonest, WhollyMeans, Command, Description, layout, all_asks, counted, LeavesKeys, ServesArray, RefusesRight, SeesNoDamage, AnswersUndamaged, RanOver, Shown, Options}
+use Rattle.zarr_model.specs.Prelude.{Element, Array, Content, Rose, IsHonest, WhollyMeans, Command, Description, layout, all_asks, all_puts, counted, LeavesKeys, ServesArray, RefusesRight, SeesNoDamage, AnswersUndamaged, RanOver, Shown, Options}
 use Rattle.zarr_cli_made.specs.array.OpenArray.{described}
 use Rattle.zarr_cli_made.specs.array.Command.{answer_of}
 use Rattle.zarr_cli_made.specs.array.Session.{FailsAt}
@@ -24,8 +24,8 @@ pub replied_by : (array : OpenArray) (options : Options) (commands : List Comman
     StoresForAll (described array) options commands before.content now.content →
     LeavesKeys (described array) options commands before.content now.content → SeesNoDamage (described array) options commands before.content →
     RefusesRight (described array) commands (map answer_of held) →
-    now.asks ≡ counted before.asks (all_asks (described array) commands) → RepliedBy (described array) options commands before now held
-replied_by array options commands before now held answers over serves stored keys undamaged refusals asks = record {
+    now.asks ≡ counted before.asks (all_asks (described array) commands) → now.puts ≡ counted before.puts (all_puts (described array) commands) → RepliedBy (described array) options commands before now held
+replied_by array options commands before now held answers over serves stored keys undamaged refusals asks puts = record {
   matched = λ meant means. answers means.0 meant means.1;
   mended = record { keeps = over.keeps; whole = over.whole; keys = keys };
   left = record {
@@ -38,6 +38,7 @@ replied_by array options commands before now held answers over serves stored key
   undamaged = undamaged;
   refusals = refusals;
   asks = asks;
+  puts = puts;
 }
 
 -- why commands ended early

@@ -47,26 +47,27 @@ pub counted_more : (n mid now a b : ℕ) → mid ≡ counted n a → now ≡ cou
 counted_more n mid now a b first second = omega (arith, first, second)
 
 -- the list of keys and their lines are a dump
-dumped : (before mid now : Shown) (keys : List (List ℕ)) (text new_text : List ℕ) → ListsKeys before.content keys → mid.content ≡ before.content → now.content ≡ mid.content →
+dumped : (before mid now : Shown) (keys : List (List ℕ)) (text new_text : List ℕ) → ListsKeys before.content keys → mid.content ≡ before.content → now.content ≡ mid.content → now.puts ≡ before.puts →
     mid.asks ≡ counted before.asks 1 → now.asks ≡ counted mid.asks (length keys) → new_text ≡ text ++ entries_text (entries_at mid.content keys) → Dumps true before now text new_text
-dumped before mid now keys text new_text lists same kept first second lines =
+dumped before mid now keys text new_text lists same kept unput first second lines =
     let here : ListsStore now.content (entries_at before.content keys) = subst (λ content. ListsStore content (entries_at before.content keys)) (sym (kept ∙ same)) (lists_store before.content keys lists) in
     let many : length (entries_at before.content keys) ≡ length keys = length-map keys (λ key. (key, unwrap_or (before.content key) [])) in
     record {
       text = (entries_text (entries_at before.content keys), (entries_at before.content keys, here, refl), lines ∙ ap (λ content. text ++ entries_text (entries_at content keys)) same);
       same = kept ∙ same;
       asks = (length (entries_at before.content keys) + 1, (entries_at before.content keys, here, refl), omega (arith, first, second, many));
+      puts = unput;
     }
 
-pub store_dumped : {T : Type 0} (before mid now : Shown) (keys : List (List ℕ)) (text new_text : List ℕ) (result : Result T Status) → ListsKeys before.content keys → mid.content ≡ before.content → now.content ≡ mid.content →
+pub store_dumped : {T : Type 0} (before mid now : Shown) (keys : List (List ℕ)) (text new_text : List ℕ) (result : Result T Status) → ListsKeys before.content keys → mid.content ≡ before.content → now.content ≡ mid.content → now.puts ≡ before.puts →
     mid.asks ≡ counted before.asks 1 → OnOk result (now.asks ≡ counted mid.asks (length keys)) → OnOk result (new_text ≡ text ++ entries_text (entries_at mid.content keys)) →
     OnOk result (Dumps true before now text new_text)
-store_dumped before mid now keys text new_text (Ok value) lists same kept first second lines = dumped before mid now keys text new_text lists same kept first second lines
-store_dumped before mid now keys text new_text (Err status) lists same kept first second lines = tt
+store_dumped before mid now keys text new_text (Ok value) lists same kept unput first second lines = dumped before mid now keys text new_text lists same kept unput first second lines
+store_dumped before mid now keys text new_text (Err status) lists same kept unput first second lines = tt
 
 -- no dump
 pub none_dumped : (store : Shown) (text : List ℕ) → store.asks ≤ 2 ^ 64 - 1 → Dumps false store store text text
-none_dumped store text fits = record { text = ([], refl, sym (append-nil text)); same = refl; asks = (0, refl, counted_none store.asks fits) }
+none_dumped store text fits = record { text = ([], refl, sym (append-nil text)); same = refl; asks = (0, refl, counted_none store.asks fits); puts = refl }
 
 -- faults of a dump
 pub status_fault : (error : StorageError) (before now : Shown) → IsPlain error → (IsFault error → Rose before.faults now.faults) → IsDumpFault before now (storage_status error)

@@ -1,6 +1,6 @@
 -- What a run leaves, also where it ended early.
-use Rattle.std.specs.Prelude.{◌≡◌, ◌⊎◌, ℕ, true, false, List, Option}
-use Rattle.zarr_model.specs.Prelude.{Options, IsHonest, with_keys, Command, Description, layout, Shown, Rose, SetsSome, EndsBetween}
+use Rattle.std.specs.Prelude.{◌≡◌, ◌⊎◌, ℕ, true, false, List, length, Option}
+use Rattle.zarr_model.specs.Prelude.{Options, counted, IsHonest, with_keys, Command, Description, layout, Shown, Rose, SetsSome, EndsBetween}
 use Rattle.zarr_cli_made.specs.array.Session.{FailsAt}
 use Rattle.zarr_cli_made.specs.array.regions.declared.error.SessionErrorKind.{SessionErrorKind}
 use Rattle.zarr_cli_made.specs.array.regions.declared.error.SessionErrorKind.TheVariants.{NotOpened, ChunkDecode}
@@ -8,9 +8,12 @@ use Rattle.zarr_cli_made.specs.array.regions.declared.error.SessionErrorKind.The
 use Rattle.zarr_cli_runs.specs.Ending.{Ending, IsOrMemory, damaged_chunk, store_fault, out_of_memory}
 use Rattle.zarr_cli_runs.specs.Commands.{LeavesUndamaged}
 
--- what a store shows once key lines are set
+-- what a store shows once key lines are set, each by one writing call
 abbrev pub with_entries : List (List ℕ × List ℕ) → Shown → Shown
-with_entries entries store = record store { content = with_keys entries store.content }
+with_entries entries store = record store {
+  content = with_keys entries store.content;
+  puts = counted store.puts (length entries);
+}
 
 -- an honest store: some key lines of a run are set, its commands are cut short at a place, or all of
 -- them ran; the key of the next chunk is absent only where the store failed, and this is told

@@ -2,7 +2,7 @@
 -- early.
 use Rattle.std.specs.Prelude.{◌≡◌, ℕ, List, [], map, Option, Ok, true}
 use Rattle.std.specs.List.{AllZip, list_any}
-use Rattle.zarr_model.specs.Prelude.{Element, Array, Options, Content, Means, WhollyMeans, Shown, Command, Description, kind, layout, replies, array_after, Matches, LeavesArray, SeesNoDamage, MeetsNoDamage, KeepsDamage, RefusesRight, all_asks, counted, Rose, IsDamageSeen, IsChunk, changes_chunk, undamaged, LeavesKeys}
+use Rattle.zarr_model.specs.Prelude.{Element, Array, Options, Content, Means, WhollyMeans, Shown, Command, Description, kind, layout, replies, array_after, Matches, LeavesArray, SeesNoDamage, MeetsNoDamage, KeepsDamage, RefusesRight, all_asks, all_puts, counted, Rose, IsDamageSeen, IsChunk, changes_chunk, undamaged, LeavesKeys}
 use Rattle.zarr_cli_made.specs.array.Command.{answer_of}
 use Rattle.zarr_cli_made.specs.array.Stored.{StoresForAll}
 use Rattle.zarr_cli_made.specs.array.parts.Document.{ArrayDocument}
@@ -62,6 +62,7 @@ pub record RepliedBy (description : Description) (options : Options) (commands :
   pub undamaged : SeesNoDamage description options commands before.content
   pub refusals : RefusesRight description commands (map answer_of held)
   pub asks : now.asks ≡ counted before.asks (all_asks description commands)
+  pub puts : now.puts ≡ counted before.puts (all_puts description commands)
 
 -- commands that all ran took exactly the bytes that they need, where the codec `bytes` is all of
 -- the chain and presence before each is known

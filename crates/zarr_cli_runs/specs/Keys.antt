@@ -33,12 +33,13 @@ abbrev pub CountsDump : Bool → ℕ → Shown → Shown → Type 0
 CountsDump dump earlier before now = (more : ℕ) × IsDumpAsks dump now.content more
     × (now.asks ≡ counted before.asks (earlier + more))
 
--- the lines of the keys were appended to a text where they were asked for, and the store holds what
--- it held
+-- the lines of the keys were appended to a text where they were asked for, and nothing was written
+-- to the store
 pub record Dumps (dump : Bool) (before now : Shown) (old_text new_text : List ℕ) : Type 0 where
   pub text : (keys : List ℕ) × IsDump dump now.content keys × (new_text ≡ old_text ++ keys)
   pub same : now.content ≡ before.content
   pub asks : CountsDump dump 0 before now
+  pub puts : now.puts ≡ before.puts
 
 -- the status of a call of the store that gave no answer, and was given no ranges
 abbrev pub storage_status : StorageError → Status

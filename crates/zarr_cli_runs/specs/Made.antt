@@ -1,7 +1,7 @@
 -- A run that is made from a number: its array, its summary, and what it leaves.
 use Rattle.std.specs.Prelude.{◌≡◌, ℕ, ◌+◌, List, length, Option, Some, None}
 use Rattle.std.specs.List.{sum_by}
-use Rattle.zarr_model.specs.Prelude.{Element, Array, Options, Content, Command, Refusal, Description, refusal, replies, all_asks, counted, LeavesArray, SeesNoDamage, Shown}
+use Rattle.zarr_model.specs.Prelude.{Element, Array, Options, Content, Command, Refusal, Description, refusal, replies, all_asks, all_puts, counted, LeavesArray, SeesNoDamage, Shown}
 use Rattle.zarrs_storage.specs.Store.{ListsKeys}
 use Rattle.zarr_cli_made.specs.array.parts.Document.{describe}
 use Rattle.zarr_cli_made.specs.array.Stored.{StoresForAll}
@@ -65,3 +65,4 @@ pub record SumsAll (description : Description) (options : Options) (commands : L
     (before now : Shown) (text : List ℕ) : Type 0 where
   pub sums : SumsUp description options commands before.content now.content text
   pub asks : now.asks ≡ counted before.asks (all_asks description commands + 1)
+  pub puts : now.puts ≡ counted before.puts (all_puts description commands)

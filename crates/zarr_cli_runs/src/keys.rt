@@ -33,6 +33,7 @@ fn push_key<S: Store>(
         ++ line_of (entry_text (key.now, unwrap_or ((S.shown store.old).content key.now) []))) }
     ensures same { (S.shown store.new).content ≡ (S.shown store.old).content }
     ensures asks { OnOk result ((S.shown store.new).asks ≡ counted (S.shown store.old).asks 1) }
+    ensures puts { (S.shown store.new).puts ≡ (S.shown store.old).puts }
     ensures later { (S.shown store.old).faults ≤ (S.shown store.new).faults }
     ensures fault { IfErr result (λ status.
         IsDumpFault (S.shown store.old) (S.shown store.new) status) }
@@ -57,6 +58,7 @@ fn push_keys<S: Store>(
     ensures same { (S.shown store.new).content ≡ (S.shown store.old).content }
     ensures asks { OnOk result
         ((S.shown store.new).asks ≡ counted (S.shown store.old).asks (length keys.now)) }
+    ensures puts { (S.shown store.new).puts ≡ (S.shown store.old).puts }
     ensures later { (S.shown store.old).faults ≤ (S.shown store.new).faults }
     ensures fault { IfErr result (λ status.
         IsDumpFault (S.shown store.old) (S.shown store.new) status) }
@@ -117,6 +119,7 @@ pub fn count_keys<S: Store>(alloc: Global, store: &mut S) -> Result<usize, Statu
         × ListsKeys (S.shown store.new).content keys × (count ≡ length keys)) }
     ensures same { (S.shown store.new).content ≡ (S.shown store.old).content }
     ensures asks { OnOk result ((S.shown store.new).asks ≡ counted (S.shown store.old).asks 1) }
+    ensures puts { (S.shown store.new).puts ≡ (S.shown store.old).puts }
     ensures later { (S.shown store.old).faults ≤ (S.shown store.new).faults }
     ensures fault { IfErr result (λ status.
         IsDumpFault (S.shown store.old) (S.shown store.new) status) }

@@ -1,5 +1,5 @@
 -- One command of a session: refused, or a read; and how a command's failure is one of the whole list.
-use Rattle.std.proofs.Common.{◌≡◌, ℕ, zero, suc, ◌+◌, ◌<◌, ◌≤◌, Bool, true, false, List, [], ◌∷◌, ◌++◌, length, take, slice_get, Option, Some, None, IsSome, is_some, if◌then◌else◌, refl, sym, ap, ◌∙◌, subst, arith, inl, inr, ⊎_elim}
+use Rattle.std.proofs.Common.{◌≡◌, ℕ, zero, suc, ◌+◌, ◌<◌, ◌≤◌, Bool, true, false, List, [], ◌∷◌, ◌++◌, length, take, sum_by, slice_get, Option, Some, None, IsSome, is_some, if◌then◌else◌, refl, sym, ap, ◌∙◌, subst, arith, inl, inr, ⊎_elim}
 use Rattle.std.specs.List.{list_any}
 use Rattle.std.proofs.lemmas.List.Folds.{list_any-append}
 use Rattle.std.proofs.lemmas.Bool.{or_parts, or_from, true≢false}
@@ -10,10 +10,10 @@ use Rattle.zarr_model.specs.Grid.{IsChunk, CoversShape}
 use Rattle.zarr_model.specs.Codec.{Options}
 use Rattle.zarr_model.specs.Store.{Content, Layout, IsHonest, WhollyMeans, box_content, chunk_content}
 use Rattle.zarr_model.specs.Command.{Command, read, Refusal, Description, kind, layout, refusal, reply_of, array_of, after, Answer, answered_refused, Matches, elements, array_after}
-use Rattle.zarr_model.specs.Cost.{command_chunks, asks_store, all_asks, counted, present_in, present_under}
+use Rattle.zarr_model.specs.Cost.{command_chunks, asks_store, calls_of, counted, present_in, present_under}
 use Rattle.zarr_model.specs.Failure.{ChunkHas, IsCutShort, FailedAt}
 use Rattle.zarr_model.specs.Shown.{Shown}
-use Rattle.zarr_model.specs.Causes.{IsPlace, AsksUpTo, IsLeftAt, erases_chunk, IsUndecoded, IsStopped, IsStarved, KeepsDamage}
+use Rattle.zarr_model.specs.Causes.{IsPlace, CallsUpTo, IsLeftAt, erases_chunk, IsUndecoded, IsStopped, IsStarved, KeepsDamage}
 use Rattle.zarr_model.specs.Session.{LeavesKeys, ServesWhole}
 use Rattle.zarr_model.proofs.RunLaws.{array_after-append}
 use Rattle.zarr_model.proofs.FailureLaws.{listed_is_chunk}
@@ -119,21 +119,22 @@ module _ (description : Description) (options : Options) (commands : List Comman
   pub place-lifts : (k : ℕ) → IsPlace description (command ∷ []) (Some (0, k)) → IsPlace description commands (Some (m, k))
   place-lifts k (other, is, few) = let same : other ≡ command = cc in (command, here, subst (λ c. k ≤ length (command_chunks description c)) same few)
 
-  pub asks-lift : (old mid now k : ℕ) → mid ≡ counted old (all_asks description (take m commands)) → AsksUpTo description (command ∷ []) mid now (Some (0, k)) → AsksUpTo description commands old now (Some (m, k))
-  asks-lift old mid now k so_far (other, is, asked) =
+  pub calls-lift : (makes : Command → Bool) (old mid now k : ℕ) → mid ≡ counted old (sum_by (calls_of makes description) (take m commands)) → CallsUpTo makes description (command ∷ []) mid now (Some (0, k)) →
+      CallsUpTo makes description commands old now (Some (m, k))
+  calls-lift makes old mid now k so_far (other, is, asked) =
       let same : other ≡ command = cc in (
         command,
         here,
         ⊎_elim
-            (λ (done : now ≡ counted mid (0 + (if asks_store other then k else 0))). inl (more (if asks_store other then k else 0) (if asks_store command then k else 0) (ap (λ c. if asks_store c then k else 0) same) done))
-            (λ (next : (k < length (command_chunks description other)) × (now ≡ counted mid (0 + (if asks_store other then k + 1 else 0)))). inr (
+            (λ (done : now ≡ counted mid (0 + (if makes other then k else 0))). inl (more (if makes other then k else 0) (if makes command then k else 0) (ap (λ c. if makes c then k else 0) same) done))
+            (λ (next : (k < length (command_chunks description other)) × (now ≡ counted mid (0 + (if makes other then k + 1 else 0)))). inr (
               subst (λ c. k < length (command_chunks description c)) same next.0,
-              more (if asks_store other then k + 1 else 0) (if asks_store command then k + 1 else 0) (ap (λ c. if asks_store c then k + 1 else 0) same) next.1,
+              more (if makes other then k + 1 else 0) (if makes command then k + 1 else 0) (ap (λ c. if makes c then k + 1 else 0) same) next.1,
             ))
             asked,
       )
     where
-      more : (a b : ℕ) → a ≡ b → now ≡ counted mid (0 + a) → now ≡ counted old (all_asks description (take m commands) + b)
+      more : (a b : ℕ) → a ≡ b → now ≡ counted mid (0 + a) → now ≡ counted old (sum_by (calls_of makes description) (take m commands) + b)
       more a b e f = omega (arith, so_far, e, f)
 
   pub undecoded-lifts : CoversShape description.shape description.grid → (old mid new : Content) (key : List ℕ) (k : ℕ) → KeepsDamage description options (take m commands) old mid →

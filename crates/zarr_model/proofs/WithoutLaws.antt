@@ -7,7 +7,6 @@ use Rattle.zarr_model.specs.Prelude.{whole, Element, IsChunk, chunks, Content, L
 use Rattle.zarr_model.specs.Laws.{IsUndamaged}
 use Rattle.zarr_model.specs.LeavesLaws.{IsWithout}
 use Rattle.zarr_model.proofs.ArrayLaws.{tuples_are}
-use Rattle.zarr_model.proofs.Choices.{none_of}
 use Rattle.zarr_model.proofs.FailureLaws.{same_bytes, bytes_eq-refl}
 
 abbrev left_out : {E : Type 0} → Layout E → (List ℕ → Bool) → List ℕ → Bool

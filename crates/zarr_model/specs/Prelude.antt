@@ -9,11 +9,11 @@ pub use Rattle.zarr_model.specs.Codec.{Options, Level, ArrayCodec, Chain, decode
 pub use Rattle.zarr_model.specs.Store.{Content, with_key, without_key, with_keys, Layout, box_content, chunk_content, IsHonest, WhollyMeans, Means, HasCount, IsSound, IsChunkKey, SameOtherKeys, chunk_with, content_at, stored_element, stored_array}
 pub use Rattle.zarr_model.specs.Command.{Description, kind, layout, Command, read, write, erase, Refusal, incompatible_dimensionality, subset_out_of_bounds, region_too_large, expected_fixed_length_bytes, expected_variable_length_bytes, expected_optional_bytes, invalid_mask, unexpected_chunk_decoded_size, invalid_variable_sized_array_offsets, element_too_long, refusal_name, Reply, elements, done, refused, refused_if, or_then, is_too_large, bytes_refusal, has_long_step, has_long_element, region_refusal, refusal, written_elements, reply_of, array_of, reply, after, replies, array_after, Answer, answered, answered_done, answered_refused, Matches}
 pub use Rattle.zarr_model.specs.Cover.{IsCover, IsLeastCover, linear_indices}
-pub use Rattle.zarr_model.specs.Cost.{chunks_under, command_chunks, asks_store, asks_of, all_asks, counted, is_among, is_blank, present_under, present_after, present_in, bytes_under, all_bytes, changes_chunk}
+pub use Rattle.zarr_model.specs.Cost.{chunks_under, command_chunks, asks_store, puts_chunks, calls_of, asks_of, all_asks, puts_of, all_puts, counted, is_among, is_blank, present_under, present_after, present_in, bytes_under, all_bytes, changes_chunk}
 pub use Rattle.zarr_model.specs.Failure.{ChunkHas, Changes, IsPartWay, IsCutShort, FailedAt, without_chunks, is_damaged, undamaged}
 pub use Rattle.zarr_model.specs.Outside.{Rose, HasCause, ReadsOnly, TakesBytes, PutsKey, MayPutKey, ReadsNext}
 pub use Rattle.zarr_model.specs.Session.{LeavesKeys, LeavesArray, ServesArray, ServesWhole, refusal_in, RefusesRight, AreRefused, IsUntouched}
-pub use Rattle.zarr_model.specs.Causes.{begun, IsPlace, asks_met, CountsBefore, AsksUpTo, IsLeftAt, erases_chunk, IsUndecoded, IsStopped, IsStarved, IsDamageMet, MeetsNoDamage, KeepsDamage}
+pub use Rattle.zarr_model.specs.Causes.{begun, IsPlace, calls_met, CountsBefore, CallsUpTo, AsksUpTo, PutsUpTo, IsLeftAt, erases_chunk, IsUndecoded, IsStopped, IsStarved, IsDamageMet, MeetsNoDamage, KeepsDamage}
 pub use Rattle.zarr_model.specs.Shown.{Shown, Told, Given}
 pub use Rattle.zarr_model.specs.Mended.{is_still_damaged, mended}
 pub use Rattle.zarr_model.specs.Leaves.{RanOver, AnswersUndamaged, LeftAt, ChangedFirst, StopsAt, StaysDamaged, IsLeftBut, HasMet}

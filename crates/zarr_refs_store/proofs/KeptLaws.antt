@@ -18,13 +18,14 @@ pub counts_same : (own below below_new : ℕ) → below_new ≡ below → Counts
 counts_same own below below_new is = record { rises = le_refl _; no_more = λ early. omega (arith, is) }
 
 pub read_kept : (store : Over) (asks_new taken_new : ℕ) (new : Shown) →
-    SameContent store.base new → store.base.faults ≤ new.faults → store.asks ≤ 2 ^ 64 - 1 → asks_new ≡ counted store.asks 1 → new.asks ≤ store.base.asks + 1 → CountsNoMore store.taken taken_new store.base.taken new.taken →
+    SameContent store.base new → new.puts ≡ store.base.puts → store.base.faults ≤ new.faults → store.asks ≤ 2 ^ 64 - 1 → asks_new ≡ counted store.asks 1 → new.asks ≤ store.base.asks + 1 → CountsNoMore store.taken taken_new store.base.taken new.taken →
     Keeps store (record store { asks = asks_new; taken = taken_new; base = new })
-read_kept store asks_new taken_new new same later fits asked below handed = record {
+read_kept store asks_new taken_new new same puts later fits asked below handed = record {
   same_reference = refl;
   same_slices = refl;
   same_faults = refl;
   same = same;
+  puts = puts;
   later = later;
   asks = counts_more store.asks asks_new 1 store.base.asks new.asks fits asked below;
   taken = handed;

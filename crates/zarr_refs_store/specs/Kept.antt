@@ -10,13 +10,14 @@ pub record CountsNoMore (own own_new below below_new : ℕ) : Type 0 where
   pub rises : own ≤ own_new
   pub no_more : own_new < 2 ^ 64 - 1 → below_new + own ≤ below + own_new
 
--- the base is the same reference, under the same slices; it holds what it held, and was asked and
--- has handed out no more than its reads were; no failure is its own
+-- the base is the same reference, under the same slices; it holds what it held, had no writing call,
+-- and was asked and has handed out no more than its reads were; no failure is its own
 pub record Keeps (old new : Over) : Type 0 where
   pub same_reference : new.name ≡ old.name
   pub same_slices : new.slices ≡ old.slices
   pub same_faults : new.own_faults ≡ old.own_faults
   pub same : SameContent old.base new.base
+  pub puts : new.base.puts ≡ old.base.puts
   pub later : old.base.faults ≤ new.base.faults
   pub asks : CountsNoMore old.asks new.asks old.base.asks new.base.asks
   pub taken : CountsNoMore old.taken new.taken old.base.taken new.base.taken
@@ -41,6 +42,7 @@ keeps_self {store} = record {
   same_slices = refl;
   same_faults = refl;
   same = λ key. refl;
+  puts = refl;
   later = le_refl _;
   asks = counts_self store.asks store.base.asks;
   taken = counts_self store.taken store.base.taken;
@@ -52,6 +54,7 @@ keeps_twice first second = record {
   same_slices = second.same_slices ∙ first.same_slices;
   same_faults = second.same_faults ∙ first.same_faults;
   same = λ key. second.same key ∙ first.same key;
+  puts = second.puts ∙ first.puts;
   later = le_trans first.later second.later;
   asks = counts_twice first.asks second.asks;
   taken = counts_twice first.taken second.taken;

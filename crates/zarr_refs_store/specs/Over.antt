@@ -16,11 +16,13 @@ pub record Over : Type 0 where
   pub taken : ℕ
   pub base : Shown
 
--- under each key the bytes of its slice; the faults of the base and its own; its own other counts
+-- under each key the bytes of its slice; the faults of the base and its own; its own other counts,
+-- and a writing call for each fault of its own
 abbrev pub shown_of : Over → Shown
 shown_of store = record {
   content = λ key. held_by store.base.content (slice_at store.slices key);
   faults = count_of (store.base.faults + store.own_faults);
   asks = count_of store.asks;
   taken = count_of store.taken;
+  puts = count_of store.own_faults;
 }

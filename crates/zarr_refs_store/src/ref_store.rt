@@ -54,8 +54,9 @@ fn read_parts<S: Store>(
     ranges: &[ByteRange],
 ) -> Result<Option<Vec<Vec<u8>>>, StorageError>
     requires { lies_in ((S.shown base.old).content slice.now.base) slice.now ≡ true }
-    ensures { ReadsParts (slice_bytes (S.shown base.old).content slice.now) ranges.now
+    ensures reads { ReadsParts (slice_bytes (S.shown base.old).content slice.now) ranges.now
         (S.shown base.old) (S.shown base.new) result }
+    ensures puts { (S.shown base.new).puts ≡ (S.shown base.old).puts }
 {
     let ranges = shift_all(alloc, ranges, slice.offset, slice.length)?;
     base.get_partial_many(alloc, &slice.base, &ranges)
@@ -81,8 +82,9 @@ pub(crate) fn read_slice<S: Store>(
     slice: &Slice,
 ) -> Result<Option<Vec<u8>>, StorageError>
     requires { lies_in ((S.shown base.old).content slice.now.base) slice.now ≡ true }
-    ensures { ReadsSlice (slice_bytes (S.shown base.old).content slice.now)
+    ensures reads { ReadsSlice (slice_bytes (S.shown base.old).content slice.now)
         (S.shown base.old) (S.shown base.new) result }
+    ensures puts { (S.shown base.new).puts ≡ (S.shown base.old).puts }
 {
     let all = [ByteRange::FromStart(slice.offset, Some(slice.length))];
     match base.get_partial_many(alloc, &slice.base, &all) {
@@ -184,6 +186,8 @@ impl<'s, S: Store> RefStore<'s, S> {
             store.base.ghost_name ≡ base.entry.ghost_name) }
         ensures content { IfOk result (λ store.
             SameContent (S.shown base.old) (S.shown store.base.now)) }
+        ensures puts { IfOk result (λ store.
+            (S.shown store.base.now).puts ≡ (S.shown base.old).puts) }
         ensures sliced { IfOk result (λ store. (key : List ℕ) →
             (shown_of (over_of S.Store store)).content key
             ≡ sliced references.items (S.shown base.old).content key) }
@@ -217,7 +221,8 @@ impl<'s, S: Store> RefStore<'s, S> {
 
 impl<S: Store> Store for RefStore<'_, S> {
     ghost use Rattle.std.specs.Prelude.{false};
-    ghost use Rattle.zarrs_storage.specs.Calls.{count_of-fits};
+    ghost use Rattle.std.proofs.Common.{ap};
+    ghost use Rattle.zarrs_storage.specs.Calls.{count_of, count_of-fits};
     ghost use Rattle.zarr_refs_store.specs.Over.{shown_of};
     ghost use Rattle.zarr_refs_store.specs.Lent.{over_of};
     ghost use Rattle.zarr_refs_store.specs.Kept.{Keeps, keeps_self, keeps_twice};
@@ -316,11 +321,18 @@ impl<S: Store> Store for RefStore<'_, S> {
         self.taken
     }
 
+    fn puts(&self) -> u64 {
+        self.own_faults
+    }
+
     ghost counts_fit = { λ s. (
       count_of-fits ((S.shown s.base.now).faults + s.own_faults),
       count_of-fits s.asks,
       count_of-fits s.taken,
+      count_of-fits s.own_faults,
     ) };
+
+    ghost kept_puts = { λ _ _ keeps. ap count_of keeps.same_faults };
 
     ghost kept_self = { λ _. keeps_self };
 

@@ -63,7 +63,7 @@ pub record IsSound (seen : Seen) : Type 0 where
 
 -- nothing is below
 abbrev pub nothing_below : Shown
-nothing_below = record { content = λ key. None; faults = 0; asks = 0; taken = 0 }
+nothing_below = record { content = λ key. None; faults = 0; asks = 0; taken = 0; puts = 0 }
 
 -- a value in memory
 abbrev pub size_of : Option (List ℕ) → ℕ

@@ -140,7 +140,8 @@ pub record Puts {T : Type 0} (key : List ℕ) (value : Option (List ℕ)) (old n
   pub failed : OnErr result (MayPutKey old.content new.content key value)
   pub memory : IsErrOf result OutOfMemory → SameContent old new
   pub plain : IfErr result IsPlain
-  -- it reads nothing
+  -- which is a writing call, and reads nothing
+  pub puts : new.puts ≡ counted old.puts 1
   pub asks : new.asks ≡ old.asks
   pub taken : new.taken ≡ old.taken
   pub cause : HasCause IsFault old.faults new.faults result

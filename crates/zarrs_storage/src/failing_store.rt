@@ -23,6 +23,7 @@ pub struct FailingStore {
     faults: u64,
     asks: u64,
     taken: u64,
+    puts: u64,
 }
 
 impl Model for FailingStore {
@@ -39,6 +40,7 @@ impl Model for FailingStore {
       faults = s.faults;
       asks = s.asks;
       taken = s.taken;
+      puts = s.puts;
     } };
 }
 
@@ -56,6 +58,7 @@ impl FailingStore {
             faults: 0,
             asks: 0,
             taken: 0,
+            puts: 0,
         }
     }
 
@@ -77,6 +80,7 @@ impl FailingStore {
             faults: _,
             asks: _,
             taken: _,
+            puts: _,
         } = self;
         memory
     }
@@ -98,14 +102,15 @@ impl FailingStore {
 }
 
 impl Store for FailingStore {
-    ghost use Rattle.zarrs_storage.specs.Calls.{count_of-fits};
+    ghost use Rattle.std.proofs.Common.{refl, ap, ◌∙◌};
+    ghost use Rattle.zarrs_storage.specs.Calls.{count_of, count_of-fits};
     ghost use Rattle.zarrs_storage.specs.Parts.{PartsFit, with_parts, held_bytes};
     ghost use Rattle.zarrs_storage.specs.Store.{Gets, GetsParts, Sizes, Lists, Puts};
-    ghost use Rattle.zarrs_storage.specs.FailingStore.{shows, IsNumbered};
+    ghost use Rattle.zarrs_storage.specs.FailingStore.{shows, IsNumbered, KeepsPuts};
 
     ghost shown = { shows };
 
-    ghost kept = { λ _ _. Unit {0} };
+    ghost kept = { KeepsPuts };
 
     ghost gets_parts = { λ _. true };
 
@@ -113,7 +118,7 @@ impl Store for FailingStore {
 
     fn get(&mut self, alloc: Global, key: &StoreKey) -> Result<Option<Vec<u8>>, StorageError>
         ensures reads { Gets key.now (shows self.old) (shows self.new) result }
-        ensures kept { Unit {0} }
+        ensures kept { KeepsPuts self.old self.new }
         ensures numbered { IsNumbered self.old self.new result }
     {
         self.asks = self.asks.saturating_add(1);
@@ -134,7 +139,7 @@ impl Store for FailingStore {
         ranges: &[ByteRange],
     ) -> Result<Option<Vec<Vec<u8>>>, StorageError>
         ensures reads { GetsParts key.now ranges.now (shows self.old) (shows self.new) result }
-        ensures kept { Unit {0} }
+        ensures kept { KeepsPuts self.old self.new }
         ensures numbered { IsNumbered self.old self.new result }
     {
         self.asks = self.asks.saturating_add(1);
@@ -150,7 +155,7 @@ impl Store for FailingStore {
 
     fn size_key(&mut self, key: &StoreKey) -> Result<Option<u64>, StorageError>
         ensures reads { Sizes key.now (shows self.old) (shows self.new) result }
-        ensures kept { Unit {0} }
+        ensures kept { KeepsPuts self.old self.new }
         ensures numbered { IsNumbered self.old self.new result }
     {
         self.asks = self.asks.saturating_add(1);
@@ -162,7 +167,7 @@ impl Store for FailingStore {
 
     fn list(&mut self, alloc: Global) -> Result<Vec<StoreKey>, StorageError>
         ensures reads { Lists (shows self.old) (shows self.new) result }
-        ensures kept { Unit {0} }
+        ensures kept { KeepsPuts self.old self.new }
         ensures numbered { IsNumbered self.old self.new result }
     {
         self.asks = self.asks.saturating_add(1);
@@ -176,6 +181,7 @@ impl Store for FailingStore {
         ensures puts { Puts key.now (Some value.now) (shows self.old) (shows self.new) result }
         ensures numbered { IsNumbered self.old self.new result }
     {
+        self.puts = self.puts.saturating_add(1);
         if self.fails() {
             return Err(StorageError::Failed);
         }
@@ -194,6 +200,7 @@ impl Store for FailingStore {
             (shows self.old) (shows self.new) result }
         ensures numbered { IsNumbered self.old self.new result }
     {
+        self.puts = self.puts.saturating_add(1);
         if self.fails() {
             return Err(StorageError::Failed);
         }
@@ -205,6 +212,7 @@ impl Store for FailingStore {
         ensures numbered { IsNumbered self.old self.new result }
         ensures no_memory { IsErrOf result StorageError.OutOfMemory → ⊥ }
     {
+        self.puts = self.puts.saturating_add(1);
         if self.fails() {
             return Err(StorageError::Failed);
         }
@@ -231,13 +239,20 @@ impl Store for FailingStore {
         self.taken
     }
 
+    fn puts(&self) -> u64 {
+        self.puts
+    }
+
     ghost counts_fit = { λ s. (
       count_of-fits s.faults,
       count_of-fits s.asks,
       count_of-fits s.taken,
+      count_of-fits s.puts,
     ) };
 
-    ghost kept_self = { λ _. tt };
+    ghost kept_puts = { λ _ _ same. ap count_of same };
 
-    ghost kept_twice = { λ _ _ _ _ _. tt };
+    ghost kept_self = { λ _. refl };
+
+    ghost kept_twice = { λ _ _ _ first second. second ∙ first };
 }

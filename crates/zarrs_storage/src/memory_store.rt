@@ -17,6 +17,7 @@ pub struct MemoryStore {
     map: BTreeMap<StoreKey, Vec<u8>>,
     asks: u64,
     taken: u64,
+    puts: u64,
 }
 
 impl Model for MemoryStore {
@@ -26,7 +27,7 @@ impl Model for MemoryStore {
 
     ghost coded = { memory_code };
 
-    ghost view = { λ s. memory_of s.map s.asks s.taken };
+    ghost view = { λ s. memory_of s.map s.asks s.taken s.puts };
 }
 
 impl MemoryStore {
@@ -40,6 +41,7 @@ impl MemoryStore {
             map: BTreeMap::new(alloc),
             asks: 0,
             taken: 0,
+            puts: 0,
         }
     }
 
@@ -67,13 +69,14 @@ pub(crate) fn with_lengths(count: u64, parts: &[Vec<u8>]) -> u64
 }
 
 impl Store for MemoryStore {
+    ghost use Rattle.std.proofs.Common.{refl, ap, ◌∙◌};
     ghost use Rattle.std.specs.Prelude.{true};
-    ghost use Rattle.zarrs_storage.specs.MemoryStore.{shown_of};
+    ghost use Rattle.zarrs_storage.specs.MemoryStore.{shown_of, KeepsPuts};
     ghost use Rattle.zarrs_storage.specs.Calls.{count_of-fits};
 
     ghost shown = { shown_of };
 
-    ghost kept = { λ _ _. Unit {0} };
+    ghost kept = { KeepsPuts };
 
     ghost gets_parts = { λ _. true };
 
@@ -118,6 +121,7 @@ impl Store for MemoryStore {
     }
 
     fn set(&mut self, alloc: Global, key: &StoreKey, value: &[u8]) -> Result<(), StorageError> {
+        self.puts = self.puts.saturating_add(1);
         let value = Vec::from_slice(alloc, value)?;
         let key = key.try_clone(alloc)?;
         self.map.insert(key, value)?;
@@ -130,6 +134,7 @@ impl Store for MemoryStore {
         key: &StoreKey,
         parts: &[OffsetBytes],
     ) -> Result<(), StorageError> {
+        self.puts = self.puts.saturating_add(1);
         if let Some(value) = self.map.get_mut(key) {
             put_parts(value, parts)?;
             return Ok(());
@@ -142,6 +147,7 @@ impl Store for MemoryStore {
     }
 
     fn erase(&mut self, key: &StoreKey) -> Result<(), StorageError> {
+        self.puts = self.puts.saturating_add(1);
         self.map.remove(key);
         Ok(())
     }
@@ -166,9 +172,20 @@ impl Store for MemoryStore {
         self.taken
     }
 
-    ghost counts_fit = { λ s. (count_of-fits 0, count_of-fits s.asks, count_of-fits s.taken) };
+    fn puts(&self) -> u64 {
+        self.puts
+    }
 
-    ghost kept_self = { λ _. tt };
+    ghost counts_fit = { λ s. (
+      count_of-fits 0,
+      count_of-fits s.asks,
+      count_of-fits s.taken,
+      count_of-fits s.puts,
+    ) };
 
-    ghost kept_twice = { λ _ _ _ _ _. tt };
+    ghost kept_puts = { λ _ _ same. ap count_of same };
+
+    ghost kept_self = { λ _. refl };
+
+    ghost kept_twice = { λ _ _ _ first second. second ∙ first };
 }

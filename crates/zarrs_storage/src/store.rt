@@ -60,7 +60,8 @@ impl From<ByteRangeFault> for StorageError {
 
 /// A finite map from keys to values that are bytes.
 ///
-/// The counts of faults, of reading calls and of bytes handed out never fall, and stay at `u64::MAX` once there.
+/// The counts of faults, of reading and of writing calls, and of bytes handed out never fall, and stay at `u64::MAX` once
+/// there.
 pub trait Store {
     /// Its content and its counts.
     ghost shown: { Self → Shown };
@@ -115,7 +116,7 @@ pub trait Store {
         ensures reads { Lists (shown self.old) (shown self.new) result }
         ensures kept { kept self.old self.new };
 
-    /// Makes the value under `key` exactly `value`.
+    /// Makes the value under `key` exactly `value`. A writing call.
     ///
     /// # Errors
     /// [`StorageError::Failed`] where the store fails, which its count of faults tells: the value is then as before, or the
@@ -124,7 +125,7 @@ pub trait Store {
         ensures { Puts key.now (Some value.now) (shown self.old) (shown self.new) result };
 
     /// Puts each part into the value under `key`, in order, an absent one counting as empty: the value is filled up with
-    /// zero bytes to the part's end, and the part replaces the bytes at its place.
+    /// zero bytes to the part's end, and the part replaces the bytes at its place. A writing call.
     ///
     /// # Errors
     /// [`StorageError::Failed`] where the store fails, which its count of faults tells: the value is then as before, or the
@@ -140,7 +141,7 @@ pub trait Store {
             (Some (with_parts parts.now (held_bytes ((shown self.old).content key.now))))
             (shown self.old) (shown self.new) result };
 
-    /// Leaves `key` absent, also where it was absent. Takes no memory.
+    /// Leaves `key` absent, also where it was absent. Takes no memory. A writing call.
     ///
     /// # Errors
     /// [`StorageError::Failed`] where the store fails, which its count of faults tells: the value is then as before, or
@@ -169,9 +170,16 @@ pub trait Store {
     fn taken(&self) -> u64
         ensures { result ≡ (shown self.now).taken };
 
+    /// How many writing calls the store had.
+    fn puts(&self) -> u64
+        ensures { result ≡ (shown self.now).puts };
+
     /// Each count has a `u64`'s range.
     ghost counts_fit: { (s : Self) → ((shown s).faults ≤ 2 ^ 64 - 1) × ((shown s).asks ≤ 2 ^ 64 - 1)
-        × ((shown s).taken ≤ 2 ^ 64 - 1) };
+        × ((shown s).taken ≤ 2 ^ 64 - 1) × ((shown s).puts ≤ 2 ^ 64 - 1) };
+
+    /// A reading call is no writing call.
+    ghost kept_puts: { (a b : Self) → kept a b → (shown b).puts ≡ (shown a).puts };
 
     /// A store that is not read keeps all.
     ghost kept_self: { (s : Self) → kept s s };

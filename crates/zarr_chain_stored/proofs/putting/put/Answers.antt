@@ -19,6 +19,7 @@ returns-in-Ok g c =
       unchanged = search rules;
       plain = search rules;
       cause = search rules;
+      puts = search rules;
       asks = search rules;
       taken = search rules;
     }

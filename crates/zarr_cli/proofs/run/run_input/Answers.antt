@@ -1,6 +1,6 @@
 use Rattle.std.specs.Prelude.{OnOk}
-use Rattle.std.proofs.Common.{◌≡◌, false, [], map, sym, ap, ◌∙◌, subst, IfOk, IfErr}
-use Rattle.zarr_model.specs.Prelude.{with_keys}
+use Rattle.std.proofs.Common.{◌≡◌, false, [], map, length, sym, ap, ◌∙◌, subst, IfOk, IfErr}
+use Rattle.zarr_model.specs.Prelude.{counted, with_keys}
 use Rattle.zarr_cli_runs.specs.array.OpenArray.{documented, described}
 use Rattle.zarr_cli_runs.specs.array.Command.{command_of}
 use Rattle.zarrs_codec_traits.specs.Views.{options_of}
@@ -20,7 +20,7 @@ returns-in-Ok-clause-fault g c =
     earlier_fault (described c.args.parsed.now.array) (options_of c.args.settings.now.options) (map command_of c.args.parsed.now.commands.items)
     (with_entries (map entry_view c.args.parsed.now.entries.items) (g.S.Store.shown c.args.store.now)) (g.S.Store.shown c.set_entries.new.store) (g.S.Store.shown c.text_of_all.new.store)
     (c.in-Ok.ensures.set ∙ ap (λ entries. with_keys (map entry_view entries) (g.S.Store.shown c.args.store.now).content) c.deref.ensures.value)
-    c.in-Ok.ensures.asks c.in-Ok.ensures.cause.later c.text_of_all.result
+    c.in-Ok.ensures.asks (c.in-Ok.ensures.puts ∙ ap (λ entries. counted (g.S.Store.shown c.args.store.now).puts (length (map entry_view entries))) c.deref.ensures.value) c.in-Ok.ensures.cause.later c.text_of_all.result
     (subst (λ commands. IfErr c.text_of_all.result (λ status. IsRunFault (described c.args.parsed.now.array) (options_of c.args.settings.now.options) (map command_of commands)
     (g.S.Store.shown c.set_entries.new.store) (g.S.Store.shown c.text_of_all.new.store) status)) c.deref-in-Ok.ensures.value c.text_of_all.ensures.fault)
 
@@ -44,7 +44,7 @@ returns-in-Ok-clause-between g c =
     let now = g.S.Store.shown c.text_of_all.new.store in
     behind_keys array options (map entry_view c.args.parsed.now.entries.items) (map command_of c.args.parsed.now.commands.items) before mid now
     (c.in-Ok.ensures.set ∙ ap (λ entries. with_keys (map entry_view entries) before.content) c.deref.ensures.value)
-    c.in-Ok.ensures.asks c.in-Ok.ensures.cause.later c.text_of_all.result
+    c.in-Ok.ensures.asks (c.in-Ok.ensures.puts ∙ ap (λ entries. counted before.puts (length (map entry_view entries))) c.deref.ensures.value) c.in-Ok.ensures.cause.later c.text_of_all.result
     (subst (λ commands. IfErr c.text_of_all.result (λ status. LeavesBetween array options [] (map command_of commands) mid now (ending_of status))) c.deref-in-Ok.ensures.value c.text_of_all.ensures.between)
 
 pub returns-in-Err-Failed-clause-between : goal.returns-in-Err-Failed-clause-between
@@ -66,7 +66,7 @@ returns-in-Ok-clause-ran g c =
     let now = g.S.Store.shown c.text_of_all.new.store in
     earlier_prints array settings (map command_of c.args.parsed.now.commands.items) before mid now
     (c.in-Ok.ensures.set ∙ ap (λ entries. with_keys (map entry_view entries) (g.S.Store.shown c.args.store.now).content) c.deref.ensures.value)
-    c.in-Ok.ensures.asks c.text_of_all.result
+    c.in-Ok.ensures.asks (c.in-Ok.ensures.puts ∙ ap (λ entries. counted (g.S.Store.shown c.args.store.now).puts (length (map entry_view entries))) c.deref.ensures.value) c.text_of_all.result
     (subst (λ commands. IfOk c.text_of_all.result (λ text. PrintsAll array settings (map command_of commands) mid now text.items)) c.deref-in-Ok.ensures.value c.text_of_all.ensures.ran)
 
 pub returns-in-Err-Failed-clause-unchanged : goal.returns-in-Err-Failed-clause-unchanged

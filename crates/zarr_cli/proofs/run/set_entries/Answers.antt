@@ -1,4 +1,5 @@
-use Rattle.std.proofs.Common.{map, take, sym, ap, ◌∙◌, subst, le_trans, add-one, Some}
+use Rattle.std.proofs.Common.{map, take, sym, ap, ◌∙◌, subst, le_trans, add-one, arith, Some}
+use Rattle.std.proofs.lemmas.List.{length-map}
 use Rattle.zarr_model.specs.Prelude.{with_keys, PutsKey, MayPutKey}
 use Rattle.zarr_model.proofs.KeyLineLaws.{key-lines}
 use Rattle.zarr_cli_runs.specs.lines.Parts.{entry_view}
@@ -23,6 +24,13 @@ pub returns-clause-set : goal.returns-clause-set
 returns-clause-set g c =
     set_all entry_view c.args.entries.now c.loop-entry.entry-index (g.S.Store.shown c.args.store.now).content (g.S.Store.shown c.loop-entry.store).content c.loop-entry-test.false c.loop-entry.invariant.set
 
+pub returns-clause-puts : goal.returns-clause-puts
+returns-clause-puts g c =
+    let over = c.loop-entry-test.false in
+    let most = c.loop-entry.auto.entry-index-end in
+    let long = length-map c.args.entries.now entry_view in
+    omega (arith, c.loop-entry.invariant.puts, over, most, long)
+
 pub loop-entry-preserved : goal.loop-entry-preserved
 loop-entry-preserved g c =
     let entries = map entry_view c.args.entries.now in
@@ -40,5 +48,6 @@ loop-entry-preserved g c =
       elsewhere = λ key none. c.in_ok-set.ensures.ok.others key (λ same. none (listed_key entry_view c.args.entries.now c.loop-entry.entry-index entry within (sym here) key same)) ∙ c.loop-entry.invariant.elsewhere key none;
       asks = c.in_ok-set.ensures.asks ∙ c.loop-entry.invariant.asks;
       taken = c.in_ok-set.ensures.taken ∙ c.loop-entry.invariant.taken;
+      puts = omega (arith, c.in_ok-set.ensures.puts, c.loop-entry.invariant.puts);
       later = le_trans c.loop-entry.invariant.later c.in_ok-set.ensures.cause.later;
     }

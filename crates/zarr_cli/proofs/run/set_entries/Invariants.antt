@@ -1,5 +1,5 @@
 use Rattle.std.proofs.Common.{◌≡◌, ◌≤◌, ℕ, List, map, take}
-use Rattle.zarr_model.specs.Prelude.{with_keys}
+use Rattle.zarr_model.specs.Prelude.{with_keys, counted}
 use Rattle.zarr_cli_runs.specs.lines.Parts.{entry_view}
 use Rattle.zarr_cli.specs.Steps.{IsKeyOf}
 use Rattle.zarr_cli.proofs.run.set_entries.Given as goal
@@ -10,5 +10,6 @@ invariant-loop-entry g l = record {
   elsewhere : (key : List ℕ) → ¬ IsKeyOf (map entry_view l.entries) key → (g.S.Store.shown l.store).content key ≡ (g.S.Store.shown l.fn.store).content key;
   asks : (g.S.Store.shown l.store).asks ≡ (g.S.Store.shown l.fn.store).asks;
   taken : (g.S.Store.shown l.store).taken ≡ (g.S.Store.shown l.fn.store).taken;
+  puts : (g.S.Store.shown l.store).puts ≡ counted (g.S.Store.shown l.fn.store).puts l.entry-index;
   later : (g.S.Store.shown l.fn.store).faults ≤ (g.S.Store.shown l.store).faults;
 }

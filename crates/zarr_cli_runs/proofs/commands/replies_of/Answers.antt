@@ -13,7 +13,7 @@ use Rattle.zarr_cli_runs.proofs.commands.replies_of.Goals as goal
 pub returns-in-Ok-clause-ran : goal.returns-in-Ok-clause-ran
 returns-in-Ok-clause-ran g c =
     replied_by c.args.array.now (options_of c.args.options.now) (map command_of c.args.commands.now) (g.S.Store.shown c.args.store.now) (g.S.Store.shown c.run_commands.new.store)
-    c.in-Ok.replies.items c.in-Ok.ensures.runs.answers c.in-Ok.ensures.runs.mended c.in-Ok.ensures.runs.serves c.in-Ok.ensures.runs.stored c.in-Ok.ensures.runs.keys c.in-Ok.ensures.runs.undamaged c.in-Ok.ensures.runs.refusals c.in-Ok.ensures.runs.asks
+    c.in-Ok.replies.items c.in-Ok.ensures.runs.answers c.in-Ok.ensures.runs.mended c.in-Ok.ensures.runs.serves c.in-Ok.ensures.runs.stored c.in-Ok.ensures.runs.keys c.in-Ok.ensures.runs.undamaged c.in-Ok.ensures.runs.refusals c.in-Ok.ensures.runs.asks c.in-Ok.ensures.runs.puts
 
 pub returns-in-Err-clause-fault : goal.returns-in-Err-clause-fault
 returns-in-Err-clause-fault g c =
@@ -34,7 +34,7 @@ pub returns-in-Err-clause-between : goal.returns-in-Err-clause-between
 returns-in-Err-clause-between g c =
     subst (λ status. LeavesBetween (described c.args.array.now) (options_of c.args.options.now) [] (map command_of c.args.commands.now) (g.S.Store.shown c.args.store.now) (g.S.Store.shown c.run_commands.new.store) (ending_of status))
     (sym c.session_status.ensures)
-    (between_failed (described c.args.array.now) (options_of c.args.options.now) (map command_of c.args.commands.now) (g.S.Store.shown c.args.store.now) (g.S.Store.shown c.run_commands.new.store)
+    (between_failed (described c.args.array.now) (options_of c.args.options.now) (map command_of c.args.commands.now) (g.S.Store.shown c.args.store.now) (g.S.Store.shown c.run_commands.new.store) (g.met.S.Store.counts_fit c.args.store.now).3
     c.in-Err.error.at c.in-Err.error.kind c.in-Err.ensures.runs.failed)
 
 pub returns-in-Err-clause-complete : goal.returns-in-Err-clause-complete

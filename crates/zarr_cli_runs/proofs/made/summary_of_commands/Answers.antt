@@ -17,7 +17,7 @@ returns-in-Ok-count_keys-clause-ran g c =
     let text = c.in_ok-summary_of-in-Ok-count_keys.field-0.items in
     summed_up (described c.args.array.now) n count (options_of c.args.options.now) (map command_of c.args.commands.now)
     (g.S.Store.shown c.args.store.now) (g.S.Store.shown c.replies_of.new.store) (g.S.Store.shown c.count_keys.new.store) c.in-Ok.replies.items text
-    c.requires.sized c.in-Ok.ensures.ran c.in-Ok-count_keys.ensures.keys c.count_keys.ensures.same c.in-Ok-count_keys.ensures.asks
+    c.requires.sized c.in-Ok.ensures.ran c.in-Ok-count_keys.ensures.keys c.count_keys.ensures.same c.in-Ok-count_keys.ensures.asks c.count_keys.ensures.puts
     (subst (λ held. (answers : List Model.Reply) → AllZip (Matches (fixed n)) (map answer_of held) answers → text ≡ summary_text answers count) c.deref.ensures.value c.in_ok-summary_of-in-Ok-count_keys.ensures.replies)
     (subst (λ held. (lines : List ℕ) × (text ≡ summary_held n held count lines)) c.deref.ensures.value c.in_ok-summary_of-in-Ok-count_keys.ensures.held)
 

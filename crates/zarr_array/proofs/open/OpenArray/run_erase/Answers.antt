@@ -14,7 +14,7 @@ returns-in_err-key-clause-runs g c =
     let p = err_from_is_err_and c.from_residual.result c.from_residual.ensures.1 in
     rw (p.1, p.2) (failed_gives (described c.args.self.now) (options_of c.args.options.now) (described_covers c.args.self.now.parts) (described_sound c.args.self.now.parts (options_of c.args.options.now)) (erase c.args.chunk_indices.now ∷ []) (g.S.Store.shown c.args.store.now) (g.S.Store.shown c.args.store.now) _ _
     (erase-starved (described c.args.self.now) (described_covers c.args.self.now.parts) (options_of c.args.options.now) (described_sound c.args.self.now.parts (options_of c.args.options.now)) c.args.chunk_indices.now
-    (g.S.Store.shown c.args.store.now) (g.met.S.Store.counts_fit c.args.store.now).1)
+    (g.S.Store.shown c.args.store.now) (g.met.S.Store.counts_fit c.args.store.now).1 (g.met.S.Store.counts_fit c.args.store.now).3)
     (search rules) (search rules) (search rules))
 
 pub returns-in-Ok-clause-runs : goal.returns-in-Ok-clause-runs
@@ -22,14 +22,14 @@ returns-in-Ok-clause-runs g c = ran_gives (described c.args.self.now) (options_o
     (erase-ran (described c.args.self.now) (described_covers c.args.self.now.parts) (options_of c.args.options.now) (described_sound c.args.self.now.parts (options_of c.args.options.now)) c.args.chunk_indices.now (search rules)
     (g.S.Store.shown c.args.store.now) (g.S.Store.shown c.erase.new.self)
     (subst (λ key. PutsKey (g.S.Store.shown c.args.store.now).content (g.S.Store.shown c.erase.new.self).content key None) c.in_ok-key.ensures c.in-Ok.ensures.puts.ok)
-    c.erase.ensures.puts.asks (g.met.S.Store.counts_fit c.args.store.now).1 c.erase.ensures.puts.cause.later)
+    c.erase.ensures.puts.asks (g.met.S.Store.counts_fit c.args.store.now).1 c.erase.ensures.puts.puts c.erase.ensures.puts.cause.later)
 
 pub returns-in-Err-Failed-clause-runs : goal.returns-in-Err-Failed-clause-runs
 returns-in-Err-Failed-clause-runs g c = failed_gives (described c.args.self.now) (options_of c.args.options.now) (described_covers c.args.self.now.parts) (described_sound c.args.self.now.parts (options_of c.args.options.now)) (erase c.args.chunk_indices.now ∷ []) (g.S.Store.shown c.args.store.now) (g.S.Store.shown c.erase.new.self) _ _
     (erase-fails (described c.args.self.now) (described_covers c.args.self.now.parts) (options_of c.args.options.now) (described_sound c.args.self.now.parts (options_of c.args.options.now)) c.args.chunk_indices.now (search rules)
     (g.S.Store.shown c.args.store.now) (g.S.Store.shown c.erase.new.self)
     (subst (λ key. MayPutKey (g.S.Store.shown c.args.store.now).content (g.S.Store.shown c.erase.new.self).content key None) c.in_ok-key.ensures c.in-Err-Failed.ensures.puts.failed)
-    (search rules) c.erase.ensures.puts.asks (g.met.S.Store.counts_fit c.args.store.now).1)
+    (search rules) c.erase.ensures.puts.asks (g.met.S.Store.counts_fit c.args.store.now).1 c.erase.ensures.puts.puts)
     (search rules)
     (erase-keys (described c.args.self.now) (described_covers c.args.self.now.parts) (options_of c.args.options.now) (described_sound c.args.self.now.parts (options_of c.args.options.now)) c.args.chunk_indices.now (search rules)
     (g.S.Store.shown c.args.store.now).content (g.S.Store.shown c.erase.new.self).content

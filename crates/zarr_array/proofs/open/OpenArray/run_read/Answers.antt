@@ -17,13 +17,13 @@ returns-in_err-elements-clause-runs g c =
     let p = err_from_is_err_and c.from_residual.result c.from_residual.ensures.1 in
     rw (p.1, p.2) (failed_gives (described c.args.self.now) (options_of c.args.options.now) (described_covers c.args.self.now.parts) (described_sound c.args.self.now.parts (options_of c.args.options.now)) (read (region c.args.subset.now) ∷ []) (g.S.Store.shown c.args.store.now) (g.S.Store.shown c.read_elements.new.store) _ _
     (read-fails c.args.self.now.parts (options_of c.args.options.now) (region c.args.subset.now) (g.S.Store.shown c.args.store.now) (g.S.Store.shown c.read_elements.new.store)
-    _ (search rules) c.in_err-elements.ensures.read)
+    _ (search rules) c.in_err-elements.ensures.read (g.met.S.Store.kept_puts c.args.store.now c.read_elements.new.store c.read_elements.ensures.kept) (g.met.S.Store.counts_fit c.args.store.now).3)
     (search rules) (search rules) c.in_err-elements.ensures.read.later)
 
 pub returns-clause-runs : goal.returns-clause-runs
 returns-clause-runs g c = ran_gives (described c.args.self.now) (options_of c.args.options.now) (described_covers c.args.self.now.parts) (described_sound c.args.self.now.parts (options_of c.args.options.now)) (read (region c.args.subset.now) ∷ []) (g.S.Store.shown c.args.store.now) (g.S.Store.shown c.read_elements.new.store) _
     (bytes-read c.args.self.now.parts (options_of c.args.options.now) (region c.args.subset.now) (g.S.Store.shown c.args.store.now) (g.S.Store.shown c.read_elements.new.store) (raw_of c.in_ok-elements.elements)
-    (search rules) c.in_ok-elements.ensures.read)
+    (search rules) c.in_ok-elements.ensures.read (g.met.S.Store.kept_puts c.args.store.now c.read_elements.new.store c.read_elements.ensures.kept) (g.met.S.Store.counts_fit c.args.store.now).3)
 
 pub returns-clause-taken : goal.returns-clause-taken
 returns-clause-taken g c = λ alone. read_takes c.args.self.now.parts (options_of c.args.options.now) (region c.args.subset.now) (g.S.Store.shown c.args.store.now) (g.S.Store.shown c.read_elements.new.store) alone

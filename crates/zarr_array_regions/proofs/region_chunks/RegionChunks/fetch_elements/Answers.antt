@@ -21,7 +21,7 @@ returns-in_err-bytes-clause-fetched g c =
     let serves = lent_serves met.array.now c.chain-chain.result.now c.args.levels.now (chunk_at met c.args.number) c.chain-chain.ensures c.requires.levels in
     rw (p.1, p.2) (fetch_failed met.array.now c.chain-chain.result.now c.args.levels.now (options_of c.args.options.now) (chunk_at met c.args.number) serves
     c.args.key.now (g.S.Store.shown c.args.store.now) (g.S.Store.shown c.fetch.new.store) _ c.requires.key
-    (record { same = c.in_err-bytes.ensures.fetches.same; asks = inr c.in_err-bytes.ensures.fetches.asked.asks; later = c.in_err-bytes.ensures.fetches.asked.later }) c.in_err-bytes.ensures.fetches.why)
+    (record { same = c.in_err-bytes.ensures.fetches.same; asks = inr c.in_err-bytes.ensures.fetches.asked.asks; puts = g.met.S.Store.kept_puts c.args.store.now c.fetch.new.store c.fetch.ensures.kept; later = c.in_err-bytes.ensures.fetches.asked.later }) c.in_err-bytes.ensures.fetches.why)
 
 pub returns-clause-fetched : goal.returns-clause-fetched
 returns-clause-fetched g c =
@@ -30,7 +30,7 @@ returns-clause-fetched g c =
     let options = options_of c.args.options.now in
     let fetches = c.in_ok-bytes.ensures.fetches in
     let serves = lent_serves met.array.now c.chain-chain.result.now c.args.levels.now chunk c.chain-chain.ensures c.requires.levels in (
-      record { same = fetches.same; asks = fetches.asked.asks; later = fetches.asked.later },
+      record { same = fetches.same; asks = fetches.asked.asks; puts = g.met.S.Store.kept_puts c.args.store.now c.fetch.new.store c.fetch.ensures.kept; later = fetches.asked.later },
       record {
         mean = given_mean met.array.now c.chain-chain.result.now c.args.levels.now options chunk serves (raw_of c.in_ok-bytes.bytes) _ fetches.value fetches.short;
         elements = fetched_elements met.array.now c.chain-chain.result.now c.args.levels.now options chunk serves

@@ -31,7 +31,7 @@ returns-in_err-fetched-clause-fetched g c =
     let inside = within_level met.array.now c.chain-chain.result.now c.args.levels.now (options_of c.args.options.now) chunk serves within c.requires.inside in
     rw (p.1, p.2) (part_failed met.array.now c.chain-chain.result.now c.args.levels.now (options_of c.args.options.now) chunk serves
     within inside c.args.key.now (g.S.Store.shown c.args.store.now) (g.S.Store.shown c.fetch_region.new.store) _ c.requires.key
-    (record { same = asked.same; asks = asked_at_most Fetched _ _ _ asked.asks; later = asked.later }) c.in_err-fetched.ensures.fetches.alike asked.why)
+    (record { same = asked.same; asks = asked_at_most Fetched _ _ _ asked.asks; puts = g.met.S.Store.kept_puts c.args.store.now c.fetch_region.new.store c.fetch_region.ensures.kept; later = asked.later }) c.in_err-fetched.ensures.fetches.alike asked.why)
 
 pub returns-clause-fetched : goal.returns-clause-fetched
 returns-clause-fetched g c =
@@ -44,7 +44,7 @@ returns-clause-fetched g c =
     let serves = lent_serves met.array.now c.chain-chain.result.now c.args.levels.now chunk c.chain-chain.ensures c.requires.levels in
     let inside = within_level met.array.now c.chain-chain.result.now c.args.levels.now options chunk serves within c.requires.inside in
     let found = is_found met.array.now c.chain-chain.result.now c.args.levels.now options chunk serves within inside (before.content c.args.key.now) fetches.asked.given fetches.asked.decodes in (
-      record { same = fetches.asked.same; asks = fetches.asked.asks; later = fetches.asked.later },
+      record { same = fetches.asked.same; asks = fetches.asked.asks; puts = g.met.S.Store.kept_puts c.args.store.now c.fetch_region.new.store c.fetch_region.ensures.kept; later = fetches.asked.later },
       fetched_part met.array.now c.chain-chain.result.now c.args.levels.now options chunk serves (met_chunk met c.requires.met c.args.number c.requires.below)
           within c.in_ok-fetched.fetched c.args.key.now before c.requires.key c.requires.inside found fetches.valid fetches.short fetches.elements,
     )

@@ -32,6 +32,7 @@ returns g c =
       failed = on_err c.put.result (may_put_as met.array.now c.chain-chain.result.now c.args.levels.now options chunk serves list
           (g.S.Store.shown c.args.store.now).content (g.S.Store.shown c.put.new.store).content c.args.key.now) (c.put.ensures.cut list taken);
       memory = c.put.ensures.unchanged;
+      puts = c.put.ensures.puts;
       asks = c.put.ensures.asks;
       taken = c.put.ensures.taken;
       plain = c.put.ensures.plain;

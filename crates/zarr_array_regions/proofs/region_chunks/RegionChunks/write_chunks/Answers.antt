@@ -12,7 +12,7 @@ use Rattle.zarr_array_regions.proofs.region_chunks.RegionChunks.write_chunks.Goa
 pub loop-number-init : goal.loop-number-init
 loop-number-init g c =
     let met = c.args.self.now in
-    (none_written met.array.now (options_of c.args.options.now) (region met.subset.now) (raw_of c.args.bytes.now) (g.S.Store.shown c.args.store.now) (g.met.S.Store.counts_fit c.args.store.now).1 (g.met.S.Store.counts_fit c.args.store.now).2, tt)
+    (none_written met.array.now (options_of c.args.options.now) (region met.subset.now) (raw_of c.args.bytes.now) (g.S.Store.shown c.args.store.now) (g.met.S.Store.counts_fit c.args.store.now).1 (g.met.S.Store.counts_fit c.args.store.now).2 (g.met.S.Store.counts_fit c.args.store.now).3, tt)
 
 pub returns-in-Err : goal.returns-in-Err
 returns-in-Err g c =

@@ -12,7 +12,7 @@ pub returns-in_err-put_parts : goal.returns-in_err-put_parts
 returns-in_err-put_parts c =
     let key = c.args.key.now in
     let w = c.put_parts.new.value in
-    let now = memory_of (c.get_mut.follows.lender w) c.self.inside.asks c.self.inside.taken in
+    let now = memory_of (c.get_mut.follows.lender w) c.self.inside.asks c.self.inside.taken c.self.inside.puts in
     let here : get_by (slice_cmp nat_cmp key) c.self.inside.map ≡ Some c.in-Some.value.now = sym c.in-Some.ensures.value in
     let kept = same-written c.self.inside.map (c.get_mut.follows.lender w) key c.in-Some.value.now w (c.get_mut.follows.holds w) here c.in_err-put_parts.ensures.err in
     let same : (q : List ℕ) → content_of now q ≡ content_of c.args.self.now q =
@@ -24,6 +24,7 @@ returns-in_err-put_parts c =
       failed = on_err c.from_residual.result may;
       memory = λ _ q. same q;
       plain = search rules;
+      puts = search rules;
       asks = search rules;
       taken = search rules;
       cause = search rules;
@@ -33,7 +34,7 @@ pub returns-in-Some : goal.returns-in-Some
 returns-in-Some c =
     let key = c.args.key.now in
     let w = c.put_parts.new.value in
-    let now = memory_of (c.get_mut.follows.lender w) c.self.inside.asks c.self.inside.taken in
+    let now = memory_of (c.get_mut.follows.lender w) c.self.inside.asks c.self.inside.taken c.self.inside.puts in
     let here : get_by (slice_cmp nat_cmp key) c.self.inside.map ≡ Some c.in-Some.value.now = sym c.in-Some.ensures.value in
     let put = PutsKey-parts c.self.inside.map (c.get_mut.follows.lender w) key c.in-Some.value.now w c.args.parts.now (c.get_mut.follows.holds w) here c.in_ok-put_parts.ensures.ok in
     record {
@@ -41,6 +42,7 @@ returns-in-Some c =
       failed = search rules;
       memory = search rules;
       plain = search rules;
+      puts = search rules;
       asks = search rules;
       taken = search rules;
       cause = search rules;
@@ -49,7 +51,7 @@ returns-in-Some c =
 pub returns : goal.returns
 returns c =
     let key = c.args.key.now in
-    let now = memory_of c.insert.new.self c.self.inside.asks c.self.inside.taken in
+    let now = memory_of c.insert.new.self c.self.inside.asks c.self.inside.taken c.self.inside.puts in
     let absent : get_by (slice_cmp nat_cmp key) c.self.inside.map ≡ None = sym c.in_default.ensures.value in
     let put = PutsKey-new c.self.inside.map c.get_mut.follows.lender-at-none c.insert.new.self key c.in_ok-key.key c.new-value.result.items c.put_parts-2.new.value c.args.parts.now
     c.get_mut.follows.holds-at-none c.in_ok-insert.ensures.updates c.in_ok-key.ensures absent c.new-value.ensures.items c.in_ok-put_parts-2.ensures.ok in
@@ -58,6 +60,7 @@ returns c =
       failed = search rules;
       memory = search rules;
       plain = search rules;
+      puts = search rules;
       asks = search rules;
       taken = search rules;
       cause = search rules;
