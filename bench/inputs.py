@@ -89,8 +89,36 @@ def single_reads(chunks, reads):
     return bounded(document((total,), (1,)), [lengths]) + "".join(f"read {at}..{at + 1}\n" for at in places)
 
 
+def held(chunks, size, by_reference, reads=1):
+    """So many chunks of a line, each under its own key or a slice of one value, and reads of all of them."""
+    total = chunks * size
+    digits = [f"{n % 251 + 1:02x}" for n in range(total)]
+    if by_reference:
+        keys = "key blob h" + "".join(digits) + "\n"
+        keys += "".join(f"ref c/{n} blob {n * size} {size}\n" for n in range(chunks))
+    else:
+        keys = "".join(f"key c/{n} h" + "".join(digits[n * size : n * size + size]) + "\n" for n in range(chunks))
+    return document((total,), (size,)) + keys + f"read 0..{total}\n" * reads
+
+
+def as_version_2(text):
+    """The same input with the document of version 2 in its first line, and its keys of version 2."""
+    start, end = text.index('"chunk_shape":') + len('"chunk_shape":'), text.index("}}", text.index('"chunk_shape":'))
+    chunks, shape = text[start:end], text[text.index('"shape":') + len('"shape":') : text.index(',"data_type"')]
+    return (
+        f'{{"zarr_format":2,"shape":{shape},"chunks":{chunks},"dtype":"|u1","compressor":null,"fill_value":0,'
+        '"order":"C","filters":null}\n' + text[text.index("\n") + 1 :]
+    )
+
+
+def moved(shape, chunks, other):
+    """All chunks of an array, which is moved into chunks of another shape."""
+    counts = [n // k for n, k in zip(shape, chunks)]
+    return document(shape, chunks) + document(shape, other) + key_lines(counts, chunks[0] * chunks[1])
+
+
 def cases():
-    """Each case: its group, its name, and a function that makes its input."""
+    """Each case: its group, its name, a function that makes its input, and the program where it is not `zarr`."""
     yield "read", "one read of 600 x 800 from 64 chunks of 128 x 128", one_read
     for number in (0, 1_000, 10_000):
         yield "read", f"{number:,} reads of 2 x 2 from the same", lambda number=number: small_reads(number)
@@ -141,6 +169,44 @@ def cases():
         "write and read 1000 x 1000 in 10,000 chunks of 10 x 10 of a grid of boundaries",
         lambda: bounded(write_and_read((1000, 1000), (10, 10)), [[10] * 100, [10] * 100]),
     )
+    for chunks in (20_000, 40_000):
+        for reads in (0, 1):
+            read = "read" if reads else "no read"
+            yield (
+                "slices",
+                f"{read} of {chunks:,} chunks of 16 bytes under their own keys",
+                lambda chunks=chunks, reads=reads: held(chunks, 16, False, reads),
+            )
+            yield (
+                "slices",
+                f"{read} of {chunks:,} chunks of 16 bytes, slices of one value",
+                lambda chunks=chunks, reads=reads: held(chunks, 16, True, reads),
+                "refs",
+            )
+    yield (
+        "version 2",
+        "write and read 1024 x 1024 in chunks of 128 x 128 of version 2",
+        lambda: as_version_2(write_and_read((1024, 1024), (128, 128))),
+        "v2",
+    )
+    for scale in (1, 2):
+        shape = (1000 * scale, 1000)
+        yield (
+            "moves",
+            f"{shape[0]} x {shape[1]} moved from chunks of 100 x 10 into chunks of 10 x 100",
+            lambda shape=shape: moved(shape, (100, 10), (10, 100)),
+            "rechunk",
+        )
+        yield (
+            "moves",
+            f"read of {shape[0]} x {shape[1]} in chunks of 100 x 10",
+            lambda shape=shape: document(shape, (100, 10)) + key_lines((shape[0] // 100, 100), 1000) + f"read {box(shape)}\n",
+        )
+        yield (
+            "moves",
+            f"write of {shape[0]} x {shape[1]} in chunks of 10 x 100",
+            lambda shape=shape: write_and_read(shape, (10, 100)).rsplit("read", 1)[0],
+        )
 
 
 if __name__ == "__main__":

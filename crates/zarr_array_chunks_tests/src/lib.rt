@@ -9,4 +9,6 @@ mod heights;
 #[cfg(test)]
 mod made;
 #[cfg(test)]
+mod moved;
+#[cfg(test)]
 mod undecodable;

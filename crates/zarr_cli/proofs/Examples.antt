@@ -4,7 +4,7 @@ use Rattle.std.specs.Fmt.{digits}
 use Rattle.sha2.specs.Sha256.{sha256, digest_bytes, hash_after, compress, rounds, schedule, first_words}
 use Rattle.hex.specs.Hex.{encode_with, decode_pairs}
 use Rattle.zarr_model.specs.Prelude.{whole, tuple_at, linear_index, linear_indices, undamaged, blank_array, of_bytes, null, some, fixed, variable, optional, fixed_size, fill_element, int_type, uint_type, raw_type, string_type, optional_type, fixed_bytes, variable_bytes, optional_bytes, default_keys, v2_keys, chunk_key, Options, offset_codec, bytes_codec, big, decode_array_to_bytes, decode_bytes, decode_levels, Description, layout, write, refusal, bytes_refusal, is_too_large, has_long_step, invalid_variable_sized_array_offsets, invalid_mask, expected_optional_bytes, replies, all_asks, all_bytes, present_in}
-use Rattle.zarr_cli.specs.Words.{Settings, with_words, first_settings, settings_of}
+use Rattle.zarr_cli_parts.specs.Words.{Settings, with_words, first_settings, settings_of}
 use Rattle.zarr_cli_runs.specs.Keys.{IsDump}
 use Rattle.zarr_cli_runs.specs.array.parts.Opening.{chain_order}
 use Rattle.zarr_cli_runs.specs.Ending.{bad_input, refused_document, damaged_chunk, write_fault, ending_line}

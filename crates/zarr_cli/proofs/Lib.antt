@@ -3,12 +3,7 @@ pub mod Worked
 mod Examples
 mod Refuted
 mod Shards
-mod StepLemmas
-mod RunLemmas
 mod OutcomeLemmas
-mod EndLemmas
-mod WordLemmas
-mod RefusingLemmas
-mod EndingLemmas
-mod AnswerLemmas
+mod LinesLaws
+mod EarlyLaws
 mod MadeLemmas

@@ -1,57 +1,24 @@
 -- A run that is made from a number: its array, its summary, and what it owes.
-use Rattle.std.proofs.Common.{◌≡◌, ℕ, ◌+◌, ◌<◌, List, [], length, Some, None, Result, Ok, Err, IfOk, IfErr, OnOk, Vec, ◌⊎◌, ⊎_elim, inl, inr, refl, sym, ap, ◌∙◌, subst, arith}
+use Rattle.std.proofs.Common.{◌≡◌, ℕ, ◌+◌, List, [], Some, None, Result, Ok, Err, IfOk, IfErr, MatchResult, Vec, ◌⊎◌, ⊎_elim, inl, inr, refl, sym, ap, ◌∙◌, subst}
 use Rattle.std.specs.declared.alloc.Global.{Global}
-use Rattle.zarr_model.specs.Prelude.{Options, Description, Command, Shown, Told, Rose, IsDamageSeen, SeesNoDamage}
+use Rattle.zarr_model.specs.Prelude.{Options, Description, Command, Shown, Given, Rose, IsDamageSeen, SeesNoDamage}
 use Rattle.zarr_cli_runs.specs.making.Commands.{made_commands}
-use Rattle.zarr_cli.specs.Input.{input_limit}
-use Rattle.zarr_cli.specs.Run.{IsRunnable}
+use Rattle.zarr_cli_runs.specs.array.parts.declared.open_error.OpenError.TheVariants as OpenError
 use Rattle.zarr_cli_runs.specs.Between.{LeavesBetween}
 use Rattle.zarr_cli_runs.specs.Commands.{IsChangedKey, IsRunFault, EndsAtDamage}
 use Rattle.zarr_cli_runs.proofs.BetweenLaws.{between_ran, between_last}
-use Rattle.zarr_cli_runs.specs.Ending.{IsGiven, IsGivenFront, IsWritten, IsBeforeStore, damaged_chunk}
+use Rattle.zarr_cli_runs.specs.Ending.{Ending, IsGiven, IsGivenFront, IsGivenLine, ending_line, IsBeforeStore, IsWritten, damaged_chunk}
 use Rattle.zarr_cli_runs.specs.Ending as end
-use Rattle.zarr_cli.specs.Words.{settings_of}
 use Rattle.zarr_cli_runs.specs.Status.{ending_of}
-use Rattle.zarr_cli.specs.Steps.{IsReadFault, IsPlainFault}
 use Rattle.zarr_cli_runs.specs.Made.{made_array, SumsAll}
-use Rattle.zarr_cli.specs.Made.{AnswersMade}
-use Rattle.zarr_cli.specs.MadeSteps.{RanMade, RanInput}
-use Rattle.zarr_cli.specs.Seen.{Seen}
-use Rattle.zarr_cli.proofs.EndingLemmas.{is_done, is_write}
 use Rattle.zarr_cli_runs.specs.declared.status.Status.{Status}
 use Rattle.zarr_cli_runs.specs.declared.status.Status.TheVariants.{Done, BadWords, BadInput, Document, Chunk, Store, Read, Write, TooLong, OutOfMemory}
-
--- a made run ends after it began with the store
-begun : (description : Description) (options : Options) (commands : List Command) (before now : Shown) (status : Status) → IsRunFault description options commands before now status → ¬ IsBeforeStore (ending_of status)
-begun description options commands before now (Chunk key) fault = λ b. b
-begun description options commands before now Store fault = λ b. b
-begun description options commands before now OutOfMemory fault = λ b. b
-begun description options commands before now Done fault = absurd fault
-begun description options commands before now BadWords fault = absurd fault
-begun description options commands before now (BadInput line) fault = absurd fault
-begun description options commands before now (Document error) fault = absurd fault
-begun description options commands before now Read fault = absurd fault
-begun description options commands before now Write fault = absurd fault
-begun description options commands before now TooLong fault = absurd fault
-
--- what an input came to
-pub on_ok : {T E : Type 0} (P : Type 0) (result : Result T E) → P → OnOk result P
-on_ok P (Ok value) p = p
-on_ok P (Err error) p = tt
-
-pub read_memory : (words : List (List ℕ)) (input : List ℕ) (old_store : Shown) (before now : Told) (status : Status) → before.left ≡ Some input → IsRunnable words input old_store.content → ¬ Rose before.faults now.faults →
-    IsReadFault before now status → status ≡ OutOfMemory
-read_memory words input old_store before now TooLong e runs calm fault =
-    let within : length input < input_limit + 1 = omega (arith, runs.0.within) in let above : input_limit < length input = fault input e in absurd (omega arith)
-read_memory words input old_store before now Read e runs calm fault = absurd (calm fault)
-read_memory words input old_store before now OutOfMemory e runs calm fault = refl
-read_memory words input old_store before now Done e runs calm fault = absurd fault
-read_memory words input old_store before now BadWords e runs calm fault = absurd fault
-read_memory words input old_store before now (BadInput line) e runs calm fault = absurd fault
-read_memory words input old_store before now (Document error) e runs calm fault = absurd fault
-read_memory words input old_store before now (Chunk key) e runs calm fault = absurd fault
-read_memory words input old_store before now Store e runs calm fault = absurd fault
-read_memory words input old_store before now Write e runs calm fault = absurd fault
+use Rattle.zarr_cli_parts.specs.Words.{Settings, settings_of, HasBadWords}
+use Rattle.zarr_cli_parts.specs.Written.{WritesText, EndsWith}
+use Rattle.zarr_cli_parts.proofs.EndingLemmas.{begun, is_done, is_write}
+use Rattle.zarr_cli.specs.Made.{AnswersMade}
+use Rattle.zarr_cli.specs.Answers.{Ends}
+use Rattle.zarr_cli_parts.specs.Seen.{Seen}
 
 -- what a made run owes, from each of its ends
 module _ (number : ℕ) (options : Options) (before now : Seen) where
@@ -143,3 +110,107 @@ module _ (number : ℕ) (options : Options) (before now : Seen) where
     front = λ is. absurd (fails_write last ends (is_write last is));
     unchanged = unchanged;
   }
+
+  -- what a made run and the writing of its text come to
+  pub made_answers : (result : Result (Vec ℕ Global) Status) (last : Status) →
+      IfOk result (λ text. SumsAll made_array options (made_commands number) before.store now.store text.items) → IfErr result Fails →
+      IfErr result (λ status. LeavesBetween made_array options [] (made_commands number) before.store now.store (ending_of status)) →
+      (SeesNoDamage made_array options (made_commands number) before.store.content → ¬ Rose before.store.faults now.store.faults → IfErr result (λ status. status ≡ OutOfMemory)) →
+      ((key : List ℕ) → ¬ IsChangedKey made_array (made_commands number) key → now.store.content key ≡ before.store.content key) → now.source ≡ before.source →
+      MatchResult result (λ text. WritesText text.items before.sink now.sink last) (λ status. EndsWith status before.sink now.sink last) → AnswersMade number options before now (ending_of last)
+  made_answers (Ok text) last sums fault left complete unchanged unread (inl (is, given)) =
+      subst (λ s. AnswersMade number options before now (ending_of s)) (sym is) (made_done text.items sums given unread unchanged)
+  made_answers (Ok text) last sums fault left complete unchanged unread (inr (is, rose, given)) =
+      subst (λ s. AnswersMade number options before now (ending_of s)) (sym is) (made_write text.items sums given rose unread unchanged)
+  made_answers (Err status) last sums fault left complete unchanged unread ends =
+      made_early status last ends.which ends.kept fault unread complete left unchanged
+
+-- the endings of a made run
+abbrev IsOfMade : Status → Type 0 → Type 0 → Type 0
+IsOfMade Done store sink = Unit {0}
+IsOfMade Write store sink = sink
+IsOfMade (Chunk key) store sink = Unit {0}
+IsOfMade Store store sink = store
+IsOfMade OutOfMemory store sink = Unit {0}
+IsOfMade _ store sink = ⊥
+
+of_fault : (description : Description) (options : Options) (commands : List Command) (before now : Shown) (sink : Type 0) (status : Status) → IsRunFault description options commands before now status →
+    IsOfMade status (Rose before.faults now.faults) sink
+of_fault description options commands before now sink (Chunk key) fault = tt
+of_fault description options commands before now sink Store fault = fault
+of_fault description options commands before now sink OutOfMemory fault = tt
+of_fault description options commands before now sink Done fault = absurd fault
+of_fault description options commands before now sink BadWords fault = absurd fault
+of_fault description options commands before now sink (BadInput line) fault = absurd fault
+of_fault description options commands before now sink (Document error) fault = absurd fault
+of_fault description options commands before now sink Read fault = absurd fault
+of_fault description options commands before now sink Write fault = absurd fault
+of_fault description options commands before now sink TooLong fault = absurd fault
+
+module _ (number : ℕ) (options : Options) (before now : Shown) (given given_now : Given) where
+  pub of_made : (result : Result (Vec ℕ Global) Status) (last : Status) → IfErr result (λ status. IsRunFault made_array options (made_commands number) before now status) →
+      MatchResult result (λ text. WritesText text.items given given_now last) (λ status. EndsWith status given given_now last) →
+      IsOfMade last (Rose before.faults now.faults) (Rose given.faults given_now.faults) × IsGivenLine (ending_line (ending_of last)) given given_now
+  of_made (Ok text) last fault (inl (is, whole)) =
+      subst (λ s. IsOfMade s (Rose before.faults now.faults) (Rose given.faults given_now.faults) × IsGivenLine (ending_line (ending_of s)) given given_now) (sym is) (tt, tt)
+  of_made (Ok text) last fault (inr (is, rose, front)) =
+      subst (λ s. IsOfMade s (Rose before.faults now.faults) (Rose given.faults given_now.faults) × IsGivenLine (ending_line (ending_of s)) given given_now) (sym is) (rose, tt)
+  of_made (Err status) last fault ends = (
+    ⊎_elim
+        (λ (same : last ≡ status). subst (λ s. IsOfMade s (Rose before.faults now.faults) (Rose given.faults given_now.faults)) (sym same)
+        (of_fault made_array options (made_commands number) before now (Rose given.faults given_now.faults) status fault))
+        (λ (memory : last ≡ OutOfMemory). subst (λ s. IsOfMade s (Rose before.faults now.faults) (Rose given.faults given_now.faults)) (sym memory) tt)
+        ends.which,
+    ends.line,
+  )
+
+-- so no made run ends by the words, the reading or an input
+pub made_named : (store sink : Type 0) (last : Status) → IsOfMade last store sink → ¬ (last ≡ Document OpenError.OutOfMemory)
+made_named store sink last own is = subst (λ s. IsOfMade s store sink) is own
+
+pub made_ends : (words : List (List ℕ)) (settings : Settings) (before now : Seen) (last : Status) → settings_of words ≡ Some settings →
+    IsOfMade last (Rose before.store.faults now.store.faults) (Rose before.sink.faults now.sink.faults) → IsGivenLine (ending_line (ending_of last)) before.sink now.sink → Ends words before now (ending_of last)
+made_ends words settings before now last known own line = record {
+  bad_words = λ is. absurd (begun_made last own (subst IsBeforeStore (sym is) tt));
+  exactly_words = λ bad. absurd (unknown bad);
+  unread = λ bad. absurd (unknown bad);
+  unstored = λ bad. absurd (unknown bad);
+  store = λ is. rises is;
+  read = λ is. absurd (begun_made last own (subst IsBeforeStore (sym is) tt));
+  write = λ is. falls is;
+  line = line;
+  untouched = λ early. absurd (begun_made last own early);
+}
+  where
+    unknown : HasBadWords words → ⊥
+    unknown bad = let both : Some settings ≡ None = sym known ∙ bad in cc
+
+    begun_made : (s : Status) → IsOfMade s (Rose before.store.faults now.store.faults) (Rose before.sink.faults now.sink.faults) → IsBeforeStore (ending_of s) → ⊥
+    begun_made Done own early = early
+    begun_made Write own early = early
+    begun_made (Chunk key) own early = early
+    begun_made Store own early = early
+    begun_made OutOfMemory own early = early
+    begun_made BadWords own early = own
+    begun_made (BadInput line) own early = own
+    begun_made (Document error) own early = own
+    begun_made Read own early = own
+    begun_made TooLong own early = own
+
+    rises : ending_of last ≡ end.store_fault → Rose before.store.faults now.store.faults
+    rises is = at last own is
+      where
+        at : (s : Status) → IsOfMade s (Rose before.store.faults now.store.faults) (Rose before.sink.faults now.sink.faults) → ending_of s ≡ end.store_fault → Rose before.store.faults now.store.faults
+        at Store own is = own
+        at Done own is = absurd (cc)
+        at Write own is = absurd (cc)
+        at (Chunk key) own is = absurd (cc)
+        at OutOfMemory own is = absurd (cc)
+        at BadWords own is = absurd own
+        at (BadInput line) own is = absurd own
+        at (Document error) own is = absurd own
+        at Read own is = absurd own
+        at TooLong own is = absurd own
+
+    falls : ending_of last ≡ end.write_fault → Rose before.sink.faults now.sink.faults
+    falls is = subst (λ s. IsOfMade s (Rose before.store.faults now.store.faults) (Rose before.sink.faults now.sink.faults)) (is_write last is) own

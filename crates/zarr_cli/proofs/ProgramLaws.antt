@@ -8,8 +8,9 @@ use Rattle.zarr_model.specs.Prelude.{Content, Command}
 use Rattle.zarr_cli_runs.specs.array.parts.Document.{ArrayDocument, describe}
 use Rattle.zarr_cli_runs.specs.array.parts.Opening.{opened, open_builtin}
 use Rattle.zarr_cli_runs.specs.lines.Text.{commands_of}
-use Rattle.zarr_cli.specs.Words.{Settings, settings_of}
-use Rattle.zarr_cli.specs.Run.{Run, Prints, WentThrough}
+use Rattle.zarr_cli_parts.specs.Words.{Settings, settings_of}
+use Rattle.zarr_cli_parts.specs.Run.{Prints}
+use Rattle.zarr_cli.specs.Run.{Run, WentThrough}
 use Rattle.zarr_cli_runs.specs.Keys.{ListsStore}
 use Rattle.zarr_cli_runs.proofs.DescribedLaws.{same_opened}
 use Rattle.zarr_cli.specs.Input.{store_after_keys, command_grammar, document_line, lines_after_document}

@@ -17,7 +17,7 @@ use Rattle.zarr_cli_runs.specs.array.parts.Opening.{opened, open_builtin}
 use Rattle.zarr_cli.specs.Input.{input_limit, document_line, lines_after_document, store_after_keys, command_grammar, IsBadLine}
 use Rattle.zarr_cli_runs.specs.Keys.{ListsStore, IsDump, IsDumpAsks}
 use Rattle.zarr_cli.specs.Run.{WentThrough}
-use Rattle.zarr_cli.specs.Words.{first_settings}
+use Rattle.zarr_cli_parts.specs.Words.{first_settings}
 use Rattle.zarr_cli_runs.specs.Ending.{bad_words, ending_line, IsGivenFront, IsGivenLine}
 use Rattle.zarr_cli_runs.specs.lines.Text.{line_at, good_lines, replies_text, entries_text}
 use Rattle.zarrs_metadata_parts.specs.declared.array.chunk_key_separator.ChunkKeySeparator.TheVariants.{Slash}

@@ -4,7 +4,7 @@ use Rattle.std.specs.List.{list_all}
 use Rattle.hex.specs.Hex.{encode_with, decode_pairs}
 use Rattle.zarr_model.specs.Prelude.{whole, place, count_of, Element, of_bytes, uint_type, elements_in, Grid, chunks, regular_grid, Level, Chain, decode_chain, decode_array_to_bytes, bytes_codec, little, number_of_bytes, Layout, Content, chunk_content, stored_array}
 use Rattle.zarr_cli_runs.specs.lines.Text.{hex_of}
-use Rattle.zarr_cli.specs.Words.{first_settings}
+use Rattle.zarr_cli_parts.specs.Words.{first_settings}
 
 -- the inner chunks as a layout, each under its own indices
 abbrev inner_layout : Chain → List ℕ → Level → Layout Element

@@ -3,14 +3,14 @@ use Rattle.std.specs.Prelude.{◌≡◌, ℕ, ◌+◌, List, [], length, false, 
 use Rattle.zarr_model.specs.Prelude.{Rose, all_asks, all_puts, counted, AreRefused, IsUntouched}
 use Rattle.zarr_cli_runs.specs.array.parts.Document.{describe}
 use Rattle.zarr_cli_runs.specs.array.parts.Opening.{OpenRefusal}
-use Rattle.zarr_cli.specs.Words.{HasBadWords}
+use Rattle.zarr_cli_parts.specs.Words.{HasBadWords}
 use Rattle.zarr_cli.specs.Input.{input_entries, with_entries, store_after_keys, HasLongInput, HasBadLine, HasRefusedDocument}
 use Rattle.zarr_cli.specs.Run.{Run, HasDamage, IsCutAtDamage, WentThrough, IsRunnable, LeavesInput, SameButChanged}
 use Rattle.zarr_cli_runs.specs.Commands.{TakesRun}
 use Rattle.zarr_cli_runs.specs.Keys.{IsDumpAsks}
 use Rattle.zarr_cli_runs.specs.Ending.{Ending, IsOrMemory, IsWritten, IsGiven, IsGivenFront, IsGivenLine, ending_line, IsBeforeStore}
 use Rattle.zarr_cli_runs.specs.Ending as end
-use Rattle.zarr_cli.specs.Seen.{Seen}
+use Rattle.zarr_cli_parts.specs.Seen.{Seen}
 
 -- what a run owes over a source that tells its bytes, which are the input
 pub record Answers (words : List (List ℕ)) (input : List ℕ) (before now : Seen)

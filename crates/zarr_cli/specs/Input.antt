@@ -1,27 +1,12 @@
 -- The input: a document, key lines and command lines.
-use Rattle.std.specs.Prelude.{◌≡◌, ℕ, ◌+◌, ◌<◌, ◌≤◌, ◌⊎◌, List, [], ◌∷◌, length, drop, IsUtf8, Contains, Option}
-use Rattle.std.specs.Str.{IsValidUpTo}
+use Rattle.std.specs.Prelude.{◌≡◌, ℕ, ◌+◌, ◌<◌, ◌≤◌, ◌⊎◌, List, length, IsUtf8, Option}
 use Rattle.zarr_model.specs.Prelude.{Content, with_keys, Command, kind}
-use Rattle.zarr_cli_runs.specs.lines.Text.{line_command, input_lines, first_entries, good_lines, line_at}
+use Rattle.zarr_cli_runs.specs.lines.Text.{line_command, first_entries, good_lines}
 use Rattle.zarr_cli_runs.specs.array.parts.Document.{ArrayDocument, describe}
 use Rattle.zarr_cli_runs.specs.array.parts.Opening.{OpenRefusal, opened, not_opened, open_builtin}
-pub use Rattle.zarr_cli_runs.specs.Between.{with_entries}
-use Rattle.zarr_cli.specs.Words.{IsReading}
-
--- the greatest number of bytes that an input may have
-abbrev pub input_limit : ℕ
-input_limit = 67108864
-
--- the first line of an input, and the lines after it
-abbrev pub first_line : List (List ℕ) → List ℕ
-first_line [] = []
-first_line (line ∷ lines) = line
-
-abbrev pub document_line : List ℕ → List ℕ
-document_line input = first_line (input_lines input)
-
-abbrev pub lines_after_document : List ℕ → List (List ℕ)
-lines_after_document input = drop 1 (input_lines input)
+pub use Rattle.zarr_cli_parts.specs.Input.{input_limit, IsNotUtf8}
+pub use Rattle.zarr_cli_parts.specs.Lines.{first_line, document_line, lines_after_document, IsKeyOf, with_entries}
+use Rattle.zarr_cli_parts.specs.Words.{IsReading}
 
 -- the key lines of an input
 abbrev pub input_entries : List ℕ → List (List ℕ × List ℕ)
@@ -29,7 +14,7 @@ input_entries input = first_entries (lines_after_document input)
 
 -- a key is that of a key line
 abbrev pub IsLineKey : List ℕ → List ℕ → Type 0
-IsLineKey input key = (value : List ℕ) × Contains (input_entries input) (key, value)
+IsLineKey input key = IsKeyOf (input_entries input) key
 
 -- what a store holds once its key lines are set
 abbrev pub store_after_keys : List ℕ → Content → Content
@@ -43,7 +28,7 @@ command_grammar document = line_command (kind (describe document))
 -- opens, and this is the first line after it out of form.
 abbrev pub IsBadLine : List ℕ → ℕ → Type 0
 IsBadLine input line =
-    ((n : ℕ) × IsValidUpTo input n × (line ≡ line_at input n))
+    IsNotUtf8 input line
     ⊎ (IsUtf8 input × (document : ArrayDocument)
     × (open_builtin (document_line input) ≡ opened document)
     × (good_lines (command_grammar document) (lines_after_document input) < length

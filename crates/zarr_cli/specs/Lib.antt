@@ -1,9 +1,6 @@
-pub mod Words
+pub use Rattle.zarr_cli_parts.specs as parts
 pub mod Input
 pub mod Run
-pub mod Status
-pub mod Seen
 pub mod Answers
 pub mod Made
 pub mod Steps
-pub mod MadeSteps

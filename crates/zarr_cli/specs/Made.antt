@@ -6,7 +6,7 @@ use Rattle.zarr_cli_runs.specs.Between.{LeavesBetween}
 use Rattle.zarr_cli_runs.specs.Commands.{IsChangedKey, EndsAtDamage}
 use Rattle.zarr_cli_runs.specs.Ending.{Ending, IsOrMemory, IsGiven, IsGivenFront, IsWritten, IsBeforeStore}
 use Rattle.zarr_cli_runs.specs.Ending as end
-use Rattle.zarr_cli.specs.Seen.{Seen}
+use Rattle.zarr_cli_parts.specs.Seen.{Seen}
 use Rattle.zarr_cli_runs.specs.Made.{made_array, SumsUp}
 
 -- the made commands went through, and wrote what passes the test: all of their text, or a front

@@ -1,16 +1,15 @@
 -- A run: what its words and its input say, what it prints, and what it leaves in the store.
-use Rattle.std.specs.Prelude.{◌≡◌, ℕ, ◌+◌, ◌≤◌, Bool, List, ◌++◌, length, IsUtf8, Some}
-use Rattle.zarr_model.specs.Prelude.{Element, Array, Content, Shown, Command, Description, replies, LeavesArray, SeesNoDamage, IsDamageSeen}
-use Rattle.zarr_cli_runs.specs.lines.Text.{commands_of, replies_text}
+use Rattle.std.specs.Prelude.{◌≡◌, ℕ, ◌≤◌, List, length, IsUtf8, Some}
+use Rattle.zarr_model.specs.Prelude.{Content, Shown, Command, SeesNoDamage, IsDamageSeen}
+use Rattle.zarr_cli_runs.specs.lines.Text.{commands_of}
 use Rattle.zarr_cli_runs.specs.array.parts.Document.{ArrayDocument, describe}
 use Rattle.zarr_cli_runs.specs.array.parts.Opening.{opened, open_builtin}
-use Rattle.zarr_cli_runs.specs.array.Stored.{StoresForAll}
-use Rattle.zarr_cli.specs.Words.{Settings, ReadsBy}
-use Rattle.zarr_cli.specs.Input.{input_limit, document_line, lines_after_document, command_grammar, input_entries, store_after_keys, with_entries, IsLineKey}
-use Rattle.zarr_cli_runs.specs.Keys.{IsDump}
 use Rattle.zarr_cli_runs.specs.Ending.{Ending}
 use Rattle.zarr_cli_runs.specs.Between.{LeavesBetween}
-use Rattle.zarr_cli_runs.specs.Commands.{IsChangedKey, MeansUndamaged, LeavesUndamaged, EndsAtDamage}
+use Rattle.zarr_cli_runs.specs.Commands.{IsChangedKey, EndsAtDamage}
+use Rattle.zarr_cli_parts.specs.Words.{Settings, ReadsBy}
+use Rattle.zarr_cli_parts.specs.Run.{Prints}
+use Rattle.zarr_cli.specs.Input.{input_limit, document_line, lines_after_document, command_grammar, input_entries, store_after_keys, with_entries, IsLineKey}
 
 -- what the words and the input of a run say, where all of them have their form: there is one such
 -- run, or none
@@ -24,29 +23,6 @@ pub record Run (words : List (List ℕ)) (input : List ℕ) : Type 0 where
   pub is_opened : open_builtin (document_line input) ≡ opened document
   pub are_commands : commands_of (command_grammar document) (lines_after_document input)
       ≡ Some commands
-
--- the text of a run: the replies to the commands from an array, and the final keys
-abbrev pub IsOutput : Description → List Command → Array Element → Bool → Content → List ℕ → Type 0
-IsOutput description commands array dump store output = (keys : List ℕ) × IsDump dump store keys
-    × (output ≡ replies_text (replies description commands array) ++ keys)
-
--- commands ran to their end over a store, and this was printed
-pub record Prints (description : Description) (settings : Settings) (commands : List Command)
-    (old new : Content) (output : List ℕ) : Type 0 where
-  -- the replies of one plain array that the store meant without the damage that was not met, and the
-  -- final keys
-  pub replied : (array : Array Element) →
-      MeansUndamaged description settings.options commands old array →
-      IsOutput description commands array settings.dump new output
-  -- the store is left as that array's, without damage and with it, and what was stored decodes so
-  -- under all options
-  pub mended : LeavesUndamaged description settings.options commands old new
-  pub left : LeavesArray description settings.options commands old new
-  pub stored : StoresForAll description settings.options commands old new
-  -- each value that was met decodes, but for reads of parts whose pieces are there
-  pub undamaged : SeesNoDamage description settings.options commands old
-  -- whatever the store meant, its final keys stand at the end
-  pub dumped : (front keys : List ℕ) × IsDump settings.dump new keys × (output ≡ front ++ keys)
 
 -- a run in form went through from its key lines on, and wrote what passes the test: all of its
 -- output, or a front of it

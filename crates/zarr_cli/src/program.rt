@@ -1,118 +1,92 @@
 //! The program: words, a document, key lines and commands in, the replies of one array and its final keys out.
 
-ghost use Rattle.std.specs.Prelude.{◌≡◌, ◌≤◌, List, ℕ, [], length, Some, Err, IfErr, OnOk, OnErr, MatchResult};
-ghost use Rattle.zarr_model.specs.Prelude.{Rose, IsUntouched, Options};
-ghost use Rattle.zarr_cli.specs.Words.{ReadsBy, HasBadWords, MakesFrom, MakesNothing};
-ghost use Rattle.zarr_cli.specs.Input.{input_limit};
-ghost use Rattle.zarr_cli.specs.Run.{IsRunnable, LeavesInput, SameButChanged};
-ghost use Rattle.zarr_cli_runs.specs.Ending.{IsBeforeStore};
-ghost use Rattle.zarr_cli.specs.Status.{words_of, settings_view};
+ghost use Rattle.std.specs.Prelude.{◌≡◌, ◌≤◌, List, ℕ, [], length, map, string_bytes, IsUtf8, Some};
+ghost use Rattle.zarr_model.specs.Prelude.{Options, Told};
+ghost use Rattle.zarrs_codec_traits.specs.Views.{options_of};
 ghost use Rattle.zarr_cli_runs.specs.Status.{ending_of};
-ghost use Rattle.zarr_cli.specs.Steps.{PrintsInput, IsToldFault, IsPlainFault, IsUnaskedIfRefused};
-ghost use Rattle.zarr_cli.specs.MadeSteps.{RanInput, RanMade};
-ghost use Rattle.zarr_cli.specs.Seen.{seen};
+ghost use Rattle.zarr_cli_parts.specs.Words.{Settings, ReadsBy, MakesFrom, MakesNothing, settings_of};
+ghost use Rattle.zarr_cli_parts.specs.Status.{words_of, settings_view};
+ghost use Rattle.zarr_cli.specs.Input.{input_limit};
+ghost use Rattle.zarr_cli_runs.specs.lines.Text.{input_lines};
+ghost use Rattle.zarr_cli_parts.specs.Seen.{seen};
 ghost use Rattle.zarr_cli.specs.Answers.{Answers, Ends};
 ghost use Rattle.zarr_cli.specs.Made.{AnswersMade};
 
-use crate::input::parse_input;
-use crate::read::read_input;
-use crate::run::run_input;
-use crate::words::{Settings, parse_words};
-use crate::write::{end_with, write_text};
 use std::alloc::Global;
+use zarr_cli_parts::lines::{fault_status, first_line};
+use zarr_cli_parts::write::{end_with, write_output};
+use zarr_cli_parts::{Status, Words, read_lines, read_words, run_lines};
+use zarr_cli_runs::OpenError;
 use zarr_cli_runs::made::run_made;
-use zarr_cli_runs::{OpenError, Status};
+use zarr_cli_runs::opening::open_line;
 use zarrs_storage::{Sink, Source, Store};
 
-// Runs an input that is read, and gives the text of its replies and of the keys that are asked for.
-fn run_bytes<S: Store>(
+// Opens the first line and runs the others.
+fn run_document<W: Sink, S: Store>(
     alloc: Global,
-    settings: &Settings,
-    input: &[u8],
+    words: &Words,
+    lines: &[String],
+    sink: &mut W,
     store: &mut S,
-) -> Result<Vec<u8>, Status>
-    requires { length input.now ≤ input_limit }
-    ensures ran { (words : List (List ℕ)) → ReadsBy words (settings_view settings.now) →
-        MatchResult result
-        (λ text. PrintsInput words input.now (S.shown store.old) (S.shown store.new) text.items)
-        (λ status. IsToldFault words input.now ⊥ (S.shown store.old) (S.shown store.new) status) }
-    ensures untouched { IfErr result (λ status. IsBeforeStore (ending_of status) →
-        IsUntouched (S.shown store.old) (S.shown store.new)) }
-    ensures unchanged { (words : List (List ℕ)) →
-        ReadsBy words (settings_view settings.now) →
-        SameButChanged words input.now (S.shown store.old).content (S.shown store.new).content }
-    ensures unasked { (words : List (List ℕ)) →
-        ReadsBy words (settings_view settings.now) →
-        IsUnaskedIfRefused words input.now (S.shown store.old) (S.shown store.new) }
-    ensures between { (words : List (List ℕ)) → ReadsBy words (settings_view settings.now) →
-        IfErr result (λ status. LeavesInput words input.now (S.shown store.old)
-        (S.shown store.new) (ending_of status)) }
-    ensures complete { (words : List (List ℕ)) →
-        ReadsBy words (settings_view settings.now) →
-        IsRunnable words input.now (S.shown store.old).content →
-        ¬ Rose (S.shown store.old).faults (S.shown store.new).faults →
-        IfErr result (λ status. status ≡ Status.OutOfMemory) }
+) -> Status
+    ensures told { (known : List (List ℕ)) → ReadsBy known (settings_view words.now) →
+        (input : List ℕ) → length input ≤ input_limit → IsUtf8 input →
+        map string_bytes lines.now ≡ input_lines input →
+        (before now : Told) → now.left ≡ Some [] → Answers known input
+        (seen before (W.shown sink.old) (S.shown store.old))
+        (seen now (W.shown sink.new) (S.shown store.new)) (ending_of result) }
+    ensures ends { (known : List (List ℕ)) → ReadsBy known (settings_view words.now) →
+        (before now : Told) → Ends known (seen before (W.shown sink.old) (S.shown store.old))
+        (seen now (W.shown sink.new) (S.shown store.new)) (ending_of result) }
+    ensures named { ¬ (result ≡ Status.Document OpenError.OutOfMemory) }
 {
-    match parse_input(alloc, input) {
-        Ok(parsed) => run_input(alloc, settings, &parsed, store),
-        Err(status) => Err(status),
+    match open_line(alloc, first_line(lines)) {
+        Ok(array) => run_lines(alloc, &array, lines, words, sink, store),
+        Err(status) => end_with(alloc, status, sink),
     }
 }
 
-// Reads an input and runs it, and gives the text of its replies and of the keys that are asked for.
-fn read_and_run<R: Source, S: Store>(
+// Reads an input and runs it.
+fn run_input<R: Source, W: Sink, S: Store>(
     alloc: Global,
-    settings: &Settings,
+    words: &Words,
     source: &mut R,
+    sink: &mut W,
     store: &mut S,
-) -> Result<Vec<u8>, Status>
-    ensures ran { (words : List (List ℕ)) → ReadsBy words (settings_view settings.now) →
-        (input : List ℕ) → (R.shown source.old).left ≡ Some input →
-        RanInput words input (R.shown source.old) (R.shown source.new) (S.shown store.old)
-        (S.shown store.new) result }
-    ensures fault { (words : List (List ℕ)) → ReadsBy words (settings_view settings.now) →
-        IfErr result (λ status. IsPlainFault words
-        (Rose (R.shown source.old).faults (R.shown source.new).faults)
-        (Rose (S.shown store.old).faults (S.shown store.new).faults) status) }
-    ensures untouched { IfErr result (λ status. IsBeforeStore (ending_of status) →
-        IsUntouched (S.shown store.old) (S.shown store.new)) }
+) -> Status
+    ensures told { (known : List (List ℕ)) → ReadsBy known (settings_view words.now) →
+        (input : List ℕ) → (R.shown source.old).left ≡ Some input → Answers known input
+        (seen (R.shown source.old) (W.shown sink.old) (S.shown store.old))
+        (seen (R.shown source.new) (W.shown sink.new) (S.shown store.new)) (ending_of result) }
+    ensures ends { (known : List (List ℕ)) → ReadsBy known (settings_view words.now) → Ends known
+        (seen (R.shown source.old) (W.shown sink.old) (S.shown store.old))
+        (seen (R.shown source.new) (W.shown sink.new) (S.shown store.new)) (ending_of result) }
+    ensures named { ¬ (result ≡ Status.Document OpenError.OutOfMemory) }
 {
-    match read_input(alloc, source) {
-        Ok(input) => run_bytes(alloc, settings, &input, store),
-        Err(status) => Err(status),
+    match read_lines(alloc, source) {
+        Ok(lines) => run_document(alloc, words, &lines, sink, store),
+        Err(fault) => end_with(alloc, fault_status(fault), sink),
     }
 }
 
-// The text that is to be written, or the status that ends the program before.
-fn output_of<R: Source, S: Store>(
+// Runs what is made from a number.
+fn run_number<W: Sink, S: Store>(
     alloc: Global,
-    words: &[String],
-    source: &mut R,
+    words: &Words,
+    number: u64,
+    sink: &mut W,
     store: &mut S,
-) -> Result<Vec<u8>, Status>
-    ensures read { MakesNothing (words_of words.now) →
-        (input : List ℕ) → (R.shown source.old).left ≡ Some input →
-        RanInput (words_of words.now) input (R.shown source.old) (R.shown source.new)
-        (S.shown store.old) (S.shown store.new) result }
-    ensures made { (number : ℕ) (options : Options) →
-        MakesFrom (words_of words.now) number options →
-        RanMade number options (R.shown source.old) (R.shown source.new)
-        (S.shown store.old) (S.shown store.new) result }
-    ensures fault { IfErr result (λ status. IsPlainFault (words_of words.now)
-        (Rose (R.shown source.old).faults (R.shown source.new).faults)
-        (Rose (S.shown store.old).faults (S.shown store.new).faults) status) }
-    ensures words { HasBadWords (words_of words.now) → result ≡ Err Status.BadWords }
-    ensures unread { HasBadWords (words_of words.now) → R.shown source.new ≡ R.shown source.old }
-    ensures untouched { IfErr result (λ status. IsBeforeStore (ending_of status) →
-        IsUntouched (S.shown store.old) (S.shown store.new)) }
+) -> Status
+    ensures made { (source : Told) → AnswersMade number (options_of words.now.options)
+        (seen source (W.shown sink.old) (S.shown store.old))
+        (seen source (W.shown sink.new) (S.shown store.new)) (ending_of result) }
+    ensures ends { (known : List (List ℕ)) → settings_of known ≡ Some (settings_view words.now) →
+        (source : Told) → Ends known (seen source (W.shown sink.old) (S.shown store.old))
+        (seen source (W.shown sink.new) (S.shown store.new)) (ending_of result) }
+    ensures named { ¬ (result ≡ Status.Document OpenError.OutOfMemory) }
 {
-    let Some(settings) = parse_words(words) else {
-        return Err(Status::BadWords);
-    };
-    match settings.make {
-        Some(number) => run_made(alloc, &settings.options, number, store),
-        None => read_and_run(alloc, &settings, source, store),
-    }
+    let output = run_made(alloc, &words.options, number, store);
+    write_output(alloc, output, sink)
 }
 
 /// Reads a document, key lines and commands from `source`, runs the commands over `store`, and writes their
@@ -150,14 +124,11 @@ pub fn run_program<R: Source, W: Sink, S: Store>(
     // Want of memory is told as such.
     ensures named { ¬ (result ≡ Status.Document OpenError.OutOfMemory) }
 {
-    match output_of(alloc, words, source, store) {
-        Ok(text) => {
-            if write_text(sink, &text) {
-                Status::Done
-            } else {
-                Status::Write
-            }
-        }
-        Err(status) => end_with(alloc, status, sink),
+    let Some(words) = read_words(words) else {
+        return end_with(alloc, Status::BadWords, sink);
+    };
+    match words.make {
+        Some(number) => run_number(alloc, &words, number, sink, store),
+        None => run_input(alloc, &words, source, sink, store),
     }
 }

@@ -3,7 +3,8 @@ use Rattle.std.proofs.Common.{◌≡◌, ℕ, suc, ◌+◌, ◌≤◌, true, Lis
 use Rattle.std.specs.List.{prefix_len}
 use Rattle.zarr_model.specs.Prelude.{Command}
 use Rattle.zarr_model.proofs.Choices.{is_some-option_map}
-use Rattle.zarr_cli_lines.specs.Text.{all_some, first_entries, lines_after_entries, commands_of, good_lines, entry_of_line, entries_onto}
+use Rattle.zarr_cli_lines.specs.Text.{all_some, first_entries, lines_after_entries, commands_of, good_lines}
+use Rattle.zarr_cli_lines.proofs.LineLemmas.{few_entries}
 
 -- values that are all there
 all_some_is : {A B : Type 0} (f : A → Option B) (xs : List A) → (is_some (all_some (map f xs)) ≡ true) ↔ (prefix_len (λ x. is_some (f x)) xs ≡ length xs)
@@ -17,14 +18,6 @@ all_some_is {A} {B} f (x ∷ xs) = go (f x) (all_some_is f xs)
       (λ e. let rest : prefix_len (λ y. is_some (f y)) xs ≡ length xs = both.0 (sym (is_some-option_map (λ ys. y ∷ ys) (all_some (map f xs))) ∙ e) in omega arith),
       (λ e. let rest : prefix_len (λ y. is_some (f y)) xs ≡ length xs = omega arith in is_some-option_map (λ ys. y ∷ ys) (all_some (map f xs)) ∙ both.1 rest),
     )
-
-few_entries : (lines : List (List ℕ)) → length (first_entries lines) ≤ length lines
-few_entries [] = omega arith
-few_entries (line ∷ lines) = go (entry_of_line line) (few_entries lines)
-  where
-    go : (o : Option (List ℕ × List ℕ)) → length (first_entries lines) ≤ length lines → length (entries_onto o (first_entries lines)) ≤ suc (length lines)
-    go None h = omega arith
-    go (Some entry) h = omega arith
 
 -- each line is of its form exactly where the lines are key lines and then commands
 pub good_lines_all : (grammar : List ℕ → Option Command) (lines : List (List ℕ)) → (is_some (commands_of grammar lines) ≡ true) ↔ (good_lines grammar lines ≡ length lines)

@@ -1,6 +1,5 @@
 -- The parts of a line, and what the parsed lines of an input stand for.
 use Rattle.std.specs.Prelude.{◌≡◌, ℕ, ◌-◌, ◌<◌, List, [], ◌∷◌, ◌++◌, length, map, Option, Some, None}
-use Rattle.std.specs.Option.{option_map_or}
 use Rattle.std.specs.List.{AllZip}
 use Rattle.std.specs.Borrow.{Bor}
 use Rattle.std.specs.declared.ops.Range.{Range}
@@ -8,8 +7,7 @@ use Rattle.zarr_model.specs.Prelude.{Span, Kind, Command, Matches}
 use Rattle.zarr_model.specs.Command as Model
 use Rattle.zarr_array.specs.declared.command.Reply.{Reply}
 use Rattle.zarr_array.specs.Command.{answer_of}
-use Rattle.zarr_cli_lines.specs.Text.{split_at, good_lines, line_of, reply_text, replies_text}
-use Rattle.zarr_cli_lines.specs.declared.lines.Lines.{Lines}
+use Rattle.zarr_cli_lines.specs.Text.{good_lines, line_of, reply_text, replies_text}
 use Rattle.zarr_cli_lines.specs.declared.entry.Entry.{Entry}
 use Rattle.zarr_cli_lines.specs.declared.parse.LineError.{LineError}
 use Rattle.zarr_cli_lines.specs.declared.parse.LineError.TheVariants.{OutOfForm, OutOfMemory}
@@ -27,10 +25,6 @@ two_of _ = None
 -- a range as a span, of length 0 where its end is below its start
 abbrev pub span_of_range : Range ℕ → Span
 span_of_range range = record { start = range.start; size = range.end - range.start }
-
--- the lines that are left
-abbrev pub lines_left : Lines → List (List ℕ)
-lines_left lines = option_map_or (λ rest. split_at 10 rest.now) lines.rest []
 
 -- the key of an entry, and its value
 abbrev pub entry_view : Entry → List ℕ × List ℕ

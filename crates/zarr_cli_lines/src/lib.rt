@@ -4,13 +4,11 @@
 mod boxes;
 pub mod entry;
 mod indices;
-pub mod lines;
 pub mod parse;
 mod parts;
 pub mod reply_text;
 
 pub use entry::{Entry, parse_key_line, push_entry};
-pub use lines::Lines;
 pub use parse::{LineError, ParsedLines, parse_command_line, parse_lines};
 pub use reply_text::push_reply;
 pub use zarr_array::{

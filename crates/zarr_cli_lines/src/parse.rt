@@ -1,16 +1,15 @@
 //! The lines after the document: key lines, and then commands.
 
-ghost use Rattle.std.specs.Prelude.{◌≡◌, ◌<◌, ◌^◌, ℕ, map, length, Some, is_some, IfOk, IfErr, option_map};
+ghost use Rattle.std.specs.Prelude.{◌≡◌, ◌<◌, ℕ, map, length, string_bytes, Some, is_some, IfOk, IfErr, option_map};
 ghost use Rattle.std.specs.List.{prefix_len};
 ghost use Rattle.zarrs_codec_array_bytes.specs.Steps.{kind_seen};
 ghost use Rattle.zarr_array.specs.Command.{command_of};
-ghost use Rattle.zarr_cli_lines.specs.Text.{words_left, first_entries, lines_after_entries, line_command, commands_of, all_some, box_of, element_of, write_of};
-ghost use Rattle.zarr_cli_lines.specs.Parts.{lines_left, entry_view, IsLineFault};
+ghost use Rattle.zarr_cli_lines.specs.Text.{words_left, first_entries, line_command, commands_of, all_some, box_of, element_of, write_of};
+ghost use Rattle.zarr_cli_lines.specs.Parts.{entry_view, IsLineFault};
 
 use crate::boxes::parse_box;
 use crate::entry::{Entry, parse_key_line};
 use crate::indices::parse_indices;
-use crate::lines::Lines;
 use std::alloc::{AllocError, AllocFailed, Global};
 use thiserror::Error;
 use zarr_array::Command;
@@ -110,20 +109,17 @@ pub fn parse_command_line(
     }
 }
 
-// Takes the key lines off the front.
-fn take_entries(alloc: Global, lines: &mut Lines) -> Result<Vec<Entry>, AllocError>
-    ensures entries { IfOk result (λ entries. map entry_view entries.items
-        ≡ first_entries (lines_left lines.old)) }
-    ensures rest { IfOk result (λ entries. lines_left lines.new
-        ≡ lines_after_entries (lines_left lines.old)) }
+/// The entries of the key lines at the front. An error comes only for want of memory.
+pub fn first_entries(alloc: Global, lines: &[String]) -> Result<Vec<Entry>, AllocError>
+    ensures { IfOk result (λ entries. map entry_view entries.items
+        ≡ first_entries (map string_bytes lines.now)) }
 {
     let mut entries = Vec::new(alloc);
-    'entries: while let Some((line, rest)) = lines.split_first() {
-        let Some(entry) = parse_key_line(alloc, line)? else {
+    for line in lines {
+        let Some(entry) = parse_key_line(alloc, line.as_str())? else {
             return Ok(entries);
         };
         entries.push(entry)?;
-        *lines = rest;
     }
     Ok(entries)
 }
@@ -131,29 +127,25 @@ fn take_entries(alloc: Global, lines: &mut Lines) -> Result<Vec<Entry>, AllocErr
 // The commands of lines, or how many come before the first that is none.
 fn parse_commands(
     alloc: Global,
-    lines: Lines,
+    lines: &[String],
     data_type: &DataType,
 ) -> Result<Vec<Command>, LineError>
     ensures ok { IfOk result (λ commands.
-        all_some (map (line_command (kind_seen data_type.now)) (lines_left lines.entry))
+        all_some (map (line_command (kind_seen data_type.now)) (map string_bytes lines.now))
         ≡ Some (map command_of commands.items)) }
     ensures fault { IfErr result (λ error. (good : ℕ) → error ≡ LineError.OutOfForm good →
         (good ≡ prefix_len (λ line. is_some (line_command (kind_seen data_type.now) line))
-        (lines_left lines.entry))
-        × (good < length (lines_left lines.entry))) }
-    ensures small { IfErr result (λ error. (good : ℕ) → error ≡ LineError.OutOfForm good →
-        good < 2 ^ 63) }
+        (map string_bytes lines.now))
+        × (good < length lines.now)) }
 {
     let mut commands = Vec::new(alloc);
-    let mut left = lines;
-    'commands: while let Some((line, rest)) = left.split_first() {
-        let Some(command) = parse_command_line(alloc, line, data_type)? else {
+    for line in lines {
+        let Some(command) = parse_command_line(alloc, line.as_str(), data_type)? else {
             return Err(LineError::OutOfForm {
                 good_lines: commands.len(),
             });
         };
         commands.push(command)?;
-        left = rest;
     }
     Ok(commands)
 }
@@ -166,20 +158,19 @@ fn parse_commands(
 /// [`LineError::OutOfMemory`] for want of memory.
 pub fn parse_lines(
     alloc: Global,
-    lines: Lines,
+    lines: &[String],
     data_type: &DataType,
 ) -> Result<ParsedLines, LineError>
     ensures entries { IfOk result (λ parsed. map entry_view parsed.entries.items
-        ≡ first_entries (lines_left lines.entry)) }
+        ≡ first_entries (map string_bytes lines.now)) }
     ensures commands { IfOk result (λ parsed.
-        commands_of (line_command (kind_seen data_type.now)) (lines_left lines.entry)
+        commands_of (line_command (kind_seen data_type.now)) (map string_bytes lines.now)
         ≡ Some (map command_of parsed.commands.items)) }
-    ensures fault { IfErr result (λ error.
-        IsLineFault error (line_command (kind_seen data_type.now)) (lines_left lines.entry)) }
+    ensures fault { IfErr result (λ error. IsLineFault error
+        (line_command (kind_seen data_type.now)) (map string_bytes lines.now)) }
 {
-    let mut left = lines;
-    let entries = take_entries(alloc, &mut left)?;
-    match parse_commands(alloc, left, data_type) {
+    let entries = first_entries(alloc, lines)?;
+    match parse_commands(alloc, &lines[entries.len()..], data_type) {
         Ok(commands) => Ok(ParsedLines { entries, commands }),
         Err(LineError::OutOfForm { good_lines }) => Err(LineError::OutOfForm {
             good_lines: entries.len() + good_lines,

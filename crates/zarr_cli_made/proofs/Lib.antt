@@ -1,7 +1,6 @@
 pub use Rattle.zarr_cli_lines.proofs.DocumentLaws as DescribedLaws
 pub use Rattle.zarr_cli_lines.proofs.Documents
 pub use Rattle.zarr_cli_lines.proofs.KeysApart
-pub use Rattle.zarr_cli_lines.proofs.SplitLemmas
 pub use Rattle.zarr_cli_lines.proofs.StoredLaws
 pub use Rattle.zarr_cli_lines.proofs.TextLaws
 pub mod Examples

@@ -13,6 +13,7 @@ pub use document::made_document;
 pub use generator::Generator;
 pub use summary::push_summary;
 pub use zarr_cli_lines::{
-    CodecOptions, Command, Entry, LineError, Lines, OpenArray, OpenError, ParsedLines, Reply,
-    SessionErrorKind, builtin_registries, parse_lines, push_entry, push_reply,
+    CodecOptions, Command, Entry, LineError, OpenArray, OpenError, ParsedLines, Reply,
+    SessionErrorKind, builtin_registries, parse_command_line, parse_key_line, parse_lines,
+    push_entry, push_reply,
 };

@@ -1,7 +1,6 @@
 pub use Rattle.zarr_cli_made.proofs.DescribedLaws
 pub use Rattle.zarr_cli_made.proofs.Documents
 pub use Rattle.zarr_cli_made.proofs.KeysApart
-pub use Rattle.zarr_cli_made.proofs.SplitLemmas
 pub use Rattle.zarr_cli_made.proofs.StoredLaws
 pub use Rattle.zarr_cli_made.proofs.TextLaws
 pub mod ChangeLaws

@@ -11,5 +11,6 @@ pub mod status;
 
 pub use status::Status;
 pub use zarr_cli_made::{
-    CodecOptions, Command, Entry, LineError, Lines, OpenArray, OpenError, ParsedLines, parse_lines,
+    CodecOptions, Command, Entry, LineError, OpenArray, OpenError, ParsedLines, Reply,
+    parse_command_line, parse_key_line, parse_lines, push_reply,
 };

@@ -1,7 +1,7 @@
 -- Words that make no run from a number, or make one.
 use Rattle.std.proofs.Common.{◌≡◌, ℕ, List, Option, Some, None, ◌⊎◌, inl, inr, refl}
 use Rattle.zarr_model.specs.Prelude.{Options}
-use Rattle.zarr_cli.specs.Words.{Settings, settings_of, MakesFrom, MakesNothing}
+use Rattle.zarr_cli.specs.parts.Words.{Settings, settings_of, MakesFrom, MakesNothing}
 
 pub either_way : (words : List (List ℕ)) → MakesNothing words ⊎ ((number : ℕ) × (options : Options) × MakesFrom words number options)
 either_way words = by_settings (settings_of words) refl

@@ -4,7 +4,7 @@ ghost use Rattle.std.specs.Prelude.{◌≡◌, ℕ, List, Some};
 ghost use Rattle.zarr_array_parts.specs.Opening.{OpenRefusal};
 ghost use Rattle.zarr_cli.specs.Input.{HasBadLine, HasLongInput, HasRefusedDocument};
 ghost use Rattle.zarr_cli_runs.specs.Ending.{bad_input, refused_document, too_long};
-ghost use Rattle.zarr_cli.specs.Status.{words_of};
+ghost use Rattle.zarr_cli.specs.parts.Status.{words_of};
 ghost use Rattle.zarr_cli_runs.specs.Status.{ending_of};
 
 use std::alloc::Global;

@@ -1,2 +1,6 @@
 pub mod ChangeLaws
 pub mod SessionLaws
+mod LineLaws
+mod ReadsLaws
+mod SaidLaws
+mod AnswerLaws

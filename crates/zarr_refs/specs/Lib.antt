@@ -1,1 +1,10 @@
 pub mod Session
+pub mod Lines
+pub mod Ending
+pub mod Written
+pub mod Input
+pub mod Run
+pub mod Steps
+pub mod Reads
+pub mod Said
+pub mod Answers

@@ -1,6 +1,6 @@
 //! One row: its name, what it tries, and on what.
 
-use crate::run::{Run, run_each_line};
+use crate::run::{Program, Run, run_each_line};
 use hex::decode;
 use std::alloc::{AllocError, Global};
 
@@ -78,6 +78,8 @@ impl Row {
         } else if let Some(line) = setting.strip_prefix("then ") {
             self.run.then.extend_from_slice(line.as_bytes())?;
             self.run.then.push(b'\n')?;
+        } else if let Some(name) = setting.strip_prefix("program ") {
+            self.run.program = Program::named(name);
         } else if setting == "lines" {
             self.kind = Kind::Lines;
         }
@@ -134,7 +136,7 @@ impl Row {
         push_name(alloc, self.name.as_str(), out)?;
         match self.kind {
             Kind::Run => self.run.run(alloc, out),
-            Kind::Lines => run_each_line(alloc, self.run.text(), out),
+            Kind::Lines => run_each_line(alloc, self.run.program, self.run.text(), out),
             Kind::Calls(calls) => self.run.run_each_call(alloc, calls, out),
         }
     }

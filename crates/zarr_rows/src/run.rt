@@ -1,8 +1,11 @@
-//! Runs of the program over a store in memory, empty at first.
+//! Runs of the programs over a store in memory, empty at first.
 
 use hex::encode;
 use std::alloc::{AllocError, Global};
 use zarr_cli::program::run_program;
+use zarr_rechunk::run_rechunk;
+use zarr_refs::run_refs;
+use zarr_v2::run_v2_program;
 use zarrs_storage::{
     FailingStore, MemorySink, MemorySource, MemoryStore, StorageError, Store, StoreKey,
 };
@@ -10,9 +13,55 @@ use zarrs_storage::{
 // The room of each sink.
 const ROOM: usize = 65_536;
 
-/// The words, the failing calls and the input of one run.
+/// The program that is run.
+#[derive(Clone, Copy)]
+pub enum Program {
+    /// `zarr`.
+    Zarr,
+    /// `refs`.
+    Refs,
+    /// `rechunk`, into an empty store.
+    Rechunk,
+    /// `v2`.
+    V2,
+}
+
+impl Program {
+    /// The program of a name, or `zarr`.
+    pub fn named(name: &str) -> Program {
+        match name {
+            "refs" => Program::Refs,
+            "rechunk" => Program::Rechunk,
+            "v2" => Program::V2,
+            _ => Program::Zarr,
+        }
+    }
+
+    // Runs the program, and gives its status code.
+    fn run(
+        self,
+        alloc: Global,
+        words: &[String],
+        source: &mut MemorySource,
+        sink: &mut MemorySink,
+        store: &mut FailingStore,
+    ) -> u8 {
+        match self {
+            Program::Zarr => run_program(alloc, words, source, sink, store).code(),
+            Program::Refs => run_refs(alloc, words, source, sink, store).code(),
+            Program::Rechunk => {
+                let mut to = MemoryStore::new(alloc);
+                run_rechunk(alloc, words, source, sink, store, &mut to).code()
+            }
+            Program::V2 => run_v2_program(alloc, words, source, sink, store).code(),
+        }
+    }
+}
+
+/// The program, the words, the failing calls and the input of one run.
 #[derive(Drop)]
 pub struct Run {
+    pub program: Program,
     pub words: Vec<String>,
     pub failing_reads: Vec<u64>,
     pub failing_writes: Vec<u64>,
@@ -26,6 +75,7 @@ impl Run {
     /// A run of nothing.
     pub fn new(alloc: Global) -> Run {
         Run {
+            program: Program::Zarr,
             words: Vec::new(alloc),
             failing_reads: Vec::new(alloc),
             failing_writes: Vec::new(alloc),
@@ -43,6 +93,7 @@ impl Run {
     // The second run: the same document, and the lines of its own.
     fn second(&self, alloc: Global) -> Result<Run, AllocError> {
         let mut run = Run::new(alloc);
+        run.program = self.program;
         if let Some((document, _)) = self.text().split_once('\n') {
             run.input.extend_from_slice(document.as_bytes())?;
             run.input.push(b'\n')?;
@@ -61,7 +112,9 @@ impl Run {
         let mut source = MemorySource::new(self.input.clone()?, self.failing_reads.clone()?);
         let mut sink = MemorySink::new(alloc, self.failing_writes.clone()?);
         sink.reserve(ROOM)?;
-        let code = run_program(alloc, &self.words, &mut source, &mut sink, &mut store).code();
+        let code = self
+            .program
+            .run(alloc, &self.words, &mut source, &mut sink, &mut store);
         push_end(alloc, code, &store, out)?;
         out.extend_from_slice(sink.written())?;
         let mut memory = store.into_memory();
@@ -110,6 +163,7 @@ impl Run {
 
 fn run_line(
     alloc: Global,
+    program: Program,
     document: &str,
     line: &str,
     out: &mut Vec<u8>,
@@ -118,15 +172,21 @@ fn run_line(
     out.extend_from_slice(name.as_bytes())?;
     let input = format!(in alloc; "{document}\n{line}\n")?;
     let mut run = Run::new(alloc);
+    run.program = program;
     run.input.extend_from_slice(input.as_bytes())?;
     run.run(alloc, out)
 }
 
 /// Runs the program for each line after the first, on these two lines, and appends how each run ends.
-pub fn run_each_line(alloc: Global, text: &str, out: &mut Vec<u8>) -> Result<(), AllocError> {
+pub fn run_each_line(
+    alloc: Global,
+    program: Program,
+    text: &str,
+    out: &mut Vec<u8>,
+) -> Result<(), AllocError> {
     if let Some((document, lines)) = text.split_once('\n') {
         for line in lines.split_terminator('\n') {
-            run_line(alloc, document, line, out)?;
+            run_line(alloc, program, document, line, out)?;
         }
     }
     Ok(())

@@ -8,3 +8,8 @@ pub mod ServedLaws
 pub mod TranslatedLaws
 pub mod AlikeLaws
 pub mod SameLaws
+mod MemberLaws
+mod ReadLaws
+mod WrittenLaws
+pub mod PositiveLaws
+pub mod TextLaws

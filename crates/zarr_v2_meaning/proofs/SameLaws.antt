@@ -1,10 +1,9 @@
 -- A store means the same arrays by a version 2 document as by the one that it is translated to.
-use Rattle.std.proofs.Common.{◌≡◌, ◌↔◌, ◌⊎◌, ◌∙◌, ap, sym, subst, refl, ℕ, Bool, true, false, ◌&&◌, nat_le, List, length, Option, Some, Ok, Err, Result, inl, inr}
+use Rattle.std.proofs.Common.{◌≡◌, ◌⊎◌, ◌∙◌, ap, sym, subst, refl, ℕ, Bool, true, false, List, length, Option, Some, None, Ok, Err, Result, inl, inr}
 use Rattle.std.specs.Prelude.{◌==◌}
 use Rattle.std.specs.Bool.{⊤}
-use Rattle.std.specs.List.{list_all}
 use Rattle.std.proofs.lemmas.Bool.{eq-eqb}
-use Rattle.zarr_model.specs.Prelude.{v2_keys, KeyEncoding, DataType, Element, Array, Content, Options, Means, layout}
+use Rattle.zarr_model.specs.Prelude.{v2_keys, KeyEncoding, DataType, layout}
 use Rattle.zarrs_metadata_parts.specs.Names.{separator_code}
 use Rattle.zarrs_metadata.specs.ArrayMetadata.{ArrayFields}
 use Rattle.zarrs_metadata_v2_nodes.specs.ArrayMetadataV2.{ArrayV2, HasChunks}
@@ -17,7 +16,7 @@ use Rattle.zarr_array_parts.specs.Opening as opening
 use Rattle.zarr_v2_translate.specs.ElementType.{element_type}
 use Rattle.zarr_v2_translate.specs.Translate.{fields_v2, translated}
 use Rattle.zarr_v2_meaning.specs.ChunksV2.{ChunksV2, layout_v2}
-use Rattle.zarr_v2_meaning.specs.Documents.{fill_bytes_v2, chunks_with, chunks_filled, chunks_typed, chunks_of, chain_v2, MeansTheSame}
+use Rattle.zarr_v2_meaning.specs.Documents.{chunks_with, chunks_filled, chunks_typed, chunks_of, chain_v2, LieAlike, MeansTheSame}
 use Rattle.zarr_v2_meaning.proofs.MeansLaws.{means, turned}
 use Rattle.zarr_v2_meaning.proofs.StepLaws.{described, not_described}
 use Rattle.zarr_v2_meaning.proofs.FillLaws.{HasFill, has_fill}
@@ -30,7 +29,8 @@ only_large : (keys : KeyEncoding) (chain : ChainForm) (type : DataType) (dims : 
 only_large keys chain type dims grid filler h = go (is_large chain.to_bytes type filler (grid_of dims grid)) refl
   where
     go : (b : Bool) → is_large chain.to_bytes type filler (grid_of dims grid) ≡ b →
-        ((d : ArrayDocument) × (served_document keys chain type dims grid filler ≡ Ok d)) ⊎ (served_document keys chain type dims grid filler ≡ Err chunk_too_large)
+        ((d : ArrayDocument) × (served_document keys chain type dims grid filler ≡ Ok d)) ⊎
+        (served_document keys chain type dims grid filler ≡ Err chunk_too_large)
     go true is = inr (rw (h, is) refl)
     go false is = inl (document_with keys chain type dims grid filler, rw (h, is) refl)
 
@@ -43,10 +43,12 @@ only_chunks a f positive answers =
     let ranks : (length a.chunks == length a.shape) ≡ true = eq-eqb (length a.chunks) (length a.shape) made.ranks in
     let fits : are_chunk_lengths a.shape a.chunks ≡ true = rw (ranks, positive) refl in
     let is : document_of builtin_names f
-    ≡ served_document (v2_keys (separator_code a.dimension_separator)) (chain_v2 a.order (length a.shape) s.order) (element_type s.element) a.shape (regular a.chunks) fill.filler =
+    ≡ served_document (v2_keys (separator_code a.dimension_separator)) (chain_v2 a.order (length a.shape) s.order) (element_type s.element) a.shape
+    (regular a.chunks) fill.filler =
     sym (ap (document_of builtin_names) made.fields) ∙ described a s made.fill fill.filler fits fill.denotes in
     subst (λ (answer : Result ArrayDocument OpenRefusal). ((d : ArrayDocument) × (answer ≡ Ok d)) ⊎ (answer ≡ Err chunk_too_large)) (sym is)
-    (only_large (v2_keys (separator_code a.dimension_separator)) (chain_v2 a.order (length a.shape) s.order) (element_type s.element) a.shape (regular a.chunks) fill.filler
+    (only_large (v2_keys (separator_code a.dimension_separator)) (chain_v2 a.order (length a.shape) s.order) (element_type s.element) a.shape
+    (regular a.chunks) fill.filler
     (chain_served a.order (length a.shape) a.dtype s made.typed))
 
 -- two steps that are passed give what stands behind them
@@ -58,8 +60,9 @@ passed (Err why) second x y e = cc
 not_opened : (P : Type 0) (d : ArrayDocument) → Err plugin_create ≡ Ok d → P
 not_opened P d e = cc
 
-pub means_the_same : (a : ArrayV2) (f : ArrayFields) (d : ArrayDocument) → translated a ≡ Ok f → document_of builtin_names f ≡ Ok d → MeansTheSame (chunks_of a) d
-means_the_same a f d answers opens = go (are_chunk_lengths a.shape a.chunks) refl
+-- the chunks lie as those of the document that is opened
+pub lie_alike : (a : ArrayV2) (f : ArrayFields) (d : ArrayDocument) → translated a ≡ Ok f → document_of builtin_names f ≡ Ok d → LieAlike (chunks_of a) d
+lie_alike a f d answers opens = go (are_chunk_lengths a.shape a.chunks) refl
   where
     made : IsMadeOf a f
     made = made_of a f answers
@@ -73,15 +76,22 @@ means_the_same a f d answers opens = go (are_chunk_lengths a.shape a.chunks) ref
     chunks : chunks_of a ≡ Some (chunks_with a made.stored fill.filler)
     chunks = ap (chunks_typed a) made.typed ∙ ap (chunks_filled a made.stored) fill.own
 
-    both_ways : are_chunk_lengths a.shape a.chunks ≡ true → MeansTheSame (Some (chunks_with a made.stored fill.filler)) (document_by a made.stored fill.filler)
-    both_ways fits = λ options store array.
-        let first = layout_v2 (chunks_with a made.stored fill.filler) in
-        let second = layout (describe (document_by a made.stored fill.filler)) options in
-        let same = alike a made.stored fill.filler options fits in
-        (means first second same store array, means second first (turned first second same) store array)
-
-    go : (b : Bool) → are_chunk_lengths a.shape a.chunks ≡ b → MeansTheSame (chunks_of a) d
+    go : (b : Bool) → are_chunk_lengths a.shape a.chunks ≡ b → LieAlike (chunks_of a) d
     go true fits =
-        let is : document_by a made.stored fill.filler ≡ d = passed _ _ (document_by a made.stored fill.filler) d (sym (described a made.stored made.fill fill.filler fits fill.denotes) ∙ opened) in
-        subst (λ (o : Option ChunksV2). MeansTheSame o d) (sym chunks) (subst (MeansTheSame (Some (chunks_with a made.stored fill.filler))) is (both_ways fits))
-    go false fits = not_opened (MeansTheSame (chunks_of a) d) d (sym (not_described a made.stored made.fill fits) ∙ opened)
+        let is : document_by a made.stored fill.filler ≡ d = passed _ _ (document_by a made.stored fill.filler) d
+        (sym (described a made.stored made.fill fill.filler fits fill.denotes) ∙ opened) in
+        subst (λ (o : Option ChunksV2). LieAlike o d) (sym chunks)
+        (subst (LieAlike (Some (chunks_with a made.stored fill.filler))) is (λ options. alike a made.stored fill.filler options fits))
+    go false fits = not_opened (LieAlike (chunks_of a) d) d (sym (not_described a made.stored made.fill fits) ∙ opened)
+
+-- so a store means the same arrays by both
+pub both_ways : (o : Option ChunksV2) (d : ArrayDocument) → LieAlike o d → MeansTheSame o d
+both_ways None d lie = lie
+both_ways (Some chunks) d lie = λ options store array.
+    let first = layout_v2 chunks in
+    let second = layout (describe d) options in
+    (means first second (lie options) store array, means second first (turned first second (lie options)) store array)
+
+pub means_the_same : (a : ArrayV2) (f : ArrayFields) (d : ArrayDocument) → translated a ≡ Ok f → document_of builtin_names f ≡ Ok d →
+    MeansTheSame (chunks_of a) d
+means_the_same a f d answers opens = both_ways (chunks_of a) d (lie_alike a f d answers opens)

@@ -1,7 +1,6 @@
 -- The codecs of a translated document serve its data type.
 use Rattle.std.proofs.Common.{◌≡◌, ◌⊎◌, ◌∙◌, ap, refl, subst, ℕ, Bool, true, false, cond, List, [], ◌∷◌, Option, Some, None, Ok, Result, inl, inr, ⊎_elim}
 use Rattle.std.specs.Prelude.{◌==◌}
-use Rattle.std.specs.Bool.{⊤}
 use Rattle.zarr_model.specs.Element.{DataType}
 use Rattle.zarr_model.specs.declared.endianness.Endianness.{Endianness}
 use Rattle.zarr_model.specs.declared.endianness.Endianness.TheVariants.{Little, Big}

@@ -18,7 +18,7 @@ use Rattle.zarrs_metadata_v2_nodes.specs.declared.array.order.ArrayMetadataV2Ord
 use Rattle.zarrs_data_type.specs.FillMetadata.{fill_of}
 use Rattle.zarr_codecs_array_to_bytes.specs.Plain.{plain_bytes}
 use Rattle.zarr_basics_grids.specs.Configurations.{are_chunk_lengths, if_chunk_lengths, chunk_shape_in, chunk_shape_members}
-use Rattle.zarr_basics_grids.specs.GridForms.{ChunkGrid, regular}
+use Rattle.zarr_basics_grids.specs.GridForms.{regular}
 use Rattle.zarr_basics_grids.proofs.ConfigurationLaws.{reads_back}
 use Rattle.zarr_basics.specs.Configurations.{given_separator}
 use Rattle.zarr_basics.specs.kinds.codecs.BytesCodec.{given_order}

@@ -1,12 +1,14 @@
 -- What a version 2 document says of the chunks in a store, and the document of version 3 that it is
 -- translated to.
-use Rattle.std.specs.Prelude.{◌≡◌, ◌↔◌, ◌⊎◌, ℕ, true, List, [], ◌∷◌, length, replicate, Option, Some, None, Result, Ok, Err, MatchOption}
-use Rattle.serde_json.specs.Data.{Data, null}
-use Rattle.zarr_model.specs.Prelude.{Element, of_bytes, Array, Content, Options, Means, layout, ByteOrder, v2_keys}
+use Rattle.std.specs.Prelude.{◌≡◌, ◌≤◌, ◌↔◌, ◌⊎◌, ℕ, true, List, [], ◌∷◌, length, replicate, Option, Some, None, Ok, Err, MatchOption}
+use Rattle.serde_json.specs.Data.{Data, null, depth}
+use Rattle.serde_json.specs.Read.{read, max_depth}
+use Rattle.zarr_model.specs.Prelude.{Element, Array, Content, Options, Means, layout, v2_keys}
 use Rattle.zarr_model.specs.declared.endianness.Endianness.{Endianness}
 use Rattle.zarrs_metadata_parts.specs.Names.{separator_code}
-use Rattle.zarrs_metadata.specs.ArrayMetadata.{ArrayFields}
-use Rattle.zarrs_metadata_v2_nodes.specs.ArrayMetadataV2.{ArrayV2, HasChunks}
+use Rattle.zarrs_metadata_values.specs.Reading.{from_json}
+use Rattle.zarrs_metadata.specs.ArrayMetadata.{ArrayFields, array_data}
+use Rattle.zarrs_metadata_v2_nodes.specs.ArrayMetadataV2.{ArrayV2, HasChunks, array_v2_of}
 use Rattle.zarrs_metadata_v2_nodes.specs.declared.array.order.ArrayMetadataV2Order.{ArrayMetadataV2Order}
 use Rattle.zarrs_metadata_v2_nodes.specs.declared.array.order.ArrayMetadataV2Order.TheVariants.{C, F}
 use Rattle.zarrs_data_type.specs.FillMetadata.{fill_of}
@@ -15,15 +17,16 @@ use Rattle.zarr_codecs_array_to_bytes.specs.Plain.{plain_bytes}
 use Rattle.zarr_basics.specs.kinds.array_to_array.ArrayToArray.{ArrayToArray, transpose}
 use Rattle.zarr_basics_grids.specs.GridForms.{regular}
 use Rattle.zarr_basics_grids.specs.Configurations.{are_chunk_lengths}
-use Rattle.zarr_basics.specs.Registries.{builtin_names}
+use Rattle.zarr_basics.specs.Registries.{KnownNames, builtin_names}
 use Rattle.zarr_array_parts.specs.Document.{ChainForm, ArrayDocument, describe, fill_in}
-use Rattle.zarr_array_parts.specs.Opening.{document_of, served_document, chunk_too_large}
+use Rattle.zarr_array_parts.specs.Opening.{document_of, served_document, chunk_too_large, open_answer, open_document}
 use Rattle.zarr_v2_translate.specs.declared.element_type.ElementType.{ElementType}
 use Rattle.zarr_v2_translate.specs.declared.element_type.ElementType.TheVariants.{Bool as BoolType, Int8, Int16, Int32, Int64, UInt8, UInt16, UInt32, UInt64}
 use Rattle.zarr_v2_translate.specs.declared.element_type.StoredType.{StoredType}
 use Rattle.zarr_v2_translate.specs.ElementType.{element_type, element_of}
 use Rattle.zarr_v2_translate.specs.Translate.{fields_v2, reversed_order, translated}
 use Rattle.zarr_v2_meaning.specs.ChunksV2.{ChunksV2, layout_v2}
+use Rattle.zarr_v2_meaning.specs.Alike.{DecodeAlike}
 
 -- how many bytes an element has
 abbrev pub element_size : ElementType → ℕ
@@ -95,6 +98,17 @@ OnlyChunksRefuse = (a : ArrayV2) (f : ArrayFields) → HasChunks a → translate
     ((d : ArrayDocument) × (document_of builtin_names f ≡ Ok d))
     ⊎ (document_of builtin_names f ≡ Err chunk_too_large)
 
+-- the chunks of a version 2 document, which there are, lie as those of a document of version 3, under
+-- any options
+abbrev pub LieAlike : Option ChunksV2 → ArrayDocument → Type 0
+LieAlike chunks d = MatchOption chunks ⊥ (λ chunks. (options : Options) →
+    DecodeAlike (layout_v2 chunks) (layout (describe d) options))
+
+-- and so they do by the one that it is translated to, where that is opened
+abbrev pub TranslationLiesAlike : Type 0
+TranslationLiesAlike = (a : ArrayV2) (f : ArrayFields) (d : ArrayDocument) →
+    translated a ≡ Ok f → document_of builtin_names f ≡ Ok d → LieAlike (chunks_of a) d
+
 -- a store means the same arrays by the chunks of a version 2 document, which there are, as by a
 -- document of version 3
 abbrev pub MeansTheSame : Option ChunksV2 → ArrayDocument → Type 0
@@ -106,3 +120,14 @@ MeansTheSame chunks d = MatchOption chunks ⊥ (λ chunks. (options : Options) (
 abbrev pub TranslationMeansTheSame : Type 0
 TranslationMeansTheSame = (a : ArrayV2) (f : ArrayFields) (d : ArrayDocument) →
     translated a ≡ Ok f → document_of builtin_names f ≡ Ok d → MeansTheSame (chunks_of a) d
+
+-- a document nests no deeper than a text may, and each text of it is opened as its fields are
+pub record OpensAsText (names : KnownNames) (f : ArrayFields) : Type 0 where
+  pub nests : depth (array_data f) ≤ max_depth
+  pub opens : (written : List ℕ) → read written ≡ Some (array_data f) →
+      open_document names written ≡ open_answer (document_of names f)
+
+-- and so it is of the translation of a version 2 document that was read of a text
+abbrev pub TranslationOpensAsText : Type 0
+TranslationOpensAsText = (names : KnownNames) (text : List ℕ) (a : ArrayV2) (f : ArrayFields) →
+    from_json array_v2_of (read text) ≡ Ok a → translated a ≡ Ok f → OpensAsText names f

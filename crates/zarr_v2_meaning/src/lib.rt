@@ -3,7 +3,7 @@
 #![tactic(auto)]
 
 ghost use Rattle.zarr_v2_meaning.specs.Alike.{RowsAgree, ColumnsAgree, StoresAgree};
-ghost use Rattle.zarr_v2_meaning.specs.Documents.{IsDescribed, OnlyChunksRefuse, TranslationMeansTheSame};
+ghost use Rattle.zarr_v2_meaning.specs.Documents.{IsDescribed, OnlyChunksRefuse, TranslationLiesAlike, TranslationMeansTheSame, TranslationOpensAsText};
 
 // In row-major order a chunk of version 2 has the elements that the codec of bytes decodes.
 fn rows_agree()
@@ -30,7 +30,18 @@ fn only_chunks_refuse()
     ensures { OnlyChunksRefuse }
 {}
 
-// Where it is opened, a store means the same arrays by it as by the document of version 2.
+// Where it is opened, its chunks lie in a store as those of the document of version 2: the same grid and keys, and values that
+// decode alike.
+fn translation_lies_alike()
+    ensures { TranslationLiesAlike }
+{}
+
+// So a store means the same arrays by it as by the document of version 2.
 fn translation_means_the_same()
     ensures { TranslationMeansTheSame }
+{}
+
+// The document that one read of a text is translated to can be written, and each text of it is opened as its fields are.
+fn translation_opens_as_text()
+    ensures { TranslationOpensAsText }
 {}

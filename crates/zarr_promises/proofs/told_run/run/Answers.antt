@@ -1,8 +1,8 @@
 use Rattle.std.proofs.Common.{ℕ, ⊎_elim, sym, subst}
 use Rattle.zarr_model.specs.Prelude.{Options}
-use Rattle.zarr_cli.specs.Words.{MakesFrom, MakesNothing}
+use Rattle.zarr_cli.specs.parts.Words.{MakesFrom, MakesNothing}
 use Rattle.zarr_cli_runs.specs.Ending.{IsBeforeStore}
-use Rattle.zarr_cli.specs.Status.{words_of}
+use Rattle.zarr_cli.specs.parts.Status.{words_of}
 use Rattle.zarr_promises.proofs.WordLemmas.{either_way}
 use Rattle.zarr_promises.proofs.told_run.run.Goals as goal
 

@@ -1,0 +1,11 @@
+pub use Rattle.zarr_cli_runs.specs as runs
+pub mod Words
+pub mod Status
+pub mod Input
+pub mod Lines
+pub mod Seen
+pub mod Run
+pub mod Written
+pub mod Array
+pub mod Answers
+pub mod Steps

@@ -1,0 +1,21 @@
+//! The parts of a program over lines: its words, the lines of its input, what they say, how they are run over a store,
+//! and how its output is written.
+#![tactic(auto)]
+
+pub mod args;
+pub mod array;
+pub mod line;
+pub mod lines;
+mod read;
+pub mod run;
+pub mod running;
+pub mod words;
+pub mod write;
+
+pub use array::CommandArray;
+pub use line::{command_line, key_line, reply_line};
+pub use lines::{InputFault, read_lines};
+pub use running::run_lines;
+pub use words::{Words, read_words};
+pub use write::{status_line, write_text};
+pub use zarr_cli_runs::Status;

@@ -1,0 +1,12 @@
+pub mod Cleared
+pub mod Bands
+pub mod Spans
+pub mod Moved
+pub mod Band
+pub mod Errors
+pub mod Fails
+pub mod Ending
+pub mod Written
+pub mod Input
+pub mod Program
+pub mod Said

@@ -1,0 +1,263 @@
+//! The program that moves an array: two documents and key lines in, the keys of the array's new store out.
+
+ghost use Rattle.std.specs.Prelude.{◌≡◌, ◌≤◌, true, List, ℕ, [], length, map, string_bytes, Some, Err, IfOk, IfErr, OnOk};
+ghost use Rattle.zarr_model.specs.Prelude.{Rose, counted};
+ghost use Rattle.zarrs_storage.specs.Store.{SameContent};
+ghost use Rattle.zarr_array.specs.OpenArray.{documented};
+ghost use Rattle.zarr_cli_lines.specs.Text.{first_entries};
+ghost use Rattle.zarr_cli_lines.specs.Parts.{entry_view};
+ghost use Rattle.zarr_cli_runs.specs.Keys.{IsDump, IsDumpAsks, IsDumpFault};
+ghost use Rattle.zarr_cli_runs.specs.declared.status.Status.TheVariants.{BadWords};
+ghost use Rattle.zarr_cli_parts.specs.Status.{words_of};
+ghost use Rattle.zarr_rechunk.specs.declared.status.RechunkStatus.TheVariants.{Cli};
+ghost use Rattle.zarr_rechunk.specs.Ending.{move_ending_of};
+ghost use Rattle.zarr_rechunk.specs.Input.{stops, keys_say, target_lines_say, lines_say, verdict};
+ghost use Rattle.zarr_cli_parts.specs.Input.{text_says};
+ghost use Rattle.zarr_rechunk.specs.Program.{seen_both, AnswersMove, EndsMoved};
+ghost use Rattle.zarr_rechunk.specs.Said.{both, move_of, RanMove, RanBy, RanInput, IsNamed, IsPlain, outcome, status_of, IsKeysFault};
+
+use crate::error::RechunkErrorKind;
+use crate::status::{RechunkRefusal, RechunkStatus, write_moved};
+use crate::whole::rechunk;
+use std::alloc::{AllocError, Global};
+use zarr_array::{CodecOptions, OpenArray};
+use zarr_cli_lines::parse::first_entries;
+use zarr_cli_parts::lines::{behind_first, fault_status, first_line};
+use zarr_cli_parts::run::set_entries;
+use zarr_cli_parts::{Status, read_lines};
+use zarr_cli_runs::Entry;
+use zarr_cli_runs::keys::push_dump;
+use zarr_cli_runs::opening::open_line;
+use zarrs_storage::{Sink, Source, StorageError, Store};
+
+// The status of an array that was not moved.
+fn status_of(kind: RechunkErrorKind) -> RechunkStatus
+    ensures { result ≡ status_of kind }
+{
+    match kind {
+        RechunkErrorKind::ShapeMismatch => RechunkStatus::Refused(RechunkRefusal::ShapeMismatch),
+        RechunkErrorKind::DataTypeMismatch => {
+            RechunkStatus::Refused(RechunkRefusal::DataTypeMismatch)
+        }
+        RechunkErrorKind::BandTooLarge => RechunkStatus::Refused(RechunkRefusal::BandTooLarge),
+        RechunkErrorKind::SourceChunk { key, error: _ } => {
+            RechunkStatus::Cli(Status::Chunk { key })
+        }
+        RechunkErrorKind::SourceStore => RechunkStatus::Cli(Status::Store),
+        RechunkErrorKind::TargetChunk { key, error: _ } => {
+            RechunkStatus::Cli(Status::Chunk { key })
+        }
+        RechunkErrorKind::TargetStore => RechunkStatus::Cli(Status::Store),
+        RechunkErrorKind::OutOfMemory => RechunkStatus::Cli(Status::OutOfMemory),
+    }
+}
+
+// The lines of the keys of a store.
+fn text_of_keys<T: Store>(alloc: Global, store: &mut T) -> Result<Vec<u8>, Status>
+    ensures keys { IfOk result (λ text. IsDump true (T.shown store.new).content text.items) }
+    ensures same { (T.shown store.new).content ≡ (T.shown store.old).content }
+    ensures asks { OnOk result ((more : ℕ) × IsDumpAsks true (T.shown store.new).content more
+        × ((T.shown store.new).asks ≡ counted (T.shown store.old).asks more)) }
+    ensures puts { OnOk result ((T.shown store.new).puts ≡ (T.shown store.old).puts) }
+    ensures later { (T.shown store.old).faults ≤ (T.shown store.new).faults }
+    ensures fault { IfErr result (λ status.
+        IsDumpFault (T.shown store.old) (T.shown store.new) status) }
+{
+    let mut text = Vec::new(alloc);
+    match push_dump(alloc, true, &mut text, store) {
+        Ok(()) => Ok(text),
+        Err(status) => Err(status),
+    }
+}
+
+// Moves an array, and gives the lines of the keys that the target's store then holds.
+fn text_of_moved<S: Store, T: Store>(
+    alloc: Global,
+    source: &OpenArray,
+    target: &OpenArray,
+    from: &mut S,
+    to: &mut T,
+) -> Result<Vec<u8>, RechunkStatus>
+    ensures ran { RanMove (move_of (documented source.now) (documented target.now) [])
+        (both (S.shown from.old) (T.shown to.old)) (both (S.shown from.new) (T.shown to.new))
+        result }
+    ensures same { SameContent (S.shown from.old) (S.shown from.new) }
+{
+    match rechunk(alloc, source, target, from, to, &CodecOptions::default()) {
+        Ok(()) => match text_of_keys(alloc, to) {
+            Ok(text) => Ok(text),
+            Err(status) => Err(RechunkStatus::Cli(status)),
+        },
+        Err(error) => Err(status_of(error.kind)),
+    }
+}
+
+// Sets key lines in the source's store, and moves the array.
+fn text_of_entries<S: Store, T: Store>(
+    alloc: Global,
+    source: &OpenArray,
+    target: &OpenArray,
+    entries: &[Entry],
+    from: &mut S,
+    to: &mut T,
+) -> Result<Vec<u8>, RechunkStatus>
+    ensures { RanMove (move_of (documented source.now) (documented target.now) (map entry_view entries.now))
+        (both (S.shown from.old) (T.shown to.old)) (both (S.shown from.new) (T.shown to.new))
+        result }
+{
+    match set_entries(alloc, entries, from) {
+        Ok(()) => text_of_moved(alloc, source, target, from, to),
+        Err(StorageError::Failed) => Err(RechunkStatus::Cli(Status::Store)),
+        Err(StorageError::InvalidByteRange(_)) => unreachable!(),
+        Err(StorageError::OutOfMemory) => Err(RechunkStatus::Cli(Status::OutOfMemory)),
+    }
+}
+
+// The entries of lines behind two documents, each of which has to be a key line.
+fn parse_entries(alloc: Global, lines: &[String]) -> Result<Vec<Entry>, Status>
+    ensures entries { IfOk result (λ entries. (map entry_view entries.items
+        ≡ first_entries (map string_bytes lines.now))
+        × (length (first_entries (map string_bytes lines.now)) ≡ length lines.now)) }
+    ensures fault { IfErr result (IsKeysFault (map string_bytes lines.now)) }
+{
+    let entries = first_entries(alloc, lines)?;
+    if entries.len() < lines.len() {
+        return Err(Status::BadInput {
+            line: entries.len() as u64 + 3,
+        });
+    }
+    Ok(entries)
+}
+
+// Runs the lines behind two documents.
+fn text_of_lines<S: Store, T: Store>(
+    alloc: Global,
+    source: &OpenArray,
+    target: &OpenArray,
+    lines: &[String],
+    from: &mut S,
+    to: &mut T,
+) -> Result<Vec<u8>, RechunkStatus>
+    ensures ran { RanBy (keys_say (documented source.now) (documented target.now)
+        (map string_bytes lines.now)) (both (S.shown from.old) (T.shown to.old))
+        (both (S.shown from.new) (T.shown to.new)) result }
+    ensures plain { IfErr result (IsPlain (outcome ⊥ ⊥
+        (both (S.shown from.old) (T.shown to.old)) (both (S.shown from.new) (T.shown to.new)))) }
+{
+    match parse_entries(alloc, lines) {
+        Ok(entries) => text_of_entries(alloc, source, target, &entries, from, to),
+        Err(status) => Err(RechunkStatus::Cli(status)),
+    }
+}
+
+// Opens the document of the target, and runs the lines behind it.
+fn text_of_target<S: Store, T: Store>(
+    alloc: Global,
+    source: &OpenArray,
+    lines: &[String],
+    from: &mut S,
+    to: &mut T,
+) -> Result<Vec<u8>, RechunkStatus>
+    ensures ran { RanBy (target_lines_say (documented source.now) (map string_bytes lines.now)) (both (S.shown from.old) (T.shown to.old))
+        (both (S.shown from.new) (T.shown to.new)) result }
+    ensures plain { IfErr result (IsPlain (outcome ⊥ ⊥
+        (both (S.shown from.old) (T.shown to.old)) (both (S.shown from.new) (T.shown to.new)))) }
+{
+    match open_line(alloc, first_line(lines)) {
+        Ok(target) => text_of_lines(alloc, source, &target, behind_first(lines), from, to),
+        Err(status) => Err(RechunkStatus::Cli(status)),
+    }
+}
+
+// Opens the document of the source, and runs the lines behind it.
+fn text_of_source<S: Store, T: Store>(
+    alloc: Global,
+    lines: &[String],
+    from: &mut S,
+    to: &mut T,
+) -> Result<Vec<u8>, RechunkStatus>
+    ensures ran { RanBy (lines_say (map string_bytes lines.now)) (both (S.shown from.old) (T.shown to.old))
+        (both (S.shown from.new) (T.shown to.new)) result }
+    ensures plain { IfErr result (IsPlain (outcome ⊥ ⊥
+        (both (S.shown from.old) (T.shown to.old)) (both (S.shown from.new) (T.shown to.new)))) }
+{
+    match open_line(alloc, first_line(lines)) {
+        Ok(source) => text_of_target(alloc, &source, behind_first(lines), from, to),
+        Err(status) => Err(RechunkStatus::Cli(status)),
+    }
+}
+
+// Reads an input and runs it.
+fn text_of_input<R: Source, S: Store, T: Store>(
+    alloc: Global,
+    source: &mut R,
+    from: &mut S,
+    to: &mut T,
+) -> Result<Vec<u8>, RechunkStatus>
+    ensures ran { RanInput (text_says stops lines_say) (R.shown source.old) (R.shown source.new)
+        (both (S.shown from.old) (T.shown to.old)) (both (S.shown from.new) (T.shown to.new))
+        result }
+    ensures plain { IfErr result (IsPlain (outcome (⊥)
+        (Rose (R.shown source.old).faults (R.shown source.new).faults)
+        (both (S.shown from.old) (T.shown to.old)) (both (S.shown from.new) (T.shown to.new)))) }
+{
+    match read_lines(alloc, source) {
+        Ok(lines) => text_of_source(alloc, &lines, from, to),
+        Err(fault) => Err(RechunkStatus::Cli(fault_status(fault))),
+    }
+}
+
+// Runs what words and an input say: no word is known.
+fn text_of_words<R: Source, S: Store, T: Store>(
+    alloc: Global,
+    words: &[String],
+    source: &mut R,
+    from: &mut S,
+    to: &mut T,
+) -> Result<Vec<u8>, RechunkStatus>
+    ensures ran { RanInput (verdict (words_of words.now)) (R.shown source.old) (R.shown source.new)
+        (both (S.shown from.old) (T.shown to.old)) (both (S.shown from.new) (T.shown to.new))
+        result }
+    ensures plain { IfErr result (IsPlain (outcome (¬ (words_of words.now ≡ []))
+        (Rose (R.shown source.old).faults (R.shown source.new).faults)
+        (both (S.shown from.old) (T.shown to.old)) (both (S.shown from.new) (T.shown to.new)))) }
+    ensures unread { ¬ (words_of words.now ≡ []) →
+        (R.shown source.new ≡ R.shown source.old) × (result ≡ Err (Cli BadWords)) }
+{
+    if words.is_empty() {
+        text_of_input(alloc, source, from, to)
+    } else {
+        Err(RechunkStatus::Cli(Status::BadWords))
+    }
+}
+
+/// Reads the documents of a source and of a target and key lines from `source`, sets the key lines in `from`, moves the
+/// array into `to`, and writes the lines of the keys that `to` then holds to `sink`. No word is known.
+///
+/// In order: the words, reading, UTF-8, the first line as the document of the source, the second one as that of the target,
+/// all other lines, setting the key lines, moving, listing the keys, writing. The first that fails decides the status.
+pub fn run_rechunk<R: Source, W: Sink, S: Store, T: Store>(
+    alloc: Global,
+    words: &[String],
+    source: &mut R,
+    sink: &mut W,
+    from: &mut S,
+    to: &mut T,
+) -> RechunkStatus
+    // Over a source that tells its bytes: each answer with its cause, and what it leaves.
+    ensures told { (input : List ℕ) → (R.shown source.old).left ≡ Some input →
+        AnswersMove (verdict (words_of words.now) input)
+        (seen_both (R.shown source.old) (W.shown sink.old) (S.shown from.old) (T.shown to.old))
+        (seen_both (R.shown source.new) (W.shown sink.new) (S.shown from.new) (T.shown to.new))
+        (move_ending_of result) }
+    // Over any source: the words, the faults, the line on an early end, and what is left then.
+    ensures ends { EndsMoved (words_of words.now)
+        (seen_both (R.shown source.old) (W.shown sink.old) (S.shown from.old) (T.shown to.old))
+        (seen_both (R.shown source.new) (W.shown sink.new) (S.shown from.new) (T.shown to.new))
+        (move_ending_of result) }
+    // Want of memory is told as such.
+    ensures named { IsNamed result }
+{
+    let output = text_of_words(alloc, words, source, from, to);
+    write_moved(alloc, output, sink)
+}

@@ -1,0 +1,176 @@
+//! An array moved into another store, under another grid and other codecs.
+
+ghost use Rattle.std.specs.Prelude.{◌≡◌, ◌≤◌, ◌↔◌, None, length, map, filter, IsTrue, IfOk, OnOk, IfErr};
+ghost use Rattle.std.specs.List.{list_any};
+ghost use Rattle.zarr_model.specs.Prelude.{count, Element, Array, kind_of, fixed_size, is_too_large, chunks, layout, IsHonest, Means, counted, Rose};
+ghost use Rattle.zarrs_array_subset.specs.ArraySubset.{region as region_of};
+ghost use Rattle.zarrs_storage.specs.Store.{SameContent};
+ghost use Rattle.zarrs_data_type_names.specs.DataType.{type_of};
+ghost use Rattle.zarrs_codec_traits.specs.Views.{options_of};
+ghost use Rattle.zarr_array.specs.OpenArray.{documented, described};
+ghost use Rattle.zarr_rechunk.specs.Bands.{bands, meets_band};
+ghost use Rattle.zarr_rechunk.specs.Moved.{chunks_of_each, in_description, RepliesAlike, MeetsNone};
+ghost use Rattle.zarr_rechunk.specs.Band.{LeavesBand};
+ghost use Rattle.zarr_rechunk.specs.Fails.{MayMove, IsUnbegun, FailsToMove};
+
+use crate::bands::bands_of;
+use crate::error::{RechunkError, RechunkErrorKind};
+use crate::moving::move_bands;
+use std::alloc::Global;
+use zarr_array::{CodecOptions, DataType, OpenArray};
+use zarrs_array_subset::ArraySubset;
+use zarrs_storage::Store;
+
+// Whether two shapes are the same.
+fn is_same_shape(shape: &[u64], other: &[u64]) -> bool
+    ensures { IsTrue result ↔ (shape.now ≡ other.now) }
+{
+    shape == other
+}
+
+// Whether two data types are.
+#[tactic(auto, using(zarrs_data_type_names::proofs::SameTypeLaws::same_is))]
+fn is_same_type(data_type: &DataType, other: &DataType) -> bool
+    ensures { IsTrue result ↔ (type_of data_type.now ≡ type_of other.now) }
+{
+    data_type == other
+}
+
+// Whether a band has too many elements, or too many bytes of them.
+fn is_large(band: &ArraySubset, data_type: &DataType) -> bool
+    ensures { result
+        ≡ is_too_large (fixed_size (kind_of (type_of data_type.now))) (count (region_of band.now)) }
+{
+    match band.checked_num_elements() {
+        None | Some(u64::MAX) => true,
+        Some(number) => match data_type.fixed_size() {
+            Some(size) => number.checked_mul(size as u64).is_none(),
+            None => false,
+        },
+    }
+}
+
+// Whether one of some bands has.
+fn has_large(bands: &[ArraySubset], data_type: &DataType) -> bool
+    ensures { result ≡ list_any (λ band.
+        is_too_large (fixed_size (kind_of (type_of data_type.now))) (count band))
+        (map region_of bands.now) }
+{
+    for band in bands {
+        if is_large(band, data_type) {
+            return true;
+        }
+    }
+    false
+}
+
+// The bands of the target, if the source may be moved into it.
+fn bands_to_move(
+    alloc: Global,
+    source: &OpenArray,
+    target: &OpenArray,
+) -> Result<Vec<ArraySubset>, RechunkErrorKind>
+    ensures may { OnOk result (MayMove (described source.now) (described target.now)) }
+    ensures bands { IfOk result (λ list. map region_of list.items
+        ≡ bands (described target.now).shape (described target.now).grid) }
+    ensures fails { IfErr result (IsUnbegun (described source.now) (described target.now)) }
+{
+    if !is_same_shape(source.shape(), target.shape()) {
+        return Err(RechunkErrorKind::ShapeMismatch);
+    }
+    if !is_same_type(source.data_type(), target.data_type()) {
+        return Err(RechunkErrorKind::DataTypeMismatch);
+    }
+    let Ok(list) = bands_of(alloc, target.grid()) else {
+        return Err(RechunkErrorKind::OutOfMemory);
+    };
+    if has_large(&list, target.data_type()) {
+        return Err(RechunkErrorKind::BandTooLarge);
+    }
+    Ok(list)
+}
+
+/// Moves all elements of an array from one store into another, where another array of the same shape and data type has
+/// them under its own grid, codecs and fill value.
+///
+/// A band is what the target's chunks with one first index cover inside the shape. Each band is read once from the source,
+/// what stands under its nulls is cleared, and it is written once to the target, so one band is in memory at a time.
+///
+/// # Errors
+/// `ShapeMismatch`, `DataTypeMismatch` or `BandTooLarge`, the first that applies, before any call on a store. Else
+/// `SourceChunk` or `TargetChunk` with the key of a chunk that the band meets and whose value does not decode, `SourceStore`
+/// or `TargetStore` where a store failed, or `OutOfMemory`. The bands before the error's are moved.
+pub fn rechunk<S: Store, T: Store>(
+    alloc: Global,
+    source: &OpenArray,
+    target: &OpenArray,
+    from: &mut S,
+    to: &mut T,
+    options: &CodecOptions,
+) -> Result<(), RechunkError>
+    ensures may { OnOk result (MayMove (described source.now) (described target.now)) }
+
+    // The target means the array of its own shape and fill that has the elements of the source, so each read of the one
+    // has the reply of the other.
+    ensures moves { OnOk result ((array : Array Element) →
+        Means (layout (described source.now) (options_of options.now))
+        (S.shown from.old).content array →
+        IsHonest (layout (described target.now) (options_of options.now))
+        (T.shown to.old).content →
+        Means (layout (described target.now) (options_of options.now))
+        (T.shown to.new).content (in_description (described target.now) array)) }
+    ensures replies { OnOk result (IsHonest (layout (described target.now) (options_of options.now))
+        (T.shown to.old).content →
+        RepliesAlike (described source.now) (described target.now) (options_of options.now)
+        (S.shown from.new).content (T.shown to.new).content) }
+
+    // Over any stores: no read of a band saw damage in the source, and each chunk of the target that a band meets decoded, so
+    // nothing damaged was overwritten.
+    ensures undamaged { OnOk result (MeetsNone (described source.now) (described target.now)
+        (options_of options.now) (bands (described target.now).shape (described target.now).grid)
+        (S.shown from.old).content (T.shown to.old).content) }
+
+    // Each chunk of the source is asked for once for each band that meets it, and each of the target once; there are as many
+    // writing calls as chunks of the target.
+    ensures asked_from { OnOk result ((S.shown from.new).asks ≡ counted (S.shown from.old).asks
+        (chunks_of_each (described source.now).grid
+        (bands (described target.now).shape (described target.now).grid))) }
+    ensures asked_to { OnOk result ((T.shown to.new).asks ≡ counted (T.shown to.old).asks
+        (length (filter (meets_band (described target.now).grid
+        (bands (described target.now).shape (described target.now).grid))
+        (chunks (described target.now).grid)))) }
+    ensures put_to { OnOk result ((T.shown to.new).puts ≡ counted (T.shown to.old).puts
+        (length (filter (meets_band (described target.now).grid
+        (bands (described target.now).shape (described target.now).grid))
+        (chunks (described target.now).grid)))) }
+
+    // However it ends, the source is as it was and had no writing call, and the other keys of the target are as they were,
+    // which is honest where it was.
+    ensures same { SameContent (S.shown from.old) (S.shown from.new) }
+    ensures later { (S.shown from.old).faults ≤ (S.shown from.new).faults }
+    ensures put_from { (S.shown from.new).puts ≡ (S.shown from.old).puts }
+    ensures kept { S.kept from.old from.new }
+    ensures left { LeavesBand (described target.now) (options_of options.now)
+        (T.shown to.old) (T.shown to.new) }
+
+    // An error has its cause. Before the first band nothing is touched, and over honest stores that do not fail only
+    // memory can be wanting.
+    ensures fails { IfErr result (FailsToMove (documented source.now) (documented target.now)
+        (options_of options.now) (S.shown from.old) (S.shown from.new) (T.shown to.old)
+        (T.shown to.new)) }
+    ensures unbegun { IfErr result (λ error. error.at ≡ None →
+        (from.new ≡ from.old) × (to.new ≡ to.old)) }
+    ensures complete { MayMove (described source.now) (described target.now) →
+        IsHonest (layout (described source.now) (options_of options.now))
+        (S.shown from.old).content →
+        IsHonest (layout (described target.now) (options_of options.now))
+        (T.shown to.old).content →
+        ¬ Rose (S.shown from.old).faults (S.shown from.new).faults →
+        ¬ Rose (T.shown to.old).faults (T.shown to.new).faults →
+        IfErr result (λ error. error.kind ≡ RechunkErrorKind.OutOfMemory) }
+{
+    match bands_to_move(alloc, source, target) {
+        Ok(list) => move_bands(alloc, source, target, &list, from, to, options),
+        Err(kind) => Err(RechunkError::before_bands(kind)),
+    }
+}

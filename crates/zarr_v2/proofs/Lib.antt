@@ -1,0 +1,6 @@
+mod TextLaws
+mod BuiltinLaws
+mod LyingLaws
+mod SaysLaws
+mod LinesLaws
+mod EarlyLaws
