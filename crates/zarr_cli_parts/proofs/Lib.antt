@@ -2,6 +2,7 @@ pub mod EndingLemmas
 pub mod WordLemmas
 pub mod InputLaws
 mod LineLaws
+mod NewlineLaws
 mod ReadLaws
 mod TakenLaws
 mod AsciiLaws

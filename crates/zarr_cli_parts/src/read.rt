@@ -37,6 +37,15 @@ fn cut_line(bytes: &[u8]) -> Option<(&[u8], &[u8])>
     Some((&bytes[..end], &bytes[end + 1..]))
 }
 
+// The same of a text.
+fn cut_text(text: &str) -> Option<(&str, &str)>
+    ensures some { IfSome result (λ parts. (text.now ≡ parts.0.now ++ 10 ∷ parts.1.now)
+        × NoNewline parts.0.now) }
+    ensures none { IfNone result (NoNewline text.now) }
+{
+    text.split_once('\n')
+}
+
 impl LinesSoFar {
     // No bytes.
     fn new(alloc: Global) -> LinesSoFar
@@ -65,8 +74,8 @@ impl LinesSoFar {
         Ok(())
     }
 
-    // Takes a piece that was read: the lines that end in it, and the front of the next one.
-    fn push(&mut self, alloc: Global, piece: &[u8]) -> Result<(), AllocError>
+    // Takes a piece that is no text by itself, where a character may be cut.
+    fn push_bytes(&mut self, alloc: Global, piece: &[u8]) -> Result<(), AllocError>
         ensures { OnOk result ((taken : List ℕ) → AreRead taken self.old →
             AreRead (taken ++ piece.now) self.new) }
     {
@@ -80,6 +89,34 @@ impl LinesSoFar {
             left = others;
         }
         Ok(())
+    }
+
+    // Takes a piece that is text, in which many bytes are looked at together.
+    fn push_text(&mut self, alloc: Global, piece: &str) -> Result<(), AllocError>
+        ensures { OnOk result ((taken : List ℕ) → AreRead taken self.old →
+            AreRead (taken ++ piece.now) self.new) }
+    {
+        let mut left = piece;
+        'lines: while !self.bad {
+            let Some((line, others)) = cut_text(left) else {
+                self.line.extend_from_slice(left.as_bytes())?;
+                return Ok(());
+            };
+            self.end_line(alloc, line.as_bytes())?;
+            left = others;
+        }
+        Ok(())
+    }
+
+    // Takes a piece that was read: the lines that end in it, and the front of the next one.
+    fn push(&mut self, alloc: Global, piece: &[u8]) -> Result<(), AllocError>
+        ensures { OnOk result ((taken : List ℕ) → AreRead taken self.old →
+            AreRead (taken ++ piece.now) self.new) }
+    {
+        match str::from_utf8(piece) {
+            Ok(text) => self.push_text(alloc, text),
+            Err(_) => self.push_bytes(alloc, piece),
+        }
     }
 
     /// All lines, if they are UTF-8.

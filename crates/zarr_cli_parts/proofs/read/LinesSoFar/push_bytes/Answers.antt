@@ -2,7 +2,7 @@ use Rattle.std.proofs.Common.{◌≡◌, ◌++◌, ◌∷◌, [], List, ℕ, ref
 use Rattle.zarr_cli_parts.specs.Steps.{AreRead}
 use Rattle.zarr_cli_parts.specs.declared.read.LinesSoFar.{LinesSoFar}
 use Rattle.zarr_cli_parts.proofs.ReadLaws.{front_kept, bad_stays}
-use Rattle.zarr_cli_parts.proofs.read.LinesSoFar.push.Goals as goal
+use Rattle.zarr_cli_parts.proofs.read.LinesSoFar.push_bytes.Goals as goal
 
 pub returns-in_default : goal.returns-in_default
 returns-in_default c = λ taken read.
