@@ -101,7 +101,8 @@ fn text_of_entries<S: Store, T: Store>(
     from: &mut S,
     to: &mut T,
 ) -> Result<Vec<u8>, RechunkStatus>
-    ensures { RanMove (move_of (documented source.now) (documented target.now) (map entry_view entries.now))
+    ensures { RanMove (move_of (documented source.now) (documented target.now)
+        (map entry_view entries.now))
         (both (S.shown from.old) (T.shown to.old)) (both (S.shown from.new) (T.shown to.new))
         result }
 {
@@ -158,7 +159,8 @@ fn text_of_target<S: Store, T: Store>(
     from: &mut S,
     to: &mut T,
 ) -> Result<Vec<u8>, RechunkStatus>
-    ensures ran { RanBy (target_lines_say (documented source.now) (map string_bytes lines.now)) (both (S.shown from.old) (T.shown to.old))
+    ensures ran { RanBy (target_lines_say (documented source.now) (map string_bytes lines.now))
+        (both (S.shown from.old) (T.shown to.old))
         (both (S.shown from.new) (T.shown to.new)) result }
     ensures plain { IfErr result (IsPlain (outcome ⊥ ⊥
         (both (S.shown from.old) (T.shown to.old)) (both (S.shown from.new) (T.shown to.new)))) }
@@ -176,7 +178,8 @@ fn text_of_source<S: Store, T: Store>(
     from: &mut S,
     to: &mut T,
 ) -> Result<Vec<u8>, RechunkStatus>
-    ensures ran { RanBy (lines_say (map string_bytes lines.now)) (both (S.shown from.old) (T.shown to.old))
+    ensures ran { RanBy (lines_say (map string_bytes lines.now))
+        (both (S.shown from.old) (T.shown to.old))
         (both (S.shown from.new) (T.shown to.new)) result }
     ensures plain { IfErr result (IsPlain (outcome ⊥ ⊥
         (both (S.shown from.old) (T.shown to.old)) (both (S.shown from.new) (T.shown to.new)))) }

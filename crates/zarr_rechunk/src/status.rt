@@ -56,7 +56,8 @@ impl RechunkStatus {
 
 // The line of a refusal.
 fn refusal_line(alloc: Global, refusal: RechunkRefusal) -> Result<String, AllocError>
-    ensures { IfOk result (λ line. IfSome (move_line (move_ending_of (RechunkStatus.Refused refusal)))
+    ensures { IfOk result (λ line.
+        IfSome (move_line (move_ending_of (RechunkStatus.Refused refusal)))
         (λ text. string_bytes line ≡ text)) }
 {
     format!(in alloc; "refused {}\n", refusal.name())
@@ -64,7 +65,8 @@ fn refusal_line(alloc: Global, refusal: RechunkRefusal) -> Result<String, AllocE
 
 // Writes the line of a refusal, and answers it, or want of memory where the line found none.
 fn end_refused<W: Sink>(alloc: Global, refusal: RechunkRefusal, sink: &mut W) -> RechunkStatus
-    ensures { EndsMove (RechunkStatus.Refused refusal) (W.shown sink.old) (W.shown sink.new) result }
+    ensures { EndsMove (RechunkStatus.Refused refusal)
+        (W.shown sink.old) (W.shown sink.new) result }
 {
     let Ok(line) = refusal_line(alloc, refusal) else {
         return RechunkStatus::Cli(Status::OutOfMemory);
