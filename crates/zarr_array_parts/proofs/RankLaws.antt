@@ -44,7 +44,7 @@ one_more_ranked rank (code.to_bytes c) cs here rest = refl
 one_more_ranked rank (code.byte_codec c) cs here rest = refl
 
 -- and so has each of the codecs that a document's list begins with
-codecs_ranked : (rank : ℕ) (names : Names CodecKind) (es : List Extension) (cs : List CodecForm) → codecs_by rank names es ≡ Ok cs → all_ranked rank (leading cs) ≡ true
+pub codecs_ranked : (rank : ℕ) (names : Names CodecKind) (es : List Extension) (cs : List CodecForm) → codecs_by rank names es ≡ Ok cs → all_ranked rank (leading cs) ≡ true
 codecs_ranked rank names [] cs e = subst (λ l. all_ranked rank (leading l) ≡ true) (same_forms [] cs e) refl
 codecs_ranked rank names (x ∷ es) cs e =
     let a = bind_ok (codec_at rank names x) (joined rank names es) cs e in
@@ -61,7 +61,7 @@ arrays_with : (arrays : List ArrayToArray) (codec : Plain) (others : Option (Lis
 arrays_with arrays codec None chain e = absurd cc
 arrays_with arrays codec (Some others) chain e = ap (λ (f : ChainForm). f.array_codecs) (same_chain (chain_with arrays codec others) chain e)
 
-arrays_behind : (arrays : List ArrayToArray) (rest : List CodecForm) (chain : ChainForm) → or_refused chain_order (chain_behind arrays rest) ≡ Ok chain → arrays ≡ chain.array_codecs
+pub arrays_behind : (arrays : List ArrayToArray) (rest : List CodecForm) (chain : ChainForm) → or_refused chain_order (chain_behind arrays rest) ≡ Ok chain → arrays ≡ chain.array_codecs
 arrays_behind arrays [] chain e = absurd cc
 arrays_behind arrays (code.array_codec c ∷ rest) chain e = absurd cc
 arrays_behind arrays (code.to_bytes c ∷ rest) chain e = arrays_with arrays c (all_byte_codecs rest) chain e

@@ -50,8 +50,11 @@ fn byte_codecs(alloc: Global, codecs: &[BasicCodec]) -> Result<Vec<BasicBytesToB
     Ok(others)
 }
 
-// The chain that codecs are.
-pub(crate) fn chain_of(alloc: Global, codecs: &[BasicCodec]) -> Result<BasicChain, OpenError>
+/// The chain that codecs are.
+///
+/// # Errors
+/// `ChainOrder` where they are none, or `OutOfMemory`.
+pub fn chain_of(alloc: Global, codecs: &[BasicCodec]) -> Result<BasicChain, OpenError>
     ensures { Opens chain_form result (or_refused chain_order (chain_in (map form_of codecs.now))) }
 {
     let array_codecs = leading(alloc, codecs)?;

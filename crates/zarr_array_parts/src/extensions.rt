@@ -39,8 +39,11 @@ fn has_required_field(fields: &AdditionalFieldsV3) -> bool
     false
 }
 
-// Refuses a document with a field that has to be understood, or with storage transformers.
-pub(crate) fn expect_known_fields(metadata: &ArrayMetadataV3) -> Result<(), OpenError>
+/// Refuses a document with a field that has to be understood, or with storage transformers.
+///
+/// # Errors
+/// `UnsupportedField`.
+pub fn expect_known_fields(metadata: &ArrayMetadataV3) -> Result<(), OpenError>
     ensures { Opens (λ _. tt) result (expect_known_fields (array_seen metadata.now)) }
 {
     if has_required_field(&metadata.additional_fields)
@@ -52,9 +55,12 @@ pub(crate) fn expect_known_fields(metadata: &ArrayMetadataV3) -> Result<(), Open
     }
 }
 
-// The data type by its name.
+/// The data type by its name.
+///
+/// # Errors
+/// `PluginUnsupportedError`, `PluginCreateError` or `OutOfMemory`.
 #[tactic(auto, using(crate::proofs::OpeningLaws::proper_type))]
-pub(crate) fn data_type_by(
+pub fn data_type_by(
     alloc: Global,
     metadata: &MetadataV3,
     registry: &Registry<DataTypeKind>,
@@ -87,8 +93,11 @@ pub(crate) fn grid_by(
     }
 }
 
-// The encoding of chunk keys.
-pub(crate) fn keys_by(
+/// The encoding of chunk keys.
+///
+/// # Errors
+/// `PluginUnsupportedError`, `PluginCreateError` or `OutOfMemory`.
+pub fn keys_by(
     alloc: Global,
     metadata: &MetadataV3,
     registry: &Registry<ChunkKeyKind>,
@@ -134,9 +143,12 @@ fn has_rank(codec: &BasicCodec, array_shape: &[u64]) -> bool
     }
 }
 
-// The codec of an extension, over an array of this shape.
+/// The codec of an extension, over an array of this shape.
+///
+/// # Errors
+/// `PluginUnsupportedError`, `PluginCreateError` or `OutOfMemory`.
 #[tactic(auto, using(crate::proofs::OpeningLaws::fails_after))]
-fn codec_at(
+pub fn codec_at(
     alloc: Global,
     array_shape: &[u64],
     metadata: &MetadataV3,
@@ -153,8 +165,11 @@ fn codec_at(
     }
 }
 
-// The codecs, in the order of the document.
-pub(crate) fn codecs_by(
+/// The codecs, in the order of the document.
+///
+/// # Errors
+/// `PluginUnsupportedError` or `PluginCreateError` of the first that is refused, or `OutOfMemory`.
+pub fn codecs_by(
     alloc: Global,
     array_shape: &[u64],
     extensions: &[MetadataV3],
@@ -173,9 +188,12 @@ pub(crate) fn codecs_by(
     Ok(codecs)
 }
 
-// The fill value of a data type.
+/// The fill value of a data type.
+///
+/// # Errors
+/// `DataTypeFillValueMetadataError` or `OutOfMemory`.
 #[tactic(auto, using(crate::proofs::OpeningLaws::denoted_fill))]
-pub(crate) fn fill_value_of(
+pub fn fill_value_of(
     alloc: Global,
     data_type: &DataType,
     metadata: &FillValueMetadataV3,

@@ -9,6 +9,7 @@ mod limits;
 mod open_error;
 pub mod parts;
 mod served;
+pub mod steps;
 
 pub use codecs::BasicChain;
 pub use open_error::OpenError;

@@ -60,9 +60,13 @@ fn countable(_grid_shape: &[u64])
 impl ArrayParts {
     ghost use Rattle.zarr_array_parts.specs.Parts.{documented, described, Opens, OpensAs};
 
-    // The array with these parts, if its codecs serve them.
+    /// The array with these parts, if its codecs serve them.
+    ///
+    /// # Errors
+    /// The first that applies of `UnsupportedDataTypeCodec` and `EndiannessMissing`, which the chain decides, and
+    /// `ChunkTooLarge`; or `OutOfMemory`.
     #[tactic(auto, using(crate::proofs::OpeningLaws::of_served))]
-    fn with_parts(
+    pub fn with_parts(
         alloc: Global,
         data_type: DataType,
         fill: FillValue,
