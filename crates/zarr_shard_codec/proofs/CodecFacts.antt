@@ -1,0 +1,93 @@
+-- What a codec's inner chunks are.
+use Rattle.std.proofs.Common.{◌≡◌, ℕ, ◌+◌, ◌*◌, ◌^◌, ◌<◌, true, List, length, Option, Some, sym, ap, ◌∙◌, subst}
+use Rattle.std.proofs.lemmas.List.{length-map}
+use Rattle.std.proofs.lemmas.Option.{same_Some}
+use Rattle.std.specs.Int.NonZero.{non_zero_u64_get}
+use Rattle.zarr_model.specs.Prelude.{sizes, count, count_of, whole, contains, place, ends_within, Element, kind, fixed_size, Grid, IsChunk, CoversShape, regular_grid, Options}
+use Rattle.zarr_model.proofs.RegionLaws.{contains-tuple_at, place-tuple_at}
+use Rattle.zarr_model.proofs.RegionLaws.{sizes_whole}
+use Rattle.zarrs_codec_bytes.specs.Picking.{size_in}
+use Rattle.zarr_basics_grids.specs.GridForms.{ChunkGrid, regular, boundaries, grid_of}
+use Rattle.zarr_basics_grids.specs.BasicGrid.{basic_form}
+use Rattle.zarr_basics_grids.proofs.RegularFacts.{sizes_are}
+use Rattle.zarr_array_parts.specs.ChunkLevels.{chunk_shape}
+use Rattle.zarr_array_parts.proofs.ServedLaws.{described_covers, chunk_counts}
+use Rattle.zarr_shard_codec.specs.Cut.{regular_shape}
+use Rattle.zarr_shard_codec.specs.Shard.{shard_list}
+use Rattle.zarr_shard_codec.specs.ShardCodec.{inner_of, inner_grid, inner_dims, own_level, own_array, own_list, shard_meaning}
+use Rattle.zarr_shard_codec.specs.Placing.{indices_at, box_at}
+use Rattle.zarr_shard_codec.specs.declared.shard_codec.ShardCodec.{ShardCodec}
+use Rattle.zarr_shard_codec.proofs.CutLaws.{cut_rank, cut_within}
+
+-- a grid with a chunk shape is the regular one
+regular_of : (form : ChunkGrid) (dims : List ℕ) → regular_shape form ≡ Some dims → form ≡ regular dims
+regular_of (regular own) dims e = ap regular (same_Some own dims e)
+regular_of (boundaries lengths) dims e = cc
+
+module _ (codec : ShardCodec) where
+  pub grid_is : inner_grid codec ≡ regular_grid (inner_of codec).shape (inner_dims codec)
+  grid_is = ap (grid_of (inner_of codec).shape) (regular_of (basic_form codec.inner.grid) (inner_dims codec) codec.regular)
+
+  -- what a value decodes to by the codec's form is what it does by its own grid
+  abbrev by_grid : Options → List ℕ → Grid → Option (List Element)
+  by_grid under value grid = shard_list codec.checked under.validate_checksums (record (own_array codec under) { grid = grid }) value
+
+  pub meaning_is : (under : Options) (value : List ℕ) → shard_meaning codec under (own_level codec) value ≡ own_list codec under value
+  meaning_is under value = ap (by_grid under value) (sym grid_is)
+
+  pub covers : CoversShape (inner_of codec).shape (inner_grid codec)
+  covers = described_covers codec.inner
+
+  -- each inner chunk has the inner shape, and lies inside the chunk
+  abbrev fits_in : Grid → List ℕ → Type 0
+  fits_in grid chunk = (sizes (grid.chunk_box chunk) ≡ inner_dims codec) × (ends_within (grid.chunk_box chunk) (inner_of codec).shape ≡ true)
+
+  pub chunk_cut : (chunk : List ℕ) → IsChunk (inner_grid codec) chunk → fits_in (inner_grid codec) chunk
+  chunk_cut chunk is_chunk =
+      let dims = inner_dims codec in
+      let shape = (inner_of codec).shape in
+      let own : contains (whole (regular_grid shape dims).grid_shape) chunk ≡ true = subst (λ grid. IsChunk grid chunk) grid_is is_chunk in
+      let rank : length shape ≡ length codec.inner_shape.items = cut_rank shape dims codec.cut ∙ length-map codec.inner_shape.items non_zero_u64_get in
+      subst (λ grid. fits_in grid chunk) (sym grid_is) (sizes_are shape codec.inner_shape.items chunk rank own, cut_within shape dims chunk codec.cut own)
+
+  pub chunk_dims : (chunk : List ℕ) → IsChunk (inner_grid codec) chunk → chunk_shape (inner_of codec) chunk ≡ inner_dims codec
+  chunk_dims chunk is_chunk = (chunk_cut chunk is_chunk).0
+
+  -- how many there are
+  pub num_chunks : count_of (inner_grid codec).grid_shape ≡ count (whole (inner_grid codec).grid_shape)
+  num_chunks = sym (ap count_of (sizes_whole (inner_grid codec).grid_shape))
+
+  module _ (number : ℕ) (below : number < count_of (inner_grid codec).grid_shape) where
+    pub near : number < count (whole (inner_grid codec).grid_shape)
+    near = subst (λ n. number < n) num_chunks below
+
+    -- the inner chunk of a number
+    pub is_inner : IsChunk (inner_grid codec) (indices_at codec number)
+    is_inner = contains-tuple_at (whole (inner_grid codec).grid_shape) number near
+
+    pub numbered : place (whole (inner_grid codec).grid_shape) (indices_at codec number) ≡ number
+    numbered = place-tuple_at (whole (inner_grid codec).grid_shape) number near
+
+    pub box_sizes : sizes (box_at codec number) ≡ inner_dims codec
+    box_sizes = chunk_dims (indices_at codec number) is_inner
+
+    pub box_count : count (box_at codec number) ≡ count_of (inner_dims codec)
+    box_count = ap count_of box_sizes
+
+    pub box_inside : ends_within (box_at codec number) (inner_of codec).shape ≡ true
+    box_inside = (chunk_cut (indices_at codec number) is_inner).1
+
+    pub box_rank : length (whole (inner_of codec).shape) ≡ length (box_at codec number)
+    box_rank = length-map (inner_of codec).shape _ ∙ sym (covers.box_rank (indices_at codec number) is_inner)
+
+  -- an inner chunk has an element
+  pub dims_some : 0 < count_of (inner_dims codec)
+  dims_some =
+      let is_first = is_inner 0 codec.some in
+      subst (λ n. 0 < n) (ap count_of (chunk_dims (indices_at codec 0) is_first)) (covers.positive (indices_at codec 0) is_first)
+
+  -- its elements can be counted and addressed
+  pub dims_fit : (count_of (inner_dims codec) + 1 < 2 ^ 64) × (count_of (inner_dims codec) * size_in (fixed_size (kind (inner_of codec))) < 2 ^ 64)
+  dims_fit =
+      let is_first = is_inner 0 codec.some in
+      subst (λ n. (n + 1 < 2 ^ 64) × (n * size_in (fixed_size (kind (inner_of codec))) < 2 ^ 64)) (ap count_of (chunk_dims (indices_at codec 0) is_first)) (chunk_counts codec.inner (indices_at codec 0) is_first)

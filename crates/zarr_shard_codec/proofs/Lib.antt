@@ -1,0 +1,11 @@
+mod TableLaws
+mod ChecksumLaws
+mod IndexLaws
+mod ShardLaws
+mod PlacedLaws
+mod CutLaws
+mod CodecFacts
+mod InnerLaws
+mod WholeLaws
+mod PairLaws
+mod EncodeLaws

@@ -1,0 +1,10 @@
+use Rattle.std.proofs.Common.{◌/◌, ◌%◌, bit_xor, ap, ◌∙◌}
+use Rattle.zarr_shard_codec.specs.Crc32c.{bit_steps}
+use Rattle.zarr_shard_codec.proofs.TableLaws.{one_byte}
+use Rattle.zarr_shard_codec.proofs.checksum.byte_step.Goals as goal
+
+pub returns : goal.returns
+returns c =
+    ap (λ b. bit_xor (bit_xor c.args.register b / 256) c.lowest_in.result) c.from.ensures
+    ∙ one_byte c.args.register c.args.byte c.lowest_in.result
+    (c.lowest_in.ensures 8 c.table_0.ensures ∙ ap (λ n. bit_steps 8 (n % 256)) (c.from-2.ensures ∙ ap (bit_xor c.args.register) c.from.ensures))

@@ -1,0 +1,25 @@
+use Rattle.std.proofs.Common.{◌≡◌, ◌<◌, ◌^◌, ℕ, length, slice_index_or, bit_xor, sym, ap, ◌∙◌, rules}
+use lib.Bits.{xor_lt}
+use Rattle.zarr_shard_codec.specs.Crc32c.{bit_steps}
+use Rattle.zarr_shard_codec.proofs.TableLaws.{all_tables, word_steps}
+use Rattle.zarr_shard_codec.proofs.checksum.word_step.Goals as goal
+
+pub returns : goal.returns
+returns c =
+    let word = c.args.word in
+    let b0 : slice_index_or word 0 0 < 256 = search rules in
+    let b1 : slice_index_or word 1 0 < 256 = search rules in
+    let b2 : slice_index_or word 2 0 < 256 = search rules in
+    let b3 : slice_index_or word 3 0 < 256 = search rules in
+    let b4 : slice_index_or word 4 0 < 256 = search rules in
+    let b5 : slice_index_or word 5 0 < 256 = search rules in
+    let b6 : slice_index_or word 6 0 < 256 = search rules in
+    let b7 : slice_index_or word 7 0 < 256 = search rules in
+    let long : length word ≡ 8 = search rules in
+    let number : c.from_le_bytes.result < 2 ^ 64 = search rules in
+    let held : c.from.result < 2 ^ 64 = search rules in
+    all_tables (bit_xor c.from_le_bytes.result c.from.result) _ _ _ _ _ _ _ _ (xor_lt 64 c.from_le_bytes.result c.from.result number held)
+    (c.lowest_in.ensures 8 c.table_0.ensures) (c.lowest_in-2.ensures 16 c.table_1.ensures) (c.lowest_in-3.ensures 24 c.table_2.ensures) (c.lowest_in-4.ensures 32 c.table_3.ensures)
+    (c.lowest_in-5.ensures 40 c.table_4.ensures) (c.lowest_in-6.ensures 48 c.table_5.ensures) (c.lowest_in-7.ensures 56 c.table_6.ensures) (c.lowest_in-8.ensures 64 c.table_7.ensures)
+    ∙ (ap (λ r. bit_steps 64 (bit_xor c.from_le_bytes.result r)) c.from.ensures
+    ∙ word_steps word c.args.register c.from_le_bytes.result long b0 b1 b2 b3 b4 b5 b6 b7 c.from_le_bytes.ensures)

@@ -1,0 +1,5 @@
+use Rattle.zarr_shard_codec.proofs.ShardLaws.{counted}
+use Rattle.zarr_shard_codec.proofs.laws.counted.Goals as goal
+
+pub returns : goal.returns
+returns c = counted

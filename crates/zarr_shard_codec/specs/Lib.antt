@@ -1,0 +1,17 @@
+pub mod Crc32c
+pub mod Crc32cTable
+pub mod Crc32cCodec
+pub mod Index
+pub mod Shard
+pub mod Agree
+pub mod Pair
+pub mod Finding
+pub mod Written
+pub mod Cut
+pub mod ShardCodec
+pub mod Placing
+pub mod Inner
+pub mod Whole
+pub mod Encoding
+pub mod NoFault
+pub mod Counted

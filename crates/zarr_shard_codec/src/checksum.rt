@@ -1,0 +1,66 @@
+//! The number CRC-32C of bytes.
+//!
+//! See <https://www.rfc-editor.org/rfc/rfc3720#section-12.1>.
+
+ghost use Rattle.std.specs.Prelude.{◌≡◌, ◌+◌, ◌*◌, ◌%◌, ℕ};
+ghost use Rattle.zarr_shard_codec.specs.Crc32c.{crc32c, byte_step, bit_steps, register_after};
+ghost use Rattle.zarr_shard_codec.specs.Crc32cTable.{IsTableOf};
+
+use crate::crc32c_tables::{
+    table_0, table_1, table_2, table_3, table_4, table_5, table_6, table_7,
+};
+
+// What a table has for the lowest byte of a number.
+fn lowest_in(table: &[u32; 256], number: u64) -> u32
+    ensures { (steps : ℕ) → IsTableOf steps table.now →
+        result ≡ bit_steps steps (number % 256) }
+{
+    table[(number % 256) as usize]
+}
+
+// The register after one byte.
+fn byte_step(register: u32, byte: u8) -> u32
+    ensures { result ≡ byte_step register byte }
+{
+    let joined = register ^ u32::from(byte);
+    (joined / 256) ^ lowest_in(table_0(), u64::from(joined))
+}
+
+// The register after eight bytes: each of them, and of the register, is led through all steps that are left to it.
+fn word_step(register: u32, word: [u8; 8]) -> u32
+    ensures { result ≡ register_after register word }
+{
+    let joined = u64::from_le_bytes(word) ^ u64::from(register);
+    lowest_in(table_0(), joined >> 56)
+        ^ lowest_in(table_1(), joined >> 48)
+        ^ lowest_in(table_2(), joined >> 40)
+        ^ lowest_in(table_3(), joined >> 32)
+        ^ lowest_in(table_4(), joined >> 24)
+        ^ lowest_in(table_5(), joined >> 16)
+        ^ lowest_in(table_6(), joined >> 8)
+        ^ lowest_in(table_7(), joined)
+}
+
+// The register after bytes, one by one.
+fn bytes_after(register: u32, bytes: &[u8]) -> u32
+    ensures { result ≡ register_after register bytes.now }
+{
+    let mut after = register;
+    for byte in bytes {
+        after = byte_step(after, *byte);
+    }
+    after
+}
+
+/// The number CRC-32C of the bytes.
+pub(crate) fn crc32c(bytes: &[u8]) -> u32
+    ensures { result ≡ crc32c bytes.now }
+{
+    let mut register = u32::MAX;
+    let mut left = bytes;
+    'words: while let Some((word, rest)) = left.split_first_chunk::<8>() {
+        register = word_step(register, *word);
+        left = rest;
+    }
+    !bytes_after(register, left)
+}

@@ -1,0 +1,22 @@
+//! Sharded chunks: what a value decodes to that holds inner chunks and an index of them, its encoding, and the codec `crc32c`,
+//! which puts a checksum behind a value.
+//!
+//! See <https://zarr-specs.readthedocs.io/en/latest/v3/codecs/index.html>.
+#![tactic(auto)]
+
+mod checksum;
+mod crc32c_codec;
+mod crc32c_tables;
+mod encoding;
+mod index;
+mod inner;
+mod inner_chunks;
+mod laws;
+mod pair;
+mod shard_codec;
+mod whole;
+mod writing;
+
+pub use crc32c_codec::Crc32cCodec;
+pub use laws::{counted, element_is_inner, selects_inner};
+pub use shard_codec::ShardCodec;
