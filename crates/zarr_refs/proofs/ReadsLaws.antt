@@ -113,7 +113,7 @@ module _ (description : Description) (options : Options) (lines : RefLines) (bef
       }
     where
       told : (error : RefError) → IsRefused lines.references.items before now error → ¬ (error ≡ RefError.Store) → ¬ (error ≡ RefError.OutOfMemory) → reference_fault lines.references.items before.content ≡ Some error
-      told (RefError.RepeatedKey key) h s m = ap (λ o. repeated_or o (unfit before.content lines.references.items)) h
+      told (RefError.RepeatedKey key) h s m = ap (λ o. repeated_or o (unfit before.content lines.references.items)) h.0
       told (RefError.MissingBase key) h s m = apart_fault lines.references.items before.content (RefError.MissingBase key) h.0 h.1
       told (RefError.SliceOutOfBounds key) h s m = apart_fault lines.references.items before.content (RefError.SliceOutOfBounds key) h.0 h.1
       told RefError.Store h s m = absurd (s refl)

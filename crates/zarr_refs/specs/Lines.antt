@@ -19,7 +19,8 @@ reference_of key base (Some offset) (Some len) = if is_store_key key && is_store
 reference_of key base _ _ = None
 
 -- a ref line: `ref`, a key, the key of its base, an offset and a length
-abbrev pub reference_of_words : Option (List ℕ × List ℕ × List ℕ × List ℕ × List ℕ) → Option Reference
+abbrev pub reference_of_words : Option (List ℕ × List ℕ × List ℕ × List ℕ × List ℕ) →
+    Option Reference
 reference_of_words None = None
 reference_of_words (Some (word, key, base, offset, len)) = if bytes_eq word (codes "ref")
     then reference_of key base (number_of offset) (number_of len) else None

@@ -16,7 +16,8 @@ pub record SaysRefs (kind : Kind) (lines : List (List ℕ)) (parsed : RefLines) 
   pub reads : reads_of kind lines ≡ Some (map command_of parsed.reads.items)
 
 -- so many lines read, and the next one does not: it writes or erases, or is no command
-pub record StopsReads (kind : Kind) (lines : List (List ℕ)) (good : ℕ) (changes : Bool) : Type 0 where
+pub record StopsReads (kind : Kind) (lines : List (List ℕ)) (good : ℕ) (changes : Bool)
+    : Type 0 where
   pub none : all_some (map (line_read kind) lines) ≡ None
   pub first : good ≡ good_reads kind lines
   pub inside : good < length lines
@@ -33,7 +34,8 @@ IsReadFault kind lines (ReadOnly good) = StopsReads kind lines good true
 IsReadFault kind lines OutOfMemory = Unit {0}
 
 -- so many lines are of their form, and the next one is not
-pub record StopsRefs (kind : Kind) (lines : List (List ℕ)) (good : ℕ) (changes : Bool) : Type 0 where
+pub record StopsRefs (kind : Kind) (lines : List (List ℕ)) (good : ℕ) (changes : Bool)
+    : Type 0 where
   pub none : reads_of kind lines ≡ None
   pub first : good ≡ good_ref_lines kind lines
   pub inside : good < length lines

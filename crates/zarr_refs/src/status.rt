@@ -41,7 +41,7 @@ impl RefStatus {
 }
 
 // The line of a refused reference.
-fn reference_line(alloc: Global, error: &RefError) -> Result<String, AllocError>
+fn refusal_line(alloc: Global, error: &RefError) -> Result<String, AllocError>
     ensures { IfOk result (λ line. IfSome (ref_line (by_reference error.now))
         (λ text. string_bytes line ≡ text)) }
 {
@@ -69,7 +69,7 @@ fn ref_status_line(alloc: Global, status: &RefStatus) -> Result<String, AllocErr
 {
     match status {
         RefStatus::Cli(status) => status_line(alloc, status),
-        RefStatus::Reference(error) => reference_line(alloc, error),
+        RefStatus::Reference(error) => refusal_line(alloc, error),
         RefStatus::ReadOnly { line } => format!(in alloc; "refused ReadOnly {line}\n"),
     }
 }

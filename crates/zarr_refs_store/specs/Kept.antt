@@ -25,7 +25,8 @@ pub record Keeps (old new : Over) : Type 0 where
 counts_self : (own below : ℕ) → CountsNoMore own own below below
 counts_self own below = record { rises = le_refl _; no_more = λ h. le_refl _ }
 
-counts_twice : {a b c k l m : ℕ} → CountsNoMore a b k l → CountsNoMore b c l m → CountsNoMore a c k m
+counts_twice : {a b c k l m : ℕ} → CountsNoMore a b k l → CountsNoMore b c l m →
+    CountsNoMore a c k m
 counts_twice {a} {b} {c} {k} {l} {m} first second = record {
   rises = le_trans first.rises second.rises;
   no_more = λ below.

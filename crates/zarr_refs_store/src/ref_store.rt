@@ -151,8 +151,8 @@ pub struct RefStore<'s, S: Store> {
 }
 
 impl<'s, S: Store> RefStore<'s, S> {
-    ghost use Rattle.std.specs.Prelude.{◌≤◌, OnOk};
-    ghost use Rattle.zarr_refs_store.specs.References.{repeated, unfit, IsRefusedApart};
+    ghost use Rattle.std.specs.Prelude.{◌≤◌, OnOk, length};
+    ghost use Rattle.zarr_refs_store.specs.References.{repeated, unfit, IsRefusedApart, IsAsked};
     ghost use Rattle.zarr_refs_store.specs.Slices.{sliced};
     ghost use Rattle.zarr_refs_store.specs.Over.{shown_of};
     ghost use Rattle.zarr_refs_store.specs.Lent.{over_of};
@@ -175,7 +175,7 @@ impl<'s, S: Store> RefStore<'s, S> {
         }
     }
 
-    /// The references over their base. The base's content stays as it was.
+    /// The references over their base, which is asked for the size of a value once for each. Its content stays as it was.
     ///
     /// # Errors
     /// [`RefError::RepeatedKey`] exactly for the first reference whose key an earlier one has, before the base is asked;
@@ -186,8 +186,8 @@ impl<'s, S: Store> RefStore<'s, S> {
             store.base.ghost_name ≡ base.entry.ghost_name) }
         ensures content { IfOk result (λ store.
             SameContent (S.shown base.old) (S.shown store.base.now)) }
-        ensures puts { IfOk result (λ store.
-            (S.shown store.base.now).puts ≡ (S.shown base.old).puts) }
+        ensures asked { IfOk result (λ store. IsAsked (length references.items)
+            (S.shown base.old) (S.shown store.base.now)) }
         ensures sliced { IfOk result (λ store. (key : List ℕ) →
             (shown_of (over_of S.Store store)).content key
             ≡ sliced references.items (S.shown base.old).content key) }

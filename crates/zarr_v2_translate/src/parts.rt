@@ -150,7 +150,8 @@ pub(crate) fn fill_of(
     element: ElementType,
     fill: &FillValueMetadataV3,
 ) -> Result<Option<FillValueMetadataV3>, V2Error>
-    ensures fill { IfOk result (λ f. option_map fill_view f ≡ fill_v2 element (fill_view fill.now)) }
+    ensures fill { IfOk result (λ f.
+        option_map fill_view f ≡ fill_v2 element (fill_view fill.now)) }
     ensures memory { IfErr result (λ e. e ≡ V2Error.OutOfMemory) }
 {
     if fill.is_null() {
