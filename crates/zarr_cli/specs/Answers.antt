@@ -8,8 +8,9 @@ use Rattle.zarr_cli.specs.Input.{input_entries, with_entries, store_after_keys, 
 use Rattle.zarr_cli.specs.Run.{Run, HasDamage, IsCutAtDamage, WentThrough, IsRunnable, LeavesInput, SameButChanged}
 use Rattle.zarr_cli_runs.specs.Commands.{TakesRun}
 use Rattle.zarr_cli_runs.specs.Keys.{IsDumpAsks}
-use Rattle.zarr_cli_runs.specs.Ending.{Ending, IsOrMemory, IsWritten, IsGiven, IsGivenFront, IsGivenLine, ending_line, IsBeforeStore}
+use Rattle.zarr_cli_runs.specs.Ending.{Ending, IsOrMemory, IsWritten, IsGiven, IsGivenFront}
 use Rattle.zarr_cli_runs.specs.Ending as end
+use Rattle.zarr_cli_parts.specs.Ends.{EndsBy}
 use Rattle.zarr_cli_parts.specs.Seen.{Seen}
 
 -- what a run owes over a source that tells its bytes, which are the input
@@ -81,18 +82,5 @@ pub record Answers (words : List (List ℕ)) (input : List ℕ) (before now : Se
       (now.store.asks ≡ before.store.asks) × (now.store.taken ≡ before.store.taken)
 
 -- what a run owes over any source
-pub record Ends (words : List (List ℕ)) (before now : Seen) (ending : Ending) : Type 0 where
-  -- bad words are answered as such, but for want of memory, nothing is read, and the store is as
-  -- before
-  pub bad_words : ending ≡ end.bad_words → HasBadWords words
-  pub exactly_words : HasBadWords words → IsOrMemory ending end.bad_words
-  pub unread : HasBadWords words → now.source ≡ before.source
-  pub unstored : HasBadWords words → IsUntouched before.store now.store
-  -- a fault from outside is answered only where its count rose
-  pub store : ending ≡ end.store_fault → Rose before.store.faults now.store.faults
-  pub read : ending ≡ end.read_fault → Rose before.source.faults now.source.faults
-  pub write : ending ≡ end.write_fault → Rose before.sink.faults now.sink.faults
-  -- on an early end the sink was given its line, or a front of it where the sink failed
-  pub line : IsGivenLine (ending_line ending) before.sink now.sink
-  -- where the words, the reading or the input decided, the store is as before
-  pub untouched : IsBeforeStore ending → IsUntouched before.store now.store
+abbrev pub Ends : List (List ℕ) → Seen → Seen → Ending → Type 0
+Ends words before now ending = EndsBy (HasBadWords words) before now ending

@@ -1,24 +1,12 @@
 -- The input: a document, key lines and command lines.
 use Rattle.std.specs.Prelude.{◌≡◌, ℕ, ◌+◌, ◌<◌, ◌≤◌, ◌⊎◌, List, length, IsUtf8, Option}
-use Rattle.zarr_model.specs.Prelude.{Content, with_keys, Command, kind}
-use Rattle.zarr_cli_runs.specs.lines.Text.{line_command, first_entries, good_lines}
+use Rattle.zarr_model.specs.Prelude.{Command, kind}
+use Rattle.zarr_cli_runs.specs.lines.Text.{line_command, good_lines}
 use Rattle.zarr_cli_runs.specs.array.parts.Document.{ArrayDocument, describe}
 use Rattle.zarr_cli_runs.specs.array.parts.Opening.{OpenRefusal, opened, not_opened, open_builtin}
 pub use Rattle.zarr_cli_parts.specs.Input.{input_limit, IsNotUtf8}
-pub use Rattle.zarr_cli_parts.specs.Lines.{first_line, document_line, lines_after_document, IsKeyOf, with_entries}
+pub use Rattle.zarr_cli_parts.specs.Lines.{first_line, document_line, lines_after_document, IsKeyOf, input_entries, IsLineKey, store_after_keys, with_entries}
 use Rattle.zarr_cli_parts.specs.Words.{IsReading}
-
--- the key lines of an input
-abbrev pub input_entries : List ℕ → List (List ℕ × List ℕ)
-input_entries input = first_entries (lines_after_document input)
-
--- a key is that of a key line
-abbrev pub IsLineKey : List ℕ → List ℕ → Type 0
-IsLineKey input key = IsKeyOf (input_entries input) key
-
--- what a store holds once its key lines are set
-abbrev pub store_after_keys : List ℕ → Content → Content
-store_after_keys input store = with_keys (input_entries input) store
 
 -- the grammar of command lines under a document
 abbrev pub command_grammar : ArrayDocument → List ℕ → Option Command

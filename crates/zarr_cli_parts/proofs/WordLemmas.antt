@@ -1,9 +1,9 @@
 -- The words, one after another.
-use Rattle.std.proofs.Common.{◌≡◌, ℕ, ◌+◌, ◌<◌, Bool, true, false, List, ◌∷◌, codes, bytes_eq, length, drop, get_or, Some, None, inl, inr, option_and_then, String, string_bytes, refl, sym, ap, ap₂, add-one, ◌∙◌, subst}
+use Rattle.std.proofs.Common.{◌≡◌, ℕ, ◌+◌, ◌<◌, Bool, true, false, List, ◌∷◌, codes, bytes_eq, length, drop, get_or, Option, Some, None, inl, inr, option_and_then, String, string_bytes, refl, sym, ap, ap₂, add-one, ◌∙◌, subst}
 use Rattle.std.proofs.Math.Seq.{drop-cons}
 use Rattle.zarr_model.specs.Prelude.{Options}
 use Rattle.zarr_model.proofs.FailureLaws.{same_bytes}
-use Rattle.zarr_cli_parts.specs.Words.{Settings, is_known, with_word, with_words, settings_of, MakesFrom, MakesNothing}
+use Rattle.zarr_cli_parts.specs.Words.{Settings, is_known, with_word, with_words, settings_of, unless_made, reading_settings, HasNoReading, ReadsBy, MakesFrom, MakesNothing}
 use Rattle.zarr_cli_parts.specs.Status.{words_of}
 
 -- a word that takes no number, if it is one
@@ -74,3 +74,22 @@ made_not words settings number set is (inl bad) = let both : None ≡ Some setti
 made_not words settings number set is (inr (other, reads)) =
     let same : settings ≡ other = one_setting settings other (sym set ∙ reads.0) in
     let both : Some number ≡ None = sym is ∙ (ap (λ s. s.make) same ∙ reads.1) in cc
+
+-- words that call for the input to be read have their settings without a number
+pub reading_is : (words : List (List ℕ)) (settings : Settings) → ReadsBy words settings → reading_settings words ≡ Some settings
+reading_is words settings reads = ap (option_and_then (λ (s : Settings). unless_made s.make s)) reads.0 ∙ ap (λ o. unless_made o settings) reads.1
+
+pub reads_by : (words : List (List ℕ)) (settings : Settings) → reading_settings words ≡ Some settings → ReadsBy words settings
+reads_by words settings is = go (settings_of words) refl is
+  where
+    at : (s : Settings) → settings_of words ≡ Some s → (o : Option ℕ) → s.make ≡ o → unless_made o s ≡ Some settings → ReadsBy words settings
+    at s known None none one = let same : s ≡ settings = cc in (known ∙ ap Some same, ap (λ (t : Settings). t.make) (sym same) ∙ none)
+    at s known (Some n) some one = absurd cc
+
+    go : (o : Option Settings) → settings_of words ≡ o → option_and_then (λ (s : Settings). unless_made s.make s) o ≡ Some settings → ReadsBy words settings
+    go None known one = absurd cc
+    go (Some s) known one = at s known s.make refl one
+
+-- and else they do not
+pub reads_none : (words : List (List ℕ)) (settings : Settings) → ReadsBy words settings → HasNoReading words → ⊥
+reads_none words settings reads none = let both : Some settings ≡ None = sym (reading_is words settings reads) ∙ none in cc

@@ -37,7 +37,8 @@ pub record AnswersLines (costs : Costs) (description : Description) (settings : 
       (λ output. IsGivenFront output before.sink.bytes now.sink.bytes)
   -- where replies are written, the commands cost what the array says, and a dump its asks
   pub cost : (run : LinesRun description lines) → IsWritten ending →
-      CostsAll costs settings run.commands (with_entries (line_entries lines) before.store) now.store
+      CostsAll costs settings run.commands (with_entries (line_entries lines) before.store)
+      now.store
   -- a line out of form is told, the first one, and exactly where there is one
   pub bad_input : (line : ℕ) → ending ≡ end.bad_input line → IsOutOfForm description lines line
   pub exactly_input : (line : ℕ) → IsOutOfForm description lines line →

@@ -4,6 +4,7 @@ pub mod Status
 pub mod Input
 pub mod Lines
 pub mod Seen
+pub mod Ends
 pub mod Run
 pub mod Written
 pub mod Array

@@ -1,6 +1,6 @@
 -- The lines of a program: a document, key lines and command lines.
 use Rattle.std.specs.Prelude.{◌≡◌, ℕ, ◌+◌, ◌<◌, List, [], ◌∷◌, length, drop, Contains, Some}
-use Rattle.zarr_model.specs.Prelude.{Command, Description, kind}
+use Rattle.zarr_model.specs.Prelude.{Command, Content, Description, kind, with_keys}
 pub use Rattle.zarr_cli_runs.specs.Between.{with_entries}
 use Rattle.zarr_cli_runs.specs.lines.Text.{line_command, input_lines, first_entries, commands_of, good_lines}
 
@@ -22,6 +22,18 @@ line_entries lines = first_entries (drop 1 lines)
 -- a key is one of some entries
 abbrev pub IsKeyOf : List (List ℕ × List ℕ) → List ℕ → Type 0
 IsKeyOf entries key = (value : List ℕ) × Contains entries (key, value)
+
+-- the key lines of an input
+abbrev pub input_entries : List ℕ → List (List ℕ × List ℕ)
+input_entries input = first_entries (lines_after_document input)
+
+-- a key is that of a key line
+abbrev pub IsLineKey : List ℕ → List ℕ → Type 0
+IsLineKey input key = IsKeyOf (input_entries input) key
+
+-- what a store holds once its key lines are set
+abbrev pub store_after_keys : List ℕ → Content → Content
+store_after_keys input store = with_keys (input_entries input) store
 
 -- what the lines behind the document say to an array, where all of them have their form: there are
 -- such commands, or none

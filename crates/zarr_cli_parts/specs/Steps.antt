@@ -131,8 +131,9 @@ pub record RanLines {Z : Type 0} (costs : Costs) (description : Description) (se
   pub told : MatchResult result
       (λ text. PrintsLines costs description settings lines before now text.items)
       (λ status. IsLinesFault description settings lines before now status)
-  pub between : IfErr result (λ status. (run : LinesRun description lines) → LeavesBetween description
-      settings.options (line_entries lines) run.commands before now (ending_of status))
+  pub between : IfErr result (λ status. (run : LinesRun description lines) →
+      LeavesBetween description settings.options (line_entries lines) run.commands before now
+      (ending_of status))
   pub complete : (run : LinesRun description lines) → SeesNoDamage description settings.options
       run.commands (with_keys (line_entries lines) before.content) →
       ¬ Rose before.faults now.faults → IfErr result (λ status. status ≡ OutOfMemory)

@@ -55,6 +55,19 @@ settings_of words = with_words is_known false words first_settings
 abbrev pub HasBadWords : List (List ℕ) → Type 0
 HasBadWords words = settings_of words ≡ None
 
+-- the settings of words that call for the input to be read
+abbrev pub unless_made : Option ℕ → Settings → Option Settings
+unless_made None settings = Some settings
+unless_made (Some number) settings = None
+
+abbrev pub reading_settings : List (List ℕ) → Option Settings
+reading_settings words =
+    option_and_then (λ settings. unless_made settings.make settings) (settings_of words)
+
+-- a word is not known to a program that reads its input whatever the words say, which has no `--make`
+abbrev pub HasNoReading : List (List ℕ) → Type 0
+HasNoReading words = reading_settings words ≡ None
+
 -- the words are known, and call for the input to be read
 abbrev pub ReadsBy : List (List ℕ) → Settings → Type 0
 ReadsBy words settings = (settings_of words ≡ Some settings) × (settings.make ≡ None)

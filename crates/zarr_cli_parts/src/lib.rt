@@ -16,6 +16,6 @@ pub use array::CommandArray;
 pub use line::{command_line, key_line, reply_line};
 pub use lines::{InputFault, read_lines};
 pub use running::run_lines;
-pub use words::{Words, read_words};
+pub use words::{Words, read_input_words, read_words};
 pub use write::{status_line, write_text};
 pub use zarr_cli_runs::Status;

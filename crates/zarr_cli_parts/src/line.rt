@@ -42,7 +42,7 @@ pub fn command_line(
 }
 
 /// The line of a reply, without a newline: `ok` and the elements as text, `done`, or `refused` and the refusal's name.
-/// Elements are valid for the data type.
+/// Elements are valid for the data type, and those of one size have a byte or more.
 ///
 /// # Errors
 /// Want of memory alone.

@@ -1,7 +1,7 @@
 //! The words of the command line.
 
 ghost use Rattle.std.specs.Prelude.{◌≡◌, true, false, List, ℕ, ◌∷◌, option_map, option_and_then};
-ghost use Rattle.zarr_cli_parts.specs.Words.{is_known, with_word, with_words, settings_of};
+ghost use Rattle.zarr_cli_parts.specs.Words.{is_known, with_word, with_words, settings_of, reading_settings};
 ghost use Rattle.zarr_cli_parts.specs.Status.{words_of, settings_view};
 
 use zarr_cli_runs::CodecOptions;
@@ -125,5 +125,16 @@ pub fn read_words(words: &[String]) -> Option<Words>
         None
     } else {
         Some(so_far.settings)
+    }
+}
+
+/// The same of a program that reads its input whatever the words say: `--make` is no word of it.
+pub fn read_input_words(words: &[String]) -> Option<Words>
+    ensures { option_map settings_view result ≡ reading_settings (words_of words.now) }
+{
+    let settings = read_words(words)?;
+    match settings.make {
+        Some(_) => None,
+        None => Some(settings),
     }
 }

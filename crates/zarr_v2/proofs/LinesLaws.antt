@@ -10,11 +10,10 @@ use Rattle.zarr_cli_runs.specs.Ending as end
 use Rattle.zarr_cli_runs.proofs.BetweenLaws.{honest_sees_none}
 use Rattle.zarr_cli_runs.proofs.TextLaws.{good_lines_all}
 use Rattle.zarr_cli_parts.specs.Words.{Settings}
-use Rattle.zarr_cli_parts.specs.Lines.{LinesRun, IsOutOfForm, document_line}
+use Rattle.zarr_cli_parts.specs.Lines.{LinesRun, IsOutOfForm, document_line, store_after_keys}
 use Rattle.zarr_cli_parts.specs.Run.{CostsOpen}
 use Rattle.zarr_cli_parts.specs.Answers.{AnswersLines, IsOfLines, outside}
 use Rattle.zarr_cli_parts.specs.Seen.{Seen}
-use Rattle.zarr_cli.specs.Input.{store_after_keys}
 use Rattle.zarr_v2_meaning.specs.ChunksV2.{ChunksV2, layout_v2}
 use Rattle.zarr_v2_meaning.proofs.MeansLaws.{honest}
 use Rattle.zarr_v2.specs.Opening.{opened_v2, open_builtin_v2, chunks_text}

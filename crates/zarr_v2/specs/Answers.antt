@@ -1,17 +1,16 @@
 -- What a run over a version 2 document owes.
 use Rattle.std.specs.Prelude.{◌≡◌, ℕ, List, [], Some}
-use Rattle.zarr_model.specs.Prelude.{Options, Rose, IsUntouched}
+use Rattle.zarr_model.specs.Prelude.{Rose, IsUntouched}
 use Rattle.zarr_cli_runs.specs.array.parts.Document.{describe}
 use Rattle.zarr_cli_runs.specs.array.parts.Opening.{OpenRefusal, chunk_too_large}
 use Rattle.zarr_cli_runs.specs.lines.Text.{input_lines}
 use Rattle.zarr_cli_runs.specs.Ending.{Ending, IsGiven, IsGivenFront, IsGivenLine}
 use Rattle.zarr_cli_runs.specs.Ending as end
-use Rattle.zarr_cli_parts.specs.Words.{Settings, HasBadWords}
+use Rattle.zarr_cli_parts.specs.Words.{Settings, HasNoReading}
 use Rattle.zarr_cli_parts.specs.Run.{CostsOpen}
 use Rattle.zarr_cli_parts.specs.Answers.{AnswersLines, outside}
+use Rattle.zarr_cli_parts.specs.Ends.{EndsBy}
 use Rattle.zarr_cli_parts.specs.Seen.{Seen}
-use Rattle.zarr_cli.specs.Answers.{Ends}
-use Rattle.zarr_cli.specs.Made.{AnswersMade}
 use Rattle.zarr_v2_translate.specs.declared.error.V2Error.{V2Error}
 use Rattle.zarr_v2.specs.Ending.{EndingV2, cli, refused, line_v2, IsOrMemoryV2}
 use Rattle.zarr_v2.specs.Says.{says_v2, stops, IsOfInput}
@@ -62,17 +61,11 @@ pub record AnswersV2 (settings : Settings) (input : List ℕ) (before now : Seen
 
 -- what a run with a refused document owes over any source
 pub record EndsRefused (words : List (List ℕ)) (before now : Seen) (why : V2Error) : Type 0 where
-  pub known : ¬ HasBadWords words
+  pub known : ¬ HasNoReading words
   pub line : IsGivenLine (line_v2 (refused why)) before.sink now.sink
   pub untouched : IsUntouched before.store now.store
 
 -- and what each run does
 abbrev pub EndsV2 : List (List ℕ) → Seen → Seen → EndingV2 → Type 0
-EndsV2 words before now (cli ending) = Ends words before now ending
+EndsV2 words before now (cli ending) = EndsBy (HasNoReading words) before now ending
 EndsV2 words before now (refused why) = EndsRefused words before now why
-
--- what a run owes that is made from a number
-abbrev pub AnswersMadeV2 : ℕ → Options → Seen → Seen → EndingV2 → Type 0
-AnswersMadeV2 number options before now (cli ending) =
-    AnswersMade number options before now ending
-AnswersMadeV2 number options before now (refused why) = ⊥

@@ -7,9 +7,8 @@ use Rattle.zarr_cli_runs.specs.array.parts.Document.{ArrayDocument, describe}
 use Rattle.zarr_cli_runs.specs.Commands.{IsChangedKey}
 use Rattle.zarr_cli_runs.specs.lines.Text.{input_lines}
 use Rattle.zarr_cli_parts.specs.Words.{Settings}
-use Rattle.zarr_cli_parts.specs.Lines.{LinesRun, document_line}
+use Rattle.zarr_cli_parts.specs.Lines.{LinesRun, document_line, IsLineKey, store_after_keys}
 use Rattle.zarr_cli_parts.specs.Run.{IsOutput}
-use Rattle.zarr_cli.specs.Input.{store_after_keys, IsLineKey}
 use Rattle.zarr_v2_meaning.specs.ChunksV2.{ChunksV2, layout_v2}
 use Rattle.zarr_v2.specs.Opening.{chunks_text}
 use Rattle.zarr_v2.specs.Says.{says_v2, runs}

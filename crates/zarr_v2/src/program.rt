@@ -2,26 +2,25 @@
 //! final keys out.
 
 ghost use Rattle.std.specs.Prelude.{◌≡◌, ◌≤◌, List, ℕ, [], length, map, string_bytes, IsUtf8, Some};
-ghost use Rattle.zarr_model.specs.Prelude.{Options, Told};
+ghost use Rattle.zarr_model.specs.Prelude.{Told};
 ghost use Rattle.zarr_cli_runs.specs.lines.Text.{input_lines};
-ghost use Rattle.zarr_cli_parts.specs.Words.{Settings, ReadsBy, MakesFrom};
+ghost use Rattle.zarr_cli_parts.specs.Words.{Settings, ReadsBy};
 ghost use Rattle.zarr_cli_parts.specs.Status.{words_of, settings_view};
 ghost use Rattle.zarr_cli_parts.specs.Input.{input_limit};
 ghost use Rattle.zarr_cli_parts.specs.Seen.{seen};
 ghost use Rattle.zarr_v2.specs.Ending.{ending_v2};
 ghost use Rattle.zarr_v2.specs.Opening.{open_builtin_v2};
 ghost use Rattle.zarr_v2.specs.Steps.{OpensLineV2};
-ghost use Rattle.zarr_v2.specs.Answers.{AnswersV2, AnswersMadeV2, EndsV2};
+ghost use Rattle.zarr_v2.specs.Answers.{AnswersV2, EndsV2};
 
 use crate::error::V2OpenError;
 use crate::opening::open_v2;
 use crate::status::{V2Status, end_with_v2};
 use std::alloc::Global;
 use zarr_array::{OpenArray, OpenError, builtin_registries};
-use zarr_cli::program::run_program;
 use zarr_cli_parts::lines::{fault_status, first_line};
 use zarr_cli_parts::write::end_with;
-use zarr_cli_parts::{Status, Words, read_lines, read_words, run_lines};
+use zarr_cli_parts::{Status, Words, read_input_words, read_lines, run_lines};
 use zarr_v2_translate::V2Error;
 use zarrs_storage::{Sink, Source, Store};
 
@@ -90,13 +89,11 @@ fn run_input<R: Source, W: Sink, S: Store>(
 }
 
 /// Reads a version 2 array document, key lines and commands from `source`, runs the commands over `store`, and writes their
-/// replies to `sink`, with `--dump` also the lines of the final keys. It is [`run_program`] but for the first line, and the
-/// store means what it means by that document alone.
+/// replies to `sink`, with `--dump` also the lines of the final keys. The store means what it means by that document alone.
+/// The words are those of `run_program` but for `--make`, which is none here.
 ///
 /// In order: the words, reading, UTF-8, the first line as a version 2 document, its translation as one of version 3, all
 /// other lines, setting the key lines, the commands, listing the keys, writing. The first that fails decides the status.
-///
-/// With `--make` and a number nothing is read, and it is [`run_program`].
 pub fn run_v2_program<R: Source, W: Sink, S: Store>(
     alloc: Global,
     words: &[String],
@@ -104,15 +101,9 @@ pub fn run_v2_program<R: Source, W: Sink, S: Store>(
     sink: &mut W,
     store: &mut S,
 ) -> V2Status
-    // Over a source that tells its bytes, where it is read: each answer with its cause, and what it leaves.
+    // Over a source that tells its bytes, where the words are known: each answer with its cause, and what it leaves.
     ensures told { (settings : Settings) → ReadsBy (words_of words.now) settings →
         (input : List ℕ) → (R.shown source.old).left ≡ Some input → AnswersV2 settings input
-        (seen (R.shown source.old) (W.shown sink.old) (S.shown store.old))
-        (seen (R.shown source.new) (W.shown sink.new) (S.shown store.new)) (ending_v2 result) }
-    // Over any source, where the run is made from a number: its summary, and each other answer with its cause.
-    ensures made { (number : ℕ) (options : Options) →
-        MakesFrom (words_of words.now) number options →
-        AnswersMadeV2 number options
         (seen (R.shown source.old) (W.shown sink.old) (S.shown store.old))
         (seen (R.shown source.new) (W.shown sink.new) (S.shown store.new)) (ending_v2 result) }
     // Over any source: the words, the faults, the line on an early end, and what is left then.
@@ -123,11 +114,8 @@ pub fn run_v2_program<R: Source, W: Sink, S: Store>(
     ensures named { ¬ (result ≡ V2Status.Cli (Status.Document OpenError.OutOfMemory)) }
     ensures named_v2 { ¬ (result ≡ V2Status.Refused V2Error.OutOfMemory) }
 {
-    let Some(settings) = read_words(words) else {
-        return V2Status::Cli(end_with(alloc, Status::BadWords, sink));
-    };
-    match settings.make {
-        Some(_) => V2Status::Cli(run_program(alloc, words, source, sink, store)),
-        None => run_input(alloc, &settings, source, sink, store),
+    match read_input_words(words) {
+        Some(settings) => run_input(alloc, &settings, source, sink, store),
+        None => V2Status::Cli(end_with(alloc, Status::BadWords, sink)),
     }
 }
