@@ -1,5 +1,5 @@
 -- What the words and the input of a move say.
-use Rattle.std.specs.Prelude.{ℕ, ◌+◌, nat_lt, if◌then◌else◌, List, [], ◌∷◌, length, drop}
+use Rattle.std.specs.Prelude.{ℕ, ◌+◌, nat_lt, if◌then◌else◌, List, [], ◌∷◌, length, drop, map, String, string_bytes}
 use Rattle.zarr_cli_runs.specs.lines.Text.{first_entries}
 use Rattle.zarr_cli_runs.specs.array.parts.Document.{ArrayDocument}
 use Rattle.zarr_cli_runs.specs.array.parts.Opening.{OpenAnswer, opened, not_opened, open_builtin}
@@ -17,6 +17,10 @@ pub record Move : Type 0 where
 pub data Verdict : Type 0 where
   moves : Move → Verdict
   stops : Ending → Verdict
+
+-- the lines behind two documents
+abbrev pub key_lines : {Z : Type 0} → List (String Z) → List (List ℕ)
+key_lines lines = drop 1 (drop 1 (map string_bytes lines))
 
 -- what the lines behind two documents say, each of which has to be a key line
 abbrev pub keys_say : ArrayDocument → ArrayDocument → List (List ℕ) → Verdict

@@ -1,6 +1,6 @@
 //! The program that moves an array: two documents and key lines in, the keys of the array's new store out.
 
-ghost use Rattle.std.specs.Prelude.{◌≡◌, ◌≤◌, true, List, ℕ, [], length, map, string_bytes, Some, Err, IfOk, IfErr, OnOk};
+ghost use Rattle.std.specs.Prelude.{◌≡◌, ◌≤◌, true, List, ℕ, [], length, map, drop, string_bytes, Some, Err, IfOk, IfErr, OnOk};
 ghost use Rattle.zarr_model.specs.Prelude.{Rose, counted};
 ghost use Rattle.zarrs_storage.specs.Store.{SameContent};
 ghost use Rattle.zarr_array.specs.OpenArray.{documented};
@@ -11,7 +11,7 @@ ghost use Rattle.zarr_cli_runs.specs.declared.status.Status.TheVariants.{BadWord
 ghost use Rattle.zarr_cli_parts.specs.Status.{words_of};
 ghost use Rattle.zarr_rechunk.specs.declared.status.RechunkStatus.TheVariants.{Cli};
 ghost use Rattle.zarr_rechunk.specs.Ending.{move_ending_of};
-ghost use Rattle.zarr_rechunk.specs.Input.{stops, keys_say, target_lines_say, lines_say, verdict};
+ghost use Rattle.zarr_rechunk.specs.Input.{stops, key_lines, keys_say, target_lines_say, lines_say, verdict};
 ghost use Rattle.zarr_cli_parts.specs.Input.{text_says};
 ghost use Rattle.zarr_rechunk.specs.Program.{seen_both, AnswersMove, EndsMoved};
 ghost use Rattle.zarr_rechunk.specs.Said.{both, move_of, RanMove, RanBy, RanInput, IsNamed, IsPlain, outcome, status_of, IsKeysFault};
@@ -21,7 +21,7 @@ use crate::status::{RechunkRefusal, RechunkStatus, write_moved};
 use crate::whole::rechunk;
 use std::alloc::{AllocError, Global};
 use zarr_array::{CodecOptions, OpenArray};
-use zarr_cli_lines::parse::first_entries;
+use zarr_cli_lines::entry::parse_key_line;
 use zarr_cli_parts::lines::{behind_first, fault_status, first_line};
 use zarr_cli_parts::run::set_entries;
 use zarr_cli_parts::{Status, read_lines};
@@ -92,40 +92,51 @@ fn text_of_moved<S: Store, T: Store>(
     }
 }
 
-// Sets key lines in the source's store, and moves the array.
+// Sets key lines in the source's store, lets them go, and moves the array.
 fn text_of_entries<S: Store, T: Store>(
     alloc: Global,
     source: &OpenArray,
     target: &OpenArray,
-    entries: &[Entry],
+    entries: Vec<Entry>,
     from: &mut S,
     to: &mut T,
 ) -> Result<Vec<u8>, RechunkStatus>
     ensures { RanMove (move_of (documented source.now) (documented target.now)
-        (map entry_view entries.now))
+        (map entry_view entries.items))
         (both (S.shown from.old) (T.shown to.old)) (both (S.shown from.new) (T.shown to.new))
         result }
 {
-    match set_entries(alloc, entries, from) {
-        Ok(()) => text_of_moved(alloc, source, target, from, to),
+    match set_entries(alloc, &entries, from) {
+        Ok(()) => {
+            drop(entries);
+            text_of_moved(alloc, source, target, from, to)
+        }
         Err(StorageError::Failed) => Err(RechunkStatus::Cli(Status::Store)),
         Err(StorageError::InvalidByteRange(_)) => unreachable!(),
         Err(StorageError::OutOfMemory) => Err(RechunkStatus::Cli(Status::OutOfMemory)),
     }
 }
 
-// The entries of lines behind two documents, each of which has to be a key line.
-fn parse_entries(alloc: Global, lines: &[String]) -> Result<Vec<Entry>, Status>
+// The entries of the lines behind two documents, each of which has to be a key line. Each line is let go once it is
+// parsed, so the text and its entries are not in memory together.
+fn parse_entries(alloc: Global, lines: Vec<String>) -> Result<Vec<Entry>, Status>
     ensures entries { IfOk result (λ entries. (map entry_view entries.items
-        ≡ first_entries (map string_bytes lines.now))
-        × (length (first_entries (map string_bytes lines.now)) ≡ length lines.now)) }
-    ensures fault { IfErr result (IsKeysFault (map string_bytes lines.now)) }
+        ≡ first_entries (key_lines lines.items))
+        × (length (first_entries (key_lines lines.items)) ≡ length (key_lines lines.items))) }
+    ensures fault { IfErr result (IsKeysFault (key_lines lines.items)) }
 {
-    let entries = first_entries(alloc, lines)?;
-    if entries.len() < lines.len() {
-        return Err(Status::BadInput {
-            line: entries.len() as u64 + 3,
-        });
+    let mut left = lines.into_iter();
+    let (_source, _target) = (left.next(), left.next());
+    let mut entries = Vec::new(alloc);
+    'lines: while let Some(line) = left.next() {
+        let Some(entry) = parse_key_line(alloc, line.as_str())? else {
+            return Err(Status::BadInput {
+                line: entries.len() as u64 + 3,
+            });
+        };
+        let Ok(()) = entries.push(entry) else {
+            return Err(Status::OutOfMemory);
+        };
     }
     Ok(entries)
 }
@@ -135,18 +146,18 @@ fn text_of_lines<S: Store, T: Store>(
     alloc: Global,
     source: &OpenArray,
     target: &OpenArray,
-    lines: &[String],
+    lines: Vec<String>,
     from: &mut S,
     to: &mut T,
 ) -> Result<Vec<u8>, RechunkStatus>
     ensures ran { RanBy (keys_say (documented source.now) (documented target.now)
-        (map string_bytes lines.now)) (both (S.shown from.old) (T.shown to.old))
+        (key_lines lines.items)) (both (S.shown from.old) (T.shown to.old))
         (both (S.shown from.new) (T.shown to.new)) result }
     ensures plain { IfErr result (IsPlain (outcome ⊥ ⊥
         (both (S.shown from.old) (T.shown to.old)) (both (S.shown from.new) (T.shown to.new)))) }
 {
     match parse_entries(alloc, lines) {
-        Ok(entries) => text_of_entries(alloc, source, target, &entries, from, to),
+        Ok(entries) => text_of_entries(alloc, source, target, entries, from, to),
         Err(status) => Err(RechunkStatus::Cli(status)),
     }
 }
@@ -155,18 +166,19 @@ fn text_of_lines<S: Store, T: Store>(
 fn text_of_target<S: Store, T: Store>(
     alloc: Global,
     source: &OpenArray,
-    lines: &[String],
+    lines: Vec<String>,
     from: &mut S,
     to: &mut T,
 ) -> Result<Vec<u8>, RechunkStatus>
-    ensures ran { RanBy (target_lines_say (documented source.now) (map string_bytes lines.now))
+    ensures ran { RanBy (target_lines_say (documented source.now)
+        (drop 1 (map string_bytes lines.items)))
         (both (S.shown from.old) (T.shown to.old))
         (both (S.shown from.new) (T.shown to.new)) result }
     ensures plain { IfErr result (IsPlain (outcome ⊥ ⊥
         (both (S.shown from.old) (T.shown to.old)) (both (S.shown from.new) (T.shown to.new)))) }
 {
-    match open_line(alloc, first_line(lines)) {
-        Ok(target) => text_of_lines(alloc, source, &target, behind_first(lines), from, to),
+    match open_line(alloc, first_line(behind_first(&lines))) {
+        Ok(target) => text_of_lines(alloc, source, &target, lines, from, to),
         Err(status) => Err(RechunkStatus::Cli(status)),
     }
 }
@@ -174,18 +186,18 @@ fn text_of_target<S: Store, T: Store>(
 // Opens the document of the source, and runs the lines behind it.
 fn text_of_source<S: Store, T: Store>(
     alloc: Global,
-    lines: &[String],
+    lines: Vec<String>,
     from: &mut S,
     to: &mut T,
 ) -> Result<Vec<u8>, RechunkStatus>
-    ensures ran { RanBy (lines_say (map string_bytes lines.now))
+    ensures ran { RanBy (lines_say (map string_bytes lines.items))
         (both (S.shown from.old) (T.shown to.old))
         (both (S.shown from.new) (T.shown to.new)) result }
     ensures plain { IfErr result (IsPlain (outcome ⊥ ⊥
         (both (S.shown from.old) (T.shown to.old)) (both (S.shown from.new) (T.shown to.new)))) }
 {
-    match open_line(alloc, first_line(lines)) {
-        Ok(source) => text_of_target(alloc, &source, behind_first(lines), from, to),
+    match open_line(alloc, first_line(&lines)) {
+        Ok(source) => text_of_target(alloc, &source, lines, from, to),
         Err(status) => Err(RechunkStatus::Cli(status)),
     }
 }
@@ -205,7 +217,7 @@ fn text_of_input<R: Source, S: Store, T: Store>(
         (both (S.shown from.old) (T.shown to.old)) (both (S.shown from.new) (T.shown to.new)))) }
 {
     match read_lines(alloc, source) {
-        Ok(lines) => text_of_source(alloc, &lines, from, to),
+        Ok(lines) => text_of_source(alloc, lines, from, to),
         Err(fault) => Err(RechunkStatus::Cli(fault_status(fault))),
     }
 }

@@ -11,9 +11,9 @@ pub returns-in-Ok-clause-ran : goal.returns-in-Ok-clause-ran
 returns-in-Ok-clause-ran g c = record {
   ran = λ input left.
       let read = c.in-Ok.ensures.text input left in
-      inl (input_ran input (map string_bytes c.deref.result.now) (both (g.S.Store.shown c.args.from.now) (g.T.Store.shown c.args.to.now))
+      inl (input_ran input (map string_bytes c.in-Ok.lines.items) (both (g.S.Store.shown c.args.from.now) (g.T.Store.shown c.args.to.now))
       (both (g.S.Store.shown c.text_of_source.new.from) (g.T.Store.shown c.text_of_source.new.to)) c.text_of_source.result
-      read.0 read.1 (ap (map string_bytes) c.deref.ensures.value ∙ read.2) c.text_of_source.ensures.ran);
+      read.0 read.1 read.2 c.text_of_source.ensures.ran);
   whole = λ input left. always_whole ((g.R.Source.shown c.read_lines.new.source).left ≡ Some []) c.text_of_source.result (c.in-Ok.ensures.whole input left);
 }
 
