@@ -1,9 +1,18 @@
-//! Tests of stores of slices, of translated documents, and of arrays opened by them.
+//! Tests of stores of slices and of sessions over them, of translated documents, of arrays opened by them, of documents of
+//! sharded arrays, of the checksum of shards, and of single lines.
 #![tactic(auto)]
 
 #[cfg(test)]
+mod checksum;
+#[cfg(test)]
 mod documents;
 #[cfg(test)]
+mod lines;
+#[cfg(test)]
 mod opened;
+#[cfg(test)]
+mod sessions;
+#[cfg(test)]
+mod sharded;
 #[cfg(test)]
 mod slices;

@@ -130,6 +130,27 @@ fn slices_are_values(rt: HostRuntime) {
     assert_eq!(rt; below, (4, 5, 0));
 }
 
+// Whether each writing call fails, also one that would change nothing.
+fn only_reads<S: Store>(rt: &impl Abort, alloc: Global, store: &mut S) -> bool {
+    let (here, absent) = (key_of(rt, alloc, "c/0"), key_of(rt, alloc, "blob"));
+    store.set(alloc, &here, &[1, 2]) == Err(StorageError::Failed)
+        && store.set_partial_many(alloc, &here, &[]) == Err(StorageError::Failed)
+        && store.erase(&absent) == Err(StorageError::Failed)
+}
+
+#[test]
+fn slices_are_not_written(rt: HostRuntime) {
+    let alloc = rt.alloc();
+    let mut base = blob(&rt, alloc);
+    let mut store = match RefStore::new(alloc, &mut base, halves(&rt, alloc)) {
+        Ok(store) => store,
+        Err(_) => panic!(rt; "refused"),
+    };
+    assert!(rt; only_reads(&rt, alloc, &mut store));
+    assert_eq!(rt; counts(&store), (0, 0, 3));
+    assert_eq!(rt; counts(store.into_base()), (2, 0, 0));
+}
+
 // Why two references over a store are refused, or nothing.
 fn refusal<S: Store>(alloc: Global, base: &mut S, references: Vec<Reference>) -> &'static str {
     match RefStore::new(alloc, base, references) {
