@@ -1,4 +1,5 @@
--- A shard that was encoded: its inner chunks lie one after another from 0, and the index behind them.
+-- A shard that was encoded: its inner chunks lie one after another from 0, and the index behind
+-- them.
 use Rattle.std.specs.Prelude.{◌≡◌, ℕ, ◌+◌, ◌≤◌, ◌==◌, true, false, if◌then◌else◌, List, [], ◌∷◌, ◌++◌, length, take, drop, replicate, slice_get, Option, Some, None}
 use Rattle.std.specs.List.{AllByRecursion}
 use Rattle.zarr_model.specs.Prelude.{count_of, Element, Options}
@@ -24,8 +25,8 @@ pub record Names (codec : ShardCodec) (list : List Element) (front : List ℕ) (
   pub decodes : (under : Options)
       → inner_decoded codec under (take pair.size (drop pair.offset front)) ≡ Some list
 
--- the pair of an inner chunk with these elements: it is left out exactly where all are the fill and such chunks are not
--- stored, and else its bytes are there
+-- the pair of an inner chunk with these elements: it is left out exactly where all are the fill and
+-- such chunks are not stored, and else its bytes are there
 pub record IsWritten (codec : ShardCodec) (options : Options) (list : List Element)
     (front : List ℕ) (pair : Pair) : Type 0 where
   pub empty : is_absent pair ≡ true → (options.store_empty_chunks ≡ false) × IsFill codec list
@@ -47,7 +48,8 @@ pub record HasAppended (codec : ShardCodec) (options : Options) (list : List Ele
   pub behind : end_after (length old) (pair ∷ []) ≡ Some (length new)
   pub written : IsWritten codec options list new pair
 
--- inner chunks of these elements stand one after another in a value, and behind them the index of their pairs
+-- inner chunks of these elements stand one after another in a value, and behind them the index of
+-- their pairs
 pub record IsEncoded (codec : ShardCodec) (options : Options) (list : List Element)
     (value : List ℕ) : Type 0 where
   pub front : List ℕ

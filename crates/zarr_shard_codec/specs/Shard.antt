@@ -1,11 +1,12 @@
--- A shard: a value that holds inner chunks, and behind them an index of where they lie. Its inner chunks are as those of an
--- array in a store, but that each is found by its pair in place of a key.
+-- A shard: a value that holds inner chunks, and behind them an index of where they lie. Its inner
+-- chunks are as those of an array in a store, but that each is found by its pair in place of a key.
 use Rattle.std.specs.Prelude.{ℕ, Bool, if◌then◌else◌, List, Option, Some, None, is_some, option_and_then}
 use Rattle.std.specs.List.{list_all}
 use Rattle.zarr_model.specs.Prelude.{whole, count_of, place, Element, elements_in, Grid, chunks, regular_grid, Level, Content, Layout, chunk_content, stored_array}
 use Rattle.zarr_shard_codec.specs.Index.{pair_of, pair_part, pair_at, is_absent, part_of, index_part, index_in}
 
--- the inner chunks of a value, by those of an array: under the indices of each stands its pair, which names what decodes
+-- the inner chunks of a value, by those of an array: under the indices of each stands its pair,
+-- which names what decodes
 abbrev pub inner_layout : Layout Element → List ℕ → Layout Element
 inner_layout array value = record array {
   key = λ chunk. chunk;
@@ -17,7 +18,8 @@ abbrev pub inner_pairs : Grid → List ℕ → Content
 inner_pairs grid index chunk = let number = place (whole grid.grid_shape) chunk in
     if is_absent (pair_at index number) then None else Some (pair_part index number)
 
--- the elements of an inner chunk, if its bytes lie within the value and decode, or the fill where it is not there
+-- the elements of an inner chunk, if its bytes lie within the value and decode, or the fill where it
+-- is not there
 abbrev pub inner_content : Layout Element → List ℕ → List ℕ → List ℕ → Option (List Element)
 inner_content array value index chunk =
     chunk_content (inner_layout array value) (inner_pairs array.grid index) chunk

@@ -18,7 +18,8 @@ abbrev pub content_of : ShardCodec → Options → List ℕ → List ℕ → ℕ
 content_of codec under value index number =
     inner_content (own_array codec under) value index (indices_at codec number)
 
--- elements are held over a region of the chunk, none of which is too long for its length to be stored
+-- elements are held over a region of the chunk, none of which is too long for its length to be
+-- stored
 pub record HoldsOver (codec : ShardCodec) (region : Region) (elements : BoxElements) : Type 0 where
   pub of_kind : kind_held elements ≡ kind (inner_of codec)
   pub over : box_held elements ≡ region

@@ -108,7 +108,7 @@ impl InnerChunks<'_> {
         self.append(alloc, elements, front, options)
     }
 
-    /// The value of a chunk with these elements, which decodes to them under all options.
+    /// The value of a chunk with these elements: the bytes of its inner chunks, one after another, and their index.
     ///
     /// # Errors
     /// [`CodecError::OutOfMemory`].

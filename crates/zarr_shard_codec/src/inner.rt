@@ -53,7 +53,8 @@ impl InnerChunks<'_> {
         options: &CodecOptions,
     ) -> Result<ArrayBytes<'static>, CodecError>
         requires inner { AreInner self.now }
-        ensures value { IfOk result (λ v. Gives (list_at (inner_level self.now.codec.now) (raw_of v))
+        ensures value { IfOk result (λ v.
+            Gives (list_at (inner_level self.now.codec.now) (raw_of v))
             (inner_decoded self.now.codec.now (options_of options.now) bytes.items)) }
         ensures failed { let under = options_of options.now in IfErr result
             (IsDecodeError (inner_decoded self.now.codec.now under bytes.items)
@@ -73,7 +74,8 @@ impl InnerChunks<'_> {
         options: &CodecOptions,
     ) -> Result<ArrayBytes<'static>, CodecError>
         requires inner { AreInner self.now }
-        ensures value { IfOk result (λ v. Gives (list_at (inner_level self.now.codec.now) (raw_of v))
+        ensures value { IfOk result (λ v.
+            Gives (list_at (inner_level self.now.codec.now) (raw_of v))
             (found_at (inner_decoded self.now.codec.now (options_of options.now)) value.now
             (pair_seen pair))) }
         ensures failed { let under = options_of options.now in IfErr result (IsDecodeError
