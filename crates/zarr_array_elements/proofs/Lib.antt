@@ -1,4 +1,5 @@
 pub mod ShareLaws
+pub mod SharedPartLaws
 pub mod JoinLaws
 pub mod MeansLaws
 pub mod PutLaws

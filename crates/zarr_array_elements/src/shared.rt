@@ -6,18 +6,53 @@ ghost use Rattle.zarr_model.specs.Element.{Element, null};
 ghost use Rattle.zarr_model.specs.ArrayBytes.{meaning};
 ghost use Rattle.zarr_model.specs.Command.{has_long_element};
 ghost use Rattle.zarrs_array_subset.specs.ArraySubset.{region};
-ghost use Rattle.zarrs_array_subset.specs.Boxes.{overlap_of, moved_back};
+ghost use Rattle.zarrs_array_subset.specs.Boxes.{overlap_of, moved_back, maxes};
 ghost use Rattle.zarrs_codec_bytes.specs.Picking.{picked};
 ghost use Rattle.zarrs_codec_array_bytes.specs.Raw.{raw_of};
 ghost use Rattle.zarrs_codec_array_bytes.specs.Steps.{kind_seen, bytes_seen};
-ghost use Rattle.zarr_array_elements.specs.Shared.{shared_in};
+ghost use Rattle.zarr_array_elements.specs.Shared.{shared_in, lengths_shared};
 
 use std::alloc::{AllocError, Global};
 use zarrs_array_subset::ArraySubset;
 use zarrs_codec_array_bytes::ArrayBytes;
 use zarrs_data_type_names::DataType;
 
-/// The part that two boxes of one rank share.
+// The greater of both starts in each dimension.
+fn shared_starts(alloc: Global, start: &[u64], other: &[u64]) -> Result<Vec<u64>, AllocError>
+    ensures { IfOk result (λ v. v.items ≡ maxes start.now other.now) }
+{
+    start
+        .iter()
+        .zip(other)
+        .map(|(s, o)| *s.max(o))
+        .collect(alloc)
+}
+
+// The length from the greater start to the lesser end in each dimension, or 0 where that is none.
+#[tactic(auto, unfolding(crate::specs::Shared::lengths_shared))]
+fn shared_lengths(
+    alloc: Global,
+    start: &[u64],
+    shape: &[u64],
+    other_start: &[u64],
+    other_shape: &[u64],
+) -> Result<Vec<u64>, AllocError>
+    ensures { IfOk result (λ v. v.items
+        ≡ lengths_shared start.now shape.now other_start.now other_shape.now) }
+{
+    start
+        .iter()
+        .zip(shape)
+        .zip(other_start)
+        .zip(other_shape)
+        .map(|(((s, n), o), m)| {
+            let end = s.saturating_add(*n).min(o.saturating_add(*m));
+            end.saturating_sub(*s.max(o))
+        })
+        .collect(alloc)
+}
+
+/// The part that two boxes of one rank share. Nothing is made but its start and its lengths.
 pub(crate) fn shared_part(
     alloc: Global,
     subset: &ArraySubset,
@@ -26,9 +61,17 @@ pub(crate) fn shared_part(
     requires { length (region subset.now) ≡ length (region other.now) }
     ensures { IfOk result (λ v. region v ≡ overlap_of (region subset.now) (region other.now)) }
 {
-    match subset.overlap(alloc, other) {
+    let start = shared_starts(alloc, subset.start(), other.start())?;
+    let shape = shared_lengths(
+        alloc,
+        subset.start(),
+        subset.shape(),
+        other.start(),
+        other.shape(),
+    )?;
+    match ArraySubset::new_with_start_shape(start, shape) {
         Ok(part) => Ok(part),
-        Err(_) => Err(AllocError),
+        Err(_) => unreachable!(),
     }
 }
 
