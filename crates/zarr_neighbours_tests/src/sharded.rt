@@ -14,8 +14,8 @@ use zarrs_metadata_parts::MetadataV3;
 fn line_of(rt: &impl Abort, alloc: Global, shard: Result<&Shard, OpenError>) -> String {
     match shard {
         Ok(shard) => {
-            let counts = shard.inner().grid().grid_shape();
-            let checked = shard.is_checked();
+            let counts = shard.inner.grid().grid_shape();
+            let checked = shard.checked;
             format!(in alloc; "{counts:?} {checked}").expect(rt, "memory")
         }
         Err(error) => format!(in alloc; "{error:?}").expect(rt, "memory"),

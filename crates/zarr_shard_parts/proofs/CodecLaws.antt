@@ -1,7 +1,8 @@
 -- The codecs of a document, in its order.
-use Rattle.std.proofs.Common.{◌≡◌, ℕ, zero, suc, ◌+◌, ◌<◌, Bool, true, false, if◌then◌else◌, List, [], ◌∷◌, ◌++◌, length, take, get_or, Option, Some, Result, Ok, refl, sym, ap, ◌∙◌, arith, add-one}
+use Rattle.std.proofs.Common.{◌≡◌, ℕ, zero, suc, ◌+◌, ◌<◌, Bool, true, false, if◌then◌else◌, List, [], ◌∷◌, ◌++◌, length, take, get_or, is_some, Option, Some, None, Result, Ok, refl, sym, ap, ◌∙◌, arith, add-one}
 use Rattle.std.specs.Str.{bytes_eq}
 use Rattle.std.specs.Prelude.{codes}
+use Rattle.serde_json.specs.Data.{Members}
 use Rattle.zarrs_plugin.specs.Registry.{Names}
 use Rattle.zarrs_metadata_values.specs.Reading.{Fails}
 use Rattle.zarrs_metadata_values.specs.declared.error.MetadataError.{MetadataError}
@@ -26,6 +27,12 @@ not_configured o Read.OutOfMemory fails = tt
 not_configured o Read.InvalidMetadata fails = ap (or_refused plugin_create) fails
 not_configured o Read.InvalidJson fails = absurd fails
 not_configured o Read.FloatNumber fails = absurd fails
+
+-- one that is read is there
+read_some : (dims : List ℕ) (configuration : Option Members) (read : Sharding) → or_refused plugin_create (sharding_in dims configuration) ≡ Ok read → is_some configuration ≡ true
+unfolding sharding_in
+read_some dims None read is = absurd cc
+read_some dims (Some ms) read is = refl
 
 pub ruleset of_configurations = (configured_is, not_configured)
 
@@ -96,7 +103,19 @@ module _ (dims : List ℕ) (names : Names CodecKind) where
       go false made =
           let a = bind_ok (codec_at (length dims) names e) (λ c. codec_is (other c)) (sharding shard) made in absurd cc
 
-  alone : (c : DocumentCodec) (cs : List DocumentCodec) (shard : ShardCodecs) → or_refused chain_order (only_sharding (c ∷ cs)) ≡ Ok shard → c ≡ sharding shard
+  -- and its metadata has a configuration
+  pub configured_for : (e : Extension) (shard : ShardCodecs) → document_codec dims names e ≡ Ok (sharding shard) → is_some e.configuration ≡ true
+  configured_for e shard made = go (bytes_eq e.name (codes "sharding_indexed")) made
+    where
+      go : (b : Bool) → (if b then (sharding_by dims names e >>= λ s. Ok (sharding s)) else (codec_at (length dims) names e >>= λ c. Ok (other c))) ≡ Ok (sharding shard) → is_some e.configuration ≡ true
+      go true made =
+          let a = bind_ok (sharding_by dims names e) (λ s. codec_is (sharding s)) (sharding shard) made in
+          let b = bind_ok (or_refused plugin_create (sharding_in dims e.configuration)) (shard_codecs dims names) a.0 a.1 in
+          read_some dims e.configuration b.0 b.1
+      go false made =
+          let a = bind_ok (codec_at (length dims) names e) (λ c. codec_is (other c)) (sharding shard) made in absurd cc
+
+  pub alone : (c : DocumentCodec) (cs : List DocumentCodec) (shard : ShardCodecs) → or_refused chain_order (only_sharding (c ∷ cs)) ≡ Ok shard → c ≡ sharding shard
   alone (sharding s) [] shard e = ap sharding (same_shard s shard e)
   alone (sharding s) (d ∷ cs) shard e = absurd cc
   alone (other c) cs shard e = absurd cc

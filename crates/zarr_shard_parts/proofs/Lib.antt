@@ -4,3 +4,4 @@ pub mod CodecLaws
 pub mod SizeLaws
 pub mod ShardLaws
 pub mod OpeningLaws
+pub mod ChunkLaws

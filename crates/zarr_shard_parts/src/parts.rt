@@ -58,7 +58,7 @@ impl ShardParts {
             (sharded_over (basic_shape grid) (shard_form shard)) }
     {
         countable(grid.grid_shape());
-        if grid.has_large_chunk(shard.inner().data_type().fixed_size()) {
+        if grid.has_large_chunk(shard.inner.data_type().fixed_size()) {
             return Err(OpenError::ChunkTooLarge);
         }
         Ok(ShardParts { grid, shard })
@@ -167,14 +167,14 @@ impl ShardParts {
     pub fn data_type(&self) -> &DataType
         ensures { type_of result.now ≡ (sharded_document self.now).data_type }
     {
-        self.shard.inner().data_type()
+        self.shard.inner.data_type()
     }
 
     /// The encoding of chunk keys.
     pub fn keys(&self) -> &ChunkKeyEncoding
         ensures { keys_of result.now ≡ (sharded_document self.now).keys }
     {
-        self.shard.inner().keys()
+        self.shard.inner.keys()
     }
 
     /// The fill value.
@@ -182,6 +182,6 @@ impl ShardParts {
         ensures { fill_element (kind_of (sharded_document self.now).data_type)
             (fill_bytes result.now) ≡ Some (sharded_document self.now).fill }
     {
-        self.shard.inner().fill_value()
+        self.shard.inner.fill_value()
     }
 }

@@ -4,10 +4,9 @@ ghost use Rattle.std.specs.Prelude.{◌≡◌, true, false, is_some, IfOk};
 ghost use Rattle.zarr_model.specs.Prelude.{fill_element, kind_of};
 ghost use Rattle.zarrs_data_type_elements.specs.FillValue.{fill_bytes};
 ghost use Rattle.zarrs_data_type_names.specs.DataType.{type_of, is_type};
-ghost use Rattle.zarr_basics_grids.specs.GridForms.{regular};
 ghost use Rattle.zarr_array_parts.specs.basics.Keys.{keys_of};
 ghost use Rattle.zarr_array_parts.specs.Parts.{documented, Opens};
-ghost use Rattle.zarr_shard_parts.specs.Document.{lengths_of, is_regular, shard_shape, inner_shape};
+ghost use Rattle.zarr_shard_parts.specs.Document.{lengths_of, is_regular, shard_shape};
 ghost use Rattle.zarr_shard_parts.specs.Opening.{is_large_shard, shard_with};
 ghost use Rattle.zarr_shard_parts.specs.Sharding.{are_inner_lengths};
 
@@ -20,11 +19,14 @@ use zarr_basics::ChunkKeyEncoding;
 use zarrs_data_type_elements::FillValue;
 use zarrs_data_type_names::DataType;
 
-/// How a chunk keeps inner chunks: as an array of the chunk's shape, which they are the chunks of.
+/// How a chunk keeps inner chunks: as an array of the chunk's shape, which a regular grid cuts into them without a rest. The
+/// chunk and its index can be addressed.
 #[derive(Drop)]
 pub struct Shard {
-    pub(crate) inner: ArrayParts,
-    pub(crate) checked: bool,
+    /// The inner chunks as those of an array with the chunk's shape.
+    pub inner: ArrayParts,
+    /// Whether the index has a CRC-32C behind it.
+    pub checked: bool,
     ghost regular: { is_regular (documented inner).grid ≡ true },
     ghost cut: { are_inner_lengths (documented inner).shape (lengths_of (documented inner).grid)
         ≡ true },
@@ -57,26 +59,5 @@ impl Shard {
             return Err(OpenError::ChunkTooLarge);
         }
         Ok(Shard { inner, checked })
-    }
-
-    /// The inner chunks as those of an array with the chunk's shape, which a regular grid cuts into them without a rest. The
-    /// chunk and its index can be addressed.
-    pub fn inner(&self) -> &ArrayParts
-        ensures value { documented result.now ≡ (shard_form self.now).inner }
-        ensures grid { (shard_form self.now).inner.grid
-            ≡ regular (inner_shape (shard_form self.now)) }
-        ensures cut { are_inner_lengths (shard_shape (shard_form self.now))
-            (inner_shape (shard_form self.now)) ≡ true }
-        ensures small { is_large_shard (shard_form self.now).inner (shard_form self.now).checked
-            ≡ false }
-    {
-        &self.inner
-    }
-
-    /// Whether the index has a CRC-32C behind it.
-    pub fn is_checked(&self) -> bool
-        ensures { result ≡ (shard_form self.now).checked }
-    {
-        self.checked
     }
 }
