@@ -1,5 +1,5 @@
 -- A shape that is cut into equal parts.
-use Rattle.std.proofs.Common.{◌≡◌, ℕ, suc, ◌+◌, ◌-◌, ◌*◌, ◌/◌, ◌%◌, ◌<◌, ◌≤◌, true, ◌==◌, ◌&&◌, nat_le, List, [], ◌∷◌, length, map, refl, ap, arith, eqb-true}
+use Rattle.std.proofs.Common.{◌≡◌, ℕ, zero, suc, ◌+◌, ◌-◌, ◌*◌, ◌/◌, ◌%◌, ◌<◌, ◌≤◌, true, ◌==◌, ◌&&◌, nat_le, List, [], ◌∷◌, refl, arith, eqb-true}
 use Rattle.std.proofs.lemmas.Bool.{and_parts, and_from, le-leb, leb-true}
 use Rattle.std.proofs.lemmas.Nat.{le-div}
 use Rattle.std.proofs.Math.Nat.{mul-le-mul_right, div-add-mod', suc-mul, lt_of_mul-lt-mul_right, mul-pos}
@@ -7,15 +7,7 @@ use Rattle.zarr_model.specs.Prelude.{whole, contains, ends_within, regular_grid,
 use Rattle.zarr_model.specs.Region.{is_in}
 use Rattle.zarr_model.specs.Grid.{box_of_axes, regular_axes}
 use Rattle.zarr_model.proofs.RegionLaws.{first_is}
-use Rattle.std.specs.declared.num.NonZeroU64.{NonZeroU64}
-use Rattle.std.specs.Int.NonZero.{non_zero_u64_get}
-use Rattle.zarr_shard_codec.specs.Cut.{cuts_shape}
-
-pub cut_rank : (shape dims : List ℕ) → cuts_shape shape dims ≡ true → length shape ≡ length dims
-cut_rank [] [] cut = refl
-cut_rank [] (p ∷ dims) cut = cc
-cut_rank (n ∷ shape) [] cut = cc
-cut_rank (n ∷ shape) (p ∷ dims) cut = ap suc (cut_rank shape dims (and_parts (nat_le 1 p && (n % p == 0)) (cuts_shape shape dims) cut).1)
+use Rattle.zarr_shard_parts.specs.Sharding.{are_inner_lengths}
 
 -- a part of a length that is cut into equal ones ends within it
 part_within : (c n p : ℕ) → 0 < p → n % p ≡ 0 → c < (n + (p - 1)) / p → c * p + p ≤ n
@@ -31,27 +23,33 @@ part_within c n p some even below =
     omega (arith, whole, under, suc-mul c p)
 
 -- so each part of a shape does
-pub cut_within : (shape dims chunk : List ℕ) → cuts_shape shape dims ≡ true → contains (whole (regular_grid shape dims).grid_shape) chunk ≡ true → ends_within (box_of_axes (regular_axes shape dims) chunk) shape ≡ true
+pub cut_within : (shape dims chunk : List ℕ) → are_inner_lengths shape dims ≡ true → contains (whole (regular_grid shape dims).grid_shape) chunk ≡ true → ends_within (box_of_axes (regular_axes shape dims) chunk) shape ≡ true
 cut_within [] [] [] cut h = refl
 cut_within [] [] (c ∷ chunk) cut h = cc
 cut_within [] (p ∷ dims) chunk cut h = cc
 cut_within (n ∷ shape) [] chunk cut h = cc
 cut_within (n ∷ shape) (p ∷ dims) [] cut h = cc
 cut_within (n ∷ shape) (p ∷ dims) (c ∷ chunk) cut h =
-    let cuts = and_parts (nat_le 1 p && (n % p == 0)) (cuts_shape shape dims) cut in
+    let cuts = and_parts (nat_le 1 p && (n % p == 0)) (are_inner_lengths shape dims) cut in
     let own = and_parts (nat_le 1 p) (n % p == 0) cuts.0 in
     let parts = and_parts (is_in c (record { start = 0; size = (n + (p - 1)) / p })) (contains (whole (regular_grid shape dims).grid_shape) chunk) h in
     let some : 0 < p = (let least : 1 ≤ p = leb-true 1 p own.0 in omega (arith, least)) in
     and_from _ _ (le-leb (c * p + p) n (part_within c n p some (eqb-true (n % p) 0 own.1) (first_is c ((n + (p - 1)) / p) parts.0))) (cut_within shape dims chunk cuts.1 parts.1)
 
--- a shape without a length of 0 has a part
-pub cut_some : (shape : List NonZeroU64) (dims : List ℕ) → cuts_shape (map non_zero_u64_get shape) dims ≡ true → 0 < count_of (regular_grid (map non_zero_u64_get shape) dims).grid_shape
-cut_some [] [] cut = omega arith
-cut_some [] (p ∷ dims) cut = cc
-cut_some (n ∷ shape) [] cut = cc
-cut_some (n ∷ shape) (p ∷ dims) cut =
-    let cuts = and_parts (nat_le 1 p && (n.value % p == 0)) (cuts_shape (map non_zero_u64_get shape) dims) cut in
-    let own = and_parts (nat_le 1 p) (n.value % p == 0) cuts.0 in
+-- a shape with an element has a part
+factors : (n m : ℕ) → 0 < n * m → (0 < n) × (0 < m)
+factors zero m some = absurd (omega (arith, some))
+factors (suc n) zero some = absurd (omega (arith, some))
+factors (suc n) (suc m) some = (omega arith, omega arith)
+
+pub cut_some : (shape dims : List ℕ) → are_inner_lengths shape dims ≡ true → 0 < count_of shape → 0 < count_of (regular_grid shape dims).grid_shape
+cut_some [] [] cut some = omega arith
+cut_some [] (p ∷ dims) cut some = cc
+cut_some (n ∷ shape) [] cut some = cc
+cut_some (n ∷ shape) (p ∷ dims) cut some =
+    let cuts = and_parts (nat_le 1 p && (n % p == 0)) (are_inner_lengths shape dims) cut in
+    let own = and_parts (nat_le 1 p) (n % p == 0) cuts.0 in
     let least : 1 ≤ p = leb-true 1 p own.0 in
-    let one : 1 ≤ (n.value + (p - 1)) / p = le-div 1 (n.value + (p - 1)) p (omega (arith, least)) (omega (arith, n.ok)) in
-    mul-pos (omega (arith, one)) (cut_some shape dims cuts.1)
+    let both = factors n (count_of shape) some in
+    let one : 1 ≤ (n + (p - 1)) / p = le-div 1 (n + (p - 1)) p (omega (arith, least)) (let more : 0 < n = both.0 in omega (arith, more)) in
+    mul-pos (omega (arith, one)) (cut_some shape dims cuts.1 both.1)

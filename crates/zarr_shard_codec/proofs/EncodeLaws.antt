@@ -124,12 +124,12 @@ module _ (codec : ShardCodec) (options : Options) where
           (last_or_before so_far.pairs pair other number e);
     }
 
-    pub all_written : (k : ℕ) (front index end value : List ℕ) → k ≡ count_of (inner_grid codec).grid_shape → HasWritten codec options list k front index → end ≡ ended codec.checked index →
+    pub all_written : (k : ℕ) (front index end value : List ℕ) → k ≡ count_of (inner_grid codec).grid_shape → HasWritten codec options list k front index → end ≡ ended codec.shard.checked index →
         value ≡ front ++ end → IsEncoded codec options list value
     all_written k front index end value all written finished joined = record {
       front = front;
       pairs = written.pairs;
-      is = joined ∙ ap (λ xs. front ++ xs) (finished ∙ ap (ended codec.checked) written.indexed);
+      is = joined ∙ ap (λ xs. front ++ xs) (finished ∙ ap (ended codec.shard.checked) written.indexed);
       count = written.count ∙ all;
       fit = written.fit;
       laid = written.laid;
@@ -139,16 +139,16 @@ module _ (codec : ShardCodec) (options : Options) where
   -- what is encoded decodes to its elements, under all options
   module _ (list : List Element) (value : List ℕ) (encoded : IsEncoded codec options list value) (under : Options) where
     abbrev found_in : List ℕ → Option (List ℕ)
-    found_in bytes = index_of codec.checked under.validate_checksums (own_array codec under) bytes
+    found_in bytes = index_of codec.shard.checked under.validate_checksums (own_array codec under) bytes
 
-    index_there : index_of codec.checked under.validate_checksums (own_array codec under) value ≡ Some (flat_map pair_bytes encoded.pairs)
+    index_there : index_of codec.shard.checked under.validate_checksums (own_array codec under) value ≡ Some (flat_map pair_bytes encoded.pairs)
     index_there =
         ap found_in encoded.is
-        ∙ (ap (λ n. index_found codec.checked under.validate_checksums n (encoded.front ++ index_bytes codec.checked encoded.pairs)) (sym encoded.count)
-        ∙ written_is_found codec.checked under.validate_checksums encoded.front encoded.pairs)
+        ∙ (ap (λ n. index_found codec.shard.checked under.validate_checksums n (encoded.front ++ index_bytes codec.shard.checked encoded.pairs)) (sym encoded.count)
+        ∙ written_is_found codec.shard.checked under.validate_checksums encoded.front encoded.pairs)
 
     total : length encoded.front ≤ length value
-    total = let long : length value ≡ length encoded.front + length (index_bytes codec.checked encoded.pairs) = ap length encoded.is ∙ length-append encoded.front (index_bytes codec.checked encoded.pairs) in omega (arith, long)
+    total = let long : length value ≡ length encoded.front + length (index_bytes codec.shard.checked encoded.pairs) = ap length encoded.is ∙ length-append encoded.front (index_bytes codec.shard.checked encoded.pairs) in omega (arith, long)
 
     abbrev inner_by : Bool → Pair → Option (Option (List Element))
     inner_by absent pair = if absent then Some None else option_map Some (found_at (inner_decoded codec under) value pair)
@@ -163,7 +163,7 @@ module _ (codec : ShardCodec) (options : Options) where
             let less = names.within in
             let room : pair.offset + pair.size ≤ length value = omega (arith, less, total) in
             let bytes : take pair.size (drop pair.offset value) ≡ take pair.size (drop pair.offset encoded.front) =
-            ap (λ xs. take pair.size (drop pair.offset xs)) encoded.is ∙ cut_front encoded.front (index_bytes codec.checked encoded.pairs) pair.offset pair.size names.within in
+            ap (λ xs. take pair.size (drop pair.offset xs)) encoded.is ∙ cut_front encoded.front (index_bytes codec.shard.checked encoded.pairs) pair.offset pair.size names.within in
             let part : part_of value pair ≡ Some (take pair.size (drop pair.offset value)) = cond-true (lies_within (length value) pair) _ _ (le-leb (pair.offset + pair.size) (length value) room) in
             let found : found_at (inner_decoded codec under) value pair ≡ Some (part_list codec number list) = ap (option_and_then (inner_decoded codec under)) part ∙ (ap (inner_decoded codec under) bytes ∙ names.decodes under) in
             ap (λ a. content_from (blank_list codec) (inner_by a pair)) is

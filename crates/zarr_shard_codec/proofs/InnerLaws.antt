@@ -26,7 +26,7 @@ use Rattle.zarr_shard_codec.specs.declared.shard_codec.ShardCodec.{ShardCodec}
 use Rattle.zarr_shard_codec.proofs.CodecFacts.{chunk_dims}
 
 -- what the inner chain gives is what the bytes of an inner chunk decode to
-module _ (inner : InnerChunks) (are : AreInner inner) (chain : BasicChain) (same : chain ≡ inner.codec.now.inner.chain) (under : Options) (value : List ℕ) where
+module _ (inner : InnerChunks) (are : AreInner inner) (chain : BasicChain) (same : chain ≡ inner.codec.now.shard.inner.chain) (under : Options) (value : List ℕ) where
   abbrev by_chain : BasicChain → Option (List Element)
   by_chain own = decoded array_meaning list_meaning bytes_meaning own inner.levels under value
 

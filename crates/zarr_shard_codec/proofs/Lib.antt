@@ -9,3 +9,5 @@ mod InnerLaws
 mod WholeLaws
 mod PairLaws
 mod EncodeLaws
+mod MakingLaws
+mod OwnLaws

@@ -41,12 +41,12 @@ module _ (codec : ShardCodec) (under : Options) (value index : List ℕ) where
 -- by what is found of the index
 module _ (codec : ShardCodec) (under : Options) (value : List ℕ) where
   abbrev found : Option (List ℕ)
-  found = index_found codec.checked under.validate_checksums (count_of (inner_grid codec).grid_shape) value
+  found = index_found codec.shard.checked under.validate_checksums (count_of (inner_grid codec).grid_shape) value
 
   by_found : (index : Option (List ℕ)) → found ≡ index → own_list codec under value ≡ option_and_then (by_index (own_array codec under) value) index
   by_found index is = ap (option_and_then (by_index (own_array codec under) value)) is
 
-  pub unfound : (e : CodecError) → (found ≡ None) × index_says codec.checked (count_of (inner_grid codec).grid_shape) value e → IsDecodeError (own_list codec under value) (shard_says codec under value) e
+  pub unfound : (e : CodecError) → (found ≡ None) × index_says codec.shard.checked (count_of (inner_grid codec).grid_shape) value e → IsDecodeError (own_list codec under value) (shard_says codec under value) e
   unfound e both = inr (by_found None both.0, subst (λ f. says_of f codec under (count_of (inner_grid codec).grid_shape) value e) (sym both.0) both.1)
 
   pub inner_told : (index : List ℕ) (e : CodecError) → found ≡ Some index → IsDecodeError (by_index (own_array codec under) value index) (SaysInner codec under value index) e →

@@ -35,4 +35,4 @@ meaning_counted codec under level value list e =
     let array = inner_array (form_of codec)
     (decode_chain ((inner_of codec).chain under)) level in
     index_counted array value
-    (index_of codec.checked under.validate_checksums array value) list e
+    (index_of codec.shard.checked under.validate_checksums array value) list e

@@ -54,7 +54,7 @@ pub record IsEncoded (codec : ShardCodec) (options : Options) (list : List Eleme
     (value : List ℕ) : Type 0 where
   pub front : List ℕ
   pub pairs : List Pair
-  pub is : value ≡ front ++ index_bytes codec.checked pairs
+  pub is : value ≡ front ++ index_bytes codec.shard.checked pairs
   pub count : length pairs ≡ count_of (inner_of codec).grid.grid_shape
   pub fit : AllByRecursion FitsPair pairs
   pub laid : end_after 0 pairs ≡ Some (length front)

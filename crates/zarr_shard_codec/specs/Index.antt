@@ -1,6 +1,7 @@
 -- The index at the end of a shard: a place for each inner chunk.
 use Rattle.std.specs.Prelude.{ℕ, ◌+◌, ◌-◌, ◌*◌, ◌^◌, Bool, true, false, ◌==◌, ◌&&◌, nat_le, if◌then◌else◌, List, ◌++◌, length, take, drop, Option, Some, None, flat_map}
 use Rattle.zarr_model.specs.Codec.{number_of_bytes, low_bytes}
+use Rattle.zarr_shard_parts.specs.Document.{index_size}
 use Rattle.zarr_shard_codec.specs.Crc32c.{crc32c_bytes, crc32c_codec}
 
 -- where an inner chunk lies in the value, if it is there
@@ -30,11 +31,6 @@ is_absent pair = (pair.offset == 2 ^ 64 - 1) && (pair.size == 2 ^ 64 - 1)
 -- it lies within a value of this length
 abbrev pub lies_within : ℕ → Pair → Bool
 lies_within len pair = nat_le (pair.offset + pair.size) len
-
--- how many bytes the index of n inner chunks has, with its number behind it or without
-abbrev pub index_size : Bool → ℕ → ℕ
-index_size false n = 16 * n
-index_size true n = 16 * n + 4
 
 -- the pairs that the bytes of an index hold, if their number is right where it is tested
 abbrev pub index_in : Bool → Bool → List ℕ → Option (List ℕ)

@@ -14,8 +14,8 @@ use Rattle.zarr_shard_codec.specs.declared.inner_chunks.InnerChunks.{InnerChunks
 
 -- levels are those of an inner chunk, and one that is not there has the fill value everywhere
 pub record AreInner (inner : InnerChunks) : Type 0 where
-  pub serves : ServesShape inner.codec.now.inner (inner_dims inner.codec.now)
-      inner.codec.now.inner.chain inner.levels
+  pub serves : ServesShape inner.codec.now.shard.inner (inner_dims inner.codec.now)
+      inner.codec.now.shard.inner.chain inner.levels
   pub blank : list_at (inner_level inner.codec.now) (raw_of inner.blank)
       ≡ Some (replicate (count_of (inner_dims inner.codec.now)) (inner_of inner.codec.now).fill)
   pub short : has_long_element (raw_of inner.blank) ≡ false

@@ -7,11 +7,13 @@ pub mod Agree
 pub mod Pair
 pub mod Finding
 pub mod Written
-pub mod Cut
+pub mod Fill
 pub mod ShardCodec
 pub mod Placing
 pub mod Inner
 pub mod Whole
 pub mod Encoding
 pub mod NoFault
+pub mod Serving
+pub mod Taking
 pub mod Counted

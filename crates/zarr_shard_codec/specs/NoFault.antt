@@ -16,8 +16,9 @@ use Rattle.zarr_codecs_array_to_bytes.specs.Views.{plain_of}
 use Rattle.zarr_chain.specs.Chain.{bottom_level}
 use Rattle.zarr_chain.specs.Values.{byte_codecs, said_at, bytes_says}
 use Rattle.zarr_array_parts.specs.Codecs.{list_says, bytes_meaning, bytes_says as codec_says}
+use Rattle.zarr_shard_parts.specs.Document.{index_size}
 use Rattle.zarr_shard_codec.specs.Crc32cCodec.{number_no_fault}
-use Rattle.zarr_shard_codec.specs.Index.{Pair, pair_at, index_size, part_of}
+use Rattle.zarr_shard_codec.specs.Index.{Pair, pair_at, part_of}
 use Rattle.zarr_shard_codec.specs.Finding.{says_index, index_found}
 use Rattle.zarr_shard_codec.specs.Inner.{says_found}
 use Rattle.zarr_shard_codec.specs.ShardCodec.{inner_of, InnerSays}
@@ -44,7 +45,7 @@ bytes_no_fault under (c ∷ codecs) value e told =
 inner_no_fault : (codec : ShardCodec) (under : Options) (value : List ℕ) (e : CodecError)
     → InnerSays codec under value e → IsNoFault e
 inner_no_fault codec under value e says =
-    let chain = codec.inner.chain in
+    let chain = codec.shard.inner.chain in
     let bottom = bottom_level says.levels in
     said_no_fault (decode_bytes (byte_codecs bytes_meaning under chain.byte_codecs.items) value)
     (bytes_says bytes_meaning codec_says under chain.byte_codecs.items value)
@@ -78,8 +79,8 @@ index_no_fault true checked number value e is = number_no_fault true value e is
 says_no_fault : (index : Option (List ℕ)) (codec : ShardCodec) (under : Options) (number : ℕ)
     (value : List ℕ) (e : CodecError) → says_of index codec under number value e → IsNoFault e
 says_no_fault None codec under number value e told =
-    index_no_fault (nat_le (index_size codec.checked number) (length value)) codec.checked number
-    value e told
+    index_no_fault (nat_le (index_size codec.shard.checked number) (length value))
+    codec.shard.checked number value e told
 says_no_fault (Some index) codec under number value e told = found_no_fault codec under
     (part_of value (pair_at index told.number)) (length value)
     (pair_at index told.number) e told.said
@@ -87,5 +88,5 @@ says_no_fault (Some index) codec under number value e told = found_no_fault code
 pub shard_no_fault : (codec : ShardCodec) (under : Options) (value : List ℕ) (e : CodecError)
     → shard_says codec under value e → IsNoFault e
 shard_no_fault codec under value e told = let number = count_of (inner_of codec).grid.grid_shape in
-    says_no_fault (index_found codec.checked under.validate_checksums number value) codec under
-    number value e told
+    says_no_fault (index_found codec.shard.checked under.validate_checksums number value) codec
+    under number value e told

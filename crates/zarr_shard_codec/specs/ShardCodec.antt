@@ -8,12 +8,18 @@ use Rattle.zarr_chain.specs.declared.levels.ChunkLevels.{ChunkLevels}
 use Rattle.zarr_array_parts.specs.ChunkLevels.{shape_level, ServesShape}
 use Rattle.zarr_array_parts.specs.Codecs.{list_says, bytes_meaning, bytes_says}
 use Rattle.zarr_array_parts.specs.Parts.{described}
+use Rattle.zarr_shard_parts.specs.Document.{ShardForm}
+use Rattle.zarr_shard_parts.specs.Views.{shard_form}
 use Rattle.zarr_shard_codec.specs.Shard.{Form, shard_list, decode_shard}
 use Rattle.zarr_shard_codec.specs.declared.shard_codec.ShardCodec.{ShardCodec}
 
+-- how a chunk keeps inner chunks
+abbrev pub codec_form : ShardCodec → ShardForm
+codec_form codec = shard_form codec.shard
+
 -- the array whose chunks are the inner ones, and their grid
 abbrev pub inner_of : ShardCodec → Description
-inner_of codec = described codec.inner
+inner_of codec = described codec.shard.inner
 
 abbrev pub inner_grid : ShardCodec → Grid
 inner_grid codec = (inner_of codec).grid
@@ -40,11 +46,11 @@ inner_decoded codec under value = (own_array codec under).decode (inner_dims cod
 -- what a value decodes to
 abbrev pub own_list : ShardCodec → Options → List ℕ → Option (List Element)
 own_list codec under value =
-    shard_list codec.checked under.validate_checksums (own_array codec under) value
+    shard_list codec.shard.checked under.validate_checksums (own_array codec under) value
 
 -- the same at any level, by the codec's form
 abbrev pub form_of : ShardCodec → Form
-form_of codec = record { inner_shape = inner_dims codec; checked = codec.checked }
+form_of codec = record { inner_shape = inner_dims codec; checked = codec.shard.checked }
 
 abbrev pub shard_meaning : ShardCodec → Options → Level → List ℕ → Option (List Element)
 shard_meaning codec under level value = decode_shard (form_of codec) under.validate_checksums
@@ -54,5 +60,6 @@ shard_meaning codec under level value = decode_shard (form_of codec) under.valid
 pub record InnerSays (codec : ShardCodec) (under : Options) (value : List ℕ) (e : CodecError)
     : Type 0 where
   pub levels : ChunkLevels
-  pub serves : ServesShape codec.inner (inner_dims codec) codec.inner.chain levels
-  pub said : chain_says list_says bytes_meaning bytes_says codec.inner.chain levels under value e
+  pub serves : ServesShape codec.shard.inner (inner_dims codec) codec.shard.inner.chain levels
+  pub said : chain_says list_says bytes_meaning bytes_says codec.shard.inner.chain levels under
+      value e

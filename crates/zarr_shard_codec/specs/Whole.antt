@@ -43,11 +43,11 @@ pub record SaysInner (codec : ShardCodec) (under : Options) (value index : List 
 
 -- which errors tell that a value decodes to nothing: those of its index, and else of an inner chunk
 abbrev pub says_of : Option (List ℕ) → ShardCodec → Options → ℕ → List ℕ → CodecError → Type 0
-says_of None codec under number value e = index_says codec.checked number value e
+says_of None codec under number value e = index_says codec.shard.checked number value e
 says_of (Some index) codec under number value e = SaysInner codec under value index e
 
 abbrev pub shard_says : ShardCodec → Options → List ℕ → CodecError → Type 0
 shard_says codec under value e =
     let number = count_of (inner_of codec).grid.grid_shape in
-    says_of (index_found codec.checked under.validate_checksums number value) codec under number
-    value e
+    says_of (index_found codec.shard.checked under.validate_checksums number value) codec under
+    number value e

@@ -36,7 +36,7 @@ fn part_at(
         → IfOk result (λ v. has_long_element (raw_of v) ≡ false) }
 {
     let subset = place_of(codec, alloc, number)?;
-    let inner = &codec.inner;
+    let inner = &codec.shard.inner;
     bytes.extract_array_subset(alloc, &subset, inner.shape(), inner.data_type())
 }
 
@@ -52,7 +52,7 @@ fn is_left_out(codec: &ShardCodec, elements: &ArrayBytes<'_>, options: &CodecOpt
     if options.store_empty_chunks() {
         return false;
     }
-    elements.is_fill_value(codec.inner.fill_value())
+    elements.is_fill_value(codec.shard.inner.fill_value())
 }
 
 impl InnerChunks<'_> {
@@ -76,7 +76,7 @@ impl InnerChunks<'_> {
         if is_left_out(self.codec, &elements, options) {
             return Ok(Pair::absent());
         }
-        let chain = self.codec.inner.chain();
+        let chain = self.codec.shard.inner.chain();
         let value = chain.encode(alloc, &self.levels, elements, options)?;
         let offset = front.len() as u64;
         front.extend_from_slice(&value)?;
@@ -133,7 +133,7 @@ impl InnerChunks<'_> {
                 Err(error) => return Err(error),
             }
         }
-        finish_index(&mut index, self.codec.checked)?;
+        finish_index(&mut index, self.codec.shard.checked)?;
         front.extend_from_slice(&index)?;
         Ok(front)
     }

@@ -61,7 +61,7 @@ impl InnerChunks<'_> {
             (InnerSays self.now.codec.now under bytes.items)) }
         ensures short { IfOk result (λ v. has_long_element (raw_of v) ≡ false) }
     {
-        let chain = self.codec.inner.chain();
+        let chain = self.codec.shard.inner.chain();
         chain.decode(alloc, &self.levels, bytes, options)
     }
 

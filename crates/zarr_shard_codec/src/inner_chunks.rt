@@ -75,6 +75,7 @@ impl<'a> InnerChunks<'a> {
 ///
 /// # Errors
 /// [`AllocError`] where memory runs out.
+#[tactic(auto, using(crate::proofs::CodecFacts::inner_fits))]
 pub(crate) fn place_of(
     codec: &ShardCodec,
     alloc: Global,
@@ -83,7 +84,7 @@ pub(crate) fn place_of(
     requires below { number < count_of (inner_grid codec.now).grid_shape }
     ensures { IfOk result (λ subset. region subset ≡ box_at codec.now number) }
 {
-    let grid = codec.inner.grid();
+    let grid = codec.shard.inner.grid();
     let Some(indices) = unravel_index(alloc, number, grid.grid_shape())? else {
         unreachable!();
     };

@@ -12,8 +12,12 @@ mod index;
 mod inner;
 mod inner_chunks;
 mod laws;
+mod making;
 mod pair;
+mod serving;
 mod shard_codec;
+mod traits;
+mod values;
 mod whole;
 mod writing;
 

@@ -1,19 +1,19 @@
 //! The codec `sharding_indexed` of chunks of one shape.
 
-ghost use Rattle.std.specs.Prelude.{◌≡◌, ◌<◌, ◌+◌, ◌*◌, ◌^◌, true, Some, IfOk};
-ghost use Rattle.zarr_model.specs.Prelude.{count_of, kind_of, fixed_size};
-ghost use Rattle.zarrs_data_type_names.specs.DataType.{type_of};
-ghost use Rattle.zarrs_codec_bytes.specs.Picking.{size_in};
-ghost use Rattle.zarr_basics_grids.specs.BasicGrid.{basic_shape, basic_grid, basic_form};
+ghost use Rattle.std.specs.Prelude.{◌≡◌, ◌<◌, true, IfOk};
+ghost use Rattle.zarr_model.specs.Prelude.{count_of, kind_of, fill_element};
+ghost use Rattle.zarrs_data_type_elements.specs.FillValue.{fill_bytes};
 ghost use Rattle.zarr_basics_grids.specs.Lengths.{nonzeros};
-ghost use Rattle.zarr_shard_codec.specs.Cut.{cuts_shape, regular_shape};
-ghost use Rattle.zarr_shard_codec.specs.Index.{index_size};
+ghost use Rattle.zarr_array_parts.specs.Parts.{documented};
+ghost use Rattle.zarr_shard_parts.specs.Document.{lengths_of};
+ghost use Rattle.zarr_shard_codec.specs.Fill.{denotes};
 
 use std::alloc::{AllocError, Global};
-use zarr_array_parts::ArrayParts;
 use zarr_chain::ChunkLevels;
+use zarr_shard_parts::Shard;
 use zarrs_array_subset::{ChunkShape, shape_product, unravel_index};
 use zarrs_chunk_grid_traits::ChunkGridTraits;
+use zarrs_data_type_elements::FillValue;
 use zarrs_metadata_parts::Configuration;
 
 /// The codec `sharding_indexed` of chunks of one shape, data type and fill value: a value holds inner chunks, one after
@@ -24,30 +24,40 @@ use zarrs_metadata_parts::Configuration;
 pub struct ShardCodec {
     // The configuration in the metadata that the codec was made of.
     pub(crate) configuration: Configuration,
-    // The inner chunks, as those of an array with the shape of a chunk.
-    pub(crate) inner: ArrayParts,
+    // How a chunk keeps inner chunks.
+    pub(crate) shard: Shard,
+    // The shape of an inner chunk.
     pub(crate) inner_shape: ChunkShape,
-    // Whether CRC-32C stands behind the index.
-    pub(crate) checked: bool,
-    ghost regular: { regular_shape (basic_form inner.grid) ≡ Some (nonzeros inner_shape.items) },
-    ghost cut: { cuts_shape (basic_shape inner.grid) (nonzeros inner_shape.items) ≡ true },
-    ghost some: { 0 < count_of (basic_grid inner.grid).grid_shape },
-    ghost few: { count_of (basic_shape inner.grid) + 1 < 2 ^ 64 },
-    ghost room: { count_of (basic_shape inner.grid)
-        * size_in (fixed_size (kind_of (type_of inner.data_type))) < 2 ^ 64 },
-    ghost indexed: { index_size checked (count_of (basic_grid inner.grid).grid_shape) < 2 ^ 64 },
+    // The fill value of a chunk, and so of its inner chunks.
+    pub(crate) fill_value: FillValue,
+    ghost dims: { lengths_of (documented shard.inner).grid ≡ nonzeros inner_shape.items },
+    ghost filled: { denotes
+        (fill_element (kind_of (documented shard.inner).data_type) (fill_bytes fill_value))
+        (documented shard.inner).fill ≡ true },
+    ghost some: { 0 < count_of (documented shard.inner).shape },
 }
 
 impl ShardCodec {
     ghost use Rattle.zarr_array_parts.specs.ChunkLevels.{ServesShape};
-    ghost use Rattle.zarr_array_parts.specs.Parts.{described};
-    ghost use Rattle.zarr_shard_codec.specs.ShardCodec.{inner_dims};
+    ghost use Rattle.zarr_shard_codec.specs.ShardCodec.{inner_of, inner_dims};
+
+    /// How many elements a chunk has.
+    #[tactic(auto, using(crate::proofs::CodecFacts::own_fits))]
+    pub(crate) fn num_elements(&self) -> u64
+        ensures { result ≡ count_of (inner_of self.now).shape }
+    {
+        match shape_product(self.shard.inner.shape()) {
+            Some(count) => count,
+            None => unreachable!(),
+        }
+    }
 
     /// How many inner chunks there are.
+    #[tactic(auto, using(crate::proofs::CodecFacts::inner_fits))]
     pub(crate) fn num_inner(&self) -> u64
-        ensures { result ≡ count_of (described self.now.inner).grid.grid_shape }
+        ensures { result ≡ count_of (inner_of self.now).grid.grid_shape }
     {
-        match shape_product(self.inner.grid().grid_shape()) {
+        match shape_product(self.shard.inner.grid().grid_shape()) {
             Some(count) => count,
             None => unreachable!(),
         }
@@ -57,16 +67,16 @@ impl ShardCodec {
     ///
     /// # Errors
     /// [`AllocError`] where memory runs out.
+    #[tactic(auto, using(crate::proofs::CodecFacts::inner_fits, crate::proofs::CodecFacts::has_inner))]
     pub(crate) fn levels(&self, alloc: Global) -> Result<ChunkLevels, AllocError>
         ensures { IfOk result
-            (ServesShape self.now.inner (inner_dims self.now) self.now.inner.chain) }
+            (ServesShape self.now.shard.inner (inner_dims self.now) self.now.shard.inner.chain) }
     {
-        let Some(first) = unravel_index(alloc, 0, self.inner.grid().grid_shape())? else {
+        let inner = &self.shard.inner;
+        let Some(first) = unravel_index(alloc, 0, inner.grid().grid_shape())? else {
             unreachable!();
         };
-        let levels = self
-            .inner
-            .levels(alloc, self.inner.chain(), first.as_slice())?;
+        let levels = inner.levels(alloc, inner.chain(), first.as_slice())?;
         Ok(levels)
     }
 }

@@ -97,6 +97,7 @@ impl InnerChunks<'_> {
     /// # Errors
     /// `UnexpectedChunkDecodedSize` where the value is shorter than its index, `InvalidChecksum` where the number of the
     /// index is wrong and tested; else that of an inner chunk that does not decode; or want of memory.
+    #[tactic(auto, using(crate::proofs::CodecFacts::index_fits))]
     pub(crate) fn decode_within(
         &self,
         alloc: Global,
@@ -115,11 +116,16 @@ impl InnerChunks<'_> {
     {
         let codec = self.codec;
         let number = codec.num_inner() as usize;
-        let index = match find_index(value, number, codec.checked, options.validate_checksums()) {
+        let index = match find_index(
+            value,
+            number,
+            codec.shard.checked,
+            options.validate_checksums(),
+        ) {
             Ok(index) => index,
             Err(error) => return Err(error),
         };
-        let inner = &codec.inner;
+        let inner = &codec.shard.inner;
         let mut elements = BoxElements::filled(
             alloc,
             inner.data_type(),

@@ -17,4 +17,4 @@ chunk_box-requires-clause-chunk c =
 
 pub chunk_box-requires-clause-fits : goal.chunk_box-requires-clause-fits
 chunk_box-requires-clause-fits c =
-    subst (λ g. BoxFits g c.as_slice.result.now) (sym c.grid-grid.ensures.grid) (λ is_chunk. chunk_fits c.args.codec.now.inner c.as_slice.result.now is_chunk)
+    subst (λ g. BoxFits g c.as_slice.result.now) (sym c.grid-grid.ensures.grid) (λ is_chunk. chunk_fits c.args.codec.now.shard.inner c.as_slice.result.now is_chunk)

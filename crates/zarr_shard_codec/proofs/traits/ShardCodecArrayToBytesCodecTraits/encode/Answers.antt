@@ -1,0 +1,20 @@
+use Rattle.std.proofs.Common.{◌≡◌, ◌∙◌, ap, sym, subst, ℕ, List, IfOk}
+use Rattle.zarr_model.specs.Prelude.{Level, Options, kind_of, count_of}
+use Rattle.zarrs_codec_array_bytes.specs.Raw.{raw_of}
+use Rattle.zarrs_codec_array_bytes.specs.Refusals.{validity, then_answer, Answers}
+use Rattle.zarrs_codec_traits.specs.Views.{level_of}
+use Rattle.zarrs_codec_traits.specs.Words.{list_at}
+use Rattle.zarr_shard_codec.specs.ShardCodec.{shard_meaning}
+use Rattle.zarr_shard_codec.specs.Taking.{long_refusal}
+use Rattle.zarr_shard_codec.proofs.OwnLaws.{served_level}
+use Rattle.zarr_shard_codec.proofs.traits.ShardCodecArrayToBytesCodecTraits.encode.Goals as goal
+
+pub returns-clause-exact : goal.returns-clause-exact
+returns-clause-exact c = λ served.
+    subst (λ (level : Level). Answers (then_answer (validity (kind_of level.data_type) (count_of level.shape) (raw_of c.args.bytes)) (long_refusal (raw_of c.args.bytes))) c.encode_value.result)
+    (sym (served_level c.args.self.now c.args.shape.now c.args.data_type.now c.args.fill_value.now served)) c.encode_value.ensures.exact
+
+pub returns-clause-value : goal.returns-clause-value
+returns-clause-value c = λ served.
+    subst (λ (level : Level). IfOk c.encode_value.result (λ v. (under : Options) → shard_meaning c.args.self.now under level v.items ≡ list_at level (raw_of c.args.bytes)))
+    (sym (served_level c.args.self.now c.args.shape.now c.args.data_type.now c.args.fill_value.now served)) c.encode_value.ensures.value
