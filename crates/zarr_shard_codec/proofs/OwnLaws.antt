@@ -1,5 +1,5 @@
 -- What a codec does with the values of its own chunks, and that a level that it serves is theirs.
-use Rattle.std.proofs.Common.{◌≡◌, ℕ, ◌*◌, ◌∙◌, ◌&&◌, true, false, List, length, Option, Some, None, IsSome, unwrap_or, bytes_eq, Result, Ok, Err, IfOk, IfErr, MatchResult, refl, sym, ap, ap₂, subst, inl, inr}
+use Rattle.std.proofs.Common.{◌≡◌, ℕ, ◌*◌, ◌∙◌, ◌&&◌, false, List, length, Option, Some, None, IsSome, unwrap_or, bytes_eq, Result, Ok, Err, IfOk, IfErr, MatchResult, refl, sym, ap, ap₂, subst, inl}
 use Rattle.std.proofs.lemmas.Bool.{and_parts}
 use Rattle.std.specs.declared.num.NonZeroU64.{NonZeroU64}
 use Rattle.zarr_model.specs.Prelude.{count, count_of, whole, Element, null, kind, kind_of, fixed_size, fill_element, Level, Options, ArrayBytes, has_long_element}

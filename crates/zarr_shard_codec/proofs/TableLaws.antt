@@ -1,8 +1,8 @@
 -- Steps of the register by tables.
-use Rattle.std.proofs.Common.{◌≡◌, ℕ, zero, suc, ◌+◌, ◌*◌, ◌/◌, ◌%◌, ◌^◌, ◌<◌, ◌≤◌, Bool, true, false, ◌==◌, if◌then◌else◌, List, [], ◌∷◌, length, map, slice_index, slice_index_or, bit_xor, refl, sym, ap, ap₂, ◌∙◌, arith, subst}
+use Rattle.std.proofs.Common.{◌≡◌, ℕ, zero, suc, ◌+◌, ◌*◌, ◌/◌, ◌%◌, ◌^◌, ◌<◌, Bool, ◌==◌, if◌then◌else◌, List, [], ◌∷◌, length, map, slice_index, slice_index_or, bit_xor, refl, sym, ap, ap₂, ◌∙◌, arith}
 use Rattle.std.proofs.lemmas.Nat.{xor_block, xor_shr, xor_mod, xor_comm}
 use native.Mathlib.Nat.{pow-suc, mul_assoc}
-use lib.Bits.{xor_lt, xor_assoc, xor_self, xor_zero_r, xor_zero_l}
+use lib.Bits.{xor_assoc, xor_self, xor_zero_r, xor_zero_l}
 use Rattle.zarr_shard_codec.specs.Crc32c.{bit_step, bit_steps, byte_step, register_after}
 use Rattle.zarr_shard_codec.specs.Crc32cTable.{steps_from, eight_more, IsTableOf}
 use Rattle.zarr_shard_codec.specs.declared.crc32c_tables.TheConstants.{TABLE_0, TABLE_1, TABLE_2, TABLE_3, TABLE_4, TABLE_5, TABLE_6, TABLE_7}

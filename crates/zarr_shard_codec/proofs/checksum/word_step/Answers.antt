@@ -1,4 +1,4 @@
-use Rattle.std.proofs.Common.{◌≡◌, ◌<◌, ◌^◌, ℕ, length, slice_index_or, bit_xor, sym, ap, ◌∙◌, rules}
+use Rattle.std.proofs.Common.{◌≡◌, ◌<◌, ◌^◌, length, slice_index_or, bit_xor, ap, ◌∙◌, rules}
 use lib.Bits.{xor_lt}
 use Rattle.zarr_shard_codec.specs.Crc32c.{bit_steps}
 use Rattle.zarr_shard_codec.proofs.TableLaws.{all_tables, word_steps}

@@ -1,5 +1,4 @@
-use Rattle.std.proofs.Common.{◌≡◌, ◌∙◌, false, List, Result, Ok, Err, IfOk, sym}
-use Rattle.zarr_model.specs.Prelude.{has_long_element}
+use Rattle.std.proofs.Common.{◌∙◌, sym}
 use Rattle.zarrs_codec_array_bytes.specs.Raw.{raw_of}
 use Rattle.zarrs_codec_traits.specs.Views.{options_of}
 use Rattle.zarr_shard_codec.specs.ShardCodec.{own_level}

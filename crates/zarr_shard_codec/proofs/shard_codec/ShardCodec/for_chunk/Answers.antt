@@ -1,4 +1,4 @@
-use Rattle.std.proofs.Common.{◌≡◌, ◌<◌, ◌∙◌, sym, ap, ap₂, subst}
+use Rattle.std.proofs.Common.{◌<◌, ◌∙◌, sym, ap, ap₂, subst}
 use Rattle.zarr_model.specs.Prelude.{count_of, kind_of, fill_element}
 use Rattle.zarrs_plugin.specs.Registry.{registry_of}
 use Rattle.zarrs_metadata_parts.specs.MetadataV3.{extension_seen}

@@ -1,8 +1,8 @@
-use Rattle.std.proofs.Common.{◌≡◌, ◌∙◌, ap, sym, subst, ℕ, List, MatchResult}
+use Rattle.std.proofs.Common.{sym, subst, ℕ, List, MatchResult}
 use Rattle.zarr_model.specs.Prelude.{Level}
 use Rattle.zarrs_codec_array_bytes.specs.Raw.{raw_of}
 use Rattle.zarrs_codec_traits.specs.Errors.{IsDecodeError}
-use Rattle.zarrs_codec_traits.specs.Views.{level_of, options_of}
+use Rattle.zarrs_codec_traits.specs.Views.{options_of}
 use Rattle.zarrs_codec_traits.specs.Words.{list_at, Gives}
 use Rattle.zarr_shard_codec.specs.ShardCodec.{own_level, shard_meaning}
 use Rattle.zarr_shard_codec.specs.Whole.{shard_says}

@@ -1,8 +1,7 @@
-use Rattle.std.proofs.Common.{◌≡◌, ◌∙◌, ap, sym, subst, ℕ, List, IfOk}
+use Rattle.std.proofs.Common.{◌≡◌, sym, subst, IfOk}
 use Rattle.zarr_model.specs.Prelude.{Level, Options, kind_of, count_of}
 use Rattle.zarrs_codec_array_bytes.specs.Raw.{raw_of}
 use Rattle.zarrs_codec_array_bytes.specs.Refusals.{validity, then_answer, Answers}
-use Rattle.zarrs_codec_traits.specs.Views.{level_of}
 use Rattle.zarrs_codec_traits.specs.Words.{list_at}
 use Rattle.zarr_shard_codec.specs.ShardCodec.{shard_meaning}
 use Rattle.zarr_shard_codec.specs.Taking.{long_refusal}
