@@ -11,6 +11,8 @@ mod lines;
 #[cfg(test)]
 mod opened;
 #[cfg(test)]
+mod regions;
+#[cfg(test)]
 mod sessions;
 #[cfg(test)]
 mod sharded;

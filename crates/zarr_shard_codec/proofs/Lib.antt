@@ -11,3 +11,9 @@ mod PairLaws
 mod EncodeLaws
 mod MakingLaws
 mod OwnLaws
+mod FetchLaws
+mod MetLaws
+mod RegionLaws
+mod PartLaws
+mod FetchSteps
+mod ReadSteps

@@ -17,3 +17,6 @@ pub mod NoFault
 pub mod Serving
 pub mod Taking
 pub mod Counted
+pub mod Region
+pub mod ReadRegion
+pub mod MetInner
