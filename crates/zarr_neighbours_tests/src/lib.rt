@@ -1,5 +1,5 @@
 //! Tests of stores of slices and of sessions over them, of translated documents, of arrays opened by them, of documents of
-//! sharded arrays, of the codec of shards and its checksum, and of single lines.
+//! sharded arrays, of the codec of shards, the regions that it reads and its checksum, and of single lines.
 #![tactic(auto)]
 
 #[cfg(test)]
