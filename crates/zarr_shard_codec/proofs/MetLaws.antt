@@ -1,7 +1,7 @@
 -- The inner chunks that a region meets, by their numbers.
-use Rattle.std.proofs.Common.{◌≡◌, ℕ, zero, suc, ◌+◌, ◌-◌, ◌*◌, ◌^◌, ◌<◌, nat_le, nat_lt, Bool, true, false, List, [], ◌∷◌, length, get_or, slice_get, Some, refl, sym, ap, ap₂, ◌∙◌, subst, arith}
+use Rattle.std.proofs.Common.{◌≡◌, ℕ, zero, suc, ◌+◌, ◌-◌, ◌*◌, ◌<◌, nat_le, nat_lt, true, List, [], ◌∷◌, length, get_or, slice_get, Some, refl, sym, ap, ap₂, ◌∙◌, subst, arith}
 use Rattle.std.proofs.lemmas.Bool.{and_parts, and_from, cond-true}
-use Rattle.zarr_model.specs.Prelude.{Region, starts, sizes, count, count_of, whole, contains, tuples, tuple_at, place, kind, fixed_size, Grid, IsChunk, chunks_meeting}
+use Rattle.zarr_model.specs.Prelude.{Region, starts, sizes, count, count_of, whole, contains, tuples, tuple_at, place, Grid, IsChunk, chunks_meeting}
 use Rattle.zarr_model.specs.Region.{is_in}
 use Rattle.zarr_model.proofs.RegionLaws.{length-tuples, get_or-tuples, place_below, count_whole, rank_within}
 use Rattle.zarr_model.proofs.FailureLaws.{meeting_is}
@@ -9,7 +9,6 @@ use Rattle.zarrs_array_subset.specs.Boxes.{is_box, region_of}
 use Rattle.zarrs_array_subset.specs.ArraySubset.{region as region_of_subset}
 use Rattle.zarrs_array_subset.specs.Ravel.{count_front, place_front, is_below, raveled}
 use Rattle.zarrs_array_subset.proofs.BoxLaws.{starts_region, sizes_region}
-use Rattle.zarrs_codec_bytes.specs.Picking.{size_in}
 use Rattle.zarr_shard_codec.specs.MetInner.{codec_of, region_met, chunk_at, AreMet}
 use Rattle.zarr_shard_codec.specs.Placing.{number_of}
 use Rattle.zarr_shard_codec.specs.ShardCodec.{inner_of, inner_grid}

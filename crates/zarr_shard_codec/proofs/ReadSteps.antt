@@ -1,9 +1,8 @@
 -- The steps of reading a region of a chunk.
-use Rattle.std.proofs.Common.{◌≡◌, ℕ, zero, suc, ◌+◌, ◌*◌, ◌^◌, ◌<◌, ◌≤◌, nat_le, nat_eq, Bool, true, false, List, [], ◌∷◌, length, map, get_or, Option, Some, None, Result, Ok, Err, IfOk, MatchResult, refl, sym, ap, ◌∙◌, subst, subst₂, arith, inr, eqb-true, mul-le-mul_right}
+use Rattle.std.proofs.Common.{◌≡◌, ℕ, zero, suc, ◌+◌, ◌*◌, ◌^◌, ◌<◌, ◌≤◌, nat_le, nat_eq, Bool, true, false, List, [], ◌∷◌, length, map, get_or, Option, Some, None, Result, Ok, Err, IfOk, MatchResult, refl, sym, ap, ◌∙◌, subst, subst₂, arith, inr, eqb-true, mul-le-mul_right, replicate, IsSome}
 use Rattle.std.specs.List.{sum_by}
 use Rattle.std.proofs.lemmas.Bool.{cond-true, cond-false, le-leb}
-use Rattle.std.proofs.lemmas.List.{nil_from_length}
-use Rattle.zarr_model.specs.Prelude.{Region, count, count_of, whole, place, ends_within, Element, null, ArrayBytes, Options, Shown, kind, fixed_size}
+use Rattle.zarr_model.specs.Prelude.{Region, count, count_of, whole, place, ends_within, Element, null, ArrayBytes, has_long_element, Options, Shown, kind, fixed_size}
 use Rattle.zarr_model.proofs.RegionLaws.{tuples-empty, count_within}
 use Rattle.zarrs_storage.specs.declared.byte_range.ByteRange.TheVariants.{Suffix}
 use Rattle.zarrs_storage.specs.Parts.{held_bytes}
@@ -76,16 +75,15 @@ module _ (codec : ShardCodec) (under : Options) (region : Region) where
       NotRead (region_content codec under region content) (held_says codec under region content) old new e
   some_unread content old new e some failed = subst (λ w. NotRead w (held_says codec under region content) old new e) (sym (cond-true _ _ _ (has_some (count region) some))) failed
 
-  pub none_read : (content : Option (List ℕ)) (list : List Element) (store : Shown) (raw : ArrayBytes) → nat_eq (count region) 0 ≡ true → length list ≡ count region →
-      HasReadRegion codec region (Some list) 0 0 store store raw →
+  pub none_read : (content : Option (List ℕ)) (store : Shown) (raw : ArrayBytes) → nat_eq (count region) 0 ≡ true → list_at (at_box region (own_level codec)) raw ≡ Some (replicate (count region) (inner_of codec).fill) → has_long_element raw ≡ false → Costs 0 0 store store →
       HasReadRegion codec region (region_content codec under region content) (region_asks codec under region content) (region_taken codec under region content) store store raw
-  none_read content list store raw none long has =
+  none_read content store raw none means short cost =
       let zero_count : count region ≡ 0 = eqb-true _ _ none in
       let test : nat_le 1 (count region) ≡ false = ap (nat_le 1) zero_count in
-      let empty : list ≡ [] = nil_from_length list (long ∙ zero_count) in record {
-        elements = subst (Gives (list_at (at_box region (own_level codec)) raw)) (ap Some empty ∙ sym (cond-false _ _ _ test)) has.elements;
-        short = has.short;
-        cost = subst₂ (λ n m. Costs n m store store) (sym (cond-false _ _ _ test)) (sym (cond-false _ _ _ test)) has.cost;
+      let empty : list_at (at_box region (own_level codec)) raw ≡ Some [] = means ∙ ap (λ n. Some (replicate n (inner_of codec).fill)) zero_count in record {
+        elements = record { same = empty ∙ sym (cond-false _ _ _ test); there = subst IsSome (sym empty) refl };
+        short = short;
+        cost = subst₂ (λ n m. Costs n m store store) (sym (cond-false _ _ _ test)) (sym (cond-false _ _ _ test)) cost;
       }
 
   -- of a value that decodes it is the region's part

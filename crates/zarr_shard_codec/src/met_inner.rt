@@ -204,20 +204,18 @@ impl MetInner<'_> {
         Ok(())
     }
 
-    /// The elements of the region, by what is held of it before: each inner chunk that is there is read by one call.
+    /// The elements of the region: each inner chunk that is there is read by one call.
     ///
     /// # Errors
     /// That of the first inner chunk that has no elements; a fault of the store, or want of memory.
     pub(crate) fn read_all<S: Store>(
         &self,
         alloc: Global,
-        elements: BoxElements<'_>,
         store: &mut S,
         options: &CodecOptions,
     ) -> Result<ArrayBytes<'static>, CodecError>
         requires met { AreMet self.now }
         requires there { IsSome ((S.shown store.old).content self.now.key.now) }
-        requires holds { HoldsOver (codec_of self.now) (region_met self.now) elements }
         ensures read { MatchResult result
             (λ v. HasReadRegion (codec_of self.now) (region_met self.now)
             (met_content self.now (options_of options.now) (S.shown store.old))
@@ -228,7 +226,7 @@ impl MetInner<'_> {
             (S.shown store.old) (S.shown store.new)) }
         ensures kept { S.kept store.old store.new }
     {
-        let mut elements = elements;
+        let mut elements = self.inner.codec.filled(alloc, self.subset)?;
         match self.read_each(alloc, &mut elements, store, options) {
             Ok(()) => {
                 let bytes = elements.into_bytes(alloc)?;

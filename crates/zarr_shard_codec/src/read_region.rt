@@ -2,7 +2,7 @@
 
 ghost use Rattle.std.specs.Prelude.{◌≡◌, ◌≤◌, ◌*◌, ℕ, true, false, List, length, replicate, Some, IsSome, IfOk, MatchResult};
 ghost use Rattle.std.specs.List.{sum_by};
-ghost use Rattle.zarr_model.specs.Prelude.{count, count_of, ends_within, Element};
+ghost use Rattle.zarr_model.specs.Prelude.{count, count_of, ends_within, Element, has_long_element};
 ghost use Rattle.zarrs_array_subset.specs.ArraySubset.{region as region_of};
 ghost use Rattle.zarrs_storage.specs.Parts.{held_bytes};
 ghost use Rattle.zarrs_codec_array_bytes.specs.Raw.{raw_of};
@@ -19,7 +19,7 @@ use crate::index::{find_index, index_len};
 use crate::inner_chunks::InnerChunks;
 use crate::met_inner::{MetInner, chunks_of};
 use crate::shard_codec::ShardCodec;
-use std::alloc::Global;
+use std::alloc::{AllocError, Global};
 use zarr_array_elements::BoxElements;
 use zarrs_array_subset::ArraySubset;
 use zarrs_codec_array_bytes::ArrayBytes;
@@ -45,6 +45,42 @@ impl ShardCodec {
         self.shard.inner.shape()
     }
 
+    /// The elements of a region inside the chunk, which are all the fill value.
+    ///
+    /// # Errors
+    /// [`AllocError`] where memory runs out.
+    pub(crate) fn filled<'a>(
+        &'a self,
+        alloc: Global,
+        region: &'a ArraySubset,
+    ) -> Result<BoxElements<'a>, AllocError>
+        requires { ends_within (region_of region.now) (inner_of self.now).shape ≡ true }
+        ensures holds { IfOk result (HoldsOver self.now (region_of region.now)) }
+        ensures filled { IfOk result (λ elements. list_held elements
+            ≡ replicate (count (region_of region.now)) (inner_of self.now).fill) }
+    {
+        let inner = &self.shard.inner;
+        let elements = BoxElements::filled(alloc, inner.data_type(), inner.fill_value(), region)?;
+        Ok(elements)
+    }
+
+    // The same as array bytes.
+    fn blank_region(
+        &self,
+        alloc: Global,
+        region: &ArraySubset,
+    ) -> Result<ArrayBytes<'static>, AllocError>
+        requires { ends_within (region_of region.now) (inner_of self.now).shape ≡ true }
+        ensures means { IfOk result (λ v. list_at (at_box (region_of region.now)
+            (own_level self.now)) (raw_of v)
+            ≡ Some (replicate (count (region_of region.now)) (inner_of self.now).fill)) }
+        ensures short { IfOk result (λ v. has_long_element (raw_of v) ≡ false) }
+    {
+        let elements = self.filled(alloc, region)?;
+        let bytes = elements.into_bytes(alloc)?;
+        Ok(bytes)
+    }
+
     // How many bytes the index has.
     fn len_of_index(&self) -> u64
         ensures { result ≡ own_len self.now }
@@ -62,14 +98,12 @@ impl ShardCodec {
         key: &StoreKey,
         index: &[u8],
         region: &ArraySubset,
-        elements: BoxElements<'_>,
         store: &mut S,
         options: &CodecOptions,
     ) -> Result<ArrayBytes<'static>, CodecError>
         requires inside { ends_within (region_of region.now) (inner_of self.now).shape ≡ true }
         requires indexed { 16 * count_of (inner_grid self.now).grid_shape ≤ length index.now }
         requires there { IsSome ((S.shown store.old).content key.now) }
-        requires holds { HoldsOver self.now (region_of region.now) elements }
         ensures read { let under = options_of options.now in
             let value = held_bytes ((S.shown store.old).content key.now) in
             let wanted = region_by_index (own_array self.now under) value (region_of region.now)
@@ -90,7 +124,7 @@ impl ShardCodec {
             subset: region,
             chunks,
         };
-        met.read_all(alloc, elements, store, options)
+        met.read_all(alloc, store, options)
     }
 
     // The same by the bytes of the value's index.
@@ -100,7 +134,6 @@ impl ShardCodec {
         key: &StoreKey,
         part: &[u8],
         region: &ArraySubset,
-        elements: BoxElements<'_>,
         store: &mut S,
         options: &CodecOptions,
     ) -> Result<ArrayBytes<'static>, CodecError>
@@ -108,7 +141,6 @@ impl ShardCodec {
         requires part { own_part self.now (held_bytes ((S.shown store.old).content key.now))
             ≡ Some part.now }
         requires there { IsSome ((S.shown store.old).content key.now) }
-        requires holds { HoldsOver self.now (region_of region.now) elements }
         ensures read { let under = options_of options.now in
             let value = held_bytes ((S.shown store.old).content key.now) in
             let wanted = own_region self.now under (region_of region.now) value in
@@ -127,25 +159,21 @@ impl ShardCodec {
             self.shard.checked,
             options.validate_checksums(),
         ) {
-            Ok(index) => self.read_by_index(alloc, key, index, region, elements, store, options),
+            Ok(index) => self.read_by_index(alloc, key, index, region, store, options),
             Err(error) => Err(error),
         }
     }
 
-    // The elements of a region that has some, which are the fill value's before.
+    // The elements of a region that has some.
     fn read_some<S: Store>(
         &self,
         alloc: Global,
         key: &StoreKey,
         region: &ArraySubset,
-        elements: BoxElements<'_>,
         store: &mut S,
         options: &CodecOptions,
     ) -> Result<ArrayBytes<'static>, CodecError>
         requires inside { ends_within (region_of region.now) (inner_of self.now).shape ≡ true }
-        requires holds { HoldsOver self.now (region_of region.now) elements }
-        requires filled { list_held elements
-            ≡ replicate (count (region_of region.now)) (inner_of self.now).fill }
         ensures read { let under = options_of options.now in
             let value = (S.shown store.old).content key.now in
             let wanted = held_region self.now under (region_of region.now) value in
@@ -159,11 +187,9 @@ impl ShardCodec {
         ensures kept { S.kept store.old store.new }
     {
         match fetch_range(alloc, key, ByteRange::Suffix(self.len_of_index()), store) {
-            Ok(Some(part)) => {
-                self.read_by_part(alloc, key, &part, region, elements, store, options)
-            }
+            Ok(Some(part)) => { self.read_by_part(alloc, key, &part, region, store, options) }
             Ok(None) => {
-                let bytes = elements.into_bytes(alloc)?;
+                let bytes = self.blank_region(alloc, region)?;
                 Ok(bytes)
             }
             Err(error) => Err(error),
@@ -207,16 +233,10 @@ impl ShardCodec {
         ensures puts { (S.shown store.new).puts ≡ (S.shown store.old).puts }
         ensures kept { S.kept store.old store.new }
     {
-        let elements = BoxElements::filled(
-            alloc,
-            self.shard.inner.data_type(),
-            self.shard.inner.fill_value(),
-            region,
-        )?;
         if region.is_empty() {
-            let bytes = elements.into_bytes(alloc)?;
+            let bytes = self.blank_region(alloc, region)?;
             return Ok(bytes);
         }
-        self.read_some(alloc, key, region, elements, store, options)
+        self.read_some(alloc, key, region, store, options)
     }
 }

@@ -13,8 +13,8 @@ returns-in-Ok-clause-read g c =
     by_index codec (options_of c.args.options.now) (region_of c.args.region.now) (held_bytes (before.content c.args.key.now)) c.args.part.now c.requires.part c.in-Ok.index.now before (g.S.Store.shown c.read_by_index.new.store) c.read_by_index.result
     (subst₂ (λ v n. index_found codec.shard.checked v n c.args.part.now ≡ Some c.in-Ok.index.now) c.validate_checksums.ensures c.num_inner-number.ensures c.in-Ok.ensures.found) c.read_by_index.ensures.read
 
-pub returns-clause-read : goal.returns-clause-read
-returns-clause-read g c =
+pub returns-in-Err-clause-read : goal.returns-in-Err-clause-read
+returns-in-Err-clause-read g c =
     let codec = c.args.self.now in
     let before = g.S.Store.shown c.args.store.now in
     by_no_index codec (options_of c.args.options.now) (region_of c.args.region.now) (held_bytes (before.content c.args.key.now)) c.args.part.now c.requires.part before c.in-Err.error
