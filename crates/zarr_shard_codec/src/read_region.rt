@@ -115,8 +115,8 @@ impl ShardCodec {
             (S.shown store.old) (S.shown store.new)) }
         ensures kept { S.kept store.old store.new }
     {
-        let inner = InnerChunks::of(self, alloc)?;
         let chunks = chunks_of(self, alloc, region)?;
+        let inner = InnerChunks::of(self, alloc)?;
         let met = MetInner {
             inner,
             key,
