@@ -187,7 +187,7 @@ impl ShardCodec {
         ensures kept { S.kept store.old store.new }
     {
         match fetch_range(alloc, key, ByteRange::Suffix(self.len_of_index()), store) {
-            Ok(Some(part)) => { self.read_by_part(alloc, key, &part, region, store, options) }
+            Ok(Some(part)) => self.read_by_part(alloc, key, &part, region, store, options),
             Ok(None) => {
                 let bytes = self.blank_region(alloc, region)?;
                 Ok(bytes)
