@@ -8,7 +8,7 @@ use std::alloc::Global;
 use std::borrow::CowSlice;
 use std::num::NonZeroU64;
 use std::process::Abort;
-use zarr_array::builtin_registries;
+use zarr_array_parts::builtin_registries;
 use zarr_shard_codec::ShardCodec;
 use zarrs_codec_array_bytes::ArrayBytes;
 use zarrs_codec_array_bytes::array_bytes::bytes_in;

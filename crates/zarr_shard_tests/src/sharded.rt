@@ -3,7 +3,7 @@
 use std::alloc::Global;
 use std::num::NonZeroU64;
 use std::process::Abort;
-use zarr_array::{OpenError, Registries, builtin_registries};
+use zarr_array_parts::{OpenError, Registries, builtin_registries};
 use zarr_shard_parts::{Shard, ShardParts};
 use zarrs_chunk_grid_traits::ChunkGridTraits;
 use zarrs_data_type_elements::FillValue;

@@ -1,0 +1,11 @@
+//! Tests of documents of sharded arrays, of the codec of shards, of the regions that it reads, and of its checksum.
+#![tactic(auto)]
+
+#[cfg(test)]
+mod checksum;
+#[cfg(test)]
+mod regions;
+#[cfg(test)]
+mod sharded;
+#[cfg(test)]
+mod shards;
