@@ -1,9 +1,8 @@
 -- What had been met before the place where commands ended.
-use Rattle.std.proofs.Common.{◌≡◌, ◌<◌, ◌⊎◌, ℕ, zero, suc, true, false, not, List, [], ◌∷◌, take, slice_get, Some, None, IsSome, is_some, refl, sym, ap, ◌∙◌, subst, arith, inl, inr, ⊎_elim}
-use Rattle.std.specs.List.{list_any}
+use Rattle.std.proofs.Common.{◌≡◌, ◌<◌, ◌⊎◌, ℕ, true, false, not, List, [], ◌∷◌, take, slice_get, Some, None, IsSome, is_some, refl, sym, ap, ◌∙◌, subst, arith, inl, inr, ⊎_elim}
 use Rattle.std.proofs.lemmas.Bool.{true≢false, cases_Bool}
 use Rattle.std.proofs.lemmas.Option.{same_Some}
-use Rattle.zarr_model.specs.Prelude.{IsChunk, CoversShape, Options, Content, chunk_content, Command, read, write, erase, Description, layout, refusal, command_chunks, erases_chunk, finds_shared, passes_over, KeepsDamage, SeesNoDamage}
+use Rattle.zarr_model.specs.Prelude.{IsChunk, CoversShape, Options, Content, chunk_content, Command, read, write, erase, Description, layout, refusal, command_chunks, finds_shared, passes_over, KeepsDamage, SeesNoDamage}
 use Rattle.zarr_model.proofs.Choices.{none_of}
 use Rattle.zarr_model.proofs.FailureLaws.{listed_is_chunk}
 use Rattle.zarr_model.proofs.MendedLaws.{content-same}

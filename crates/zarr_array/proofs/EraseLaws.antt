@@ -108,13 +108,12 @@ module _ (description : Description) (covers : CoversShape description.shape des
             (λ apart differs. absurd (true≢false (sym is.changed ∙ or_from (is_among (command_chunks description (erase chunk)) other) false (not_erased other differs) refl)))
 
   -- an erase whose key is gone ran
-  pub erase-ran : (before now : Shown) → PutsKey before.content now.content (description.key chunk) None → now.asks ≡ before.asks → before.asks ≤ 2 ^ 64 - 1 →
+  pub erase-ran : (before now : Shown) → PutsKey before.content now.content (description.key chunk) None →
       now.puts ≡ counted before.puts 1 → before.faults ≤ now.faults → HasRun description options (erase chunk ∷ []) before now (answered_done ∷ [])
-  erase-ran before now puts asked fits put later = record {
+  erase-ran before now puts put later = record {
     serves = erase-serves before.content now.content puts;
     refusals = ap (λ why. why ∷ []) (sym accepted);
     refused = λ all. absurd (true≢false (sym all ∙ ap (λ why. is_some why && true) accepted));
-    asks = omega (arith, asked, fits);
     puts = omega (arith, put, ap length erase-listed);
     damage = KeepsDamage-erase before.content now.content puts;
     undamaged = SeesNoDamage-erase description options chunk before.content;
@@ -138,10 +137,9 @@ module _ (description : Description) (covers : CoversShape description.shape des
 
   -- the store failed in an erase: the chunk's key is old.content or absent
   pub erase-fails : (old new : Shown) → MayPutKey old.content new.content (description.key chunk) None → Rose old.faults new.faults →
-      new.asks ≡ old.asks → old.asks ≤ 2 ^ 64 - 1 → new.puts ≡ counted old.puts 1 → FailsAt description options (erase chunk ∷ []) old new (Some (0, 0)) Store
-  erase-fails old new puts rose asked fits put = record {
+      new.puts ≡ counted old.puts 1 → FailsAt description options (erase chunk ∷ []) old new (Some (0, 0)) Store
+  erase-fails old new puts rose put = record {
     place = (erase chunk, refl, omega arith);
-    asks = (erase chunk, refl, inl (omega (arith, asked, fits)));
     puts = (erase chunk, refl, inr (let one = ap length erase-listed in omega (arith, one), put));
     keys = erase-keys old.content new.content puts;
     stored = erase-stays old.content new.content puts;
@@ -188,6 +186,6 @@ module _ (description : Description) (covers : CoversShape description.shape des
       )
 
 -- memory ran out before the call of an erase
-pub erase-starved : (description : Description) → CoversShape description.shape description.grid → (options : Options) → IsSound (layout description options) → (chunk : List ℕ) (store : Shown) → store.asks ≤ 2 ^ 64 - 1 → store.puts ≤ 2 ^ 64 - 1 →
+pub erase-starved : (description : Description) → CoversShape description.shape description.grid → (options : Options) → IsSound (layout description options) → (chunk : List ℕ) (store : Shown) → store.puts ≤ 2 ^ 64 - 1 →
     FailsAt description options (erase chunk ∷ []) store store (Some (0, 0)) OutOfMemory
 erase-starved description covers options sound chunk = command-starved description covers options sound (erase chunk)

@@ -1,6 +1,6 @@
 -- What commands that ran did to a store.
 use Rattle.std.specs.Prelude.{◌≡◌, ◌≤◌, List}
-use Rattle.zarr_model.specs.Prelude.{Options, Shown, Command, Description, Answer, all_asks, all_puts, counted, KeepsDamage, SeesNoDamage, ErasesKeys, ServesWhole, RefusesRight, AreRefused, IsUntouched, RanOver}
+use Rattle.zarr_model.specs.Prelude.{Options, Shown, Command, Description, Answer, all_puts, counted, KeepsDamage, SeesNoDamage, ErasesKeys, ServesWhole, RefusesRight, AreRefused, IsUntouched, RanOver}
 use Rattle.zarr_array.specs.Stored.{StoresForAll}
 
 -- some commands ran over a store and were answered so
@@ -10,7 +10,6 @@ pub record HasRun (description : Description) (options : Options) (commands : Li
   pub serves : ServesWhole description options commands before.content now.content answers
   pub refusals : RefusesRight description commands answers
   pub refused : AreRefused description commands → IsUntouched before now
-  pub asks : now.asks ≡ counted before.asks (all_asks description commands)
   pub puts : now.puts ≡ counted before.puts (all_puts description commands)
   pub damage : KeepsDamage description options commands before.content now.content
   pub undamaged : SeesNoDamage description options commands before.content

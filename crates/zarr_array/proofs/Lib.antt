@@ -11,7 +11,8 @@ pub mod StoredLaws
 pub mod HasRun
 pub mod StepRuns
 pub mod EraseLaws
-pub mod Commands
+pub mod BytesLaws
 pub mod RunsLaws
 pub mod TakenLaws
-pub mod SizeLaws
+pub mod CostLaws
+pub mod ChunkCosts

@@ -1,11 +1,9 @@
 -- A read as a command of a session.
-use Rattle.std.proofs.Common.{◌≡◌, ◌+◌, ◌-◌, ◌^◌, ◌<◌, ◌≤◌, true, false, [], ◌∷◌, length, slice_get, Some, None, refl, sym, ap, ◌∙◌, subst, arith, inl, inr, ⊎_elim}
-use Rattle.zarr_model.specs.Prelude.{Region, chunks_meeting, Options, Shown, read, Description, region_refusal, chunks_under, command_chunks, counted, finds_shared, array_of}
+use Rattle.std.proofs.Common.{◌≡◌, ◌-◌, ◌^◌, ◌≤◌, true, false, [], ◌∷◌, length, slice_get, Some, None, refl, sym, ap, ◌∙◌, subst, arith, inl}
+use Rattle.zarr_model.specs.Prelude.{Region, chunks_meeting, Options, Shown, read, Description, region_refusal, chunks_under, command_chunks, finds_shared, array_of}
 use Rattle.zarr_model.proofs.StepLaws.{LeavesKeys-same, read-left}
 use Rattle.zarr_model.proofs.RanLaws.{unchanged-left}
-use Rattle.zarr_array_regions.specs.parts.Parts.{described}
-use Rattle.zarr_array_regions.specs.parts.declared.parts.ArrayParts.{ArrayParts}
-use Rattle.zarr_array_regions.proofs.ServedLaws.{described_covers, described_sound}
+use Rattle.zarr_array_regions.specs.Access.{Access, IsServed, described}
 use Rattle.zarr_array_regions.specs.declared.error.CommandError.{CommandError}
 use Rattle.zarr_array_regions.specs.declared.error.SessionErrorKind.{SessionErrorKind}
 use Rattle.zarr_array_regions.specs.declared.error.SessionErrorKind.TheVariants.{NotOpened, ChunkDecode, Store, OutOfMemory}
@@ -18,16 +16,15 @@ pub chunks-read : (description : Description) (region : Region) → region_refus
 chunks-read description region accepted = ap (λ why. chunks_under description why (read region)) accepted
 
 -- a read that failed
-pub read-fails : (array : ArrayParts) (options : Options) (region : Region) (old new : Shown) (error : CommandError) → region_refusal (described array) region ≡ None →
+pub read-fails : (array : Access) (served : IsServed (described array)) (options : Options) (region : Region) (old new : Shown) (error : CommandError) → region_refusal (described array) region ≡ None →
     NotReadRegion array options region old new error → new.puts ≡ old.puts → old.puts ≤ 2 ^ 64 - 1 → FailsAt (described array) options (read region ∷ []) old new (Some (0, error.chunks_done)) error.kind
-read-fails array options region old new error accepted fails unput few_puts = record {
+read-fails array served options region old new error accepted fails unput few_puts = record {
   place = (read region, refl, few);
-  asks = (read region, refl, ⊎_elim (λ (done : new.asks ≡ counted old.asks error.chunks_done). inl (omega (arith, done))) (λ (next : (error.chunks_done < length (chunks_meeting (described array).grid region)) × (new.asks ≡ counted old.asks (error.chunks_done + 1))). inr (subst (λ l. error.chunks_done < length l) (sym listed) next.0, omega (arith, next.1))) fails.failed.asks);
   puts = (read region, refl, inl (omega (arith, unput, few_puts)));
   keys = LeavesKeys-same (described array) options (read region ∷ []) old.content new.content fails.same;
   stored = λ chunk is_chunk. inl (fails.same ((described array).key chunk));
   damage = λ chunk is_chunk damaged none. fails.same ((described array).key chunk);
-  left = unchanged-left (described array) options (described_covers array) (described_sound array options) (read region) error.chunks_done (is_store error.kind) old.content new.content few
+  left = unchanged-left (described array) options served.covers (served.sound options) (read region) error.chunks_done (is_store error.kind) old.content new.content few
       (λ a. ap (λ w. array_of (described array) w (read region) a) accepted) fails.same;
   decoded = decoded-one (described array) options (read region) old.content error.chunks_done
       (λ number chunk below here. fails.readable number chunk below (ap (λ l. slice_get l number) (sym listed) ∙ here));
@@ -48,5 +45,5 @@ read-fails array options region old new error accepted fails unput few_puts = re
           (read region, refl, refl, chunk, there, its_key, fails.same key, refl, damaged),
           (read region, refl, chunk, there, ap (λ k. finds_shared (described array) options region chunk (old.content k)) its_key ∙ unfound),
         )
-    by_kind Store cause = (cause, refl, λ honest. read-left (described array) options region error.chunks_done true old.content new.content (described_covers array) fails.same few)
-    by_kind OutOfMemory cause = λ honest. read-left (described array) options region error.chunks_done false old.content new.content (described_covers array) fails.same few
+    by_kind Store cause = (cause, refl, λ honest. read-left (described array) options region error.chunks_done true old.content new.content served.covers fails.same few)
+    by_kind OutOfMemory cause = λ honest. read-left (described array) options region error.chunks_done false old.content new.content served.covers fails.same few

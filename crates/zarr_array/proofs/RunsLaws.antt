@@ -4,7 +4,7 @@ use Rattle.std.specs.List.{list_all}
 use Rattle.std.proofs.lemmas.Bool.{and_parts}
 use Rattle.std.proofs.lemmas.List.{take-append-drop, map-append, take_all, length-map}
 use Rattle.std.proofs.lemmas.List.Sums.{sum_by-append}
-use Rattle.zarr_model.specs.Prelude.{CoversShape, Element, Array, Options, Content, WhollyMeans, IsHonest, IsSound, stored_array, Command, Description, layout, refusal, Answer, array_after, asks_store, puts_chunks, asks_of, puts_of, LeavesKeys, ServesArray, ServesWhole, AreRefused, IsUntouched, refusal_in, Shown, RanOver}
+use Rattle.zarr_model.specs.Prelude.{CoversShape, Element, Array, Options, Content, WhollyMeans, IsHonest, IsSound, stored_array, Command, Description, layout, refusal, Answer, array_after, puts_chunks, puts_of, LeavesKeys, ServesArray, ServesWhole, AreRefused, IsUntouched, refusal_in, Shown, RanOver}
 use Rattle.zarr_model.proofs.StoreLaws.{stored_array-meant, Means-from_whole}
 use Rattle.zarr_model.proofs.SessionLaws.{serves_from_whole, ServesWhole-append, LeavesKeys-none, LeavesKeys-append, LeavesKeys-more}
 use Rattle.zarr_model.proofs.StepLaws.{KeepsDamage-none, KeepsDamage-append, place-lifts, calls-lift, undecoded-lifts, stopped-lifts, starved-lifts}
@@ -25,7 +25,7 @@ use Rattle.zarr_array.proofs.DecodedLaws.{decoded-lifts}
 use Rattle.zarr_array.specs.declared.command.Reply.{Reply}
 use Rattle.zarr_array.specs.declared.error.SessionError.{SessionError}
 use Rattle.zarr_array.specs.Ended.{ended}
-use Rattle.zarr_array.specs.Runs.{Runs}
+use Rattle.zarr_array.specs.Runs.{RunsOn}
 
 -- an error of commands is that of their end
 pub err_of : {Z : Type 0} (P : SessionError → Type 0) (result : Result (Vec Reply Z) SessionError) → IfErr (ended result) P → IfErr result P
@@ -33,8 +33,8 @@ err_of P (Ok replies) h = tt
 err_of P (Err error) h = h
 
 -- no command
-pub none_ran : (array : Description) (options : Options) (store : Shown) → store.asks ≤ 2 ^ 64 - 1 → store.puts ≤ 2 ^ 64 - 1 → Runs array options [] store store (Ok [])
-none_ran array options store fits few = record {
+pub none_ran : (array : Description) (options : Options) (store : Shown) → store.puts ≤ 2 ^ 64 - 1 → RunsOn array options [] store store (Ok [])
+none_ran array options store few = record {
   serves = λ honest. record {
     answers_match = λ meant means. tt;
     left = record {
@@ -47,7 +47,6 @@ none_ran array options store fits few = record {
   complete = λ honest calm. tt;
   refusals = refl;
   refused = λ all. record { content = λ key. refl; asks = refl; taken = refl; puts = refl };
-  asks = omega (arith, fits);
   puts = omega (arith, few);
   unmet = λ unmet calm. tt;
   mended = RanOver-none array options store.content;
@@ -63,7 +62,7 @@ none_ran array options store fits few = record {
 
 -- memory ran out before any command
 pub none_begun : (array : Description) (options : Options) (commands : List Command) (store : Shown) →
-    Runs array options commands store store (Err (record { at = None; kind = OutOfMemory }))
+    RunsOn array options commands store store (Err (record { at = None; kind = OutOfMemory }))
 none_begun array options commands store = record {
   serves = tt;
   complete = λ honest calm. refl;
@@ -72,7 +71,6 @@ none_begun array options commands store = record {
   unmet = λ unmet calm. refl;
   mended = tt;
   answers = tt;
-  asks = tt;
   puts = tt;
   undamaged = tt;
   erased = tt;
@@ -82,7 +80,6 @@ none_begun array options commands store = record {
   later = omega arith;
   failed = record {
     place = tt;
-    asks = refl;
     puts = refl;
     keys = record { same_chunks = λ chunk is_chunk e. refl; other_keys = λ key apart. refl };
     stored = λ chunk is_chunk. inl refl;
@@ -164,14 +161,14 @@ module _ (array : Description) (options : Options) (covers : CoversShape array.s
       (serves.left.array_left (stored_array (layout array options) old) means).honest
 
   -- commands that ran leave the array that is left
-  whole_after : (commands : List Command) (before now : Shown) (answers : List Answer) → Runs array options commands before now (Ok answers) →
+  whole_after : (commands : List Command) (before now : Shown) (answers : List Answer) → RunsOn array options commands before now (Ok answers) →
       (meant : Array Element) → WhollyMeans (layout array options) before.content meant → WhollyMeans (layout array options) now.content (array_after array commands meant)
   whole_after commands before now answers ran meant means = (ran.serves (wholly_honest array options before.content meant means)).left.whole_chunks meant means
 
   -- one more command
   pub one_more_ran : (commands : List Command) (command : Command) (before mid now : Shown) (answers : List Answer) (answer : Answer) →
-      Runs array options commands before mid (Ok answers) → Runs array options (command ∷ []) mid now (Ok (answer ∷ [])) →
-      Runs array options (commands ++ command ∷ []) before now (Ok (answers ++ answer ∷ []))
+      RunsOn array options commands before mid (Ok answers) → RunsOn array options (command ∷ []) mid now (Ok (answer ∷ [])) →
+      RunsOn array options (commands ++ command ∷ []) before now (Ok (answers ++ answer ∷ []))
   one_more_ran commands command before mid now answers answer first second = record {
     serves = λ honest.
         let serves = first.serves honest in
@@ -182,7 +179,6 @@ module _ (array : Description) (options : Options) (covers : CoversShape array.s
     complete = λ honest calm. tt;
     refusals = map-append refusal_in answers (answer ∷ []) ∙ (ap₂ (λ a b. a ++ b) first.refusals second.refusals ∙ sym (map-append (refusal array) commands (command ∷ [])));
     refused = λ all. let parts = refused_parts array commands command all in untouched_then before mid now (first.refused parts.0) (second.refused parts.1);
-    asks = omega (arith, first.asks, second.asks, sum_by-append (asks_of array) commands (command ∷ []));
     puts = omega (arith, first.puts, second.puts, sum_by-append (puts_of array) commands (command ∷ []));
     unmet = λ unmet calm. tt;
     mended = joined;
@@ -202,15 +198,14 @@ module _ (array : Description) (options : Options) (covers : CoversShape array.s
 
   -- a command that failed after those before it
   pub stops_at : (commands : List Command) (i : ℕ) (command : Command) (before mid now : Shown) (answers : List Answer) (k : ℕ) (kind : SessionErrorKind) →
-      slice_get commands i ≡ Some command → Runs array options (take i commands) before mid (Ok answers) →
-      Runs array options (command ∷ []) mid now (Err (record { at = Some (0, k); kind = kind })) →
-      Runs array options commands before now (Err (record { at = Some (i, k); kind = kind }))
+      slice_get commands i ≡ Some command → RunsOn array options (take i commands) before mid (Ok answers) →
+      RunsOn array options (command ∷ []) mid now (Err (record { at = Some (0, k); kind = kind })) →
+      RunsOn array options commands before now (Err (record { at = Some (i, k); kind = kind }))
   stops_at commands i command before mid now answers k kind here so_far single = record {
     serves = tt;
     complete = λ honest calm. only_memory array options covers commands before now (Some (i, k)) kind (by_kind kind single.failed.cause) honest calm;
     refusals = tt;
     refused = λ all. untouched_then before mid now (so_far.refused (refused_front array commands i all)) (single.refused (refused_at array commands i command here all));
-    asks = tt;
     puts = tt;
     unmet = λ unmet calm. only_memory_unmet array options commands before now (Some (i, k)) kind (by_kind kind single.failed.cause) unmet calm;
     mended = tt;
@@ -225,7 +220,6 @@ module _ (array : Description) (options : Options) (covers : CoversShape array.s
     later = le_trans so_far.later single.later;
     failed = record {
       place = place-lifts array options commands i command here k single.failed.place;
-      asks = calls-lift array options commands i command here asks_store before.asks mid.asks now.asks k so_far.asks single.failed.asks;
       puts = calls-lift array options commands i command here puts_chunks before.puts mid.puts now.puts k so_far.puts single.failed.puts;
       keys = left;
       stored = stays-append array before.content mid.content now.content
@@ -262,13 +256,12 @@ module _ (array : Description) (options : Options) (covers : CoversShape array.s
   -- commands that ran to their end
   pub ran_gives : (commands : List Command) (before now : Shown) (answers : List Answer) →
       HasRun array options commands before now answers →
-      Runs array options commands before now (Ok answers)
+      RunsOn array options commands before now (Ok answers)
   ran_gives commands before now answers ran = record {
     serves = λ honest. serves_from_whole array options commands before.content now.content answers covers sound honest ran.serves;
     complete = λ honest calm. tt;
     refusals = ran.refusals;
     refused = ran.refused;
-    asks = ran.asks;
     puts = ran.puts;
     unmet = λ unmet calm. tt;
     mended = ran.over;
@@ -286,7 +279,7 @@ module _ (array : Description) (options : Options) (covers : CoversShape array.s
   pub failed_gives : (commands : List Command) (before now : Shown) (at : Option (ℕ × ℕ)) (kind : SessionErrorKind) →
       FailsAt array options commands before now at kind →
       (AreRefused array commands → IsUntouched before now) → LeavesKeys array options commands before.content now.content → before.faults ≤ now.faults →
-      Runs array options commands before now (Err (record { at = at; kind = kind }))
+      RunsOn array options commands before now (Err (record { at = at; kind = kind }))
   failed_gives commands before now at kind fails refused keys later = record {
     serves = tt;
     complete = λ honest calm. only_memory array options covers commands before now at kind fails.cause honest calm;
@@ -295,7 +288,6 @@ module _ (array : Description) (options : Options) (covers : CoversShape array.s
     unmet = λ unmet calm. only_memory_unmet array options commands before now at kind fails.cause unmet calm;
     mended = tt;
     answers = tt;
-    asks = tt;
     puts = tt;
     undamaged = tt;
     erased = tt;

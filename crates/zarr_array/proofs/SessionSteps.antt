@@ -1,15 +1,15 @@
 -- Why commands end early, and the refusals among them.
-use Rattle.std.proofs.Common.{true, false, ◌≡◌, ℕ, zero, suc, ◌&&◌, List, [], ◌∷◌, take, slice_get, Option, Some, None, IsSome, is_some, option_and_then, refl, sym, ap, ap₂, ◌∙◌, subst, ◌⊎◌, ⊎_elim}
+use Rattle.std.proofs.Common.{false, ◌≡◌, ℕ, zero, suc, ◌&&◌, List, [], ◌∷◌, take, slice_get, Option, Some, None, IsSome, is_some, option_and_then, refl, sym, ap, ap₂, ◌∙◌, subst, ⊎_elim}
 use Rattle.std.specs.List.{list_all, list_any}
 use Rattle.std.proofs.lemmas.Bool.{and_parts, true≢false}
-use Rattle.zarr_model.specs.Prelude.{IsChunk, CoversShape, Options, Content, IsHonest, Shown, Command, read, write, erase, Description, layout, chunk_content, command_chunks, erases_chunk, finds_shared, passes_over, refusal, IsUndecoded, KeepsDamage, Rose, AreRefused, MeetsNoDamage}
+use Rattle.zarr_model.specs.Prelude.{IsChunk, CoversShape, Options, Content, IsHonest, Shown, Command, Description, layout, chunk_content, command_chunks, erases_chunk, passes_over, refusal, IsUndecoded, KeepsDamage, Rose, AreRefused, MeetsNoDamage}
 use Rattle.std.proofs.lemmas.Option.{same_Some}
 use Rattle.zarr_model.proofs.FailureLaws.{listed_is_chunk}
 use Rattle.zarr_model.proofs.RanLaws.{undecoded-unmet}
 use Rattle.zarr_array_regions.specs.declared.error.SessionErrorKind.{SessionErrorKind}
 use Rattle.zarr_array_regions.specs.declared.error.SessionErrorKind.TheVariants.{NotOpened, ChunkDecode, Store, OutOfMemory}
-use Rattle.zarr_array_regions.specs.parts.Document.{ArrayDocument}
-use Rattle.zarr_array_regions.specs.Told.{TellsWhy}
+use Rattle.zarr_array_regions.specs.Access.{Says}
+use Rattle.zarr_array_regions.specs.Tells.{TellsOfSome}
 use Rattle.zarr_array.specs.Command.{region_read, region_at}
 use Rattle.zarr_array.specs.Session.{HasSessionCause, IsNoticed}
 use Rattle.zarr_array.proofs.DecodedLaws.{passes_over-same}
@@ -64,7 +64,7 @@ refused_at description (first ∷ commands) (suc i) command e all =
     refused_at description commands i command e (and_parts (is_some (refusal description first)) (list_all (λ c. is_some (refusal description c)) commands) all).1
 
 -- what an error of one command tells is told of the list
-pub told_at : (document : ArrayDocument) (options : Options) (now : Shown) (kind : SessionErrorKind) (commands : List Command) (i k : ℕ) (command : Command) → slice_get commands i ≡ Some command →
-    TellsWhy (region_read command) document options now kind → TellsWhy (region_at commands (Some (i, k))) document options now kind
-told_at document options now kind commands i k command here told =
-    subst (λ (o : Option Command). TellsWhy (option_and_then region_read o) document options now kind) (sym here) told
+pub told_at : (description : Description) (says : Says) (options : Options) (now : Shown) (kind : SessionErrorKind) (commands : List Command) (i k : ℕ) (command : Command) → slice_get commands i ≡ Some command →
+    TellsOfSome (region_read command) description says options now kind → TellsOfSome (region_at commands (Some (i, k))) description says options now kind
+told_at description says options now kind commands i k command here told =
+    subst (λ (o : Option Command). TellsOfSome (option_and_then region_read o) description says options now kind) (sym here) told

@@ -2,7 +2,7 @@
 use Rattle.std.proofs.Common.{◌≡◌, ℕ, zero, suc, ◌+◌, ◌-◌, ◌^◌, ◌<◌, ◌≤◌, ◌&&◌, Bool, true, false, if◌then◌else◌, List, [], ◌∷◌, length, slice_get, Contains, Some, None, IsSome, is_some, refl, sym, ap, ◌∙◌, subst, arith, ◌⊎◌, inl, inr}
 use Rattle.std.specs.List.{list_any}
 use Rattle.std.proofs.lemmas.Bool.{true≢false, or_from}
-use Rattle.zarr_model.specs.Prelude.{Region, Element, ArrayBytes, Array, elements_in, chunks_meeting, CoversShape, Options, Content, HasMet, chunk_content, passes_over, Shown, Command, read, write, erase, Refusal, Description, kind, layout, refusal, elements, answered, answered_refused, Matches, after, present_in, present_under, chunks_under, command_chunks, asks_store, puts_chunks, calls_of, is_among, changes_chunk, counted, erases_chunk, IsDamageSeen, SeesNoDamage, KeepsDamage, IsSound, reply_of, array_of}
+use Rattle.zarr_model.specs.Prelude.{Region, Element, ArrayBytes, Array, elements_in, chunks_meeting, CoversShape, Options, Content, HasMet, chunk_content, passes_over, Shown, Command, read, write, erase, Refusal, Description, kind, layout, refusal, elements, answered, answered_refused, Matches, after, present_in, present_under, chunks_under, command_chunks, puts_chunks, calls_of, is_among, changes_chunk, counted, erases_chunk, IsDamageSeen, SeesNoDamage, KeepsDamage, IsSound, reply_of, array_of}
 use Rattle.zarr_model.proofs.FailureLaws.{cut_short-start}
 use Rattle.zarr_model.proofs.StepLaws.{LeavesKeys-same, refused-serves, read-serves, KeepsDamage-read}
 use Rattle.zarr_model.proofs.FailureLaws.{meeting_is}
@@ -17,10 +17,10 @@ use Rattle.zarr_array.proofs.DecodedLaws.{decoded-start}
 
 -- a refused command has no chunks: it asks for none, erases none and sees no damage
 module _ (description : Description) (command : Command) (why : Refusal) (refused : refusal description command ≡ Some why) where
-  no_chunks : command_chunks description command ≡ []
+  pub no_chunks : command_chunks description command ≡ []
   no_chunks = ap (λ w. chunks_under description w command) refused
 
-  no_calls : (makes : Command → Bool) → calls_of makes description command ≡ 0
+  pub no_calls : (makes : Command → Bool) → calls_of makes description command ≡ 0
   no_calls makes = choice (makes command) (length (command_chunks description command)) (ap length no_chunks)
     where
       choice : (b : Bool) (n : ℕ) → n ≡ 0 → (if b then n else 0) ≡ 0
@@ -61,13 +61,12 @@ module _ (description : Description) (command : Command) (why : Refusal) (refuse
       unmet key (suc m, other, is, _, _, _, _, _, _, _) = cc
 
   -- a refused command ran
-  pub refused-ran : (options : Options) (store : Shown) → store.asks ≤ 2 ^ 64 - 1 → store.puts ≤ 2 ^ 64 - 1 →
+  pub refused-ran : (options : Options) (store : Shown) → store.puts ≤ 2 ^ 64 - 1 →
       HasRun description options (command ∷ []) store store (answered_refused why ∷ [])
-  refused-ran options store fits few = record {
+  refused-ran options store few = record {
     serves = refused-serves description options command why store.content store.content refused (λ key. refl);
     refusals = ap (λ w. w ∷ []) (sym refused);
     refused = λ all. record { content = λ key. refl; asks = refl; taken = refl; puts = refl };
-    asks = let none = no_calls asks_store in omega (arith, fits, none);
     puts = let none = no_calls puts_chunks in omega (arith, few, none);
     damage = KeepsDamage-refused options store.content store.content (λ key. refl);
     undamaged = SeesNoDamage-refused options store.content;
@@ -86,14 +85,13 @@ pub read-ran : (description : Description) (options : Options) → IsSound (layo
     ((place : ℕ) (chunk : List ℕ) → slice_get (chunks_meeting description.grid region) place ≡ Some chunk →
     IsSome (chunk_content (layout description options) old.content chunk) ⊎ (passes_over description options old.content (read region) chunk ≡ true)) →
     ((array : Array Element) → HasMet description options region old.content array → Matches (kind description) (answered value) (elements (elements_in region array))) →
-    new.asks ≡ counted old.asks (length (chunks_meeting description.grid region)) → new.puts ≡ old.puts → old.puts ≤ 2 ^ 64 - 1 → old.faults ≤ new.faults →
+    new.puts ≡ old.puts → old.puts ≤ 2 ^ 64 - 1 → old.faults ≤ new.faults →
     HasRun description options (read region ∷ []) old new (answered value ∷ [])
-read-ran description options sound region old new value accepted same decode right asked unput few later = record {
+read-ran description options sound region old new value accepted same decode right unput few later = record {
   serves = read-serves description options region old.content new.content (answered value) accepted same
       (λ array meant. right array (λ place chunk e. meant.each_chunk chunk (meeting_is description.grid region place chunk e).0));
   refusals = ap (λ w. w ∷ []) (sym accepted);
   refused = λ all. absurd (true≢false (sym all ∙ ap (λ w. is_some w && true) accepted));
-  asks = omega (arith, asked, ap length listed);
   puts = omega (arith, unput, few);
   damage = KeepsDamage-read description options region old.content new.content same;
   erased = λ none array chunk is_chunk. ap is_some (same (description.key chunk))
@@ -112,11 +110,10 @@ read-ran description options sound region old new value accepted same decode rig
     listed = ap (λ w. chunks_under description w (read region)) accepted
 
 -- memory ran out before the first chunk of a command
-pub command-starved : (description : Description) → CoversShape description.shape description.grid → (options : Options) → IsSound (layout description options) → (command : Command) (store : Shown) → store.asks ≤ 2 ^ 64 - 1 → store.puts ≤ 2 ^ 64 - 1 →
+pub command-starved : (description : Description) → CoversShape description.shape description.grid → (options : Options) → IsSound (layout description options) → (command : Command) (store : Shown) → store.puts ≤ 2 ^ 64 - 1 →
     FailsAt description options (command ∷ []) store store (Some (0, 0)) OutOfMemory
-command-starved description covers options sound command store fits few = record {
+command-starved description covers options sound command store few = record {
   place = (command, refl, omega arith);
-  asks = (command, refl, inl (none store.asks (asks_store command) fits));
   puts = (command, refl, inl (none store.puts (puts_chunks command) few));
   keys = LeavesKeys-same description options (command ∷ []) store.content store.content (λ key. refl);
   stored = λ chunk is_chunk. inl refl;

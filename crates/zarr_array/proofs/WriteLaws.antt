@@ -191,7 +191,6 @@ module _ (description : Description) (covers : CoversShape description.shape des
       serves = write-serves;
       refusals = ap (λ why. why ∷ []) (sym accepted);
       refused = λ all. absurd (true≢false (sym all ∙ ap (λ why. is_some why && true) accepted));
-      asks = omega (arith, changed.asks, full);
       puts = omega (arith, changed.puts, full);
       damage = write-damage;
       erased = λ none array chunk is_chunk. absurd (true≢false none);
@@ -410,15 +409,6 @@ module _ (description : Description) (covers : CoversShape description.shape des
     pub write-fails : FailsAt description options (write region value ∷ []) old new (Some (0, k)) kind
     write-fails = record {
       place = (write region value, refl, few);
-      asks = (
-        write region value,
-        refl,
-        ⊎_elim
-            (λ (done : new.asks ≡ counted old.asks k). inl (omega (arith, done)))
-            (λ (next : (k < length (chunks_meeting description.grid region)) × (new.asks ≡ counted old.asks (k + 1))).
-            inr (subst (λ chunks. k < length chunks) (sym write-listed) next.0, omega (arith, next.1)))
-            fails.asks,
-      );
       puts = (
         write region value,
         refl,

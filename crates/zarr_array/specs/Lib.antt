@@ -10,4 +10,5 @@ pub mod Session
 pub mod WritesUpTo
 pub mod Ended
 pub mod Runs
+pub mod Costs
 pub mod Taken

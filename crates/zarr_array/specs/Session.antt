@@ -37,9 +37,8 @@ is_store _ = false
 -- an error at a place of a run
 pub record FailsAt (description : Description) (options : Options) (commands : List Command)
     (before now : Shown) (at : Option (ℕ × ℕ)) (kind : SessionErrorKind) : Type 0 where
-  -- the place is one of the run, and the reading and writing calls are those up to it
+  -- the place is one of the run, and the writing calls are those up to it
   pub place : IsPlace description commands at
-  pub asks : AsksUpTo description commands before.asks now.asks at
   pub puts : PutsUpTo description commands before.puts now.puts at
   -- only commands that had begun change keys
   pub keys : LeavesKeys description options (begun commands at) before.content now.content
@@ -54,6 +53,13 @@ pub record FailsAt (description : Description) (options : Options) (commands : L
   pub decoded : AreDecoded description options commands before.content at
   -- and the error has its cause
   pub cause : HasSessionCause description options commands before now at kind
+
+-- the same, and where one call fetches a chunk the reading calls are those up to the place
+pub record FailsBy (once : Bool) (description : Description) (options : Options)
+    (commands : List Command) (before now : Shown) (at : Option (ℕ × ℕ)) (kind : SessionErrorKind)
+    : Type 0 where
+  pub on : FailsAt description options commands before now at kind
+  pub asks : once ≡ true → AsksUpTo description commands before.asks now.asks at
 
 -- a session was not opened by this refusal, or wanted memory
 abbrev pub IsNotOpenedBy : SessionErrorKind → OpenRefusal → Type 0

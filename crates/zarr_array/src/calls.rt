@@ -13,6 +13,7 @@ ghost use Rattle.zarr_array.specs.Runs.{Runs};
 ghost use Rattle.zarr_array.specs.Taken.{TakesAlone};
 
 use crate::command::Reply;
+use crate::commands::{run_erase, run_read, run_write};
 use crate::error::{SessionError, SessionErrorKind};
 use crate::open::OpenArray;
 use std::alloc::Global;
@@ -32,6 +33,7 @@ impl OpenArray {
     /// # Errors
     /// `ChunkDecode` with the key of a chunk that the region meets and whose value does not decode, `Store` where the
     /// store failed, or `OutOfMemory`. The command is number 0.
+    #[tactic(auto, using(crate::proofs::ChunkCosts::by_chunks))]
     pub fn read<S: Store>(
         &self,
         alloc: Global,
@@ -59,7 +61,7 @@ impl OpenArray {
         ensures told { IfErr result (λ error. TellsWhy (Some (region_of_subset region.now))
             (documented self.now) (options_of options.now) (S.shown store.new) error.kind) }
     {
-        Ok(self.run_read(alloc, region, store, options)?)
+        Ok(run_read(&self.parts, alloc, region, store, options)?)
     }
 
     /// Writes elements to a region of the array, in its row-major order: done, or why it is refused. The bytes are of the
@@ -73,6 +75,7 @@ impl OpenArray {
     /// `ChunkDecode` with the key of a chunk that the region meets and whose old value does not decode, also where the
     /// region covers all of it, `Store` where the store failed, or `OutOfMemory`. The command is number 0, and the error
     /// says how many chunks were finished. These stay written, and a damaged value stands.
+    #[tactic(auto, using(crate::proofs::ChunkCosts::by_chunks))]
     pub fn write<S: Store>(
         &self,
         alloc: Global,
@@ -98,7 +101,7 @@ impl OpenArray {
         ensures told { IfErr result (λ error. TellsWhy None (documented self.now)
             (options_of options.now) (S.shown store.new) error.kind) }
     {
-        Ok(self.run_write(alloc, region, bytes, store, options)?)
+        Ok(run_write(&self.parts, alloc, region, bytes, store, options)?)
     }
 
     /// Erases the chunk of these indices, so that all its elements are the fill value: done, or why it is refused.
@@ -107,6 +110,7 @@ impl OpenArray {
     ///
     /// # Errors
     /// `Store` where the store failed, or `OutOfMemory`. The command is number 0.
+    #[tactic(auto, using(crate::proofs::ChunkCosts::by_chunks))]
     pub fn erase<S: Store>(
         &self,
         alloc: Global,
@@ -127,6 +131,6 @@ impl OpenArray {
         ensures told { IfErr result (λ error. TellsWhy None (documented self.now)
             (options_of options.now) (S.shown store.new) error.kind) }
     {
-        Ok(self.run_erase(alloc, chunk, store, options)?)
+        Ok(run_erase(&self.parts, alloc, chunk, store, options)?)
     }
 }

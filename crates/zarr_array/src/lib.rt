@@ -3,12 +3,12 @@
 
 mod calls;
 mod command;
+pub mod commands;
 mod error;
 mod handle;
 mod open;
 mod refusal;
 mod session;
-mod step;
 
 pub use command::{Command, Reply};
 pub use error::{SessionError, SessionErrorKind};
@@ -17,8 +17,8 @@ pub use open::OpenArray;
 pub use refusal::Refusal;
 pub use session::run_session;
 pub use zarr_array_regions::{
-    BasicChain, BasicGrid, ChunkKeyKind, CodecKind, DataTypeKind, GridKind, OpenError, Registries,
-    builtin_registries,
+    BasicChain, BasicGrid, ChunkAccess, ChunkKeyKind, CodecKind, DataTypeKind, GridKind, OpenError,
+    Registries, builtin_registries,
 };
 pub use zarr_chain::ChunkLevels;
 pub use zarrs_array_subset::{ArraySubset, ChunkShape};

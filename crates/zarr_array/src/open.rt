@@ -19,7 +19,7 @@ ghost use Rattle.zarr_array_regions.specs.parts.ChunkLevels.{ServesShape, chunk_
 ghost use Rattle.zarr_array_regions.specs.parts.Sizes.{have_chunks};
 
 use std::alloc::{AllocError, Global};
-use zarr_array_regions::{ArrayParts, BasicChain, BasicGrid, OpenError, Registries, chunk_key};
+use zarr_array_regions::{ArrayParts, BasicChain, BasicGrid, ChunkAccess, OpenError, Registries};
 use zarr_chain::ChunkLevels;
 use zarrs_array_subset::ChunkShape;
 use zarrs_chunk_grid_traits::{ChunkGridError, ChunkGridTraits};
@@ -68,6 +68,13 @@ impl OpenArray {
     {
         let parts = ArrayParts::from_metadata(alloc, metadata, registries)?;
         Ok(OpenArray { parts })
+    }
+
+    /// Its parts, through which its chunks are read and written.
+    pub fn parts(&self) -> &ArrayParts
+        ensures { result.now ≡ self.now.parts }
+    {
+        &self.parts
     }
 
     /// Whether the array has a chunk: no length of its shape is 0.
@@ -168,6 +175,6 @@ impl OpenArray {
     pub fn chunk_key(&self, alloc: Global, chunk: &[u64]) -> Result<StoreKey, AllocError>
         ensures { IfOk result (λ key. key ≡ (described self.now).key chunk.now) }
     {
-        chunk_key(&self.parts, alloc, chunk)
+        self.parts.chunk_key(alloc, chunk)
     }
 }

@@ -6,9 +6,10 @@ ghost use Rattle.zarr_model.specs.Prelude.{write, erase, region_refusal, refusal
 ghost use Rattle.zarrs_array_subset.specs.ArraySubset.{region};
 ghost use Rattle.zarrs_codec_array_bytes.specs.Raw.{raw_of};
 ghost use Rattle.zarrs_codec_array_bytes.specs.Refusals.{told_by, sized_answer};
+ghost use Rattle.zarr_array_regions.specs.Access.{described};
 ghost use Rattle.zarr_array.specs.Command.{refusal_of};
 
-use crate::open::OpenArray;
+use zarr_array_regions::ChunkAccess;
 use zarrs_array_subset::ArraySubset;
 use zarrs_chunk_grid_traits::ChunkGridTraits;
 use zarrs_codec_array_bytes::ArrayBytes;
@@ -79,77 +80,74 @@ fn refusal_by(error: CodecError) -> Refusal
     }
 }
 
-impl OpenArray {
-    ghost use Rattle.zarr_array.specs.OpenArray.{described};
-
-    // Whether a region has too many elements, or too many bytes of them.
-    fn is_too_large(&self, subset: &ArraySubset) -> bool
-        ensures { result
-            ≡ is_too_large (fixed_size (kind (described self.now))) (count (region subset.now)) }
-    {
-        match subset.checked_num_elements() {
-            None | Some(u64::MAX) => true,
-            Some(number) => match self.data_type().fixed_size() {
-                Some(size) => number.checked_mul(size as u64).is_none(),
-                None => false,
-            },
-        }
+// Whether a region has too many elements, or too many bytes of them.
+fn is_too_large<C: ChunkAccess>(array: &C, subset: &ArraySubset) -> bool
+    ensures { result ≡ is_too_large (fixed_size (kind (described (C.seen array.now))))
+        (count (region subset.now)) }
+{
+    match subset.checked_num_elements() {
+        None | Some(u64::MAX) => true,
+        Some(number) => match array.data_type().fixed_size() {
+            Some(size) => number.checked_mul(size as u64).is_none(),
+            None => false,
+        },
     }
+}
 
-    /// Why a region of the array is refused, if it is: its rank is tested first, then its end, then how many elements
-    /// it has.
-    pub(crate) fn region_refusal(&self, subset: &ArraySubset) -> Option<Refusal>
-        ensures { option_map refusal_of result
-            ≡ region_refusal (described self.now) (region subset.now) }
-    {
-        if subset.dimensionality() != self.shape().len() {
-            return Some(Refusal::IncompatibleDimensionality);
-        }
-        if !subset.inbounds_shape(self.shape()) {
-            return Some(Refusal::SubsetOutOfBounds);
-        }
-        if self.is_too_large(subset) {
-            return Some(Refusal::RegionTooLarge);
-        }
-        None
+/// Why a region of an array is refused, if it is: its rank is tested first, then its end, then how many elements it has.
+pub(crate) fn region_refusal<C: ChunkAccess>(array: &C, subset: &ArraySubset) -> Option<Refusal>
+    ensures { option_map refusal_of result
+        ≡ region_refusal (described (C.seen array.now)) (region subset.now) }
+{
+    let shape = array.grid().array_shape();
+    if subset.dimensionality() != shape.len() {
+        return Some(Refusal::IncompatibleDimensionality);
     }
+    if !subset.inbounds_shape(shape) {
+        return Some(Refusal::SubsetOutOfBounds);
+    }
+    if is_too_large(array, subset) {
+        return Some(Refusal::RegionTooLarge);
+    }
+    None
+}
 
-    /// Why a write is refused, if it is: its region is tested first, then its bytes as elements of the region, the
-    /// outermost level first, and last how long its elements are.
-    pub(crate) fn write_refusal(
-        &self,
-        subset: &ArraySubset,
-        bytes: &ArrayBytes<'_>,
-    ) -> Option<Refusal>
-        ensures { option_map refusal_of result
-            ≡ refusal (described self.now) (write (region subset.now) (raw_of bytes.now)) }
-    {
-        let refusal = self.region_refusal(subset);
-        if refusal.is_some() {
-            return refusal;
-        }
-        match bytes.validate(subset.num_elements(), self.data_type()) {
-            Ok(()) => {
-                if has_long_element(bytes) {
-                    return Some(Refusal::ElementTooLong);
-                }
-                None
+/// Why a write is refused, if it is: its region is tested first, then its bytes as elements of the region, the outermost
+/// level first, and last how long its elements are.
+pub(crate) fn write_refusal<C: ChunkAccess>(
+    array: &C,
+    subset: &ArraySubset,
+    bytes: &ArrayBytes<'_>,
+) -> Option<Refusal>
+    ensures { option_map refusal_of result ≡ refusal (described (C.seen array.now))
+        (write (region subset.now) (raw_of bytes.now)) }
+{
+    let refusal = region_refusal(array, subset);
+    if refusal.is_some() {
+        return refusal;
+    }
+    match bytes.validate(subset.num_elements(), array.data_type()) {
+        Ok(()) => {
+            if has_long_element(bytes) {
+                return Some(Refusal::ElementTooLong);
             }
-            Err(error) => Some(refusal_by(error)),
+            None
         }
+        Err(error) => Some(refusal_by(error)),
     }
+}
 
-    /// Why an erase is refused, if it is: no chunk of the grid has these indices.
-    pub(crate) fn erase_refusal(&self, chunk_indices: &[u64]) -> Option<Refusal>
-        ensures { option_map refusal_of result
-            ≡ refusal (described self.now) (erase chunk_indices.now) }
-    {
-        if chunk_indices.len() != self.parts.grid().grid_shape().len() {
-            return Some(Refusal::IncompatibleDimensionality);
-        }
-        if !self.parts.grid().has_chunk(chunk_indices) {
-            return Some(Refusal::SubsetOutOfBounds);
-        }
-        None
+/// Why an erase is refused, if it is: no chunk of the grid has these indices.
+pub(crate) fn erase_refusal<C: ChunkAccess>(array: &C, chunk_indices: &[u64]) -> Option<Refusal>
+    ensures { option_map refusal_of result
+        ≡ refusal (described (C.seen array.now)) (erase chunk_indices.now) }
+{
+    let grid = array.grid();
+    if chunk_indices.len() != grid.grid_shape().len() {
+        return Some(Refusal::IncompatibleDimensionality);
     }
+    if !grid.has_chunk(chunk_indices) {
+        return Some(Refusal::SubsetOutOfBounds);
+    }
+    None
 }

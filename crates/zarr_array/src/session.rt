@@ -14,6 +14,7 @@ ghost use Rattle.zarr_array.specs.Runs.{Runs};
 ghost use Rattle.zarr_array.specs.Taken.{TakesAlone};
 
 use crate::command::{Command, Reply};
+use crate::commands::run_commands;
 use crate::error::{SessionError, SessionErrorKind};
 use crate::open::OpenArray;
 use std::alloc::Global;
@@ -33,6 +34,7 @@ impl OpenArray {
     /// that the command met and whose value does not decode, [`SessionErrorKind::Store`] comes where the store failed,
     /// and `OutOfMemory` for want of memory. What the commands before did stands, and so do these chunks; and a damaged
     /// value stands until its chunk is erased.
+    #[tactic(auto, using(crate::proofs::ChunkCosts::by_chunks))]
     pub fn run_commands<S: Store>(
         &self,
         alloc: Global,
@@ -52,22 +54,7 @@ impl OpenArray {
         // Reads keep what a store says that its reading calls keep.
         ensures kept { AreReads (map command_of commands.now) → S.kept store.old store.new }
     {
-        let mut replies = match Vec::with_capacity(alloc, commands.len()) {
-            Ok(replies) => replies,
-            Err(_) => return Err(SessionError::before_commands(SessionErrorKind::OutOfMemory)),
-        };
-        for (number, command) in commands.iter().enumerate() {
-            match self.run_command(alloc, command, store, options) {
-                Ok(reply) => replies.push(reply).unwrap(),
-                Err(error) => {
-                    return Err(SessionError {
-                        at: Some((number, error.chunks_done)),
-                        kind: error.kind,
-                    });
-                }
-            }
-        }
-        Ok(replies)
+        run_commands(&self.parts, alloc, commands, store, options)
     }
 }
 

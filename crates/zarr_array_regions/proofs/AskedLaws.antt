@@ -1,8 +1,6 @@
 -- The part of a chunk that a read of a region asks for.
-use Rattle.std.proofs.Common.{◌≡◌, ℕ, ◌+◌, ◌-◌, ◌≤◌, max, min, Bool, true, false, ◌==◌, not, if◌then◌else◌, List, [], ◌∷◌, Option, Some, None, refl, ap, ap₂, subst, arith, eq-eqb}
-use Rattle.std.proofs.lemmas.Bool.{and_parts, leb-true}
+use Rattle.std.proofs.Common.{◌≡◌, ℕ, Bool, true, false, ◌==◌, not, if◌then◌else◌, List, Option, Some, None, refl, ap, ap₂, subst, eq-eqb}
 use Rattle.zarr_model.specs.Prelude.{Region, count, overlap_of, is_in_part, part_of_box, Options, Description, finds_shared}
-use Rattle.zarr_model.specs.Region.{Span}
 use Rattle.zarrs_array_subset.specs.Boxes.{is_within}
 use Rattle.zarr_array_elements.proofs.ShareLaws.{overlap_inside}
 use Rattle.zarr_array_regions.specs.Asked.{part_asked, chunk_asked, finds_asked}

@@ -1,32 +1,21 @@
 -- The chunks of an array: what stands under their keys.
-use Rattle.std.proofs.Common.{◌≡◌, ℕ, ◌⊎◌, inl, inr, ⊎_elim, Bool, true, false, List, [], ◌∷◌, replicate, Option, Some, None, IsSome, unwrap_or, Result, Ok, Err, OnOk, OnErr, refl, sym, ap, ◌∙◌, subst}
-use Rattle.zarr_model.specs.Prelude.{Element, Region, count, count_of, Options, Level, decode_bytes, kind, kind_of, meaning, Content, Rose, Shown, box_content, chunk_content, layout, ArrayBytes, has_long_element}
+use Rattle.std.proofs.Common.{◌≡◌, ℕ, ◌⊎◌, inl, inr, ⊎_elim, Bool, true, false, List, [], replicate, Option, Some, None, IsSome, IfSome, unwrap_or, Result, Ok, Err, OnOk, OnErr, refl, sym, ap, ◌∙◌, subst}
+use Rattle.zarr_model.specs.Prelude.{Element, Region, count, count_of, Options, Level, kind, kind_of, meaning, Content, Shown, box_content, chunk_content, layout, ArrayBytes, has_long_element}
 use Rattle.zarrs_codec_traits.specs.Words.{list_at, Gives}
 use Rattle.zarrs_codec_error.specs.declared.error.CodecError.{CodecError}
 use Rattle.zarrs_codec_error.specs.declared.error.CodecError.TheVariants as codec
-use Rattle.zarrs_storage.specs.declared.byte_range.ByteRange.{ByteRange}
 use Rattle.zarrs_storage.specs.declared.store.StorageError.{StorageError}
-use Rattle.zarrs_storage.specs.declared.store.StorageError.TheVariants as storage
-use Rattle.zarrs_codec_held.specs.Held.{Held}
-use Rattle.zarrs_codec_held.specs.Reads.{IsHandleError}
-use Rattle.zarr_chain.specs.Chain.{first_level, bottom_level, decoded}
+use Rattle.zarr_chain.specs.Chain.{first_level, decoded}
 use Rattle.zarr_chain.specs.declared.levels.ChunkLevels.{ChunkLevels}
-use Rattle.zarr_chain.specs.Values.{byte_codecs}
-use Rattle.zarr_chain.specs.Values as values
 use Rattle.zarr_chain_stored.specs.Fetch as stored
-use Rattle.zarr_chain_stored.specs.Regions.{given_bytes, first_outside, range_says}
-use Rattle.zarr_chain_stored.specs.Seen.{ChunkTells, RegionTells}
 use Rattle.zarr_chain_stored.specs.Put as put
-use Rattle.zarr_codecs_array_to_bytes.specs.Laws.{plain_no_fault}
-use Rattle.zarr_codecs_array_to_bytes.specs.Views.{plain_of}
-use Rattle.zarr_array_parts.specs.kinds.BytesToBytes.{byte_no_fault, byte_form}
-use Rattle.zarr_array_parts.specs.kinds.declared.bytes_to_bytes.BasicBytesToBytes.{BasicBytesToBytes}
-use Rattle.zarr_array_parts.specs.Codecs.{array_meaning, list_meaning, list_says, bytes_meaning, bytes_says}
+use Rattle.zarr_array_parts.specs.Codecs.{array_meaning, list_meaning, bytes_meaning}
 use Rattle.zarr_array_parts.specs.Chain.{BasicChain}
 use Rattle.zarr_array_parts.specs.ChunkLevels.{chunk_shape, ServesShape}
-use Rattle.zarr_array_regions.specs.Codecs.{basic_seen}
-use Rattle.zarr_array_regions.specs.Chunk.{storage_kind, is_dropped, decode_at, PutsElements, MayPutElements, chunk_kind, FailsToFetch}
+use Rattle.zarr_array_regions.specs.Chunk.{storage_kind, is_dropped, decode_at, PutsElements, MayPutElements, chunk_kind}
 use Rattle.zarr_array_regions.specs.Fetch.{chunk_list, MeanChunk}
+use Rattle.zarr_array_regions.specs.Access.{IsInHand}
+use Rattle.zarr_array_regions.specs.Plain.{plain_access, AreLevelsAt}
 use Rattle.zarr_array_regions.specs.declared.error.SessionErrorKind.{SessionErrorKind}
 use Rattle.zarr_array_regions.specs.declared.error.SessionErrorKind.TheVariants.{ChunkDecode, OutOfMemory}
 use Rattle.zarr_array_parts.specs.Parts.{described}
@@ -69,6 +58,13 @@ module _ (holds : List ℕ → SessionErrorKind → Type 0) where
 pub lent_serves : (array : ArrayParts) (chain : BasicChain) (levels : ChunkLevels) (chunk : List ℕ) → chain ≡ array.chain → ServesShape array (chunk_shape (described array) chunk) array.chain levels →
     ServesShape array (chunk_shape (described array) chunk) chain levels
 lent_serves array chain levels chunk is serves = subst (λ c. ServesShape array (chunk_shape (described array) chunk) c levels) (sym is) serves
+
+-- levels in hand are of the shape of the chunk that they were made for
+pub in_hand : (array : ArrayParts) (hand : Option ChunkLevels) → IfSome hand (IsInHand (AreLevelsAt array)) →
+    IfSome hand (λ levels. ServesShape array (first_level levels).shape array.chain levels)
+in_hand array None serves = tt
+in_hand array (Some levels) serves =
+    subst (λ dims. ServesShape array dims array.chain levels) (sym (ap (λ (l : Level). l.shape) serves.1.level)) serves.1
 
 -- levels of a chunk's shape decode its values as the array does
 module _ (array : ArrayParts) (chain : BasicChain) (levels : ChunkLevels) (options : Options) (chunk : List ℕ) (serves : ServesShape array (chunk_shape (described array) chunk) chain levels) where
@@ -131,17 +127,17 @@ module _ (array : ArrayParts) (chain : BasicChain) (levels : ChunkLevels) (optio
   at_level : (bytes : ArrayBytes) → list_at (first_level levels) bytes ≡ meaning (kind (described array)) (count box) bytes
   at_level bytes = ap (λ (l : Level). meaning (kind_of l.data_type) (count_of l.shape) bytes) serves.level
 
-  pub given_mean : (bytes : ArrayBytes) (content : Option (List Element)) → Gives (list_at (first_level levels) bytes) content → has_long_element bytes ≡ false → MeanChunk array chunk bytes
+  pub given_mean : (bytes : ArrayBytes) (content : Option (List Element)) → Gives (list_at (first_level levels) bytes) content → has_long_element bytes ≡ false → MeanChunk (plain_access array) chunk bytes
   given_mean bytes content gives short = record { means = subst IsSome (at_level bytes) gives.there; short = short }
 
   pub fetched_elements : (bytes : ArrayBytes) (key : List ℕ) (before : Shown) → key ≡ (described array).key chunk →
       Gives (list_at (first_level levels) bytes) (stored.chunk_content array_meaning list_meaning bytes_meaning chain levels options (before.content key)) →
-      chunk_content (layout (described array) options) before.content chunk ≡ Some (chunk_list array chunk bytes)
+      chunk_content (layout (described array) options) before.content chunk ≡ Some (chunk_list (plain_access array) chunk bytes)
   fetched_elements bytes key before its_key gives =
       ap (λ k. box_content (layout (described array) options) box (before.content k)) (sym its_key)
       ∙ (sym (content_as array chain levels options chunk serves (before.content key))
       ∙ (sym gives.same ∙ (at_level bytes ∙ some_list (meaning (kind (described array)) (count box) bytes) (subst IsSome (at_level bytes) gives.there))))
 
   -- and bytes that mean as many
-  pub taken_elements : (bytes : ArrayBytes) → MeanChunk array chunk bytes → list_at (first_level levels) bytes ≡ Some (chunk_list array chunk bytes)
+  pub taken_elements : (bytes : ArrayBytes) → MeanChunk (plain_access array) chunk bytes → list_at (first_level levels) bytes ≡ Some (chunk_list (plain_access array) chunk bytes)
   taken_elements bytes mean = at_level bytes ∙ some_list (meaning (kind (described array)) (count box) bytes) mean.means

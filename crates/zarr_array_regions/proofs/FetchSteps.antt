@@ -1,14 +1,12 @@
 -- How fetching a chunk ends.
-use Rattle.std.proofs.Common.{◌≡◌, ◌⊎◌, ℕ, ◌≤◌, Bool, true, false, not, ◌==◌, if◌then◌else◌, List, length, Option, Some, None, option_map, Err, refl, sym, ap, ◌∙◌, subst, inl, inr, ⊎_elim, arith}
-use Rattle.zarr_model.specs.Prelude.{Region, ends_within, Element, Level, Options, Rose, Shown, chunk_content, decode_bytes, layout, counted}
+use Rattle.std.proofs.Common.{◌≡◌, ◌⊎◌, ℕ, ◌≤◌, Bool, true, false, not, if◌then◌else◌, List, length, Option, Some, None, option_map, Err, refl, sym, ◌∙◌, subst, inl, inr, ⊎_elim}
+use Rattle.zarr_model.specs.Prelude.{Region, ends_within, Element, Level, Options, Shown, chunk_content, decode_bytes, layout, counted}
 use Rattle.zarrs_storage.specs.Store.{SameContent}
 use Rattle.zarrs_storage.specs.ByteRange.{first_invalid}
 use Rattle.zarrs_storage.specs.declared.byte_range.ByteRange.{ByteRange}
-use Rattle.zarrs_storage.specs.declared.store.StorageError.TheVariants as storage
 use Rattle.zarrs_codec_error.specs.declared.error.CodecError.{CodecError}
-use Rattle.zarrs_codec_error.specs.declared.error.CodecError.TheVariants as codec
 use Rattle.zarrs_codec_held.specs.Held.{Held}
-use Rattle.zarrs_codec_held.specs.Reads.{TellsRangeOf, IsHandleError}
+use Rattle.zarrs_codec_held.specs.Reads.{IsHandleError}
 use Rattle.zarr_chain.specs.Chain.{first_level, bottom_level, decoded}
 use Rattle.zarr_chain.specs.Values.{byte_codecs}
 use Rattle.zarr_chain.specs.declared.levels.ChunkLevels.{ChunkLevels}
@@ -19,22 +17,25 @@ use Rattle.zarr_chain_stored.specs.declared.fetched.Fetched.{Fetched}
 use Rattle.zarr_codecs_array_to_bytes.specs.Plain.{request_by}
 use Rattle.zarr_codecs_array_to_bytes.specs.Views.{plain_of}
 use Rattle.zarr_array_parts.specs.Chain.{BasicChain}
-use Rattle.zarr_array_parts.specs.ChunkLevels.{chunk_shape, chunk_level, ServesShape}
+use Rattle.zarr_array_parts.specs.ChunkLevels.{chunk_shape, ServesShape}
 use Rattle.zarr_array_parts.specs.Codecs.{array_meaning, list_meaning, list_says, bytes_meaning, bytes_says}
 use Rattle.zarr_array_parts.specs.Parts.{documented, described}
 use Rattle.zarr_array_parts.specs.declared.parts.ArrayParts.{ArrayParts}
 use Rattle.zarr_array_regions.specs.Asked.{part_asked, finds_asked}
 use Rattle.zarr_array_regions.specs.Codecs.{list_request, box_below, basic_seen}
 use Rattle.zarr_array_regions.specs.Chunk.{chunk_kind, FailsToFetch}
-use Rattle.zarr_array_regions.specs.Fetch.{HasAsked, NotFetched}
-use Rattle.zarr_array_regions.specs.Told.{stored_says, TellsOf}
+use Rattle.zarr_array_regions.specs.Access.{stored_by}
+use Rattle.zarr_array_regions.specs.Fetch.{NotFetched}
+use Rattle.zarr_array_regions.specs.Plain.{plain_access}
+use Rattle.zarr_array_regions.specs.Tells.{TellsOf}
+use Rattle.zarr_array_regions.specs.Told.{value_says}
 use Rattle.zarr_array_regions.specs.declared.error.SessionErrorKind.{SessionErrorKind}
-use Rattle.zarr_array_regions.specs.declared.error.SessionErrorKind.TheVariants.{NotOpened, ChunkDecode, Store, OutOfMemory}
 use Rattle.zarr_array_regions.proofs.AlikeLaws.{other_value}
 use Rattle.zarr_array_regions.proofs.BottomLaws.{below}
 use Rattle.zarr_array_regions.proofs.ChunkLaws.{by_kind, own_content}
 use Rattle.zarr_array_regions.proofs.FoundLaws.{nothing_found, unasked_unfound, outside_unfound}
-use Rattle.zarr_array_regions.proofs.ToldLaws.{no_fault_says, told_of_storage, says_whole, says_all, says_nothing, says_range}
+use Rattle.zarr_array_regions.proofs.TellsLaws.{told_of_storage}
+use Rattle.zarr_array_regions.proofs.ToldLaws.{no_fault_says, says_whole, says_all, says_nothing, says_range}
 
 -- a store was asked for one value, or for none, and nothing was changed
 pub record MayHaveAsked (before now : Shown) : Type 0 where
@@ -65,7 +66,7 @@ module _ (array : ArrayParts) (chain : BasicChain) (levels : ChunkLevels) (optio
   -- does not decode and does not hold what was asked for, which the error tells
   abbrev Unfetched : Option Region → Option (List ℕ) → ℕ → ℕ → CodecError → Type 0
   Unfetched asked value before now e = IsHandleError before now e
-      ⊎ ((content value ≡ None) × (finds_asked (described array) options chunk asked value ≡ false) × stored_says (documented array) options chunk asked value e)
+      ⊎ ((content value ≡ None) × (finds_asked (described array) options chunk asked value ≡ false) × stored_by (value_says (documented array)) options chunk asked value e)
 
   module _ (asked : Option Region) (before now : Shown) (error : CodecError) (may : MayHaveAsked before now) where
     abbrev Why : Type 0
@@ -75,26 +76,26 @@ module _ (array : ArrayParts) (chain : BasicChain) (levels : ChunkLevels) (optio
     Fails key kind = FailsToFetch (chunk_content (layout (described array) options) before.content chunk) (finds_asked (described array) options chunk asked (before.content its_key)) key before now kind
 
     abbrev Tells : SessionErrorKind → Type 0
-    Tells kind = TellsOf (documented array) options chunk asked now kind
+    Tells kind = TellsOf (described array) (value_says (documented array)) options chunk asked now kind
 
     failed : Why → Fails its_key (chunk_kind its_key error)
     failed (inl (inl memory)) = subst (λ e. Fails its_key (chunk_kind its_key e)) (sym memory) tt
     failed (inl (inr fault)) = subst (λ e. Fails its_key (chunk_kind its_key e)) (sym fault.0) fault.1
     failed (inr why) = by_kind Fails its_key error
-        (λ fault is. absurd (no_fault_says fault (documented array) options chunk asked (before.content its_key) (subst (stored_says (documented array) options chunk asked (before.content its_key)) is why.2))) tt
+        (λ fault is. absurd (no_fault_says fault (documented array) options chunk asked (before.content its_key) (subst (stored_by (value_says (documented array)) options chunk asked (before.content its_key)) is why.2))) tt
         (refl, own_content array chain levels options chunk serves its_key before refl ∙ why.0, why.1)
 
     told : Why → Tells (chunk_kind its_key error)
     told (inl (inl memory)) = subst (λ e. Tells (chunk_kind its_key e)) (sym memory) tt
     told (inl (inr fault)) = subst (λ e. Tells (chunk_kind its_key e)) (sym fault.0) tt
     told (inr why) = by_kind (λ key kind. Tells kind) its_key error
-        (λ fault is. told_of_storage (documented array) options chunk asked now fault) tt
-        (refl, subst (λ v. stored_says (documented array) options chunk asked v error) (sym (may.same its_key)) why.2)
+        (λ fault is. told_of_storage (described array) (value_says (documented array)) options chunk asked now fault) tt
+        (refl, subst (λ v. stored_by (value_says (documented array)) options chunk asked v error) (sym (may.same its_key)) why.2)
 
-    not_fetched : Why → NotFetched asked array options chunk before now (chunk_kind its_key error)
+    not_fetched : Why → NotFetched asked (plain_access array) options chunk before now (chunk_kind its_key error)
     not_fetched why = record {
       same = may.same;
-      asks = may.asks;
+      paid = may.asks;
       puts = may.puts;
       later = may.later;
       failed = failed why;
@@ -104,9 +105,9 @@ module _ (array : ArrayParts) (chain : BasicChain) (levels : ChunkLevels) (optio
   -- the chain's call for all of a chunk failed
   pub fetch_failed : (key : List ℕ) (before now : Shown) (error : CodecError) → key ≡ its_key → MayHaveAsked before now →
       ChunkTells (basic_seen chain levels) options (before.content key) before.faults now.faults error →
-      NotFetched None array options chunk before now (chunk_kind key error)
+      NotFetched None (plain_access array) options chunk before now (chunk_kind key error)
   fetch_failed key before now error is may fails =
-      subst (λ k. NotFetched None array options chunk before now (chunk_kind k error)) (sym is)
+      subst (λ k. NotFetched None (plain_access array) options chunk before now (chunk_kind k error)) (sym is)
       (not_fetched None before now error may (⊎_elim
       (λ (handle : IsHandleError before.faults now.faults error). inl handle)
       (λ (none : (content (before.content its_key) ≡ None) × says (before.content its_key) error).
@@ -165,19 +166,11 @@ module _ (array : ArrayParts) (chain : BasicChain) (levels : ChunkLevels) (optio
       (key : List ℕ) (before now : Shown) (error : CodecError) → key ≡ its_key → MayHaveAsked before now →
       Alike within (region_request list_request box_below chain levels within) (before.content key) before.faults now.faults error →
       Refused (region_request list_request box_below chain levels within) (before.content key) before.faults now.faults error →
-      NotFetched (part_asked ((described array).grid.chunk_box chunk) within) array options chunk before now (chunk_kind key error)
+      NotFetched (part_asked ((described array).grid.chunk_box chunk) within) (plain_access array) options chunk before now (chunk_kind key error)
   part_failed within inside key before now error is may alike fails =
-      subst (λ k. NotFetched (part_asked ((described array).grid.chunk_box chunk) within) array options chunk before now (chunk_kind k error)) (sym is)
+      subst (λ k. NotFetched (part_asked ((described array).grid.chunk_box chunk) within) (plain_access array) options chunk before now (chunk_kind k error)) (sym is)
       (not_fetched (part_asked ((described array).grid.chunk_box chunk) within) before now error may
       (subst (λ (l : Level). Unfetched (if not (is_whole_chunk l within) then Some within else None) (before.content its_key) before.faults now.faults error) serves.level
       (why_part within inside (is_whole_chunk (first_level levels) within) (at_bottom within) refl (before.content its_key) before.faults now.faults error
       (subst (λ k. Alike within (region_request list_request box_below chain levels within) (before.content k) before.faults now.faults error) is alike)
       (subst (λ k. Refused (region_request list_request box_below chain levels within) (before.content k) before.faults now.faults error) is fails))))
-
-module _ (asked : Option Region) (array : ArrayParts) (options : Options) (chunk : List ℕ) where
-  -- memory ran out after it, or before
-  pub starved_after : (before now : Shown) → HasAsked before now → NotFetched asked array options chunk before now OutOfMemory
-  starved_after before now has = record { same = has.same; asks = inr has.asks; puts = has.puts; later = has.later; failed = tt; told = tt }
-
-  pub starved_before : (store : Shown) → NotFetched asked array options chunk store store OutOfMemory
-  starved_before store = record { same = λ key. refl; asks = inl refl; puts = refl; later = omega arith; failed = tt; told = tt }

@@ -3,11 +3,17 @@ pub use Rattle.zarr_array_parts.proofs.Documents
 pub use Rattle.zarr_array_parts.proofs.KeysApart
 pub use Rattle.zarr_array_parts.proofs.ServedLaws
 pub use Rattle.zarr_array_parts.proofs.ServingLaws
+pub mod SizeLaws
 pub mod PlaceLaws
+pub mod RoomLaws
 pub mod MetLaws
 pub mod ChunkLaws
 pub mod BottomLaws
 pub mod AskedLaws
+pub mod AcceptedLaws
+pub mod TellsLaws
+pub mod PaysLaws
+pub mod StarvedLaws
 pub mod ToldLaws
 pub mod FoundLaws
 pub mod AlikeLaws
@@ -16,6 +22,7 @@ pub mod TakenLaws
 pub mod FetchSteps
 pub mod SharedLaws
 pub mod SharedSteps
+pub mod PartSteps
 pub mod ShortLaws
 pub mod ReadSteps
 pub mod StoredLaws

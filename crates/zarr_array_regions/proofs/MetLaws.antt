@@ -1,15 +1,14 @@
 -- The chunks that a region meets, by their numbers.
-use Rattle.std.proofs.Common.{◌≡◌, ℕ, zero, suc, ◌<◌, true, List, [], ◌∷◌, length, get_or, slice_get, Some, sym, ap, ◌∙◌, subst, arith}
+use Rattle.std.proofs.Common.{◌≡◌, ℕ, zero, suc, ◌<◌, true, List, [], ◌∷◌, length, get_or, slice_get, Some, Result, Ok, Err, IfOk, sym, ap, ◌∙◌, subst, arith}
 use Rattle.std.proofs.lemmas.List.{nil_from_length}
 use Rattle.zarr_model.specs.Prelude.{Region, count, tuples, tuple_at, ends_within, Grid, IsChunk, chunks_meeting, CoversShape}
-use Rattle.zarr_model.specs.Region.{share_tuple}
 use Rattle.zarr_model.proofs.RegionLaws.{length-tuples, get_or-tuples, rank_within}
 use Rattle.zarr_model.proofs.FailureLaws.{meeting_is}
 use Rattle.zarrs_array_subset.specs.ArraySubset.{region as region_of_subset}
-use Rattle.zarr_array_parts.specs.Parts.{described}
-use Rattle.zarr_array_parts.proofs.ServedLaws.{described_covers}
+use Rattle.zarr_array_regions.specs.Access.{Access, IsServed, described}
 use Rattle.zarr_array_regions.specs.declared.region_chunks.RegionChunks.{RegionChunks}
-use Rattle.zarr_array_regions.specs.RegionChunks.{chunk_at, AreMet}
+use Rattle.zarr_array_regions.specs.declared.chunk_place.ChunkPlace.{ChunkPlace}
+use Rattle.zarr_array_regions.specs.RegionChunks.{chunk_at, AreMet, IsPlace, IsMet}
 
 -- a place of a list
 slice_get-at : {A : Type 0} (xs : List A) (k : ℕ) (x : A) → k < length xs → get_or xs k x ≡ x → slice_get xs k ≡ Some x
@@ -38,21 +37,30 @@ module _ (grid : Grid) (region chunks : Region) (listed : tuples chunks ≡ chun
   pub none_met : count chunks ≡ 0 → chunks_meeting grid region ≡ []
   none_met none = nil_from_length (chunks_meeting grid region) (sym (count_met grid region chunks listed) ∙ none)
 
-module _ (chunks : RegionChunks) (are : AreMet chunks) where
+module _ {C : Type 0} (array : Access) (met : RegionChunks C) (are : AreMet array met) where
+  abbrev over : Region
+  over = region_of_subset met.subset.now
+
   -- the number of the last one
-  pub num_met : count (region_of_subset chunks.chunks) ≡ length (chunks_meeting (described chunks.array.now).grid (region_of_subset chunks.subset.now))
-  num_met = count_met (described chunks.array.now).grid (region_of_subset chunks.subset.now) (region_of_subset chunks.chunks) are.listed
+  pub num_met : count (region_of_subset met.chunks) ≡ length (chunks_meeting (described array).grid over)
+  num_met = count_met (described array).grid over (region_of_subset met.chunks) are.listed
 
-  module _ (number : ℕ) (below : number < count (region_of_subset chunks.chunks)) where
-    pub met_here : slice_get (chunks_meeting (described chunks.array.now).grid (region_of_subset chunks.subset.now)) number ≡ Some (chunk_at chunks number)
-    met_here = (met_at (described chunks.array.now).grid (region_of_subset chunks.subset.now) (region_of_subset chunks.chunks) number are.listed below).0
+  module _ (number : ℕ) (below : number < count (region_of_subset met.chunks)) where
+    pub met_here : slice_get (chunks_meeting (described array).grid over) number ≡ Some (chunk_at met number)
+    met_here = (met_at (described array).grid over (region_of_subset met.chunks) number are.listed below).0
 
-    pub met_chunk : IsChunk (described chunks.array.now).grid (chunk_at chunks number)
-    met_chunk = (met_at (described chunks.array.now).grid (region_of_subset chunks.subset.now) (region_of_subset chunks.chunks) number are.listed below).1
+    pub met_chunk : IsChunk (described array).grid (chunk_at met number)
+    met_chunk = (met_at (described array).grid over (region_of_subset met.chunks) number are.listed below).1
 
-    pub its_rank : length (region_of_subset chunks.subset.now) ≡ length ((described chunks.array.now).grid.chunk_box (chunk_at chunks number))
-    its_rank = met_rank (described chunks.array.now).shape (described chunks.array.now).grid (region_of_subset chunks.subset.now) (chunk_at chunks number)
-        (described_covers chunks.array.now) are.inside met_chunk
+    -- its place
+    pub met_place : IsServed (described array) → (place : ChunkPlace) → place.indices.items ≡ chunk_at met number → IsPlace (described array) place → IsMet (described array) over place
+    met_place served place is at = record {
+      at = at;
+      rank = met_rank (described array).shape (described array).grid over place.indices.items served.covers are.inside at.is_chunk;
+      shares = (meeting_is (described array).grid over number place.indices.items (met_here ∙ ap Some (sym is))).1;
+    }
 
-    pub met_shares : share_tuple ((described chunks.array.now).grid.chunk_box (chunk_at chunks number)) (region_of_subset chunks.subset.now) ≡ true
-    met_shares = (meeting_is (described chunks.array.now).grid (region_of_subset chunks.subset.now) number (chunk_at chunks number) met_here).1
+    pub placed : {E : Type 0} → IsServed (described array) → (indices : List ℕ) → indices ≡ chunk_at met number → (result : Result ChunkPlace E) →
+        IfOk result (λ place. (place.indices.items ≡ indices) × IsPlace (described array) place) → IfOk result (λ place. (place.indices.items ≡ chunk_at met number) × IsMet (described array) over place)
+    placed served indices is (Ok place) (its, at) = (its ∙ is, met_place served place (its ∙ is) at)
+    placed served indices is (Err e) at = tt

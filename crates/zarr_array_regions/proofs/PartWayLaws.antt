@@ -34,47 +34,44 @@ module _ (description : Description) (options : Options) (sound : IsSound (layou
       ((chunk : List ℕ) → IsChunk description.grid chunk → ¬ (description.key chunk ≡ key)) → now.content key ≡ old.content key
   changed-outside k old now key changed apart = changed.others key (λ place other h e same. apart other (are_chunks place other e) (sym same))
 
-  pub changed-start : (store : Shown) → store.asks ≤ 2 ^ 64 - 1 → store.puts ≤ 2 ^ 64 - 1 → ChangedSome description options change chunks 0 store store
-  changed-start store fits few = record {
+  pub changed-start : (store : Shown) → store.puts ≤ 2 ^ 64 - 1 → ChangedSome description options change chunks 0 store store
+  changed-start store few = record {
     decoded = λ place chunk h e. absurd (omega (arith, h));
     mended = λ place chunk h e under. absurd (omega (arith, h));
     holds = λ array place chunk is_fill h e was. absurd (omega (arith, h));
     others = λ key apart. refl;
-    asks = omega arith;
     puts = omega (arith, few);
     later = omega arith;
   }
 
   -- memory ran out after the first k
   pub changed-starves : (k : ℕ) (old mid new : Shown) → ChangedSome description options change chunks k old mid →
-      k ≤ length chunks → ((key : List ℕ) → new.content key ≡ mid.content key) → new.asks ≡ mid.asks → new.puts ≡ mid.puts → mid.faults ≤ new.faults →
+      k ≤ length chunks → ((key : List ℕ) → new.content key ≡ mid.content key) → new.puts ≡ mid.puts → mid.faults ≤ new.faults →
       FailsPartWay description options change chunks k old new OutOfMemory
-  changed-starves k old mid new changed few same asked unput later = record {
+  changed-starves k old mid new changed few same unput later = record {
     mid = mid;
     few = few;
     changed = changed;
     stops = inl (refl, same);
-    asks = inl (asked ∙ changed.asks);
     puts = inl (unput ∙ changed.puts);
     later = later;
   }
 
   -- memory ran out before the first
-  pub changed-starved : (store : Shown) → store.asks ≤ 2 ^ 64 - 1 → store.puts ≤ 2 ^ 64 - 1 → FailsPartWay description options change chunks 0 store store OutOfMemory
-  changed-starved store fits few =
-      changed-starves 0 store store store (changed-start store fits few) (omega arith) (λ key. refl) refl refl (omega arith)
+  pub changed-starved : (store : Shown) → store.puts ≤ 2 ^ 64 - 1 → FailsPartWay description options change chunks 0 store store OutOfMemory
+  changed-starved store few =
+      changed-starves 0 store store store (changed-start store few) (omega arith) (λ key. refl) refl (omega arith)
 
   -- the next chunk was not changed
   pub changed-fails : (k : ℕ) (old mid new : Shown) (chunk : List ℕ) (kind : SessionErrorKind) →
       ChangedSome description options change chunks k old mid → slice_get chunks k ≡ Some chunk →
-      FailsToChange description options change chunk mid new kind → ((new.asks ≡ mid.asks) ⊎ (new.asks ≡ counted mid.asks 1)) → ((new.puts ≡ mid.puts) ⊎ (new.puts ≡ counted mid.puts 1)) → mid.faults ≤ new.faults →
+      FailsToChange description options change chunk mid new kind → ((new.puts ≡ mid.puts) ⊎ (new.puts ≡ counted mid.puts 1)) → mid.faults ≤ new.faults →
       FailsPartWay description options change chunks k old new kind
-  changed-fails k old mid new chunk kind changed here fails asked put later = record {
+  changed-fails k old mid new chunk kind changed here fails put later = record {
     mid = mid;
     few = let within : k < length chunks = slice_get_within chunks k chunk here in omega (arith, within);
     changed = changed;
     stops = inr (chunk, here, fails);
-    asks = ⊎_elim (λ (none : new.asks ≡ mid.asks). inl (none ∙ changed.asks)) (λ (one : new.asks ≡ counted mid.asks 1). inr (slice_get_within chunks k chunk here, omega (arith, one, changed.asks))) asked;
     puts = ⊎_elim (λ (none : new.puts ≡ mid.puts). inl (none ∙ changed.puts)) (λ (one : new.puts ≡ counted mid.puts 1). inr (slice_get_within chunks k chunk here, omega (arith, one, changed.puts))) put;
     later = later;
   }
@@ -83,9 +80,9 @@ module _ (description : Description) (options : Options) (sound : IsSound (layou
     -- the next chunk is changed too
     pub changed-step : (k : ℕ) (old mid new : Shown) (chunk : List ℕ) →
         ChangedSome description options change chunks k old mid → slice_get chunks k ≡ Some chunk →
-        ChangesChunk description options change chunk mid.content new.content → new.asks ≡ counted mid.asks 1 → new.puts ≡ counted mid.puts 1 → mid.faults ≤ new.faults →
+        ChangesChunk description options change chunk mid.content new.content → new.puts ≡ counted mid.puts 1 → mid.faults ≤ new.faults →
         ChangedSome description options change chunks (k + 1) old new
-    changed-step k old mid new chunk changed here changes asked put later = record {
+    changed-step k old mid new chunk changed here changes put later = record {
       decoded = λ place other h e. at place other h e (IsSome (chunk_content (layout description options) old.content other))
           (λ same. subst (λ c. IsSome (chunk_content (layout description options) old.content c)) same (subst IsSome (content-same (layout description options) old.content mid.content chunk was) changes.decoded))
           (λ below apart. changed.decoded place other below e);
@@ -98,7 +95,6 @@ module _ (description : Description) (options : Options) (sound : IsSound (layou
       others = λ key apart.
           changes.others key (apart k chunk (omega arith) here)
           ∙ changed.others key (λ place other h e. apart place other (omega (arith, h)) e);
-      asks = omega (arith, asked, changed.asks);
       puts = omega (arith, put, changed.puts);
       later = le_trans changed.later later;
     }

@@ -1,61 +1,37 @@
 -- The steps of reading a region.
-use Rattle.std.proofs.Common.{◌≡◌, ℕ, ◌+◌, ◌-◌, ◌^◌, ◌<◌, ◌≤◌, ◌⊎◌, true, false, List, [], length, take, filter, if◌then◌else◌, is_some, ◌*◌, slice_get, Option, Some, IsSome, unwrap_or, refl, sym, ap, ◌∙◌, subst, subst₂, arith, le_trans, inl, inr, ⊎_elim}
-use Rattle.std.specs.List.{sum_by}
-use Rattle.std.proofs.lemmas.List.{take_all}
-use Rattle.std.proofs.lemmas.List.Sums.{sum_by_more}
-use Rattle.std.proofs.lemmas.Option.{slice_get_within, get_or_from_slice_get}
-use Rattle.zarr_model.specs.Prelude.{Region, count, contains, tuples, ends_within, Element, Kind, kind, fixed_size, ArrayBytes, meaning, has_long_element, Array, elements_in, chunks_meeting, HasMet, Options, Content, box_content, chunk_content, Shown, Description, layout, counted, read_bytes, finds_shared}
-use Rattle.zarr_model.proofs.NeededLaws.{read_needs}
+use Rattle.std.proofs.Common.{◌≡◌, ℕ, ◌+◌, ◌-◌, ◌^◌, ◌<◌, ◌≤◌, ◌⊎◌, true, false, List, [], length, slice_get, Option, Some, IsSome, unwrap_or, refl, sym, ap, ◌∙◌, subst, subst₂, arith, le_trans, inl}
+use Rattle.std.proofs.lemmas.Option.{slice_get_within}
+use Rattle.zarr_model.specs.Prelude.{Region, count, ends_within, Element, Kind, kind, ArrayBytes, meaning, has_long_element, Array, elements_in, chunks_meeting, HasMet, Options, box_content, chunk_content, Shown, Description, layout, finds_shared}
 use Rattle.zarrs_storage.specs.Store.{SameContent}
 use Rattle.zarrs_codec_bytes.specs.Overlap.{Copied}
 use Rattle.zarr_array_elements.specs.Elements.{list_in}
 use Rattle.zarr_array_elements.proofs.ReadLaws.{HasRead, read-start, read-step, read-end, chunk_copied}
 use Rattle.zarr_array_elements.proofs.DecodeLaws.{each-step, each-all}
-use Rattle.zarr_array_parts.specs.Parts.{documented, described}
-use Rattle.zarr_array_parts.specs.declared.parts.ArrayParts.{ArrayParts}
-use Rattle.zarr_array_parts.proofs.ServedLaws.{described_covers}
+use Rattle.zarr_array_regions.specs.Access.{Access, IsServed, described}
 use Rattle.zarrs_codec_held.proofs.EditLaws.{rose_later}
 use Rattle.zarr_array_regions.specs.declared.error.SessionErrorKind.{SessionErrorKind}
 use Rattle.zarr_array_regions.specs.declared.error.SessionErrorKind.TheVariants.{NotOpened, ChunkDecode, Store, OutOfMemory}
 use Rattle.zarr_array_regions.specs.Asked.{chunk_asked, finds_asked}
 use Rattle.zarr_array_regions.specs.Chunk.{FailsToFetch}
 use Rattle.zarr_array_regions.specs.CommandError.{before_chunks}
-use Rattle.zarr_array_regions.specs.Fetch.{HasAsked, chunk_list, HasElements, NotFetched}
+use Rattle.zarr_array_regions.specs.Fetch.{HasRead as HasReadOnly, chunk_list, HasElements, NotFetched}
 use Rattle.zarr_array_regions.specs.Shared.{HoldsShared, IsReadable, IsHeldShared}
 use Rattle.zarr_array_regions.specs.declared.shared.FetchedChunk.{FetchedChunk}
-use Rattle.zarr_array_regions.specs.Taken.{Takes}
+use Rattle.zarr_array_regions.specs.Pays.{PaysShared, PaysFirst}
 use Rattle.zarr_array_regions.specs.Read.{HasReadCause, FailsToRead, HasReadChunk, HasReadList, HasReadRegion, NotReadRegion}
 use Rattle.zarr_array_regions.proofs.AskedLaws.{asked_shared}
 use Rattle.zarr_array_regions.proofs.PartWayLaws.{met-chunks}
-use Rattle.zarr_array_regions.proofs.ToldLaws.{told_why}
-
--- counts that stop at the greatest number
-pub counted_more : (before mid now k more : ℕ) → mid ≡ counted before k → now ≡ counted mid more → now ≡ counted before (k + more)
-counted_more before mid now k more first second = omega (arith, first, second)
-
--- what a chunk needs depends on whether it is present
-pub read_bytes-same : (description : Description) (region : Region) (old mid : Content) (chunk : List ℕ) → mid (description.key chunk) ≡ old (description.key chunk) → read_bytes description region mid chunk ≡ read_bytes description region old chunk
-read_bytes-same description region old mid chunk same =
-    ap (λ v. if is_some v then unwrap_or (fixed_size (kind description)) 0 * length (filter (contains (description.grid.chunk_box chunk)) (tuples region)) else 0) same
-
--- the bytes of one chunk more
-pub one_more_taken : (chunks : List (List ℕ)) (k : ℕ) (chunk : List ℕ) → slice_get chunks k ≡ Some chunk → (needs : List ℕ → ℕ) (before mid now : Shown) →
-    mid.taken ≡ counted before.taken (sum_by needs (take k chunks)) → now.taken ≡ counted mid.taken (needs chunk) → now.taken ≡ counted before.taken (sum_by needs (take (k + 1) chunks))
-one_more_taken chunks k chunk here needs before mid now first second =
-    let within : k < length chunks = slice_get_within chunks k chunk here in
-    let more : sum_by needs (take (k + 1) chunks) ≡ sum_by needs (take k chunks) + needs chunk =
-    sum_by_more needs chunks k chunk within ∙ ap (λ c. sum_by needs (take k chunks) + needs c) (get_or_from_slice_get chunks k chunk chunk here) in
-    omega (arith, first, second, more)
+use Rattle.zarr_array_regions.proofs.PaysLaws.{pays_none, pays_more, pays_all, pays_stops, pays_ends, pays_at_start}
+use Rattle.zarr_array_regions.proofs.TellsLaws.{told_why}
 
 -- a chunk that could not be fetched stops the reading of its region
 pub stops_reading : (description : Description) (options : Options) (region : Region) (k : ℕ) (old mid new : Shown) (chunk : List ℕ) (kind : SessionErrorKind) →
     slice_get (chunks_meeting description.grid region) k ≡ Some chunk → k ≤ length (chunks_meeting description.grid region) →
-    ((key : List ℕ) → mid.content key ≡ old.content key) → mid.asks ≡ counted old.asks k → ((new.asks ≡ mid.asks) ⊎ (new.asks ≡ counted mid.asks 1)) → old.faults ≤ mid.faults →
+    ((key : List ℕ) → mid.content key ≡ old.content key) → old.faults ≤ mid.faults →
     FailsToFetch (chunk_content (layout description options) mid.content chunk) (finds_asked description options chunk (chunk_asked description (Some region) chunk) (mid.content (description.key chunk))) (description.key chunk) mid new kind →
     FailsToRead description options region k old new kind
-stops_reading description options region k old mid new chunk kind here few same asked more later fails = record {
+stops_reading description options region k old mid new chunk kind here few same later fails = record {
   few = few;
-  asks = ⊎_elim (λ (none : new.asks ≡ mid.asks). inl (none ∙ asked)) (λ (one : new.asks ≡ counted mid.asks 1). inr (slice_get_within (chunks_meeting description.grid region) k chunk here, counted_more old.asks mid.asks new.asks k 1 asked one)) more;
   cause = by_kind kind fails;
 }
   where
@@ -74,19 +50,17 @@ stops_reading description options region k old mid new chunk kind here few same 
     by_kind Store fails = rose_later old.faults mid.faults new.faults later fails
     by_kind OutOfMemory fails = tt
 
--- the first k of the chunks that a region meets were read into the region's elements, each by one
--- reading call
-pub record HasReadSome (array : ArrayParts) (options : Options) (region : Region) (k : ℕ) (list : List Element) (before now : Shown) : Type 0 where
+-- the first k of the chunks that a region meets were read into the region's elements
+pub record HasReadSome (array : Access) (options : Options) (region : Region) (k : ℕ) (list : List Element) (before now : Shown) : Type 0 where
   pub as_long : length list ≡ count region
   pub same : SameContent before now
-  pub asks : now.asks ≡ counted before.asks k
-  pub taken : Takes (documented array) (sum_by (read_bytes (described array) region before.content) (take k (chunks_meeting (described array).grid region))) before now
+  pub paid : PaysFirst array.costs (described array) options region (chunks_meeting (described array).grid region) k before now
   pub later : before.faults ≤ now.faults
   pub readable : (place : ℕ) (chunk : List ℕ) → place < k → slice_get (chunks_meeting (described array).grid region) place ≡ Some chunk → IsReadable (described array) options region before.content chunk
   pub read : (plain : Array Element) → HasMet (described array) options region before.content plain →
       HasRead (described array).grid region (chunks_meeting (described array).grid region) k plain list
 
-module _ (array : ArrayParts) (options : Options) (region : Region) where
+module _ (array : Access) (options : Options) (region : Region) where
   abbrev met : List (List ℕ)
   met = chunks_meeting (described array).grid region
 
@@ -96,40 +70,39 @@ module _ (array : ArrayParts) (options : Options) (region : Region) where
       IsSome (box_content (layout (described array) options) ((described array).grid.chunk_box chunk) value) ⊎ (finds_shared (described array) options region chunk value ≡ true)
 
   -- a chunk that was fetched was put into the region's elements
-  pub chunk_put : (chunk : List ℕ) (bytes : ArrayBytes) (of_kind : Kind) (over own : Region) (old new : List Element) (before now : Shown) → HasAsked before now → HasElements array options chunk before bytes →
+  pub chunk_put : (chunk : List ℕ) (bytes : ArrayBytes) (of_kind : Kind) (over own : Region) (old new : List Element) (before now : Shown) → HasReadOnly before now → HasElements array options chunk before bytes →
       of_kind ≡ kind (described array) → over ≡ region → own ≡ (described array).grid.chunk_box chunk → Copied over own (list_in of_kind own bytes) old new →
-      Takes (documented array) (read_bytes (described array) region before.content chunk) before now → HasReadChunk array options region chunk old new before now
+      PaysShared array.costs (described array) options region chunk before now → HasReadChunk array options region chunk old new before now
   chunk_put chunk bytes of_kind over own old new before now asked held kind_is over_is own_is put taken =
       let moved : Copied region ((described array).grid.chunk_box chunk) (chunk_list array chunk bytes) old new =
       subst (λ b. Copied region b (list_in (kind (described array)) b bytes) old new) own_is
       (subst₂ (λ k r. Copied r own (list_in k own bytes) old new) kind_is over_is put) in
       record {
-        asked = asked;
+        has_read = asked;
         readable = inl (subst IsSome (sym held.elements) refl);
         copied = λ plain has. chunk_copied (layout (described array) options) before.content region chunk (chunk_list array chunk bytes) old new plain held.elements moved has;
         as_long = moved.as_long;
-        taken = taken;
+        paid = taken;
       }
 
   -- what a chunk that was fetched shares with the region was put into the region's elements
-  pub shared_read : (chunk : List ℕ) (held : FetchedChunk) (old new : List Element) (before now : Shown) → HasAsked before now → IsHeldShared array options region chunk before held →
+  pub shared_read : (chunk : List ℕ) (held : FetchedChunk) (old new : List Element) (before now : Shown) → HasReadOnly before now → IsHeldShared array options region chunk before held →
       ((list : List Element) → HoldsShared array region chunk list held → Copied region ((described array).grid.chunk_box chunk) list old new) →
-      Takes (documented array) (read_bytes (described array) region before.content chunk) before now → HasReadChunk array options region chunk old new before now
+      PaysShared array.costs (described array) options region chunk before now → HasReadChunk array options region chunk old new before now
   shared_read chunk held old new before now asked is put taken = record {
-    asked = asked;
+    has_read = asked;
     readable = is.readable;
     copied = λ plain has. subst (λ xs. Copied region ((described array).grid.chunk_box chunk) xs old new)
         (sym (is.content (elements_in ((described array).grid.chunk_box chunk) plain) has)) (put is.list is.holds);
     as_long = (put is.list is.holds).as_long;
-    taken = taken;
+    paid = taken;
   }
 
   pub none_read : (list : List Element) (store : Shown) → length list ≡ count region → store.asks ≤ 2 ^ 64 - 1 → store.taken ≤ 2 ^ 64 - 1 → HasReadSome array options region 0 list store store
   none_read list store long fits room = record {
     as_long = long;
     same = λ key. refl;
-    asks = omega (arith, fits);
-    taken = λ alone. omega (arith, room);
+    paid = pays_none (described array) options region met array.costs store fits room;
     later = omega arith;
     readable = λ place chunk below e. absurd (omega (arith, below));
     read = λ plain has. read-start (described array).grid region met plain list long;
@@ -139,11 +112,9 @@ module _ (array : ArrayParts) (options : Options) (region : Region) where
       HasReadSome array options region k old before mid → HasReadChunk array options region chunk old new mid now → HasReadSome array options region (k + 1) new before now
   one_read k chunk old new before mid now here so_far step = record {
     as_long = step.as_long ∙ so_far.as_long;
-    same = λ key. step.asked.same key ∙ so_far.same key;
-    asks = counted_more before.asks mid.asks now.asks k 1 so_far.asks step.asked.asks;
-    taken = λ alone. one_more_taken met k chunk here (read_bytes (described array) region before.content) before mid now (so_far.taken alone)
-        (step.taken alone ∙ ap (counted mid.taken) (read_bytes-same (described array) region before.content mid.content chunk (so_far.same ((described array).key chunk))));
-    later = le_trans so_far.later step.asked.later;
+    same = λ key. step.has_read.same key ∙ so_far.same key;
+    paid = pays_more (described array) options region met array.costs k chunk before mid now here so_far.same so_far.paid step.paid;
+    later = le_trans so_far.later step.has_read.later;
     readable = each-step readable_by (described array).key met before.content mid.content k chunk here so_far.same so_far.readable step.readable;
     read = λ plain has. read-step (described array).grid region met plain k chunk old new here (so_far.read plain has)
         (step.copied plain (ap (box_content (layout (described array) options) ((described array).grid.chunk_box chunk)) (so_far.same ((described array).key chunk)) ∙ has k chunk here));
@@ -157,29 +128,28 @@ module _ (array : ArrayParts) (options : Options) (region : Region) where
     later = le_trans so_far.later stop.later;
     failed =
         let within : k < length met = slice_get_within met k chunk here in
-        stops_reading (described array) options region k before mid now chunk kind here (omega (arith, within)) so_far.same so_far.asks stop.asks so_far.later stop.failed;
+        stops_reading (described array) options region k before mid now chunk kind here (omega (arith, within)) so_far.same so_far.later stop.failed;
     readable = so_far.readable;
-    told = told_why (documented array) options (Some region) chunk now kind (met-chunks (described array).grid region k chunk here) stop.told;
+    paid = pays_stops (described array) options region met array.costs k chunk before mid now here so_far.paid stop.paid;
+    told = told_why (described array) array.says options (Some region) chunk now kind (met-chunks (described array).grid region k chunk here) stop.told;
   }
 
-  pub all_read : (list : List Element) (before now : Shown) → ends_within region (described array).shape ≡ true → HasReadSome array options region (length met) list before now →
+  pub all_read : IsServed (described array) → (list : List Element) (before now : Shown) → ends_within region (described array).shape ≡ true → HasReadSome array options region (length met) list before now →
       HasReadList array options region before now list
-  all_read list before now inside all = record {
+  all_read served list before now inside all = record {
     as_long = all.as_long;
-    elements = λ plain has. read-end (described array).shape (described array).grid region met plain list (described_covers array) inside refl (all.read plain has);
+    elements = λ plain has. read-end (described array).shape (described array).grid region met plain list served.covers inside refl (all.read plain has);
     readable = each-all readable_by (described array).key met before.content (length met) (omega arith) all.readable;
     same = all.same;
-    asks = all.asks;
-    taken = λ alone. all.taken alone ∙ ap (counted before.taken)
-        (ap (sum_by (read_bytes (described array) region before.content)) (take_all (length met) met (omega arith)) ∙ sym (read_needs (described array) region before.content));
+    paid = pays_all (described array) options region met array.costs before now all.paid;
     later = all.later;
   }
 
   -- a region that meets no chunk
-  pub none_to_read : (list : List Element) (store : Shown) → ends_within region (described array).shape ≡ true → met ≡ [] → length list ≡ count region → store.asks ≤ 2 ^ 64 - 1 → store.taken ≤ 2 ^ 64 - 1 →
+  pub none_to_read : IsServed (described array) → (list : List Element) (store : Shown) → ends_within region (described array).shape ≡ true → met ≡ [] → length list ≡ count region → store.asks ≤ 2 ^ 64 - 1 → store.taken ≤ 2 ^ 64 - 1 →
       HasReadList array options region store store list
-  none_to_read list store inside none long fits room =
-      all_read list store store inside (subst (λ n. HasReadSome array options region n list store store) (sym (ap length none)) (none_read list store long fits room))
+  none_to_read served list store inside none long fits room =
+      all_read served list store store inside (subst (λ n. HasReadSome array options region n list store store) (sym (ap length none)) (none_read list store long fits room))
 
   -- array bytes that mean what was read
   pub read_means : (bytes : ArrayBytes) (of_kind : Kind) (over : Region) (list : List Element) (before now : Shown) → of_kind ≡ kind (described array) → over ≡ region → meaning of_kind (count over) bytes ≡ Some list → has_long_element bytes ≡ false →
@@ -197,8 +167,9 @@ module _ (array : ArrayParts) (options : Options) (region : Region) where
   starved_read list before now k all read = record {
     same = read.same;
     later = read.later;
-    failed = record { few = omega (arith, all); asks = inl (read.asks ∙ ap (counted before.asks) (sym all)); cause = tt };
+    failed = record { few = omega (arith, all); cause = tt };
     readable = λ place chunk below. read.readable place chunk;
+    paid = pays_ends (described array) options region met array.costs k before now all read.paid;
     told = tt;
   }
 
@@ -207,7 +178,8 @@ module _ (array : ArrayParts) (options : Options) (region : Region) where
   starved_reading store fits = record {
     same = λ key. refl;
     later = omega arith;
-    failed = record { few = omega arith; asks = inl (omega (arith, fits)); cause = tt };
+    failed = record { few = omega arith; cause = tt };
     readable = λ place chunk below e. absurd (omega (arith, below));
+    paid = pays_at_start array.costs (length met) store fits;
     told = tt;
   }

@@ -26,6 +26,20 @@ shared_inside (a ∷ region) (b ∷ box) some =
     and_from (nat_le (max a.start b.start - b.start + (min (a.start + a.size) (b.start + b.size) - max a.start b.start)) b.size) (ends_within (moved_back (overlap_of region box) (starts box)) (sizes box))
     (le-leb _ _ (shared_within a.start b.start a.size b.size low)) (shared_inside region box parts.1)
 
+-- and has an element
+pub shared_some : (region box : Region) → share_tuple box region ≡ true → 0 < count (moved_back (overlap_of region box) (starts box))
+shared_some [] [] some = omega arith
+shared_some [] (b ∷ box) some = cc
+shared_some (a ∷ region) [] some = cc
+shared_some (a ∷ region) (b ∷ box) some =
+    let parts = and_parts (nat_lt (max b.start a.start) (min (b.start + b.size) (a.start + a.size))) (share_tuple box region) some in
+    let low : max b.start a.start < min (b.start + b.size) (a.start + a.size) = ltb-true _ _ parts.0 in
+    let rest : 0 < count (moved_back (overlap_of region box) (starts box)) = shared_some region box parts.1 in
+    let one : 1 ≤ min (a.start + a.size) (b.start + b.size) - max a.start b.start = omega (arith, low) in
+    let times : 1 * count (moved_back (overlap_of region box) (starts box)) ≤ (min (a.start + a.size) (b.start + b.size) - max a.start b.start) * count (moved_back (overlap_of region box) (starts box)) =
+    mul-le-mul_right (count (moved_back (overlap_of region box) (starts box))) one in
+    omega (arith, rest, times)
+
 -- an element of what two boxes share is that of the source at its tuple, so a copy of it is one of
 -- the source
 module _ (target source : Region) (rank : length target ≡ length source) (xs old new : List Element) (long : length xs ≡ count source) where

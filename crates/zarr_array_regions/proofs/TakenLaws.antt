@@ -1,10 +1,8 @@
 -- What reading a chunk takes of a store, where the codec `bytes` is all of an array's chain.
-use Rattle.std.proofs.Common.{◌≡◌, ℕ, ◌+◌, ◌-◌, ◌*◌, Bool, true, false, ◌==◌, ◌&&◌, if◌then◌else◌, List, [], ◌∷◌, length, map, Option, Some, None, option_map, IsSome, is_some, unwrap_or, refl, sym, ap, ap₂, ◌∙◌, subst, subst₂, arith, eqb-true}
+use Rattle.std.proofs.Common.{◌≡◌, ℕ, ◌*◌, Bool, true, false, ◌==◌, ◌&&◌, if◌then◌else◌, List, [], ◌∷◌, length, map, Option, Some, None, option_map, IsSome, is_some, unwrap_or, refl, sym, ap, ap₂, ◌∙◌, subst, subst₂, arith, eqb-true}
 use Rattle.std.proofs.lemmas.Bool.{and_parts}
 use Rattle.std.proofs.lemmas.List.{length-map}
-use Rattle.zarr_model.specs.Prelude.{Region, count, count_of, sizes, ends_within, overlap_of, Element, fixed_size, kind, Level, Options, Shown, box_content, chunk_content, decode_bytes, decode_chain, decode_array_to_bytes, layout, counted, present_in, read_bytes, write_bytes, box_under, level_under}
-use Rattle.zarr_model.proofs.MeetingLaws.{shared_count}
-use Rattle.zarrs_array_subset.specs.Boxes.{is_within}
+use Rattle.zarr_model.specs.Prelude.{Region, count, count_of, sizes, ends_within, Element, fixed_size, kind, Level, Options, Shown, box_content, chunk_content, decode_bytes, decode_chain, decode_array_to_bytes, layout, counted, write_bytes, box_under, level_under}
 use Rattle.zarrs_storage.specs.declared.byte_range.ByteRange.{ByteRange}
 use Rattle.zarrs_codec_partial_bytes.specs.Stored.{taken_of}
 use Rattle.zarr_chain.specs.Chain.{first_level, bottom_level}
@@ -26,9 +24,9 @@ use Rattle.zarr_array_parts.specs.Document.{ArrayDocument, ChainForm}
 use Rattle.zarr_array_parts.specs.Parts.{documented, described}
 use Rattle.zarr_array_parts.specs.declared.parts.ArrayParts.{ArrayParts}
 use Rattle.zarr_array_regions.specs.Codecs.{list_request, box_below}
-use Rattle.zarr_array_regions.specs.Taken.{is_bytes_alone, Takes, box_bytes}
+use Rattle.zarr_array_regions.specs.Pays.{box_bytes}
+use Rattle.zarr_array_regions.specs.Plain.{is_bytes_alone}
 use Rattle.zarr_array_regions.proofs.ChunkLaws.{content_as}
-use Rattle.zarr_array_elements.proofs.ShareLaws.{overlap_inside}
 use Rattle.zarr_array_regions.proofs.BottomLaws.{bottom_is, below, below_inside, below_is}
 use Rattle.zarr_array_regions.proofs.RunBytes.{part_taken}
 
@@ -84,7 +82,7 @@ module _ (array : ArrayParts) (options : Options) (chunk : List ℕ) (alone : is
 -- all of a chunk that decodes
 pub whole_takes : (array : ArrayParts) (options : Options) (chunk key : List ℕ) (before now : Shown) → key ≡ (described array).key chunk →
     IsSome (chunk_content (layout (described array) options) before.content chunk) → now.taken ≡ counted before.taken (taken_of None (before.content key)) →
-    Takes (documented array) (write_bytes (described array) before.content chunk) before now
+    is_bytes_alone (documented array) ≡ true → now.taken ≡ counted before.taken (write_bytes (described array) before.content chunk)
 whole_takes array options chunk key before now its_key some taken alone =
     taken ∙ ap (counted before.taken) (ap (λ k. taken_of None (before.content k)) its_key ∙ whole_of_value array options chunk alone (before.content ((described array).key chunk)) some)
 
@@ -142,22 +140,7 @@ module _ (array : ArrayParts) (chain : BasicChain) (levels : ChunkLevels) (optio
       IsGiven (region_request list_request box_below chain levels within) (given_bytes bytes_meaning chain options (before.content key)) →
       (region_request list_request box_below chain levels within ≡ None → IsSome (stored.chunk_content array_meaning list_meaning bytes_meaning chain levels options (before.content key))) →
       now.taken ≡ counted before.taken (taken_of (stored_request chain (region_request list_request box_below chain levels within)) (before.content key)) →
-      Takes (documented array) (box_bytes (described array) within before.content chunk) before now
+      is_bytes_alone (documented array) ≡ true → now.taken ≡ counted before.taken (box_bytes (described array) within before.content chunk)
   box_takes within inside key before now its_key given decodes taken alone =
       taken ∙ (ap (counted before.taken) (box_of_value within inside alone (before.content key) given decodes)
       ∙ ap (λ k. counted before.taken (if is_some (before.content k) then unwrap_or (fixed_size (kind (described array))) 0 * count within else 0)) its_key)
-
--- what a region shares with a chunk, by the box of it
-pub shared_takes : (array : ArrayParts) (region within : Region) (chunk : List ℕ) (before now : Shown) → length region ≡ length ((described array).grid.chunk_box chunk) → count within ≡ count (overlap_of region ((described array).grid.chunk_box chunk)) →
-    Takes (documented array) (box_bytes (described array) within before.content chunk) before now → Takes (documented array) (read_bytes (described array) region before.content chunk) before now
-shared_takes array region within chunk before now rank as_many takes alone =
-    takes alone
-    ∙ ap (λ (n : ℕ). counted before.taken (if present_in (described array) before.content chunk then unwrap_or (fixed_size (kind (described array))) 0 * n else 0))
-    (as_many ∙ sym (shared_count region ((described array).grid.chunk_box chunk) rank))
-
--- and all of a chunk that lies inside the region
-pub inside_takes : (array : ArrayParts) (region own : Region) (chunk : List ℕ) (before now : Shown) → own ≡ (described array).grid.chunk_box chunk → is_within own region ≡ true → length region ≡ length ((described array).grid.chunk_box chunk) →
-    Takes (documented array) (write_bytes (described array) before.content chunk) before now → Takes (documented array) (read_bytes (described array) region before.content chunk) before now
-inside_takes array region own chunk before now own_is within rank takes alone =
-    let inside : is_within ((described array).grid.chunk_box chunk) region ≡ true = subst (λ b. is_within b region ≡ true) own_is within in
-    shared_takes array region ((described array).grid.chunk_box chunk) chunk before now rank (sym (ap count (overlap_inside region ((described array).grid.chunk_box chunk) inside))) takes alone

@@ -1,11 +1,10 @@
 -- An error of a chunk tells why its value does not decode, and what was asked for is not in it.
 use Rattle.std.proofs.Common.{◌≡◌, ℕ, List, [], ◌∷◌, map, Option, Some, None, refl, sym, ap, ◌∙◌, subst, subst₂}
-use Rattle.zarr_model.specs.Prelude.{Region, count_of, Options, Level, Shown, IsChunk, decode_bytes, box_under}
+use Rattle.zarr_model.specs.Prelude.{Region, count_of, Options, Level, decode_bytes, box_under}
 use Rattle.zarrs_storage.specs.declared.byte_range.ByteRange.{ByteRange}
 use Rattle.zarrs_codec_error.specs.declared.error.CodecError.{CodecError}
 use Rattle.zarrs_codec_error.specs.declared.error.CodecError.TheVariants as codec
 use Rattle.zarrs_storage.specs.declared.store.StorageError.{StorageError}
-use Rattle.zarrs_storage.specs.declared.store.StorageError.TheVariants as storage
 use Rattle.zarrs_codec_held.specs.Reads.{TellsRangeOf}
 use Rattle.zarr_chain.specs.Chain.{bottom_level}
 use Rattle.zarr_chain.specs.Values.{byte_codecs, said_at}
@@ -25,11 +24,8 @@ use Rattle.zarr_array_parts.specs.Document.{ArrayDocument, ChainForm, describe}
 use Rattle.zarr_array_parts.specs.Parts.{documented, described}
 use Rattle.zarr_array_parts.specs.declared.parts.ArrayParts.{ArrayParts}
 use Rattle.zarr_array_parts.proofs.ChainLaws.{byte_codecs_mean}
-use Rattle.zarr_array_regions.specs.Asked.{chunk_asked}
-use Rattle.zarr_array_regions.specs.Chunk.{storage_kind}
-use Rattle.zarr_array_regions.specs.Told.{byte_codecs_say, level_below_all, to_bytes_says, value_says, stored_says, TellsOf, TellsWhy}
-use Rattle.zarr_array_regions.specs.declared.error.SessionErrorKind.{SessionErrorKind}
-use Rattle.zarr_array_regions.specs.declared.error.SessionErrorKind.TheVariants.{NotOpened, ChunkDecode, Store, OutOfMemory}
+use Rattle.zarr_array_regions.specs.Access.{stored_by}
+use Rattle.zarr_array_regions.specs.Told.{byte_codecs_say, level_below_all, to_bytes_says, value_says}
 use Rattle.zarr_array_regions.proofs.BottomLaws.{bottom_is, below, below_is}
 
 -- what is said by one of two is said by one of two that are said by each
@@ -64,26 +60,12 @@ module _ (fault : StorageError) where
       let under = level_below_all codecs level in
       asked_say (request_by plain under.shape under.data_type (box_under (map array_codec_of codecs) level box)) plain under value told
 
-  pub no_fault_says : (document : ArrayDocument) (options : Options) (chunk : List ℕ) (asked : Option Region) (value : Option (List ℕ)) → stored_says document options chunk asked value (codec.StorageError fault) → ⊥
+  pub no_fault_says : (document : ArrayDocument) (options : Options) (chunk : List ℕ) (asked : Option Region) (value : Option (List ℕ)) → stored_by (value_says document) options chunk asked value (codec.StorageError fault) → ⊥
   no_fault_says document options chunk asked None told = told
   no_fault_says document options chunk asked (Some value) told =
       said (decode_bytes (map (byte_codec_of options) document.byte_codecs) value) (byte_codecs_say options document.byte_codecs value)
       (to_bytes_says document.to_bytes document.array_codecs (chunk_level (describe document) chunk) asked) (bytes_say options document.byte_codecs value)
       (λ bytes said. to_bytes_say document.to_bytes document.array_codecs (chunk_level (describe document) chunk) asked bytes said) told
-
--- an error of the store tells nothing of a value
-pub told_of_storage : (document : ArrayDocument) (options : Options) (chunk : List ℕ) (asked : Option Region) (now : Shown) (fault : StorageError) → TellsOf document options chunk asked now (storage_kind fault)
-told_of_storage document options chunk asked now storage.Failed = tt
-told_of_storage document options chunk asked now (storage.InvalidByteRange error) = tt
-told_of_storage document options chunk asked now storage.OutOfMemory = tt
-
--- what is told of a chunk is told of a command that met it
-pub told_why : (document : ArrayDocument) (options : Options) (region : Option Region) (chunk : List ℕ) (now : Shown) (kind : SessionErrorKind) → IsChunk (describe document).grid chunk →
-    TellsOf document options chunk (chunk_asked (describe document) region chunk) now kind → TellsWhy region document options now kind
-told_why document options region chunk now (NotOpened error) is_chunk told = tt
-told_why document options region chunk now (ChunkDecode key error) is_chunk told = (chunk, is_chunk, told)
-told_why document options region chunk now Store is_chunk told = tt
-told_why document options region chunk now OutOfMemory is_chunk told = tt
 
 -- bytes-to-bytes codecs tell what those of the document's names do
 codecs_say : (options : Options) (codecs : List BasicBytesToBytes) (value : List ℕ) (e : CodecError) → values.bytes_says bytes_meaning bytes_says options codecs value e → byte_codecs_say options (map byte_form codecs) value e
@@ -140,20 +122,20 @@ module _ (array : ArrayParts) (chain : BasicChain) (levels : ChunkLevels) (optio
   part_told within bytes e said = subst₂ (λ (l : Level) (b : Region). part_says (plain_of chain.to_bytes) l b bytes e) (bottom_is array chain levels chunk serves) (below_is array chain levels chunk serves within) said
 
   -- all of a chunk was asked for
-  pub says_whole : (value : Option (List ℕ)) (e : CodecError) → stored.chunk_says list_says bytes_meaning bytes_says chain levels options value e → stored_says document options chunk None value e
+  pub says_whole : (value : Option (List ℕ)) (e : CodecError) → stored.chunk_says list_says bytes_meaning bytes_says chain levels options value e → stored_by (value_says document) options chunk None value e
   says_whole None e says = says
   says_whole (Some value) e says = says_value None value e bottom_says (λ bytes given said. whole_says bytes e said) says
 
   -- a part, for which all of its value is needed
   pub says_all : (within : Region) → requested within ≡ None → (value : Option (List ℕ)) (e : CodecError) → stored.chunk_says list_says bytes_meaning bytes_says chain levels options value e →
-      stored_says document options chunk (Some within) value e
+      stored_by (value_says document) options chunk (Some within) value e
   says_all within none None e says = says
   says_all within none (Some value) e says = says_value (Some within) value e bottom_says
       (λ bytes given said. part_told within bytes e (subst (λ a. asked_says a bottom_says bytes e) (sym none) said)) says
 
   -- or ranges of what the bytes-to-bytes codecs give: nothing, where one of them refuses it
   pub says_nothing : (within : Region) (value : List ℕ) (e : CodecError) → decode_bytes (byte_codecs bytes_meaning options its_codecs) value ≡ None →
-      stored.chunk_says list_says bytes_meaning bytes_says chain levels options (Some value) e → stored_says document options chunk (Some within) (Some value) e
+      stored.chunk_says list_says bytes_meaning bytes_says chain levels options (Some value) e → stored_by (value_says document) options chunk (Some within) (Some value) e
   says_nothing within value e nothing says = says_value (Some within) value e bottom_says (λ bytes given said. absurd (differ bytes (sym given ∙ nothing))) says
     where
       differ : (bytes : List ℕ) → Some bytes ≡ None → ⊥
@@ -161,7 +143,7 @@ module _ (array : ArrayParts) (chain : BasicChain) (levels : ChunkLevels) (optio
 
   -- or bytes, of which a range lies outside
   pub says_range : (within : Region) (ranges : List ByteRange) → requested within ≡ Some ranges → (value bytes : List ℕ) (e : CodecError) →
-      decode_bytes (byte_codecs bytes_meaning options its_codecs) value ≡ Some bytes → TellsRangeOf (Some ranges) (Some bytes) e → stored_says document options chunk (Some within) (Some value) e
+      decode_bytes (byte_codecs bytes_meaning options its_codecs) value ≡ Some bytes → TellsRangeOf (Some ranges) (Some bytes) e → stored_by (value_says document) options chunk (Some within) (Some value) e
   says_range within ranges some value bytes e given told =
       says_value (Some within) value e (λ own other. TellsRangeOf (Some ranges) (Some own) other)
       (λ own own_given said. part_told within own e (subst (λ a. asked_says a bottom_says own e) (sym some) said))

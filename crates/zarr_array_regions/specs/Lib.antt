@@ -4,11 +4,13 @@ pub mod CommandError
 pub mod Codecs
 pub mod Chunk
 pub mod Asked
+pub mod Access
+pub mod Pays
+pub mod Tells
 pub mod Told
-pub mod Taken
+pub mod Plain
 pub mod RegionChunks
 pub mod Fetch
-pub mod HeldChunk
 pub mod Shared
 pub mod Store
 pub mod Read

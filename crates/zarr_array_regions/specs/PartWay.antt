@@ -1,17 +1,15 @@
 -- What changing some chunks, one after another, does to a store.
-use Rattle.std.specs.Prelude.{◌≡◌, ◌+◌, ◌<◌, ◌≤◌, ◌⊎◌, ℕ, false, List, length, slice_get, Some, None, IsSome}
-use Rattle.zarr_model.specs.Prelude.{Region, Element, ArrayBytes, Array, Options, chunk_content, chunks_meeting, write, present_in, bytes_under, Shown, Description, layout, counted, ChunkHas}
-use Rattle.zarr_array_parts.specs.Parts.{documented, described}
-use Rattle.zarr_array_parts.specs.declared.parts.ArrayParts.{ArrayParts}
+use Rattle.std.specs.Prelude.{◌≡◌, ◌<◌, ◌≤◌, ◌⊎◌, ℕ, List, length, slice_get, Some, None, IsSome}
+use Rattle.zarr_model.specs.Prelude.{Region, Element, ArrayBytes, Array, Options, chunk_content, chunks_meeting, Shown, Description, layout, counted, ChunkHas}
+use Rattle.zarr_array_regions.specs.Access.{Access, described}
 use Rattle.zarr_array_regions.specs.declared.error.CommandError.{CommandError}
 use Rattle.zarr_array_regions.specs.declared.error.SessionErrorKind.{SessionErrorKind}
 use Rattle.zarr_array_regions.specs.declared.error.SessionErrorKind.TheVariants.{OutOfMemory}
-use Rattle.zarr_array_regions.specs.Taken.{Takes}
-use Rattle.zarr_array_regions.specs.Told.{TellsWhy}
+use Rattle.zarr_array_regions.specs.Pays.{PaysChanges, CountsFirst, PaysPart}
+use Rattle.zarr_array_regions.specs.Tells.{TellsOfSome}
 use Rattle.zarr_array_regions.specs.Write.{HoldsChunk, change_of, FailsToChange}
 
--- the first k of some chunks were changed, with one reading and one writing call for each, and no
--- other key was
+-- the first k of some chunks were changed, with one writing call for each, and no other key was
 pub record ChangedSome (description : Description) (options : Options) (change : Array Element →
     Array Element)
     (chunks : List (List ℕ)) (k : ℕ) (before now : Shown) : Type 0 where
@@ -26,14 +24,8 @@ pub record ChangedSome (description : Description) (options : Options) (change :
   pub others : (key : List ℕ) → ((place : ℕ) (chunk : List ℕ) → place < k →
       slice_get chunks place ≡ Some chunk →
       ¬ (key ≡ description.key chunk)) → now.content key ≡ before.content key
-  pub asks : now.asks ≡ counted before.asks k
   pub puts : now.puts ≡ counted before.puts k
   pub later : before.faults ≤ now.faults
-
--- one call for each of the first k of some chunks, and perhaps one for the next
-abbrev pub CountsFirst : ℕ → ℕ → ℕ → ℕ → Type 0
-CountsFirst k all before now = (now ≡ counted before k)
-    ⊎ ((k < all) × (now ≡ counted before (k + 1)))
 
 -- why the next chunk after k was not changed: memory ran out before it, or it could not be changed
 abbrev pub StopsBefore : Description → Options → (Array Element → Array Element) → List (List ℕ) →
@@ -53,22 +45,24 @@ pub record FailsPartWay (description : Description) (options : Options) (change 
   pub few : k ≤ length chunks
   pub changed : ChangedSome description options change chunks k before mid
   pub stops : StopsBefore description options change chunks k mid now kind
-  pub asks : CountsFirst k (length chunks) before.asks now.asks
   pub puts : CountsFirst k (length chunks) before.puts now.puts
   pub later : mid.faults ≤ now.faults
 
 -- bytes were written to a region: each chunk that it meets was changed
-pub record HasWrittenRegion (array : ArrayParts) (options : Options) (region : Region)
+pub record HasWrittenRegion (array : Access) (options : Options) (region : Region)
     (bytes : ArrayBytes) (before now : Shown) : Type 0 where
   pub changed : ChangedSome (described array) options (change_of array region bytes)
       (chunks_meeting (described array).grid region)
       (length (chunks_meeting (described array).grid region)) before now
-  pub taken : Takes (documented array) (bytes_under (described array) None (write region bytes)
-      (present_in (described array) before.content)) before now
+  pub paid : PaysChanges array.costs (described array)
+      (chunks_meeting (described array).grid region)
+      (length (chunks_meeting (described array).grid region)) before now
 
 -- they were not: the chunks before the error's place were changed, and it tells why
-pub record NotWrittenRegion (array : ArrayParts) (options : Options) (region : Region)
+pub record NotWrittenRegion (array : Access) (options : Options) (region : Region)
     (bytes : ArrayBytes) (before now : Shown) (error : CommandError) : Type 0 where
   pub failed : FailsPartWay (described array) options (change_of array region bytes)
       (chunks_meeting (described array).grid region) error.chunks_done before now error.kind
-  pub told : TellsWhy None (documented array) options now error.kind
+  pub paid : PaysPart array.costs error.chunks_done
+      (length (chunks_meeting (described array).grid region)) before now
+  pub told : TellsOfSome None (described array) array.says options now error.kind

@@ -1,23 +1,20 @@
 -- What reading a region owes.
-use Rattle.std.specs.Prelude.{◌≡◌, ◌<◌, ◌≤◌, ◌+◌, ◌⊎◌, ℕ, List, true, false, length, slice_get, Some, None, IsSome, Result, MatchResult}
-use Rattle.zarr_model.specs.Prelude.{Region, count, Element, Array, kind, ArrayBytes, meaning, has_long_element, elements_in, chunks_meeting, chunk_content, HasMet, ChunkHas, read, finds_shared, present_in, bytes_under, read_bytes, Shown, Options, Description, layout, counted, Rose}
-use Rattle.zarrs_array_subset.specs.ArraySubset.{region as region_of_subset}
+use Rattle.std.specs.Prelude.{◌≡◌, ◌<◌, ◌≤◌, ℕ, List, false, length, slice_get, Some, None, IsSome, Result, MatchResult}
+use Rattle.zarr_model.specs.Prelude.{Region, count, Element, Array, kind, ArrayBytes, meaning, has_long_element, elements_in, chunks_meeting, chunk_content, HasMet, ChunkHas, finds_shared, Shown, Options, Description, layout, Rose}
 use Rattle.zarrs_storage.specs.Store.{SameContent}
 use Rattle.zarrs_codec_bytes.specs.Overlap.{Copied}
 use Rattle.zarr_array_elements.specs.Elements.{list_in}
 use Rattle.zarr_array_elements.specs.BoxElements.{kind_held, box_held, list_held, HoldsShort}
 use Rattle.zarr_array_elements.specs.declared.box_elements.BoxElements.{BoxElements}
-use Rattle.zarr_array_parts.specs.Parts.{documented, described}
-use Rattle.zarr_array_parts.specs.declared.parts.ArrayParts.{ArrayParts}
 use Rattle.zarr_array_regions.specs.declared.error.CommandError.{CommandError}
 use Rattle.zarr_array_regions.specs.declared.error.SessionErrorKind.{SessionErrorKind}
 use Rattle.zarr_array_regions.specs.declared.error.SessionErrorKind.TheVariants.{NotOpened, ChunkDecode, Store, OutOfMemory}
-use Rattle.zarr_array_regions.specs.declared.region_chunks.RegionChunks.{RegionChunks}
-use Rattle.zarr_array_regions.specs.RegionChunks.{chunk_at, asked_at}
-use Rattle.zarr_array_regions.specs.Fetch.{HasAsked, NotFetched}
+use Rattle.zarr_array_regions.specs.Access.{Access, described}
+use Rattle.zarr_array_regions.specs.RegionChunks.{asked_of}
+use Rattle.zarr_array_regions.specs.Fetch.{HasRead, NotFetched}
+use Rattle.zarr_array_regions.specs.Pays.{PaysShared, PaysRead, PaysPart}
 use Rattle.zarr_array_regions.specs.Shared.{IsReadable}
-use Rattle.zarr_array_regions.specs.Taken.{Takes}
-use Rattle.zarr_array_regions.specs.Told.{TellsWhy}
+use Rattle.zarr_array_regions.specs.Tells.{TellsOfSome}
 
 -- the cause at the next chunk after k of the region's: its value does not decode and may not be
 -- passed over, the store failed, or memory ran out
@@ -36,43 +33,38 @@ HasReadCause description options region k before now (NotOpened error) = ⊥
 pub record FailsToRead (description : Description) (options : Options) (region : Region) (k : ℕ)
     (before now : Shown) (kind : SessionErrorKind) : Type 0 where
   pub few : k ≤ length (chunks_meeting description.grid region)
-  pub asks : (now.asks ≡ counted before.asks k)
-      ⊎ ((k < length (chunks_meeting description.grid region))
-      × (now.asks ≡ counted before.asks (k + 1)))
   pub cause : HasReadCause description options region k before now kind
 
 -- elements are held over a region of an array, one for each of its places, and none is too long for
 -- its length to be stored
-pub record HoldsRegion (array : ArrayParts) (region : Region) (elements : BoxElements) : Type 0
+pub record HoldsRegion (array : Access) (region : Region) (elements : BoxElements) : Type 0
   where
     pub of_kind : kind_held elements ≡ kind (described array)
     pub over : box_held elements ≡ region
     pub short : HoldsShort elements
 
--- what a chunk and a region share was read into the region's elements, by one reading call
-pub record HasReadChunk (array : ArrayParts) (options : Options) (region : Region)
+-- what a chunk and a region share was read into the region's elements
+pub record HasReadChunk (array : Access) (options : Options) (region : Region)
     (chunk : List ℕ) (old new : List Element) (before now : Shown) : Type 0 where
-  pub asked : HasAsked before now
+  pub has_read : HasRead before now
   pub readable : IsReadable (described array) options region before.content chunk
   pub copied : (plain : Array Element)
       → ChunkHas (layout (described array) options) before.content plain chunk
       → Copied region ((described array).grid.chunk_box chunk)
       (elements_in ((described array).grid.chunk_box chunk) plain) old new
   pub as_long : length new ≡ length old
-  pub taken : Takes (documented array) (read_bytes (described array) region before.content chunk)
-      before now
+  pub paid : PaysShared array.costs (described array) options region chunk before now
 
--- the chunk of a number was read so into the region's elements, or it was not fetched
-abbrev pub ReadsChunk : {T : Type 0} → RegionChunks → ℕ → Options → BoxElements → BoxElements
-    → Shown → Shown → Result T SessionErrorKind → Type 0
-ReadsChunk met number options old new before now result = MatchResult result
-    (λ _. HasReadChunk met.array.now options (region_of_subset met.subset.now)
-    (chunk_at met number) (list_held old) (list_held new) before now)
-    (NotFetched (asked_at met number) met.array.now options (chunk_at met number) before now)
+-- a chunk was read so into the region's elements, or it was not fetched
+abbrev pub ReadsChunk : {T : Type 0} → Access → Options → Region → List ℕ → BoxElements
+    → BoxElements → Shown → Shown → Result T SessionErrorKind → Type 0
+ReadsChunk array options region chunk old new before now result = MatchResult result
+    (λ _. HasReadChunk array options region chunk (list_held old) (list_held new) before now)
+    (NotFetched (asked_of array region chunk) array options chunk before now)
 
 -- elements are those of a region of each array that has the elements of the chunks met, each of
--- which was asked for once, and decodes or is passed over
-pub record HasReadList (array : ArrayParts) (options : Options) (region : Region)
+-- which decodes or is passed over
+pub record HasReadList (array : Access) (options : Options) (region : Region)
     (before now : Shown) (list : List Element) : Type 0 where
   pub as_long : length list ≡ count region
   pub elements : (plain : Array Element)
@@ -82,14 +74,12 @@ pub record HasReadList (array : ArrayParts) (options : Options) (region : Region
       → slice_get (chunks_meeting (described array).grid region) k ≡ Some chunk
       → IsReadable (described array) options region before.content chunk
   pub same : SameContent before now
-  pub asks : now.asks
-      ≡ counted before.asks (length (chunks_meeting (described array).grid region))
-  pub taken : Takes (documented array) (bytes_under (described array) None (read region)
-      (present_in (described array) before.content)) before now
+  pub paid : PaysRead array.costs (described array) options region
+      (chunks_meeting (described array).grid region) before now
   pub later : before.faults ≤ now.faults
 
 -- array bytes mean such elements, none of which is too long
-pub record HasReadRegion (array : ArrayParts) (options : Options) (region : Region)
+pub record HasReadRegion (array : Access) (options : Options) (region : Region)
     (before now : Shown) (bytes : ArrayBytes) : Type 0 where
   pub means : IsSome (meaning (kind (described array)) (count region) bytes)
   pub read : HasReadList array options region before now
@@ -97,7 +87,7 @@ pub record HasReadRegion (array : ArrayParts) (options : Options) (region : Regi
   pub short : has_long_element bytes ≡ false
 
 -- a region was not read: nothing was changed, and the error has its place and cause and tells why
-pub record NotReadRegion (array : ArrayParts) (options : Options) (region : Region)
+pub record NotReadRegion (array : Access) (options : Options) (region : Region)
     (before now : Shown) (error : CommandError) : Type 0 where
   pub same : SameContent before now
   pub later : before.faults ≤ now.faults
@@ -106,4 +96,6 @@ pub record NotReadRegion (array : ArrayParts) (options : Options) (region : Regi
   pub readable : (k : ℕ) (chunk : List ℕ) → k < error.chunks_done
       → slice_get (chunks_meeting (described array).grid region) k ≡ Some chunk
       → IsReadable (described array) options region before.content chunk
-  pub told : TellsWhy (Some region) (documented array) options now error.kind
+  pub paid : PaysPart array.costs error.chunks_done
+      (length (chunks_meeting (described array).grid region)) before now
+  pub told : TellsOfSome (Some region) (described array) array.says options now error.kind

@@ -1,55 +1,47 @@
--- The chunks that a region of an array meets, and the levels of their codecs.
-use Rattle.std.specs.Prelude.{◌≡◌, ◌<◌, ◌^◌, ℕ, List, [], true, Option, Some, None}
-use Rattle.zarr_model.specs.Prelude.{Region, count, tuples, tuple_at, ends_within, Description, chunks_meeting}
+-- The chunks that a region of an array meets.
+use Rattle.std.specs.Prelude.{◌≡◌, ◌<◌, ◌^◌, ℕ, List, [], length, true, Option, Some, None}
+use Rattle.zarr_model.specs.Prelude.{Region, count, share_tuple, tuples, tuple_at, ends_within, Description, IsChunk, chunks_meeting}
 use Rattle.zarrs_array_subset.specs.ArraySubset.{region}
 use Rattle.zarrs_array_subset.specs.declared.array_subset.ArraySubset.{ArraySubset}
-use Rattle.zarr_chain.specs.Chain.{first_level}
-use Rattle.zarr_chain.specs.declared.levels.ChunkLevels.{ChunkLevels}
-use Rattle.zarr_array_parts.specs.ChunkLevels.{chunk_shape, ServesShape}
-use Rattle.zarr_array_parts.specs.Parts.{described}
-use Rattle.zarr_array_parts.specs.declared.parts.ArrayParts.{ArrayParts}
+use Rattle.zarr_array_regions.specs.Access.{Access, described}
 use Rattle.zarr_array_regions.specs.Asked.{chunk_asked}
 use Rattle.zarr_array_regions.specs.declared.region_chunks.RegionChunks.{RegionChunks}
-use Rattle.zarr_array_regions.specs.declared.region_chunks.ChunkPlace.{ChunkPlace}
+use Rattle.zarr_array_regions.specs.declared.chunk_place.ChunkPlace.{ChunkPlace}
 
 -- the indices of the chunk of a number
-abbrev pub chunk_at : RegionChunks → ℕ → List ℕ
+abbrev pub chunk_at : {C : Type 0} → RegionChunks C → ℕ → List ℕ
 chunk_at met number = tuple_at (region met.chunks) number
 
--- the part of it that a read of the region asks for
-abbrev pub asked_at : RegionChunks → ℕ → Option Region
-asked_at met number =
-    chunk_asked (described met.array.now) (Some (region met.subset.now)) (chunk_at met number)
+-- the part of a chunk that a read of the region asks for
+abbrev pub asked_of : Access → Region → List ℕ → Option Region
+asked_of array over chunk = chunk_asked (described array) (Some over) chunk
 
 -- the region lies inside the array, and these are the chunks that it meets
-pub record AreMet (met : RegionChunks) : Type 0 where
-  pub inside : ends_within (region met.subset.now) (described met.array.now).shape ≡ true
+pub record AreMet {C : Type 0} (array : Access) (met : RegionChunks C) : Type 0 where
+  pub inside : ends_within (region met.subset.now) (described array).shape ≡ true
   pub listed : tuples (region met.chunks)
-      ≡ chunks_meeting (described met.array.now).grid (region met.subset.now)
+      ≡ chunks_meeting (described array).grid (region met.subset.now)
   pub few : count (region met.chunks) < 2 ^ 64
 
 -- the chunks that a region of an array meets, if it meets one
-pub record AreMetBy (array : ArrayParts) (subset : ArraySubset) (met : RegionChunks) : Type 0 where
-  pub are : AreMet met
+pub record AreMetBy {C : Type 0} (seen : C → Access) (array : C) (subset : ArraySubset)
+    (met : RegionChunks C) : Type 0 where
+  pub are : AreMet (seen met.array.now) met
   pub of_array : met.array.now ≡ array
   pub of_subset : met.subset.now ≡ subset
 
-abbrev pub Meets : ArrayParts → ArraySubset → Option RegionChunks → Type 0
-Meets array subset None = chunks_meeting (described array).grid (region subset) ≡ []
-Meets array subset (Some met) = AreMetBy array subset met
+abbrev pub Meets : {C : Type 0} → (C → Access) → C → ArraySubset → Option (RegionChunks C) → Type 0
+Meets seen array subset None = chunks_meeting (described (seen array)).grid (region subset) ≡ []
+Meets seen array subset (Some met) = AreMetBy seen array subset met
 
--- levels are those of the array's codecs for the chunk of a number
-abbrev pub AreLevelsAt : RegionChunks → ℕ → ChunkLevels → Type 0
-AreLevelsAt met number levels = ServesShape met.array.now
-    (chunk_shape (described met.array.now) (chunk_at met number)) met.array.now.chain levels
+-- where a chunk of an array lies, and the key that its value stands under
+pub record IsPlace (description : Description) (place : ChunkPlace) : Type 0 where
+  pub is_chunk : IsChunk description.grid place.indices.items
+  pub lies : region place.subset ≡ description.grid.chunk_box place.indices.items
+  pub key : place.key ≡ description.key place.indices.items
 
--- levels are those of the array's codecs for the chunks of some shape
-abbrev pub AreInHand : ArrayParts → ChunkLevels → Type 0
-AreInHand array levels = ServesShape array (first_level levels).shape array.chain levels
-
--- which chunk it is, where it lies, and the key that its value stands under
-pub record IsPlaceOf (description : Description) (chunk : List ℕ) (place : ChunkPlace) : Type 0
-  where
-    pub is : place.indices.items ≡ chunk
-    pub lies : region place.subset ≡ description.grid.chunk_box chunk
-    pub key : place.key ≡ description.key chunk
+-- it is a chunk that a region meets
+pub record IsMet (description : Description) (over : Region) (place : ChunkPlace) : Type 0 where
+  pub at : IsPlace description place
+  pub rank : length over ≡ length (description.grid.chunk_box place.indices.items)
+  pub shares : share_tuple (description.grid.chunk_box place.indices.items) over ≡ true

@@ -6,22 +6,20 @@ use Rattle.zarr_chain_stored.specs.Regions.{GivesRegion, fetched_bytes}
 use Rattle.zarr_chain_stored.specs.declared.fetched.Fetched.{Fetched}
 use Rattle.zarr_array_elements.specs.SharedBox.{IsSharedBy}
 use Rattle.zarr_array_parts.specs.ChunkLevels.{chunk_level}
-use Rattle.zarr_array_parts.specs.Parts.{described}
-use Rattle.zarr_array_parts.specs.declared.parts.ArrayParts.{ArrayParts}
 use Rattle.zarr_array_regions.specs.declared.shared.FetchedChunk.{FetchedChunk}
+use Rattle.zarr_array_regions.specs.Access.{Access, described}
 use Rattle.zarr_array_regions.specs.Asked.{part_asked, finds_asked}
-use Rattle.zarr_array_regions.specs.RegionChunks.{IsPlaceOf}
 
 -- these are elements of a chunk's list for a box inside the chunk, none of which is too long for
 -- its length to be stored
-pub record HasPart (array : ArrayParts) (chunk : List ℕ) (within : Region) (list : List Element)
+pub record HasPart (array : Access) (chunk : List ℕ) (within : Region) (list : List Element)
     (fetched : Fetched) : Type 0 where
   pub as_long : length list ≡ count ((described array).grid.chunk_box chunk)
   pub gives : GivesRegion (chunk_level (described array) chunk) within list fetched
   pub short : has_long_element (fetched_bytes fetched) ≡ false
 
 -- a chunk has this list, by what stands under its key
-abbrev pub HasList : ArrayParts → Options → List ℕ → Shown → List Element → Type 0
+abbrev pub HasList : Access → Options → List ℕ → Shown → List Element → Type 0
 HasList array options chunk before list =
     chunk_content (layout (described array) options) before.content chunk ≡ Some list
 
@@ -31,7 +29,7 @@ finds_box description options chunk within value = finds_asked description optio
     (part_asked (description.grid.chunk_box chunk) within) value
 
 -- a chunk decodes, or its value holds a box of it
-abbrev pub IsFound : ArrayParts → Options → List ℕ → Region → Content → Type 0
+abbrev pub IsFound : Access → Options → List ℕ → Region → Content → Type 0
 IsFound array options chunk within store =
     IsSome (chunk_content (layout (described array) options) store chunk)
     ⊎ (finds_box (described array) options chunk within (store ((described array).key chunk))
@@ -39,17 +37,16 @@ IsFound array options chunk within store =
 
 -- these are elements for a box inside a chunk, of a list that is the chunk's if it has one, and the
 -- chunk has one or its value holds the box
-pub record IsPartOf (array : ArrayParts) (options : Options) (chunk : List ℕ) (within : Region)
+pub record IsPartOf (array : Access) (options : Options) (chunk : List ℕ) (within : Region)
     (before : Shown) (fetched : Fetched) : Type 0 where
   pub list : List Element
   pub content : (own : List Element) → HasList array options chunk before own → own ≡ list
   pub found : IsFound array options chunk within before.content
   pub has : HasPart array chunk within list fetched
 
--- a chunk's place, what it shares with a region, and for that elements of this list
-pub record HoldsShared (array : ArrayParts) (region : Region) (chunk : List ℕ)
+-- what a chunk shares with a region, and for that elements of this list
+pub record HoldsShared (array : Access) (region : Region) (chunk : List ℕ)
     (list : List Element) (held : FetchedChunk) : Type 0 where
-  pub place : IsPlaceOf (described array) chunk held.place
   pub shared : IsSharedBy region ((described array).grid.chunk_box chunk) held.shared
   pub has : HasPart array chunk (region_of_subset held.shared.within) list held.elements
 
@@ -60,7 +57,7 @@ IsReadable description options region store chunk =
     ⊎ (finds_shared description options region chunk (store (description.key chunk)) ≡ true)
 
 -- the same of a list that is the chunk's if it has one
-pub record IsHeldShared (array : ArrayParts) (options : Options) (region : Region)
+pub record IsHeldShared (array : Access) (options : Options) (region : Region)
     (chunk : List ℕ) (before : Shown) (held : FetchedChunk) : Type 0 where
   pub list : List Element
   pub content : (own : List Element) → HasList array options chunk before own → own ≡ list

@@ -4,14 +4,13 @@ use Rattle.zarr_model.specs.Prelude.{Element, Options, Shown, HasCause}
 use Rattle.zarrs_storage.specs.Store.{IsFault, IsPlain, SameContent}
 use Rattle.zarrs_storage.specs.declared.store.StorageError.{StorageError}
 use Rattle.zarrs_storage.specs.declared.store.StorageError.TheVariants as Storage
-use Rattle.zarr_array_parts.specs.Parts.{described}
-use Rattle.zarr_array_parts.specs.declared.parts.ArrayParts.{ArrayParts}
 use Rattle.zarr_chain_stored.specs.Seen.{PutsOnce}
+use Rattle.zarr_array_regions.specs.Access.{Access, described}
 use Rattle.zarr_array_regions.specs.Chunk.{PutsElements, MayPutElements}
 
 -- a chunk's elements were put under a key by one writing call, or may have been where the store
 -- failed; want of memory changes nothing
-pub record StoresElements (array : ArrayParts) (options : Options) (chunk : List ℕ)
+pub record StoresElements (array : Access) (options : Options) (chunk : List ℕ)
     (list : List Element) (key : List ℕ) (before now : Shown)
     {T : Type 0} (result : Result T StorageError) : Type 0 where
   pub ok : OnOk result

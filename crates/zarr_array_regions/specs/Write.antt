@@ -1,13 +1,12 @@
 -- What writing one chunk does to a store.
 use Rattle.std.specs.Prelude.{◌≡◌, ◌+◌, ◌*◌, ◌^◌, ◌<◌, ◌≤◌, ◌||◌, ◌⊎◌, not, false, ℕ, List, None, IsSome}
-use Rattle.zarr_model.specs.Prelude.{Element, Array, Options, Content, chunk_content, Shown, Description, layout, present_in, is_blank, write_bytes, ChunkHas, Rose, counted, Region, count, written, written_elements, kind, fixed_size, ArrayBytes, meaning, has_long_element}
+use Rattle.zarr_model.specs.Prelude.{Element, Array, Options, Content, chunk_content, Shown, Description, layout, present_in, is_blank, ChunkHas, Rose, counted, Region, count, written, written_elements, kind, fixed_size, ArrayBytes, meaning, has_long_element}
 use Rattle.zarrs_codec_bytes.specs.Picking.{size_in}
-use Rattle.zarr_array_parts.specs.Parts.{documented, described}
-use Rattle.zarr_array_parts.specs.declared.parts.ArrayParts.{ArrayParts}
 use Rattle.zarr_array_regions.specs.declared.error.SessionErrorKind.{SessionErrorKind}
 use Rattle.zarr_array_regions.specs.declared.error.SessionErrorKind.TheVariants.{NotOpened, ChunkDecode, Store, OutOfMemory}
-use Rattle.zarr_array_regions.specs.Taken.{Takes}
-use Rattle.zarr_array_regions.specs.Told.{TellsOf}
+use Rattle.zarr_array_regions.specs.Access.{Access, described}
+use Rattle.zarr_array_regions.specs.Pays.{PaysAtMost, PaysChange}
+use Rattle.zarr_array_regions.specs.Tells.{TellsOf}
 
 -- a chunk has an array's elements under all options, and is absent exactly where these are all fill
 -- and such chunks are not stored
@@ -60,33 +59,31 @@ FailsToChange description options change chunk before now OutOfMemory =
 FailsToChange description options change chunk before now (NotOpened error) = ⊥
 
 -- what writing array bytes to a region does to an array
-abbrev pub change_of : ArrayParts → Region → ArrayBytes → Array Element → Array Element
+abbrev pub change_of : Access → Region → ArrayBytes → Array Element → Array Element
 change_of array region bytes = written region (written_elements (described array) region bytes)
 
 -- array bytes mean elements of a region, which can be counted and addressed, and none of which is
 -- too long to be stored
-pub record IsWritable (array : ArrayParts) (region : Region) (bytes : ArrayBytes) : Type 0 where
+pub record IsWritable (array : Access) (region : Region) (bytes : ArrayBytes) : Type 0 where
   pub means : IsSome (meaning (kind (described array)) (count region) bytes)
   pub short : has_long_element bytes ≡ false
   pub few : count region + 1 < 2 ^ 64
   pub room : count region * size_in (fixed_size (kind (described array))) < 2 ^ 64
 
--- a chunk was changed, by one reading call and one that writes
-pub record HasWrittenChunk (array : ArrayParts) (options : Options)
+-- a chunk was changed, by one call that writes
+pub record HasWrittenChunk (array : Access) (options : Options)
     (change : Array Element → Array Element) (chunk : List ℕ) (before now : Shown) : Type 0 where
   pub changed : ChangesChunk (described array) options change chunk before.content now.content
-  pub asks : now.asks ≡ counted before.asks 1
+  pub paid : PaysChange array.costs (described array) chunk before now
   pub puts : now.puts ≡ counted before.puts 1
-  pub taken : Takes (documented array) (write_bytes (described array) before.content chunk)
-      before now
   pub later : before.faults ≤ now.faults
 
 -- changing a chunk failed: the error has its cause and tells why
-pub record NotWrittenChunk (array : ArrayParts) (options : Options)
+pub record NotWrittenChunk (array : Access) (options : Options)
     (change : Array Element → Array Element) (chunk : List ℕ) (before now : Shown)
     (kind : SessionErrorKind) : Type 0 where
   pub failed : FailsToChange (described array) options change chunk before now kind
-  pub told : TellsOf (documented array) options chunk None now kind
-  pub asks : (now.asks ≡ before.asks) ⊎ (now.asks ≡ counted before.asks 1)
+  pub told : TellsOf (described array) array.says options chunk None now kind
+  pub paid : PaysAtMost array.costs before now
   pub puts : (now.puts ≡ before.puts) ⊎ (now.puts ≡ counted before.puts 1)
   pub later : before.faults ≤ now.faults

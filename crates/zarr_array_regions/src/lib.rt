@@ -1,16 +1,19 @@
-//! Regions of an array, read and written over a store chunk by chunk, through the chain of the array's codecs.
+//! Regions of an array, read and written over a store chunk by chunk.
 #![tactic(auto)]
 
-mod chunk;
+mod access;
+mod chunk_place;
 mod error;
 mod place;
+mod plain;
 mod read;
 mod region_chunks;
 mod shared;
 mod write;
 
+pub use access::ChunkAccess;
+pub use chunk_place::ChunkPlace;
 pub use error::{CommandError, SessionErrorKind};
-pub use place::chunk_key;
 pub use read::read_elements;
 pub use write::write_elements;
 pub use zarr_array_parts::{

@@ -1,18 +1,17 @@
 //! Where the chunks of an array lie, and which keys they have.
 
-ghost use Rattle.std.specs.Prelude.{◌≡◌, ◌<◌, ◌^◌, IfOk, IfSome};
+ghost use Rattle.std.specs.Prelude.{◌≡◌, ◌<◌, ◌^◌, IfOk};
 ghost use Rattle.zarr_model.specs.Prelude.{count, tuple_at, IsChunk};
 ghost use Rattle.zarrs_array_subset.specs.ArraySubset.{region};
-ghost use Rattle.zarr_array_parts.specs.Parts.{described};
-ghost use Rattle.zarr_array_regions.specs.RegionChunks.{IsPlaceOf, chunk_at, AreMet, AreLevelsAt, AreInHand};
+ghost use Rattle.zarr_array_regions.specs.Access.{described};
+ghost use Rattle.zarr_array_regions.specs.RegionChunks.{IsPlace, IsMet, chunk_at, AreMet};
 
-use crate::region_chunks::{ChunkPlace, RegionChunks};
+use crate::access::ChunkAccess;
+use crate::chunk_place::ChunkPlace;
+use crate::region_chunks::RegionChunks;
 use std::alloc::{AllocError, Global};
-use zarr_array_parts::ArrayParts;
-use zarr_chain::ChunkLevels;
 use zarrs_array_subset::{ArrayIndicesTinyVec, ArraySubset, push_tuple};
 use zarrs_chunk_grid_traits::ChunkGridTraits;
-use zarrs_storage::StoreKey;
 
 // The indices at a place of a subset's row-major list.
 #[tactic(auto, using(crate::proofs::PlaceLaws::of_subsets))]
@@ -36,33 +35,18 @@ fn indices_at(
     Ok(indices)
 }
 
-/// The key of a chunk.
-///
-/// # Errors
-/// [`AllocError`] where memory runs out.
-pub fn chunk_key(
-    array: &ArrayParts,
-    alloc: Global,
-    chunk_indices: &[u64],
-) -> Result<StoreKey, AllocError>
-    ensures { IfOk result (λ key. key ≡ (described array.now).key chunk_indices.now) }
-{
-    let key = array.keys().key(alloc, chunk_indices)?;
-    Ok(key)
-}
-
 // The place of the chunk of these indices.
-#[tactic(auto, using(zarr_array_parts::proofs::ServedLaws::of_chunks))]
-fn place_of(
-    array: &ArrayParts,
+fn place_of<C: ChunkAccess>(
+    array: &C,
     alloc: Global,
     indices: ArrayIndicesTinyVec,
 ) -> Result<ChunkPlace, AllocError>
-    requires { IsChunk (described array.now).grid indices.items }
-    ensures { IfOk result (IsPlaceOf (described array.now) indices.items) }
+    requires { IsChunk (described (C.seen array.now)).grid indices.items }
+    ensures { IfOk result (λ place. (place.indices.items ≡ indices.items)
+        × IsPlace (described (C.seen array.now)) place) }
 {
     let subset = array.grid().chunk_box(alloc, indices.as_slice())?;
-    let key = chunk_key(array, alloc, indices.as_slice())?;
+    let key = array.chunk_key(alloc, indices.as_slice())?;
     Ok(ChunkPlace {
         indices,
         subset,
@@ -70,31 +54,13 @@ fn place_of(
     })
 }
 
-impl RegionChunks<'_> {
-    /// The levels of the array's codecs for the chunk of a number: those in hand where they are of its shape, else new ones.
-    pub(crate) fn levels(
-        &self,
-        alloc: Global,
-        number: u64,
-        hand: Option<ChunkLevels>,
-        place: &ChunkPlace,
-    ) -> Result<ChunkLevels, AllocError>
-        requires met { AreMet self.now }
-        requires below { number < count (region self.now.chunks) }
-        requires hand { IfSome hand (AreInHand self.now.array.now) }
-        requires place { IsPlaceOf (described self.now.array.now) (chunk_at self.now number)
-            place.now }
-        ensures { IfOk result (AreLevelsAt self.now number) }
-    {
-        self.array.fitted_levels(alloc, hand, place.indices.as_slice(), place.subset.shape())
-    }
-
+impl<C: ChunkAccess> RegionChunks<'_, C> {
     /// The place of the chunk of a number.
     pub(crate) fn place(&self, alloc: Global, number: u64) -> Result<ChunkPlace, AllocError>
-        requires met { AreMet self.now }
+        requires met { AreMet (C.seen self.now.array.now) self.now }
         requires below { number < count (region self.now.chunks) }
-        ensures { IfOk result (IsPlaceOf (described self.now.array.now)
-            (chunk_at self.now number)) }
+        ensures { IfOk result (λ place. (place.indices.items ≡ chunk_at self.now number)
+            × IsMet (described (C.seen self.now.array.now)) (region self.now.subset.now) place) }
     {
         let indices = indices_at(alloc, &self.chunks, number)?;
         place_of(self.array, alloc, indices)

@@ -8,45 +8,49 @@ ghost use Rattle.zarrs_codec_bytes.specs.Picking.{size_in};
 ghost use Rattle.zarrs_codec_array_bytes.specs.Raw.{raw_of};
 ghost use Rattle.zarrs_codec_traits.specs.Views.{options_of};
 ghost use Rattle.zarr_array_elements.specs.BoxElements.{list_held};
-ghost use Rattle.zarr_array_parts.specs.Parts.{described};
-ghost use Rattle.zarr_array_regions.specs.RegionChunks.{chunk_at, AreMet, AreLevelsAt, AreInHand, IsPlaceOf};
+ghost use Rattle.zarr_array_regions.specs.Access.{described, IsInHand};
+ghost use Rattle.zarr_array_regions.specs.RegionChunks.{chunk_at, AreMet, IsMet};
 ghost use Rattle.zarr_array_regions.specs.Read.{HoldsRegion, ReadsChunk, HasReadList, HasReadRegion, NotReadRegion};
 
+use crate::access::ChunkAccess;
+use crate::chunk_place::ChunkPlace;
 use crate::error::{CommandError, SessionErrorKind, chunk_error};
-use crate::region_chunks::{ChunkPlace, RegionChunks};
+use crate::region_chunks::RegionChunks;
 use std::alloc::Global;
 use zarr_array_elements::BoxElements;
-use zarr_array_parts::ArrayParts;
-use zarr_chain::ChunkLevels;
 use zarrs_array_subset::ArraySubset;
 use zarrs_codec_array_bytes::ArrayBytes;
 use zarrs_codec_options::CodecOptions;
 use zarrs_storage::Store;
 
-impl RegionChunks<'_> {
-    // Takes the elements of the chunk of a number, which stands at this place and lies inside the region.
+impl<C: ChunkAccess> RegionChunks<'_, C> {
+    // Takes the elements of the chunk at a place, which lies inside the region.
     fn read_whole<S: Store>(
         &self,
         alloc: Global,
-        number: u64,
-        levels: &ChunkLevels,
+        levels: &C::Levels,
         place: ChunkPlace,
         elements: &mut BoxElements<'_>,
         store: &mut S,
         options: &CodecOptions,
     ) -> Result<(), SessionErrorKind>
-        requires met { AreMet self.now }
-        requires below { number < count (region self.now.chunks) }
-        requires levels { AreLevelsAt self.now number levels.now }
-        requires place { IsPlaceOf (described self.now.array.now) (chunk_at self.now number) place }
+        requires levels { C.serves self.now.array.now place.indices.items levels.now }
+        requires place { IsMet (described (C.seen self.now.array.now)) (region self.now.subset.now)
+            place }
         requires inside { is_within (region place.subset) (region self.now.subset.now) ≡ true }
-        requires holds { HoldsRegion self.now.array.now (region self.now.subset.now) elements.old }
-        ensures read { ReadsChunk self.now number (options_of options.now) elements.old
-            elements.new (S.shown store.old) (S.shown store.new) result }
-        ensures holds { HoldsRegion self.now.array.now (region self.now.subset.now) elements.new }
+        requires holds { HoldsRegion (C.seen self.now.array.now) (region self.now.subset.now)
+            elements.old }
+        ensures read { ReadsChunk (C.seen self.now.array.now) (options_of options.now)
+            (region self.now.subset.now) place.indices.items elements.old elements.new
+            (S.shown store.old) (S.shown store.new) result }
+        ensures holds { HoldsRegion (C.seen self.now.array.now) (region self.now.subset.now)
+            elements.new }
         ensures kept { S.kept store.old store.new }
     {
-        match self.fetch_elements(alloc, number, levels, &place.key, store, options) {
+        match self
+            .array
+            .fetch_elements(alloc, &place, levels, store, options)
+        {
             Ok(chunk) => {
                 elements.put(alloc, &chunk, &place.subset)?;
                 Ok(())
@@ -59,26 +63,31 @@ impl RegionChunks<'_> {
     fn read_shared<S: Store>(
         &self,
         alloc: Global,
-        number: u64,
-        levels: &ChunkLevels,
+        levels: &C::Levels,
         place: ChunkPlace,
         elements: &mut BoxElements<'_>,
         store: &mut S,
         options: &CodecOptions,
     ) -> Result<(), SessionErrorKind>
-        requires met { AreMet self.now }
-        requires below { number < count (region self.now.chunks) }
-        requires levels { AreLevelsAt self.now number levels.now }
-        requires place { IsPlaceOf (described self.now.array.now) (chunk_at self.now number) place }
-        requires holds { HoldsRegion self.now.array.now (region self.now.subset.now) elements.old }
-        ensures read { ReadsChunk self.now number (options_of options.now) elements.old
-            elements.new (S.shown store.old) (S.shown store.new) result }
-        ensures holds { HoldsRegion self.now.array.now (region self.now.subset.now) elements.new }
+        requires levels { C.serves self.now.array.now place.indices.items levels.now }
+        requires place { IsMet (described (C.seen self.now.array.now)) (region self.now.subset.now)
+            place }
+        requires holds { HoldsRegion (C.seen self.now.array.now) (region self.now.subset.now)
+            elements.old }
+        ensures read { ReadsChunk (C.seen self.now.array.now) (options_of options.now)
+            (region self.now.subset.now) place.indices.items elements.old elements.new
+            (S.shown store.old) (S.shown store.new) result }
+        ensures holds { HoldsRegion (C.seen self.now.array.now) (region self.now.subset.now)
+            elements.new }
         ensures kept { S.kept store.old store.new }
     {
-        let chunk = self.fetch_shared(alloc, number, levels, place, store, options)?;
-        self.put_shared(alloc, number, &chunk, elements)?;
-        Ok(())
+        match self.fetch_shared(alloc, levels, &place, store, options) {
+            Ok(chunk) => {
+                self.put_shared(alloc, &place, &chunk, elements)?;
+                Ok(())
+            }
+            Err(error) => Err(chunk_error(place.key, error)),
+        }
     }
 
     // Takes the elements that the chunk of a number shares with the region: all, where it lies inside the region. The
@@ -87,28 +96,31 @@ impl RegionChunks<'_> {
         &self,
         alloc: Global,
         number: u64,
-        hand: Option<ChunkLevels>,
+        hand: Option<C::Levels>,
         elements: &mut BoxElements<'_>,
         store: &mut S,
         options: &CodecOptions,
-    ) -> Result<ChunkLevels, SessionErrorKind>
-        requires met { AreMet self.now }
+    ) -> Result<C::Levels, SessionErrorKind>
+        requires met { AreMet (C.seen self.now.array.now) self.now }
         requires below { number < count (region self.now.chunks) }
-        requires hand { IfSome hand (AreInHand self.now.array.now) }
-        requires holds { HoldsRegion self.now.array.now (region self.now.subset.now) elements.old }
-        ensures read { ReadsChunk self.now number (options_of options.now) elements.old
-            elements.new (S.shown store.old) (S.shown store.new) result }
-        ensures holds { HoldsRegion self.now.array.now (region self.now.subset.now) elements.new }
-        ensures hand { IfOk result (AreInHand self.now.array.now) }
+        requires hand { IfSome hand (IsInHand (C.serves self.now.array.now)) }
+        requires holds { HoldsRegion (C.seen self.now.array.now) (region self.now.subset.now)
+            elements.old }
+        ensures read { ReadsChunk (C.seen self.now.array.now) (options_of options.now)
+            (region self.now.subset.now) (chunk_at self.now number) elements.old elements.new
+            (S.shown store.old) (S.shown store.new) result }
+        ensures holds { HoldsRegion (C.seen self.now.array.now) (region self.now.subset.now)
+            elements.new }
+        ensures hand { IfOk result (IsInHand (C.serves self.now.array.now)) }
         ensures kept { S.kept store.old store.new }
     {
         let place = self.place(alloc, number)?;
-        let levels = self.levels(alloc, number, hand, &place)?;
+        let levels = self.array.levels_at(alloc, hand, &place)?;
         if place.subset.inbounds(self.subset) {
-            self.read_whole(alloc, number, &levels, place, elements, store, options)?;
+            self.read_whole(alloc, &levels, place, elements, store, options)?;
             return Ok(levels);
         }
-        self.read_shared(alloc, number, &levels, place, elements, store, options)?;
+        self.read_shared(alloc, &levels, place, elements, store, options)?;
         Ok(levels)
     }
 
@@ -120,16 +132,18 @@ impl RegionChunks<'_> {
         store: &mut S,
         options: &CodecOptions,
     ) -> Result<(), CommandError>
-        requires met { AreMet self.now }
-        requires holds { HoldsRegion self.now.array.now (region self.now.subset.now) elements.old }
+        requires met { AreMet (C.seen self.now.array.now) self.now }
+        requires holds { HoldsRegion (C.seen self.now.array.now) (region self.now.subset.now)
+            elements.old }
         requires as_long { length (list_held elements.old) ≡ count (region self.now.subset.now) }
         ensures read { MatchResult result
-            (λ _. HasReadList self.now.array.now (options_of options.now)
+            (λ _. HasReadList (C.seen self.now.array.now) (options_of options.now)
             (region self.now.subset.now) (S.shown store.old) (S.shown store.new)
             (list_held elements.new))
-            (NotReadRegion self.now.array.now (options_of options.now)
+            (NotReadRegion (C.seen self.now.array.now) (options_of options.now)
             (region self.now.subset.now) (S.shown store.old) (S.shown store.new)) }
-        ensures holds { HoldsRegion self.now.array.now (region self.now.subset.now) elements.new }
+        ensures holds { HoldsRegion (C.seen self.now.array.now) (region self.now.subset.now)
+            elements.new }
         ensures kept { S.kept store.old store.new }
     {
         let mut hand = None;
@@ -155,13 +169,14 @@ impl RegionChunks<'_> {
         store: &mut S,
         options: &CodecOptions,
     ) -> Result<ArrayBytes<'static>, CommandError>
-        requires met { AreMet self.now }
-        requires holds { HoldsRegion self.now.array.now (region self.now.subset.now) elements }
+        requires met { AreMet (C.seen self.now.array.now) self.now }
+        requires holds { HoldsRegion (C.seen self.now.array.now) (region self.now.subset.now)
+            elements }
         requires as_long { length (list_held elements) ≡ count (region self.now.subset.now) }
         ensures read { MatchResult result
-            (λ v. HasReadRegion self.now.array.now (options_of options.now)
+            (λ v. HasReadRegion (C.seen self.now.array.now) (options_of options.now)
             (region self.now.subset.now) (S.shown store.old) (S.shown store.new) (raw_of v))
-            (NotReadRegion self.now.array.now (options_of options.now)
+            (NotReadRegion (C.seen self.now.array.now) (options_of options.now)
             (region self.now.subset.now) (S.shown store.old) (S.shown store.new)) }
         ensures kept { S.kept store.old store.new }
     {
@@ -180,25 +195,25 @@ impl RegionChunks<'_> {
 }
 
 /// The elements of a region inside an array, in row-major order, which have room. Each chunk that the region meets is
-/// asked for once, in row-major order; the room for all elements is taken before the first where they are of one size.
+/// fetched once, in row-major order; the room for all elements is taken before the first where they are of one size.
 ///
 /// # Errors
 /// What a chunk's value or the store told, or want of memory, and how many chunks were finished.
-pub fn read_elements<S: Store>(
-    array: &ArrayParts,
+pub fn read_elements<C: ChunkAccess, S: Store>(
+    array: &C,
     alloc: Global,
     subset: &ArraySubset,
     store: &mut S,
     options: &CodecOptions,
 ) -> Result<ArrayBytes<'static>, CommandError>
-    requires inside { ends_within (region subset.now) (described array.now).shape ≡ true }
+    requires inside { ends_within (region subset.now) (described (C.seen array.now)).shape ≡ true }
     requires few { count (region subset.now) + 1 < 2 ^ 64 }
-    requires room { count (region subset.now) * size_in (fixed_size (kind (described array.now)))
-        < 2 ^ 64 }
+    requires room { count (region subset.now)
+        * size_in (fixed_size (kind (described (C.seen array.now)))) < 2 ^ 64 }
     ensures read { MatchResult result
-        (λ v. HasReadRegion array.now (options_of options.now) (region subset.now)
+        (λ v. HasReadRegion (C.seen array.now) (options_of options.now) (region subset.now)
         (S.shown store.old) (S.shown store.new) (raw_of v))
-        (NotReadRegion array.now (options_of options.now) (region subset.now)
+        (NotReadRegion (C.seen array.now) (options_of options.now) (region subset.now)
         (S.shown store.old) (S.shown store.new)) }
     ensures kept { S.kept store.old store.new }
 {

@@ -3,60 +3,52 @@
 ghost use Rattle.std.specs.Prelude.{◌≡◌, ◌<◌, ◌^◌, true, IfOk};
 ghost use Rattle.zarr_model.specs.Prelude.{count, tuples, ends_within, chunks_meeting};
 ghost use Rattle.zarrs_array_subset.specs.ArraySubset.{region};
-ghost use Rattle.zarr_array_parts.specs.Parts.{described};
+ghost use Rattle.zarr_array_regions.specs.Access.{described};
 
+use crate::access::ChunkAccess;
 use std::alloc::{AllocError, Global};
-use zarr_array_parts::ArrayParts;
-use zarrs_array_subset::{ArrayIndicesTinyVec, ArraySubset};
+use zarrs_array_subset::ArraySubset;
 use zarrs_chunk_grid_traits::ChunkGridTraits;
-use zarrs_storage::StoreKey;
 
 /// The chunks that a region of an array meets, by their numbers in row-major order.
 #[derive(Drop)]
-pub(crate) struct RegionChunks<'a> {
-    pub(crate) array: &'a ArrayParts,
+pub(crate) struct RegionChunks<'a, C> {
+    pub(crate) array: &'a C,
     // The region.
     pub(crate) subset: &'a ArraySubset,
     // The indices of its chunks, as a box of the grid's.
     pub(crate) chunks: ArraySubset,
 }
 
-/// The indices of a chunk, where it lies, and the key that its value stands under.
-#[derive(Drop)]
-pub(crate) struct ChunkPlace {
-    pub(crate) indices: ArrayIndicesTinyVec,
-    pub(crate) subset: ArraySubset,
-    pub(crate) key: StoreKey,
-}
-
 // The chunks that a region inside an array meets, as a box of chunk indices.
-fn chunks_of(
-    array: &ArrayParts,
+fn chunks_of<C: ChunkAccess>(
+    array: &C,
     alloc: Global,
     subset: &ArraySubset,
 ) -> Result<ArraySubset, AllocError>
-    requires inside { ends_within (region subset.now) (described array.now).shape ≡ true }
+    requires inside { ends_within (region subset.now) (described (C.seen array.now)).shape ≡ true }
     requires few { count (region subset.now) < 2 ^ 64 }
     ensures listed { IfOk result (λ chunks. tuples (region chunks)
-        ≡ chunks_meeting (described array.now).grid (region subset.now)) }
+        ≡ chunks_meeting (described (C.seen array.now)).grid (region subset.now)) }
     ensures few { IfOk result (λ chunks. count (region chunks) < 2 ^ 64) }
 {
     let chunks = array.grid().chunks_meeting(alloc, subset)?;
     Ok(chunks)
 }
 
-impl<'a> RegionChunks<'a> {
+impl<'a, C: ChunkAccess> RegionChunks<'a, C> {
     ghost use Rattle.zarr_array_regions.specs.RegionChunks.{Meets};
 
     /// The chunks that a region inside an array meets, if it meets one.
     pub(crate) fn meeting(
-        array: &'a ArrayParts,
+        array: &'a C,
         alloc: Global,
         subset: &'a ArraySubset,
-    ) -> Result<Option<RegionChunks<'a>>, AllocError>
-        requires inside { ends_within (region subset.now) (described array.now).shape ≡ true }
+    ) -> Result<Option<RegionChunks<'a, C>>, AllocError>
+        requires inside { ends_within (region subset.now) (described (C.seen array.now)).shape
+            ≡ true }
         requires few { count (region subset.now) < 2 ^ 64 }
-        ensures { IfOk result (Meets array.now subset.now) }
+        ensures { IfOk result (Meets C.seen array.now subset.now) }
     {
         let chunks = chunks_of(array, alloc, subset)?;
         if chunks.num_elements() == 0 {

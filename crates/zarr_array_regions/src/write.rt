@@ -5,55 +5,53 @@ ghost use Rattle.zarr_model.specs.Prelude.{count, ends_within};
 ghost use Rattle.zarrs_array_subset.specs.ArraySubset.{region};
 ghost use Rattle.zarrs_codec_array_bytes.specs.Raw.{raw_of};
 ghost use Rattle.zarrs_codec_traits.specs.Views.{options_of};
-ghost use Rattle.zarr_array_parts.specs.Parts.{described};
-ghost use Rattle.zarr_array_regions.specs.RegionChunks.{chunk_at, AreMet, AreLevelsAt, AreInHand, IsPlaceOf};
+ghost use Rattle.zarr_array_regions.specs.Access.{described, IsInHand};
+ghost use Rattle.zarr_array_regions.specs.RegionChunks.{chunk_at, AreMet, IsMet};
 ghost use Rattle.zarr_array_regions.specs.Write.{change_of, IsWritable, HasWrittenChunk, NotWrittenChunk};
 ghost use Rattle.zarr_array_regions.specs.PartWay.{HasWrittenRegion, NotWrittenRegion};
 
-use crate::chunk::HeldChunk;
-use crate::error::{CommandError, SessionErrorKind};
-use crate::region_chunks::{ChunkPlace, RegionChunks};
+use crate::access::ChunkAccess;
+use crate::chunk_place::ChunkPlace;
+use crate::error::{CommandError, SessionErrorKind, chunk_error};
+use crate::region_chunks::RegionChunks;
 use std::alloc::Global;
 use zarr_array_elements::put_overlap;
-use zarr_array_parts::ArrayParts;
-use zarr_chain::ChunkLevels;
 use zarrs_array_subset::ArraySubset;
 use zarrs_codec_array_bytes::ArrayBytes;
 use zarrs_codec_options::CodecOptions;
 use zarrs_storage::Store;
 
-impl RegionChunks<'_> {
-    // Puts the elements that the region shares with the chunk of a number into the chunk, and stores it anew: the old
+impl<C: ChunkAccess> RegionChunks<'_, C> {
+    // Puts the elements that the region shares with the chunk at a place into the chunk, and stores it anew: the old
     // value is fetched and decoded first, also where the region covers all of it.
     fn write_at<S: Store>(
         &self,
         alloc: Global,
-        number: u64,
-        levels: &ChunkLevels,
+        levels: &C::Levels,
         place: ChunkPlace,
         bytes: &ArrayBytes<'_>,
         store: &mut S,
         options: &CodecOptions,
     ) -> Result<(), SessionErrorKind>
-        requires met { AreMet self.now }
-        requires below { number < count (region self.now.chunks) }
-        requires levels { AreLevelsAt self.now number levels.now }
-        requires place { IsPlaceOf (described self.now.array.now) (chunk_at self.now number) place }
-        requires writable { IsWritable self.now.array.now (region self.now.subset.now)
+        requires levels { C.serves self.now.array.now place.indices.items levels.now }
+        requires place { IsMet (described (C.seen self.now.array.now)) (region self.now.subset.now)
+            place }
+        requires writable { IsWritable (C.seen self.now.array.now) (region self.now.subset.now)
             (raw_of bytes.now) }
-        ensures { let change = change_of self.now.array.now (region self.now.subset.now)
-            (raw_of bytes.now) in MatchResult result
-            (λ _. HasWrittenChunk self.now.array.now (options_of options.now) change
-            (chunk_at self.now number) (S.shown store.old) (S.shown store.new))
-            (NotWrittenChunk self.now.array.now (options_of options.now) change
-            (chunk_at self.now number) (S.shown store.old) (S.shown store.new)) }
+        ensures { let array = C.seen self.now.array.now in
+            let change = change_of array (region self.now.subset.now) (raw_of bytes.now) in
+            MatchResult result
+            (λ _. HasWrittenChunk array (options_of options.now) change
+            place.indices.items (S.shown store.old) (S.shown store.new))
+            (NotWrittenChunk array (options_of options.now) change
+            place.indices.items (S.shown store.old) (S.shown store.new)) }
     {
-        let chunk = match self.fetch_chunk(alloc, number, levels, place, store, options) {
-            Ok(chunk) => chunk,
-            Err(kind) => return Err(kind),
+        let array = self.array;
+        let elements = match array.fetch_elements(alloc, &place, levels, store, options) {
+            Ok(elements) => elements,
+            Err(error) => return Err(chunk_error(place.key, error)),
         };
-        let HeldChunk { place, elements } = chunk;
-        let data_type = self.array.data_type();
+        let data_type = array.data_type();
         match put_overlap(
             alloc,
             data_type,
@@ -63,9 +61,7 @@ impl RegionChunks<'_> {
             self.subset,
         ) {
             Ok(elements) => {
-                match self.store_elements(
-                    alloc, number, levels, &place.key, elements, store, options,
-                ) {
+                match array.store_elements(alloc, &place, levels, elements, store, options) {
                     Ok(()) => Ok(()),
                     Err(error) => Err(SessionErrorKind::from(error)),
                 }
@@ -80,27 +76,28 @@ impl RegionChunks<'_> {
         &self,
         alloc: Global,
         number: u64,
-        hand: Option<ChunkLevels>,
+        hand: Option<C::Levels>,
         bytes: &ArrayBytes<'_>,
         store: &mut S,
         options: &CodecOptions,
-    ) -> Result<ChunkLevels, SessionErrorKind>
-        requires met { AreMet self.now }
+    ) -> Result<C::Levels, SessionErrorKind>
+        requires met { AreMet (C.seen self.now.array.now) self.now }
         requires below { number < count (region self.now.chunks) }
-        requires hand { IfSome hand (AreInHand self.now.array.now) }
-        requires writable { IsWritable self.now.array.now (region self.now.subset.now)
+        requires hand { IfSome hand (IsInHand (C.serves self.now.array.now)) }
+        requires writable { IsWritable (C.seen self.now.array.now) (region self.now.subset.now)
             (raw_of bytes.now) }
-        ensures written { let change = change_of self.now.array.now (region self.now.subset.now)
-            (raw_of bytes.now) in MatchResult result
-            (λ _. HasWrittenChunk self.now.array.now (options_of options.now) change
+        ensures written { let array = C.seen self.now.array.now in
+            let change = change_of array (region self.now.subset.now) (raw_of bytes.now) in
+            MatchResult result
+            (λ _. HasWrittenChunk array (options_of options.now) change
             (chunk_at self.now number) (S.shown store.old) (S.shown store.new))
-            (NotWrittenChunk self.now.array.now (options_of options.now) change
+            (NotWrittenChunk array (options_of options.now) change
             (chunk_at self.now number) (S.shown store.old) (S.shown store.new)) }
-        ensures hand { IfOk result (AreInHand self.now.array.now) }
+        ensures hand { IfOk result (IsInHand (C.serves self.now.array.now)) }
     {
         let place = self.place(alloc, number)?;
-        let levels = self.levels(alloc, number, hand, &place)?;
-        self.write_at(alloc, number, &levels, place, bytes, store, options)?;
+        let levels = self.array.levels_at(alloc, hand, &place)?;
+        self.write_at(alloc, &levels, place, bytes, store, options)?;
         Ok(levels)
     }
 
@@ -112,14 +109,14 @@ impl RegionChunks<'_> {
         store: &mut S,
         options: &CodecOptions,
     ) -> Result<(), CommandError>
-        requires met { AreMet self.now }
-        requires writable { IsWritable self.now.array.now (region self.now.subset.now)
+        requires met { AreMet (C.seen self.now.array.now) self.now }
+        requires writable { IsWritable (C.seen self.now.array.now) (region self.now.subset.now)
             (raw_of bytes.now) }
         ensures { MatchResult result
-            (λ _. HasWrittenRegion self.now.array.now (options_of options.now)
+            (λ _. HasWrittenRegion (C.seen self.now.array.now) (options_of options.now)
             (region self.now.subset.now) (raw_of bytes.now) (S.shown store.old)
             (S.shown store.new))
-            (NotWrittenRegion self.now.array.now (options_of options.now)
+            (NotWrittenRegion (C.seen self.now.array.now) (options_of options.now)
             (region self.now.subset.now) (raw_of bytes.now) (S.shown store.old)
             (S.shown store.new)) }
     {
@@ -140,24 +137,24 @@ impl RegionChunks<'_> {
 }
 
 /// Writes array bytes that mean the elements of a region inside an array, in row-major order, to it. Each chunk that the
-/// region meets is asked for once, in row-major order, and then stored or erased by one call.
+/// region meets is fetched once, in row-major order, and then stored or erased by one call.
 ///
 /// # Errors
 /// What a chunk's value or the store told, or want of memory, and how many chunks were finished.
-pub fn write_elements<S: Store>(
-    array: &ArrayParts,
+pub fn write_elements<C: ChunkAccess, S: Store>(
+    array: &C,
     alloc: Global,
     subset: &ArraySubset,
     bytes: &ArrayBytes<'_>,
     store: &mut S,
     options: &CodecOptions,
 ) -> Result<(), CommandError>
-    requires inside { ends_within (region subset.now) (described array.now).shape ≡ true }
-    requires writable { IsWritable array.now (region subset.now) (raw_of bytes.now) }
+    requires inside { ends_within (region subset.now) (described (C.seen array.now)).shape ≡ true }
+    requires writable { IsWritable (C.seen array.now) (region subset.now) (raw_of bytes.now) }
     ensures { MatchResult result
-        (λ _. HasWrittenRegion array.now (options_of options.now) (region subset.now)
+        (λ _. HasWrittenRegion (C.seen array.now) (options_of options.now) (region subset.now)
         (raw_of bytes.now) (S.shown store.old) (S.shown store.new))
-        (NotWrittenRegion array.now (options_of options.now) (region subset.now)
+        (NotWrittenRegion (C.seen array.now) (options_of options.now) (region subset.now)
         (raw_of bytes.now) (S.shown store.old) (S.shown store.new)) }
 {
     let Some(met) = RegionChunks::meeting(array, alloc, subset)? else {

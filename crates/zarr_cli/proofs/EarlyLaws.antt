@@ -1,5 +1,5 @@
 -- What is owed where the words, the reading or the document decided.
-use Rattle.std.proofs.Common.{◌≡◌, ℕ, ◌<◌, ◌≤◌, List, length, Option, Some, None, IsUtf8, ◌⊎◌, inl, inr, refl, sym, ap, ◌∙◌, subst, arith}
+use Rattle.std.proofs.Common.{◌≡◌, true, ℕ, ◌<◌, ◌≤◌, List, length, Option, Some, None, IsUtf8, ◌⊎◌, inl, inr, refl, sym, ap, ◌∙◌, subst, arith}
 use Rattle.zarr_model.specs.Prelude.{Shown, Told, Rose, IsUntouched}
 use Rattle.zarr_cli_runs.specs.array.parts.Document.{describe}
 use Rattle.zarr_cli_runs.specs.array.parts.Opening.{OpenRefusal, OpenAnswer, open_builtin}
@@ -164,7 +164,7 @@ module _ (words : List (List ℕ)) (input : List ℕ) (before now : Seen) where
         complete = λ runs calm sink store. or_memory status last end.done which (inr (ap ending_of (no_run words input (Rose before.source.faults now.source.faults) status fault calm runs.0)));
         front = λ is. absurd (at end.write_fault is);
         unchanged = λ key free. same key;
-        between = λ run. between_untouched (describe run.document) run.settings.options (input_entries input) run.commands before.store now.store _ same;
+        between = λ run. between_untouched true (describe run.document) run.settings.options (input_entries input) run.commands before.store now.store _ same;
         refused = λ run written all none. absurd (unwritten at written);
         unasked = λ run all none. (ap (λ (store : Shown). store.asks) still, ap (λ (store : Shown). store.taken) still);
       }

@@ -1,5 +1,5 @@
 -- What a run of lines owes is what a run of the input owes that has them.
-use Rattle.std.proofs.Common.{◌≡◌, ℕ, ◌+◌, ◌<◌, ◌≤◌, false, List, [], length, Some, None, IsUtf8, ◌⊎◌, inl, inr, refl, sym, ap, ◌∙◌, subst, arith}
+use Rattle.std.proofs.Common.{◌≡◌, true, ℕ, ◌+◌, ◌<◌, ◌≤◌, false, List, [], length, Some, None, IsUtf8, ◌⊎◌, inl, inr, refl, sym, ap, ◌∙◌, subst, arith}
 use Rattle.std.proofs.lemmas.Option.{same_Some}
 use Rattle.zarr_model.specs.Prelude.{Command, Rose, SeesNoDamage, Shown, AreRefused, IsUntouched, Told, counted, all_asks, all_puts}
 use Rattle.zarr_cli_runs.specs.array.parts.Document.{ArrayDocument, describe}
@@ -13,7 +13,7 @@ use Rattle.zarr_cli_runs.specs.Keys.{IsDumpAsks}
 use Rattle.zarr_cli_runs.proofs.DescribedLaws.{same_opened}
 use Rattle.zarr_cli_parts.specs.Words.{Settings, ReadsBy, HasBadWords}
 use Rattle.zarr_cli_parts.specs.Lines.{LinesRun, IsOutOfForm, line_entries}
-use Rattle.zarr_cli_parts.specs.Run.{CostsOpen, CostsAll, IsUnasked}
+use Rattle.zarr_cli_parts.specs.Run.{open_costs, CostsAll, IsUnasked}
 use Rattle.zarr_cli_parts.specs.Answers.{AnswersLines, IsOfLines, outside}
 use Rattle.zarr_cli.specs.Input.{input_limit, command_grammar, document_line, lines_after_document, input_entries, with_entries, store_after_keys, IsBadLine, HasBadLine}
 use Rattle.zarr_cli.specs.Run.{Run}
@@ -31,7 +31,7 @@ module _ (words : List (List ℕ)) (settings : Settings) (reads : ReadsBy words 
 
   -- whatever the input is
   pub ends_of_lines : (document : ArrayDocument) (lines : List (List ℕ)) (before now : Seen) (ending : Ending) →
-      AnswersLines (CostsOpen document) (describe document) settings lines (outside before.sink before.store) (outside now.sink now.store) ending → Ends words before now ending
+      AnswersLines (open_costs document) (describe document) settings lines (outside before.sink before.store) (outside now.sink now.store) ending → Ends words before now ending
   ends_of_lines document lines before now ending ran = record {
     bad_words = λ is. absurd (other ending end.bad_words ran.own (λ h. h) is);
     exactly_words = λ bad. absurd (unknown bad);
@@ -80,23 +80,23 @@ module _ (words : List (List ℕ)) (settings : Settings) (reads : ReadsBy words 
           first = first ∙ ap (λ (e : ArrayDocument). good_lines (command_grammar e) (lines_after_document input) + 2) same;
         }
 
-    all_put : (settings : Settings) (commands : List Command) (before now : Shown) → CostsAll (CostsOpen document) settings commands (with_entries (input_entries input) before) now →
+    all_put : (settings : Settings) (commands : List Command) (before now : Shown) → CostsAll (open_costs document) settings commands (with_entries (input_entries input) before) now →
         now.puts ≡ counted before.puts (length (input_entries input) + all_puts (describe document) commands)
     all_put settings commands before now cost = let first = cost.commanded.puts in let last = cost.puts in omega (arith, first, last)
 
     -- the calls and the bytes of commands and of a dump
-    all_asked : (settings : Settings) (commands : List Command) (before now : Shown) → CostsAll (CostsOpen document) settings commands before now →
+    all_asked : (settings : Settings) (commands : List Command) (before now : Shown) → CostsAll (open_costs document) settings commands before now →
         (more : ℕ) × IsDumpAsks settings.dump now.content more × (now.asks ≡ counted before.asks (all_asks (describe document) commands + more))
     all_asked settings commands before now cost =
         (cost.more, cost.dumped, (let first = cost.commanded.asks in let last = cost.asks in omega (arith, first, last)))
 
-    all_taken : (settings : Settings) (commands : List Command) (before now : Shown) → CostsAll (CostsOpen document) settings commands before now → settings.dump ≡ false →
+    all_taken : (settings : Settings) (commands : List Command) (before now : Shown) → CostsAll (open_costs document) settings commands before now → settings.dump ≡ false →
         TakesRun document settings.options commands before now
     all_taken settings commands before now cost none alone array tells = cost.taken none ∙ cost.commanded.taken alone array tells
 
     -- all that a run of the input owes
     pub answers_of_lines : (before now : Seen) (ending : Ending) → now.source.left ≡ Some [] →
-        AnswersLines (CostsOpen document) (describe document) settings (input_lines input) (outside before.sink before.store) (outside now.sink now.store) ending → Answers words input before now ending
+        AnswersLines (open_costs document) (describe document) settings (input_lines input) (outside before.sink before.store) (outside now.sink now.store) ending → Answers words input before now ending
     answers_of_lines before now ending whole ran = record {
       done = λ is. (let went = ran.done is in (its_run went.0, went.1, went.2, went.3));
       read_whole = λ is. whole;
@@ -117,7 +117,7 @@ module _ (words : List (List ℕ)) (settings : Settings) (reads : ReadsBy words 
           (λ lines sees. ran.complete lines sees sink store) runs.0 runs.1;
       front = λ is. (let went = ran.front is in (its_run went.0, went.1, went.2, went.3));
       unchanged = λ key free. ran.unchanged key (λ lines. free (its_run lines));
-      between = along (λ s d commands. LeavesBetween (describe d) s.options (input_entries input) commands before.store now.store ending) (λ lines. ran.between lines);
+      between = along (λ s d commands. LeavesBetween true (describe d) s.options (input_entries input) commands before.store now.store ending) (λ lines. ran.between lines);
       refused = along (λ s d commands. IsWritten ending → AreRefused (describe d) commands → s.dump ≡ false → IsUntouched (with_entries (input_entries input) before.store) now.store)
           (λ lines. ran.refused lines);
       unasked = along (λ s d commands. AreRefused (describe d) commands → s.dump ≡ false → IsUnasked before.store now.store) (λ lines. ran.unasked lines);

@@ -1,5 +1,5 @@
 -- A run that is made from a number: its array, its summary, and what it owes.
-use Rattle.std.proofs.Common.{◌≡◌, ℕ, ◌+◌, List, [], Some, None, Result, Ok, Err, IfOk, IfErr, MatchResult, Vec, ◌⊎◌, ⊎_elim, inl, inr, refl, sym, ap, ◌∙◌, subst}
+use Rattle.std.proofs.Common.{◌≡◌, Bool, true, ℕ, ◌+◌, List, [], Some, None, Result, Ok, Err, IfOk, IfErr, MatchResult, Vec, ◌⊎◌, ⊎_elim, inl, inr, refl, sym, ap, ◌∙◌, subst}
 use Rattle.std.specs.declared.alloc.Global.{Global}
 use Rattle.zarr_model.specs.Prelude.{Options, Description, Command, Shown, Given, Rose, IsDamageSeen, SeesNoDamage}
 use Rattle.zarr_cli_runs.specs.making.Commands.{made_commands}
@@ -32,7 +32,7 @@ module _ (number : ℕ) (options : Options) (before now : Seen) where
     unread = unread;
     begun = λ b. b;
     chunk = λ key is. absurd (cc);
-    between = between_ran made_array options [] (made_commands number) before.store now.store _ did.sums.left did.sums.mended;
+    between = between_ran true made_array options [] (made_commands number) before.store now.store _ did.sums.left did.sums.mended;
     complete = λ unseen sink store. inl refl;
     front = λ is. absurd (cc);
     unchanged = unchanged;
@@ -48,14 +48,14 @@ module _ (number : ℕ) (options : Options) (before now : Seen) where
     unread = unread;
     begun = λ b. b;
     chunk = λ key is. absurd (cc);
-    between = between_ran made_array options [] (made_commands number) before.store now.store _ did.sums.left did.sums.mended;
+    between = between_ran true made_array options [] (made_commands number) before.store now.store _ did.sums.left did.sums.mended;
     complete = λ unseen sink store. absurd (sink rose);
     front = λ is. (text, did.sums, given);
     unchanged = unchanged;
   }
 
   abbrev Fails : Status → Type 0
-  Fails status = IsRunFault made_array options (made_commands number) before.store now.store status
+  Fails status = IsRunFault true made_array options (made_commands number) before.store now.store status
 
   last_fails : (status last : Status) → (last ≡ status) ⊎ (last ≡ OutOfMemory) → Fails status → Fails last
   last_fails status last (inl same) fault = subst Fails (sym same) fault
@@ -65,8 +65,8 @@ module _ (number : ℕ) (options : Options) (before now : Seen) where
   same_chunk a b e = cc
 
   fails_chunk : (status : Status) (key : List ℕ) → Fails status → ending_of status ≡ damaged_chunk key →
-      IsDamageSeen made_array options (made_commands number) before.store.content key × (now.store.content key ≡ before.store.content key) × EndsAtDamage made_array options (made_commands number) before.store now.store key
-  fails_chunk (Chunk other) key fault is = subst (λ k. IsDamageSeen made_array options (made_commands number) before.store.content k × (now.store.content k ≡ before.store.content k) × EndsAtDamage made_array options (made_commands number) before.store now.store k) (same_chunk other key is) fault
+      IsDamageSeen made_array options (made_commands number) before.store.content key × (now.store.content key ≡ before.store.content key) × EndsAtDamage true made_array options (made_commands number) before.store now.store key
+  fails_chunk (Chunk other) key fault is = subst (λ k. IsDamageSeen made_array options (made_commands number) before.store.content k × (now.store.content k ≡ before.store.content k) × EndsAtDamage true made_array options (made_commands number) before.store now.store k) (same_chunk other key is) fault
   fails_chunk Store key fault is = absurd (cc)
   fails_chunk OutOfMemory key fault is = absurd (cc)
   fails_chunk Done key fault is = absurd fault
@@ -95,7 +95,7 @@ module _ (number : ℕ) (options : Options) (before now : Seen) where
 
   pub made_early : (status last : Status) → (last ≡ status) ⊎ (last ≡ OutOfMemory) → (status ≡ Store → last ≡ Store) → Fails status → now.source ≡ before.source →
       (SeesNoDamage made_array options (made_commands number) before.store.content → ¬ Rose before.store.faults now.store.faults → status ≡ OutOfMemory) →
-      LeavesBetween made_array options [] (made_commands number) before.store now.store (ending_of status) →
+      LeavesBetween true made_array options [] (made_commands number) before.store now.store (ending_of status) →
       ((key : List ℕ) → ¬ IsChangedKey made_array (made_commands number) key → now.store.content key ≡ before.store.content key) →
       AnswersMade number options before now (ending_of last)
   made_early status last which kept fault unread complete left unchanged = let ends = last_fails status last which fault in record {
@@ -103,9 +103,9 @@ module _ (number : ℕ) (options : Options) (before now : Seen) where
     asks = λ written. absurd (unwritten last ends written);
     puts = λ written. absurd (unwritten last ends written);
     unread = unread;
-    begun = begun made_array options (made_commands number) before.store now.store last ends;
+    begun = begun true made_array options (made_commands number) before.store now.store last ends;
     chunk = λ key is. fails_chunk last key ends is;
-    between = between_last made_array options [] (made_commands number) before.store now.store status last which kept left;
+    between = between_last true made_array options [] (made_commands number) before.store now.store status last which kept left;
     complete = λ unseen sink store. inr (last_memory status last which (complete unseen store));
     front = λ is. absurd (fails_write last ends (is_write last is));
     unchanged = unchanged;
@@ -114,7 +114,7 @@ module _ (number : ℕ) (options : Options) (before now : Seen) where
   -- what a made run and the writing of its text come to
   pub made_answers : (result : Result (Vec ℕ Global) Status) (last : Status) →
       IfOk result (λ text. SumsAll made_array options (made_commands number) before.store now.store text.items) → IfErr result Fails →
-      IfErr result (λ status. LeavesBetween made_array options [] (made_commands number) before.store now.store (ending_of status)) →
+      IfErr result (λ status. LeavesBetween true made_array options [] (made_commands number) before.store now.store (ending_of status)) →
       (SeesNoDamage made_array options (made_commands number) before.store.content → ¬ Rose before.store.faults now.store.faults → IfErr result (λ status. status ≡ OutOfMemory)) →
       ((key : List ℕ) → ¬ IsChangedKey made_array (made_commands number) key → now.store.content key ≡ before.store.content key) → now.source ≡ before.source →
       MatchResult result (λ text. WritesText text.items before.sink now.sink last) (λ status. EndsWith status before.sink now.sink last) → AnswersMade number options before now (ending_of last)
@@ -134,21 +134,21 @@ IsOfMade Store store sink = store
 IsOfMade OutOfMemory store sink = Unit {0}
 IsOfMade _ store sink = ⊥
 
-of_fault : (description : Description) (options : Options) (commands : List Command) (before now : Shown) (sink : Type 0) (status : Status) → IsRunFault description options commands before now status →
+of_fault : (once : Bool) (description : Description) (options : Options) (commands : List Command) (before now : Shown) (sink : Type 0) (status : Status) → IsRunFault once description options commands before now status →
     IsOfMade status (Rose before.faults now.faults) sink
-of_fault description options commands before now sink (Chunk key) fault = tt
-of_fault description options commands before now sink Store fault = fault
-of_fault description options commands before now sink OutOfMemory fault = tt
-of_fault description options commands before now sink Done fault = absurd fault
-of_fault description options commands before now sink BadWords fault = absurd fault
-of_fault description options commands before now sink (BadInput line) fault = absurd fault
-of_fault description options commands before now sink (Document error) fault = absurd fault
-of_fault description options commands before now sink Read fault = absurd fault
-of_fault description options commands before now sink Write fault = absurd fault
-of_fault description options commands before now sink TooLong fault = absurd fault
+of_fault once description options commands before now sink (Chunk key) fault = tt
+of_fault once description options commands before now sink Store fault = fault
+of_fault once description options commands before now sink OutOfMemory fault = tt
+of_fault once description options commands before now sink Done fault = absurd fault
+of_fault once description options commands before now sink BadWords fault = absurd fault
+of_fault once description options commands before now sink (BadInput line) fault = absurd fault
+of_fault once description options commands before now sink (Document error) fault = absurd fault
+of_fault once description options commands before now sink Read fault = absurd fault
+of_fault once description options commands before now sink Write fault = absurd fault
+of_fault once description options commands before now sink TooLong fault = absurd fault
 
 module _ (number : ℕ) (options : Options) (before now : Shown) (given given_now : Given) where
-  pub of_made : (result : Result (Vec ℕ Global) Status) (last : Status) → IfErr result (λ status. IsRunFault made_array options (made_commands number) before now status) →
+  pub of_made : (result : Result (Vec ℕ Global) Status) (last : Status) → IfErr result (λ status. IsRunFault true made_array options (made_commands number) before now status) →
       MatchResult result (λ text. WritesText text.items given given_now last) (λ status. EndsWith status given given_now last) →
       IsOfMade last (Rose before.faults now.faults) (Rose given.faults given_now.faults) × IsGivenLine (ending_line (ending_of last)) given given_now
   of_made (Ok text) last fault (inl (is, whole)) =
@@ -158,7 +158,7 @@ module _ (number : ℕ) (options : Options) (before now : Shown) (given given_no
   of_made (Err status) last fault ends = (
     ⊎_elim
         (λ (same : last ≡ status). subst (λ s. IsOfMade s (Rose before.faults now.faults) (Rose given.faults given_now.faults)) (sym same)
-        (of_fault made_array options (made_commands number) before now (Rose given.faults given_now.faults) status fault))
+        (of_fault true made_array options (made_commands number) before now (Rose given.faults given_now.faults) status fault))
         (λ (memory : last ≡ OutOfMemory). subst (λ s. IsOfMade s (Rose before.faults now.faults) (Rose given.faults given_now.faults)) (sym memory) tt)
         ends.which,
     ends.line,

@@ -1,5 +1,5 @@
 -- A run that is made from a number: what it prints, what it leaves, and what it owes.
-use Rattle.std.specs.Prelude.{◌≡◌, ℕ, ◌+◌, List, []}
+use Rattle.std.specs.Prelude.{◌≡◌, true, ℕ, ◌+◌, List, []}
 use Rattle.zarr_model.specs.Prelude.{Options, Content, Rose, all_asks, all_puts, counted, IsDamageSeen, SeesNoDamage}
 use Rattle.zarr_cli_runs.specs.making.Commands.{made_commands}
 use Rattle.zarr_cli_runs.specs.Between.{LeavesBetween}
@@ -35,11 +35,11 @@ pub record AnswersMade (number : ℕ) (options : Options) (before now : Seen)
   pub chunk : (key : List ℕ) → ending ≡ end.damaged_chunk key →
       IsDamageSeen made_array options (made_commands number) before.store.content key
       × (now.store.content key ≡ before.store.content key)
-      × EndsAtDamage made_array options (made_commands number) before.store now.store key
+      × EndsAtDamage true made_array options (made_commands number) before.store now.store key
   -- after every end the store is unchanged, left as by a session with this error, or as by all
   -- commands
-  pub between : LeavesBetween made_array options [] (made_commands number) before.store now.store
-      ending
+  pub between : LeavesBetween true made_array options [] (made_commands number)
+      before.store now.store ending
   -- a run that sees no damage, as over an honest store, is done, where nothing failed
   pub complete : SeesNoDamage made_array options (made_commands number) before.store.content →
       ¬ Rose before.sink.faults now.sink.faults → ¬ Rose before.store.faults now.store.faults →

@@ -1,5 +1,5 @@
 -- A run: what its words and its input say, what it prints, and what it leaves in the store.
-use Rattle.std.specs.Prelude.{◌≡◌, ℕ, ◌≤◌, List, length, IsUtf8, Some}
+use Rattle.std.specs.Prelude.{◌≡◌, true, ℕ, ◌≤◌, List, length, IsUtf8, Some}
 use Rattle.zarr_model.specs.Prelude.{Content, Shown, Command, SeesNoDamage, IsDamageSeen}
 use Rattle.zarr_cli_runs.specs.lines.Text.{commands_of}
 use Rattle.zarr_cli_runs.specs.array.parts.Document.{ArrayDocument, describe}
@@ -46,14 +46,14 @@ HasDamage words input old key = (run : Run words input)
 -- a run in form ended as a session does at a damaged chunk
 abbrev pub IsCutAtDamage : List (List ℕ) → List ℕ → Shown → Shown → List ℕ → Type 0
 IsCutAtDamage words input before now key = (run : Run words input)
-    × EndsAtDamage (describe run.document) run.settings.options run.commands
+    × EndsAtDamage true (describe run.document) run.settings.options run.commands
     (with_entries (input_entries input) before) now key
 
 -- what a run in form leaves, by its ending
 abbrev pub LeavesInput : List (List ℕ) → List ℕ → Shown → Shown → Ending → Type 0
 LeavesInput words input before now ending = (run : Run words input) →
-    LeavesBetween (describe run.document) run.settings.options (input_entries input) run.commands
-    before now ending
+    LeavesBetween true (describe run.document) run.settings.options
+    (input_entries input) run.commands before now ending
 
 -- Each key that is neither a key line's nor that of a chunk that an accepted command writes or
 -- erases holds what it held. Without a run in form each key does.

@@ -1,5 +1,5 @@
 -- The status of an ending.
-use Rattle.std.proofs.Common.{◌≡◌, ℕ, List, Option, Some, None, refl, sym, ap, subst}
+use Rattle.std.proofs.Common.{◌≡◌, Bool, ℕ, List, Option, Some, None, refl, sym, ap, subst}
 use Rattle.zarr_cli_runs.specs.array.parts.Opening.{OpenRefusal}
 use Rattle.zarr_cli_runs.specs.array.parts.OpenError.{open_refusal_of}
 use Rattle.zarr_model.specs.Prelude.{Options, Description, Command, Shown}
@@ -44,14 +44,14 @@ is_too_long (Document error) e = absurd (no_document (open_refusal_of error) end
 is_too_long status e = absurd (cc)
 
 -- commands end after they began with the store
-pub begun : (description : Description) (options : Options) (commands : List Command) (before now : Shown) (status : Status) → IsRunFault description options commands before now status → ¬ IsBeforeStore (ending_of status)
-begun description options commands before now (Chunk key) fault = λ b. b
-begun description options commands before now Store fault = λ b. b
-begun description options commands before now OutOfMemory fault = λ b. b
-begun description options commands before now Done fault = absurd fault
-begun description options commands before now BadWords fault = absurd fault
-begun description options commands before now (BadInput line) fault = absurd fault
-begun description options commands before now (Document error) fault = absurd fault
-begun description options commands before now Read fault = absurd fault
-begun description options commands before now Write fault = absurd fault
-begun description options commands before now TooLong fault = absurd fault
+pub begun : (once : Bool) (description : Description) (options : Options) (commands : List Command) (before now : Shown) (status : Status) → IsRunFault once description options commands before now status → ¬ IsBeforeStore (ending_of status)
+begun once description options commands before now (Chunk key) fault = λ b. b
+begun once description options commands before now Store fault = λ b. b
+begun once description options commands before now OutOfMemory fault = λ b. b
+begun once description options commands before now Done fault = absurd fault
+begun once description options commands before now BadWords fault = absurd fault
+begun once description options commands before now (BadInput line) fault = absurd fault
+begun once description options commands before now (Document error) fault = absurd fault
+begun once description options commands before now Read fault = absurd fault
+begun once description options commands before now Write fault = absurd fault
+begun once description options commands before now TooLong fault = absurd fault

@@ -9,3 +9,4 @@ mod AsciiLaws
 mod StepLemmas
 mod RunLemmas
 mod RanLaws
+pub mod StarvedLaws

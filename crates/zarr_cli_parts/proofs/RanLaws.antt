@@ -44,10 +44,10 @@ module _ (costs : Costs) (description : Description) (settings : Settings) (line
   its_run = record { commands = commands; are_commands = says.commands_are }
 
   abbrev Done_by : Result (Vec ℕ Global) Status → List (List ℕ × List ℕ) → Type 0
-  Done_by result entries = Did (job description settings.options entries commands) (settings.dump ≡ false) before now result
+  Done_by result entries = Did (job costs.once description settings.options entries commands) (settings.dump ≡ false) before now result
       (λ text. PrintsAll costs description settings commands (with_entries entries before) now text.items)
 
-  its_fault : (status : Status) → IsRunFault description settings.options commands (with_entries (line_entries lines) before) now status → IsLinesFault description settings lines before now status
+  its_fault : (status : Status) → IsRunFault costs.once description settings.options commands (with_entries (line_entries lines) before) now status → IsLinesFault costs.once description settings lines before now status
   its_fault (Chunk key) fault = (its_run, record { seen = fault.0; stands = fault.1; cut = fault.2 })
   its_fault Store fault = (its_run, fault)
   its_fault OutOfMemory fault = tt
@@ -70,9 +70,9 @@ module _ (costs : Costs) (description : Description) (settings : Settings) (line
   }
   of_lines (Err status) did = record {
     told = its_fault status did.fault;
-    between = λ run. subst (λ c. LeavesBetween description settings.options (line_entries lines) c before now (ending_of status)) (one_run description lines its_run run) did.between;
+    between = λ run. subst (λ c. LeavesBetween costs.once description settings.options (line_entries lines) c before now (ending_of status)) (one_run description lines its_run run) did.between;
     complete = λ run sees calm. did.complete (subst (λ c. SeesNoDamage description settings.options c (with_keys (line_entries lines) before.content)) (one_run description lines run its_run) sees) calm;
-    untouched = λ early. absurd (begun description settings.options commands (with_entries (line_entries lines) before) now status did.fault early);
+    untouched = λ early. absurd (begun costs.once description settings.options commands (with_entries (line_entries lines) before) now status did.fault early);
     unchanged = λ key free. (let none = free its_run in did.unchanged key none.0 none.1);
     unasked = λ run all none. did.unasked (subst (AreRefused description) (one_run description lines run its_run) all) none;
   }
@@ -82,7 +82,7 @@ module _ (costs : Costs) (description : Description) (settings : Settings) (line
   ran_lines result did = of_lines result (subst (Done_by result) says.entries_are did)
 
 module _ (costs : Costs) (description : Description) (settings : Settings) (lines : List (List ℕ)) (store : Shown) where
-  its_form : (status : Status) → IsFormFault description lines status → IsLinesFault description settings lines store store status
+  its_form : (status : Status) → IsFormFault description lines status → IsLinesFault costs.once description settings lines store store status
   its_form (BadInput line) fault = fault
   its_form OutOfMemory fault = tt
   its_form Done fault = fault
@@ -110,7 +110,7 @@ module _ (costs : Costs) (description : Description) (settings : Settings) (line
   pub not_run : (status : Status) → IsFormFault description lines status → RanLines {Z = Global} costs description settings lines store store (Err status)
   not_run status fault = record {
     told = its_form status fault;
-    between = λ run. between_untouched description settings.options (line_entries lines) run.commands store store (ending_of status) (λ key. refl);
+    between = λ run. between_untouched costs.once description settings.options (line_entries lines) run.commands store store (ending_of status) (λ key. refl);
     complete = λ run sees calm. only_memory status run fault;
     untouched = λ early. record { content = λ key. refl; asks = refl; taken = refl; puts = refl };
     unchanged = λ key free. refl;
@@ -126,8 +126,8 @@ module _ (costs : Costs) (description : Description) (settings : Settings) (line
   all_cost text did run = subst (λ c. CostsAll costs settings c (with_entries (line_entries lines) before.store) now.store) (one_run description lines did.run run) did.prints.cost
 
   all_left : (text : List ℕ) → PrintsLines costs description settings lines before.store now.store text → (ending : Ending) → (run : LinesRun description lines) →
-      LeavesBetween description settings.options (line_entries lines) run.commands before.store now.store ending
-  all_left text did ending run = between_ran description settings.options (line_entries lines) run.commands before.store now.store ending
+      LeavesBetween costs.once description settings.options (line_entries lines) run.commands before.store now.store ending
+  all_left text did ending run = between_ran costs.once description settings.options (line_entries lines) run.commands before.store now.store ending
       (subst (λ c. LeavesArray description settings.options c (with_keys (line_entries lines) before.store.content) now.store.content) (one_run description lines did.run run) did.prints.prints.left)
       (subst (λ c. LeavesUndamaged description settings.options c (with_keys (line_entries lines) before.store.content) now.store.content) (one_run description lines did.run run) did.prints.prints.mended)
 
@@ -179,13 +179,13 @@ module _ (costs : Costs) (description : Description) (settings : Settings) (line
   -- the cause that an early ending tells
   abbrev Tells : Ending → Type 0
   Tells (end.bad_input line) = IsOutOfForm description lines line
-  Tells (end.damaged_chunk key) = (run : LinesRun description lines) × EndedByDamage description settings.options run.commands (with_entries (line_entries lines) before.store) now.store key
+  Tells (end.damaged_chunk key) = (run : LinesRun description lines) × EndedByDamage costs.once description settings.options run.commands (with_entries (line_entries lines) before.store) now.store key
   Tells end.store_fault = (run : LinesRun description lines) × Rose before.store.faults now.store.faults
   Tells end.out_of_memory = Unit {0}
   Tells _ = ⊥
 
   abbrev Fails : Status → Type 0
-  Fails status = IsLinesFault description settings lines before.store now.store status
+  Fails status = IsLinesFault costs.once description settings lines before.store now.store status
 
   tells : (status : Status) → Fails status → Tells (ending_of status)
   tells (BadInput line) fault = fault
@@ -248,7 +248,7 @@ module _ (costs : Costs) (description : Description) (settings : Settings) (line
         chunk = λ key is. at (end.damaged_chunk key) is;
         complete = λ run sees sink store. or_memory status last end.done ends.which (inr (ap ending_of (ran.complete run sees store)));
         unchanged = ran.unchanged;
-        between = λ run. between_last description settings.options (line_entries lines) run.commands before.store now.store status last ends.which ends.kept (ran.between run);
+        between = λ run. between_last costs.once description settings.options (line_entries lines) run.commands before.store now.store status last ends.which ends.kept (ran.between run);
         refused = λ run written all none. absurd (unwritten at written);
         unasked = ran.unasked;
         store = λ is. at end.store_fault is;

@@ -1,22 +1,24 @@
 -- Commands that ran, their text, a dump behind them, and key lines before them.
-use Rattle.std.proofs.Common.{◌≡◌, ℕ, ◌+◌, ◌-◌, ◌^◌, ◌<◌, ◌≤◌, false, List, [], ◌++◌, length, Contains, Vec, Result, Ok, Err, IfOk, IfErr, OnOk, OnErr, refl, sym, ap, ◌∙◌, subst, arith, le_trans}
+use Rattle.std.proofs.Common.{◌≡◌, ℕ, ◌+◌, ◌-◌, ◌^◌, ◌<◌, ◌≤◌, Bool, true, false, List, [], ◌++◌, length, Contains, Vec, Result, Ok, Err, IfOk, IfErr, OnOk, OnErr, refl, sym, ap, ◌∙◌, subst, arith, le_trans}
 use Rattle.std.specs.declared.alloc.Global.{Global}
 use Rattle.zarr_model.specs.Prelude.{Command, Content, Description, kind, replies, counted, LeavesArray, IsDamageSeen, SeesNoDamage, AreRefused, IsUntouched, Rose, Shown, Options, with_keys}
 use Rattle.zarr_cli_runs.specs.array.Stored.{StoresForAll}
-use Rattle.zarr_cli_runs.specs.array.OpenArray.{documented, described}
+use Rattle.zarr_cli_runs.specs.array.parts.Document.{ArrayDocument, describe}
 use Rattle.zarr_cli_runs.specs.array.declared.open.OpenArray.{OpenArray}
 use Rattle.zarr_cli_runs.specs.array.declared.command.Reply.{Reply}
 use Rattle.zarr_cli_runs.specs.Keys.{Dumps, IsDumpFault}
 use Rattle.zarr_cli_runs.specs.Between.{LeavesBetween}
 use Rattle.zarr_cli_runs.specs.Status.{ending_of}
-use Rattle.zarr_cli_runs.specs.Commands.{IsChangedKey, IsRunFault, RepliedBy, TakesRun, LeavesUndamaged}
+use Rattle.zarr_cli_runs.specs.Commands.{IsChangedKey, IsRunFault, RepliedBy, CostsRun, LeavesUndamaged}
+use Rattle.zarr_cli_runs.specs.array.regions.Access.{by_chunk}
+use Rattle.zarr_cli_runs.specs.array.regions.Plain.{is_bytes_alone}
 use Rattle.zarr_cli_runs.proofs.BetweenLaws.{between_keys, between_set, between_ran, earlier_failed}
 use Rattle.zarr_cli_runs.specs.declared.status.Status.{Status}
 use Rattle.zarr_cli_runs.specs.declared.status.Status.TheVariants.{Done, BadWords, BadInput, Document, Chunk, Store, Read, Write, TooLong, OutOfMemory}
 use Rattle.zarr_cli_runs.specs.lines.Parts.{IsTextOf}
 use Rattle.zarr_cli_parts.specs.Words.{Settings}
 use Rattle.zarr_cli_parts.specs.Lines.{IsKeyOf, with_entries}
-use Rattle.zarr_cli_parts.specs.Run.{Costs, Counts, counts_of, CostsOpen, CostsAll, Prints, SetsPart}
+use Rattle.zarr_cli_parts.specs.Run.{Costs, Counts, counts_of, open_costs, CostsAll, Prints, SetsPart}
 use Rattle.zarr_cli_parts.specs.Array.{Job, job, Did, Replied}
 use Rattle.zarr_cli_parts.specs.Steps.{RepliesTo, PrintsAll}
 
@@ -26,27 +28,27 @@ on_err P (Ok value) p = tt
 on_err P (Err error) p = p
 
 -- a fault seen from a store that shows the same but for its faults
-run_fault-earlier : (description : Description) (options : Options) (commands : List Command) (before mid now : Shown) → mid.content ≡ before.content → mid.asks ≡ before.asks → mid.puts ≡ before.puts → before.faults ≤ mid.faults → (status : Status) →
-    IsRunFault description options commands mid now status → IsRunFault description options commands before now status
-run_fault-earlier description options commands before mid now same asks puts later (Chunk key) fault = (
+run_fault-earlier : (once : Bool) (description : Description) (options : Options) (commands : List Command) (before mid now : Shown) → mid.content ≡ before.content → mid.asks ≡ before.asks → mid.puts ≡ before.puts → before.faults ≤ mid.faults → (status : Status) →
+    IsRunFault once description options commands mid now status → IsRunFault once description options commands before now status
+run_fault-earlier once description options commands before mid now same asks puts later (Chunk key) fault = (
   subst (λ content. IsDamageSeen description options commands content key) same fault.0,
   subst (λ content. now.content key ≡ content key) same fault.1,
-  (fault.2.0, fault.2.1, fault.2.2, earlier_failed description options commands before mid now same asks puts later fault.2.0 fault.2.1 fault.2.3),
+  (fault.2.0, fault.2.1, fault.2.2, earlier_failed description options commands before mid now same asks puts later once fault.2.0 fault.2.1 fault.2.3),
 )
-run_fault-earlier description options commands before mid now same asks puts later Store fault = omega (arith, fault)
-run_fault-earlier description options commands before mid now same asks puts later OutOfMemory fault = tt
-run_fault-earlier description options commands before mid now same asks puts later Done fault = fault
-run_fault-earlier description options commands before mid now same asks puts later BadWords fault = fault
-run_fault-earlier description options commands before mid now same asks puts later (BadInput line) fault = fault
-run_fault-earlier description options commands before mid now same asks puts later (Document error) fault = fault
-run_fault-earlier description options commands before mid now same asks puts later Read fault = fault
-run_fault-earlier description options commands before mid now same asks puts later Write fault = fault
-run_fault-earlier description options commands before mid now same asks puts later TooLong fault = fault
+run_fault-earlier once description options commands before mid now same asks puts later Store fault = omega (arith, fault)
+run_fault-earlier once description options commands before mid now same asks puts later OutOfMemory fault = tt
+run_fault-earlier once description options commands before mid now same asks puts later Done fault = fault
+run_fault-earlier once description options commands before mid now same asks puts later BadWords fault = fault
+run_fault-earlier once description options commands before mid now same asks puts later (BadInput line) fault = fault
+run_fault-earlier once description options commands before mid now same asks puts later (Document error) fault = fault
+run_fault-earlier once description options commands before mid now same asks puts later Read fault = fault
+run_fault-earlier once description options commands before mid now same asks puts later Write fault = fault
+run_fault-earlier once description options commands before mid now same asks puts later TooLong fault = fault
 
-earlier_fault : {T : Type 0} (description : Description) (options : Options) (commands : List Command) (before mid now : Shown) → mid.content ≡ before.content → mid.asks ≡ before.asks → mid.puts ≡ before.puts → before.faults ≤ mid.faults → (result : Result T Status) →
-    IfErr result (λ status. IsRunFault description options commands mid now status) → IfErr result (λ status. IsRunFault description options commands before now status)
-earlier_fault description options commands before mid now same asks puts later (Ok value) fault = tt
-earlier_fault description options commands before mid now same asks puts later (Err status) fault = run_fault-earlier description options commands before mid now same asks puts later status fault
+earlier_fault : {T : Type 0} (once : Bool) (description : Description) (options : Options) (commands : List Command) (before mid now : Shown) → mid.content ≡ before.content → mid.asks ≡ before.asks → mid.puts ≡ before.puts → before.faults ≤ mid.faults → (result : Result T Status) →
+    IfErr result (λ status. IsRunFault once description options commands mid now status) → IfErr result (λ status. IsRunFault once description options commands before now status)
+earlier_fault once description options commands before mid now same asks puts later (Ok value) fault = tt
+earlier_fault once description options commands before mid now same asks puts later (Err status) fault = run_fault-earlier once description options commands before mid now same asks puts later status fault
 
 -- an untouched store seen so
 untouched_earlier : {T : Type 0} (before mid now : Shown) → mid.content ≡ before.content → mid.asks ≡ before.asks → mid.taken ≡ before.taken → mid.puts ≡ before.puts → (result : Result T Status) →
@@ -68,12 +70,12 @@ untouched_then before mid now first second = record {
 }
 
 -- an opened array's replies
-module _ (array : OpenArray) (options : Options) (commands : List Command) (before now : Shown) (few : before.puts ≤ 2 ^ 64 - 1) where
+module _ (document : ArrayDocument) (options : Options) (commands : List Command) (before now : Shown) (few : before.puts ≤ 2 ^ 64 - 1) where
   none_set : before.puts ≡ counted before.puts 0
   none_set = omega (arith, few)
 
-  its_replies : {Z : Type 0} (result : Result (Vec Reply Z) Status) → IfOk result (λ held. RepliedBy (described array) options commands before now held.items) → OnOk result (TakesRun (documented array) options commands before now) →
-      IfOk result (λ held. Replied (CostsOpen (documented array)) (described array) options commands before now held.items)
+  its_replies : {Z : Type 0} (result : Result (Vec Reply Z) Status) → IfOk result (λ held. RepliedBy (describe document) options commands before now held.items) → OnOk result (CostsRun (by_chunk (is_bytes_alone document)) (describe document) options commands before now) →
+      IfOk result (λ held. Replied (open_costs document) (describe document) options commands before now held.items)
   its_replies (Ok held) ran takes = record {
     matched = ran.matched;
     mended = ran.mended;
@@ -81,7 +83,7 @@ module _ (array : OpenArray) (options : Options) (commands : List Command) (befo
     stored = ran.stored;
     undamaged = ran.undamaged;
     refusals = ran.refusals;
-    cost = record { asks = ran.asks; puts = ran.puts; taken = takes };
+    cost = record { asks = takes.asks; puts = ran.puts; taken = takes.taken };
   }
   its_replies (Err status) ran takes = tt
 
@@ -89,16 +91,16 @@ module _ (array : OpenArray) (options : Options) (commands : List Command) (befo
   known_ok P (Ok value) p = p
   known_ok P (Err status) p = tt
 
-  pub array_did : {Z : Type 0} (result : Result (Vec Reply Z) Status) → IfOk result (λ held. RepliedBy (described array) options commands before now held.items) → OnOk result (TakesRun (documented array) options commands before now) →
-      (AreRefused (described array) commands → IsUntouched before now) →
-      ((key : List ℕ) → ¬ IsChangedKey (described array) commands key → now.content key ≡ before.content key) → before.faults ≤ now.faults →
-      IfErr result (λ status. IsRunFault (described array) options commands before now status) →
-      IfErr result (λ status. LeavesBetween (described array) options [] commands before now (ending_of status)) →
-      (SeesNoDamage (described array) options commands before.content → ¬ Rose before.faults now.faults → IfErr result (λ status. status ≡ OutOfMemory)) →
-      Did (job (described array) options [] commands) (Unit {0}) before now result (λ held. Replied (CostsOpen (documented array)) (described array) options commands before now held.items)
+  pub array_did : {Z : Type 0} (result : Result (Vec Reply Z) Status) → IfOk result (λ held. RepliedBy (describe document) options commands before now held.items) → OnOk result (CostsRun (by_chunk (is_bytes_alone document)) (describe document) options commands before now) →
+      (AreRefused (describe document) commands → IsUntouched before now) →
+      ((key : List ℕ) → ¬ IsChangedKey (describe document) commands key → now.content key ≡ before.content key) → before.faults ≤ now.faults →
+      IfErr result (λ status. IsRunFault true (describe document) options commands before now status) →
+      IfErr result (λ status. LeavesBetween true (describe document) options [] commands before now (ending_of status)) →
+      (SeesNoDamage (describe document) options commands before.content → ¬ Rose before.faults now.faults → IfErr result (λ status. status ≡ OutOfMemory)) →
+      Did (job true (describe document) options [] commands) (Unit {0}) before now result (λ held. Replied (open_costs document) (describe document) options commands before now held.items)
   array_did result ran takes refused unchanged later fault between complete = record {
     done = its_replies result ran takes;
-    fault = earlier_fault (described array) options commands (with_entries [] before) before now refl refl none_set (omega arith) result fault;
+    fault = earlier_fault true (describe document) options commands (with_entries [] before) before now refl refl none_set (omega arith) result fault;
     between = between;
     complete = complete;
     unchanged = λ key free none. unchanged key none;
@@ -124,7 +126,7 @@ still_early what quiet before now passes gives status did = record {
 -- replies of an array, and their text
 module _ (costs : Costs) (description : Description) (options : Options) (commands : List Command) (before now : Shown) where
   abbrev what : Job
-  what = job description options [] commands
+  what = job costs.once description options [] commands
 
   pub text_did : (held : Vec Reply Global) (text : Vec ℕ Global) → Did what (Unit {0}) before now (Ok held) (λ h. Replied costs description options commands before now h.items) → IsTextOf (kind description) held.items text.items →
       Did what (Unit {0}) before now (Ok text) (λ t. RepliesTo costs description options commands before now t.items)
@@ -152,7 +154,7 @@ module _ (costs : Costs) (description : Description) (options : Options) (comman
   text_starved held did = record {
     done = tt;
     fault = tt;
-    between = between_ran description options [] commands before now (ending_of OutOfMemory) did.done.left did.done.mended;
+    between = between_ran costs.once description options [] commands before now (ending_of OutOfMemory) did.done.left did.done.mended;
     complete = λ sees calm. refl;
     unchanged = did.unchanged;
     refused = λ all still. tt;
@@ -161,18 +163,18 @@ module _ (costs : Costs) (description : Description) (options : Options) (comman
   }
 
 -- a fault of the dump is one of the run
-dump_run_fault : (description : Description) (options : Options) (commands : List Command) (before mid now : Shown) (status : Status) → before.faults ≤ mid.faults →
-    IsDumpFault mid now status → IsRunFault description options commands before now status
-dump_run_fault description options commands before mid now Store later fault = omega (arith, later, fault)
-dump_run_fault description options commands before mid now OutOfMemory later fault = tt
-dump_run_fault description options commands before mid now Done later fault = fault
-dump_run_fault description options commands before mid now BadWords later fault = fault
-dump_run_fault description options commands before mid now (BadInput line) later fault = fault
-dump_run_fault description options commands before mid now (Document error) later fault = fault
-dump_run_fault description options commands before mid now (Chunk key) later fault = absurd fault
-dump_run_fault description options commands before mid now Read later fault = fault
-dump_run_fault description options commands before mid now Write later fault = fault
-dump_run_fault description options commands before mid now TooLong later fault = fault
+dump_run_fault : (once : Bool) (description : Description) (options : Options) (commands : List Command) (before mid now : Shown) (status : Status) → before.faults ≤ mid.faults →
+    IsDumpFault mid now status → IsRunFault once description options commands before now status
+dump_run_fault once description options commands before mid now Store later fault = omega (arith, later, fault)
+dump_run_fault once description options commands before mid now OutOfMemory later fault = tt
+dump_run_fault once description options commands before mid now Done later fault = fault
+dump_run_fault once description options commands before mid now BadWords later fault = fault
+dump_run_fault once description options commands before mid now (BadInput line) later fault = fault
+dump_run_fault once description options commands before mid now (Document error) later fault = fault
+dump_run_fault once description options commands before mid now (Chunk key) later fault = absurd fault
+dump_run_fault once description options commands before mid now Read later fault = fault
+dump_run_fault once description options commands before mid now Write later fault = fault
+dump_run_fault once description options commands before mid now TooLong later fault = fault
 
 dump_memory : (before mid now : Shown) (status : Status) → before.faults ≤ mid.faults → IsDumpFault mid now status → ¬ Rose before.faults now.faults → status ≡ OutOfMemory
 dump_memory before mid now Store later fault calm = absurd (calm (omega (arith, later, fault)))
@@ -188,10 +190,10 @@ dump_memory before mid now TooLong later fault calm = absurd fault
 
 -- a dump behind commands that ran
 module _ (costs : Costs) (description : Description) (settings : Settings) (commands : List Command) (before mid now : Shown) (text : Vec ℕ Global)
-    (did : Did (job description settings.options [] commands) (Unit {0}) before mid (Ok text) (λ t. RepliesTo costs description settings.options commands before mid t.items))
+    (did : Did (job costs.once description settings.options [] commands) (Unit {0}) before mid (Ok text) (λ t. RepliesTo costs description settings.options commands before mid t.items))
     (same : now.content ≡ mid.content) (still : settings.dump ≡ false → IsUntouched mid now) (later : mid.faults ≤ now.faults) where
   abbrev of_all : Job
-  of_all = job description settings.options [] commands
+  of_all = job costs.once description settings.options [] commands
 
   here_still : (key : List ℕ) → ¬ IsKeyOf [] key → ¬ IsChangedKey description commands key → now.content key ≡ before.content key
   here_still key free none = ap (λ (store : Content). store key) same ∙ did.unchanged key free none
@@ -235,8 +237,8 @@ module _ (costs : Costs) (description : Description) (settings : Settings) (comm
       Did {T = Vec ℕ Global} of_all (settings.dump ≡ false) before now (Err status) (λ t. PrintsAll costs description settings commands before now t.items)
   dump_failed status fault = record {
     done = tt;
-    fault = dump_run_fault description settings.options commands (with_entries [] before) mid now status did.later fault;
-    between = between_ran description settings.options [] commands before now (ending_of status)
+    fault = dump_run_fault costs.once description settings.options commands (with_entries [] before) mid now status did.later fault;
+    between = between_ran costs.once description settings.options [] commands before now (ending_of status)
         (subst (λ content. LeavesArray description settings.options commands before.content content) (sym same) did.done.left)
         (subst (λ content. LeavesUndamaged description settings.options commands before.content content) (sym same) did.done.mended);
     complete = λ sees calm. dump_memory before mid now status did.later fault calm;
@@ -263,7 +265,7 @@ module _ (costs : Costs) (description : Description) (settings : Settings) (entr
     prints = subst (λ content. Prints description settings commands content now.content text.items) set ran.prints;
     cost = record {
       mid = ran.cost.mid;
-      commanded = subst (λ counts. costs settings.options commands set_store.content counts ran.cost.mid) same_counts (subst (λ content. costs settings.options commands content (counts_of mid) ran.cost.mid) set ran.cost.commanded);
+      commanded = subst (λ counts. costs.ran settings.options commands set_store.content counts ran.cost.mid) same_counts (subst (λ content. costs.ran settings.options commands content (counts_of mid) ran.cost.mid) set ran.cost.commanded);
       more = ran.cost.more;
       dumped = ran.cost.dumped;
       asks = ran.cost.asks;
@@ -273,20 +275,20 @@ module _ (costs : Costs) (description : Description) (settings : Settings) (entr
   }
   prints_then now (Err status) ran = tt
 
-  left_then : (now : Shown) (result : Result (Vec ℕ Global) Status) → IfErr result (λ status. LeavesBetween description settings.options [] commands mid now (ending_of status)) →
-      IfErr result (λ status. LeavesBetween description settings.options entries commands before now (ending_of status))
+  left_then : (now : Shown) (result : Result (Vec ℕ Global) Status) → IfErr result (λ status. LeavesBetween costs.once description settings.options [] commands mid now (ending_of status)) →
+      IfErr result (λ status. LeavesBetween costs.once description settings.options entries commands before now (ending_of status))
   left_then now (Ok text) left = tt
-  left_then now (Err status) left = between_keys description settings.options entries commands before mid now (ending_of status) set asks puts later left
+  left_then now (Err status) left = between_keys costs.once description settings.options entries commands before mid now (ending_of status) set asks puts later left
 
   no_key : (key : List ℕ) → IsKeyOf [] key → ⊥
   no_key key (value, (number, within, is)) = let below : number < 0 = within in absurd (omega (arith, below))
 
   pub behind_did : (now : Shown) (result : Result (Vec ℕ Global) Status) → ((key : List ℕ) → ¬ IsKeyOf entries key → mid.content key ≡ before.content key) →
-      Did (job description settings.options [] commands) (settings.dump ≡ false) mid now result (λ t. PrintsAll costs description settings commands mid now t.items) →
-      Did (job description settings.options entries commands) (settings.dump ≡ false) before now result (λ t. PrintsAll costs description settings commands set_store now t.items)
+      Did (job costs.once description settings.options [] commands) (settings.dump ≡ false) mid now result (λ t. PrintsAll costs description settings commands mid now t.items) →
+      Did (job costs.once description settings.options entries commands) (settings.dump ≡ false) before now result (λ t. PrintsAll costs description settings commands set_store now t.items)
   behind_did now result elsewhere did = record {
     done = prints_then now result did.done;
-    fault = earlier_fault description settings.options commands set_store (with_entries [] mid) now set asks (omega (arith, puts)) later result did.fault;
+    fault = earlier_fault costs.once description settings.options commands set_store (with_entries [] mid) now set asks (omega (arith, puts)) later result did.fault;
     between = left_then now result did.between;
     complete = λ sees calm. did.complete (subst (SeesNoDamage description settings.options commands) (sym set) sees) (λ rose. calm (omega (arith, rose, later)));
     unchanged = λ key free none. did.unchanged key (no_key key) none ∙ elsewhere key free;
@@ -300,11 +302,11 @@ module _ (costs : Costs) (description : Description) (settings : Settings) (entr
     (some : SetsPart entries before.content now.content) (asks : now.asks ≡ before.asks) (taken : now.taken ≡ before.taken) (later : before.faults ≤ now.faults)
     (elsewhere : (key : List ℕ) → ¬ IsKeyOf entries key → now.content key ≡ before.content key) where
   pub keys_failed : Rose before.faults now.faults →
-      Did {T = Vec ℕ Global} (job description settings.options entries commands) (settings.dump ≡ false) before now (Err Store) (λ t. PrintsAll costs description settings commands (with_entries entries before) now t.items)
+      Did {T = Vec ℕ Global} (job costs.once description settings.options entries commands) (settings.dump ≡ false) before now (Err Store) (λ t. PrintsAll costs description settings commands (with_entries entries before) now t.items)
   keys_failed rose = record {
     done = tt;
     fault = rose;
-    between = between_set description settings.options entries commands before now (ending_of Store) some.0 some.1;
+    between = between_set costs.once description settings.options entries commands before now (ending_of Store) some.0 some.1;
     complete = λ sees calm. absurd (calm rose);
     unchanged = λ key free none. elsewhere key free;
     refused = λ all quiet. tt;
@@ -313,11 +315,11 @@ module _ (costs : Costs) (description : Description) (settings : Settings) (entr
   }
 
   pub keys_starved :
-      Did {T = Vec ℕ Global} (job description settings.options entries commands) (settings.dump ≡ false) before now (Err OutOfMemory) (λ t. PrintsAll costs description settings commands (with_entries entries before) now t.items)
+      Did {T = Vec ℕ Global} (job costs.once description settings.options entries commands) (settings.dump ≡ false) before now (Err OutOfMemory) (λ t. PrintsAll costs description settings commands (with_entries entries before) now t.items)
   keys_starved = record {
     done = tt;
     fault = tt;
-    between = between_set description settings.options entries commands before now (ending_of OutOfMemory) some.0 some.1;
+    between = between_set costs.once description settings.options entries commands before now (ending_of OutOfMemory) some.0 some.1;
     complete = λ sees calm. refl;
     unchanged = λ key free none. elsewhere key free;
     refused = λ all quiet. tt;

@@ -45,7 +45,7 @@ pub record AnswersLines (costs : Costs) (description : Description) (settings : 
       IsOrMemory ending (end.bad_input line)
   -- a damaged chunk is the first that a command saw
   pub chunk : (key : List ℕ) → ending ≡ end.damaged_chunk key → (run : LinesRun description lines)
-      × EndedByDamage description settings.options run.commands
+      × EndedByDamage costs.once description settings.options run.commands
       (with_entries (line_entries lines) before.store) now.store key
   -- lines in form that see no damage, as over an honest store, are done, where nothing failed
   pub complete : (run : LinesRun description lines) →
@@ -58,8 +58,8 @@ pub record AnswersLines (costs : Costs) (description : Description) (settings : 
   pub unchanged : SameButLines description lines before.store.content now.store.content
   -- after every end the store has some key lines set, is left as by a session with this error, or as
   -- by all commands
-  pub between : (run : LinesRun description lines) → LeavesBetween description settings.options
-      (line_entries lines) run.commands before.store now.store ending
+  pub between : (run : LinesRun description lines) → LeavesBetween costs.once description
+      settings.options (line_entries lines) run.commands before.store now.store ending
   -- where replies are written, all commands are refused and no keys are asked for, the store is as
   -- the key lines left it
   pub refused : (run : LinesRun description lines) → IsWritten ending →

@@ -1,5 +1,5 @@
 -- What an array promises of the commands that it runs.
-use Rattle.std.specs.Prelude.{◌≡◌, ℕ, ◌≤◌, List, map, Result, IfOk, IfErr, OnOk}
+use Rattle.std.specs.Prelude.{◌≡◌, ℕ, ◌≤◌, Bool, List, map, Result, IfOk, IfErr, OnOk}
 use Rattle.std.specs.List.{AllZip}
 use Rattle.zarr_model.specs.Prelude.{Element, Array, Options, Content, Shown, Rose, Command, Description, kind, replies, Matches, LeavesArray, SeesNoDamage, RefusesRight, AreRefused, IsUntouched}
 use Rattle.zarr_cli_runs.specs.array.Command.{answer_of}
@@ -13,15 +13,18 @@ use Rattle.zarr_cli_runs.specs.declared.status.Status.TheVariants.{OutOfMemory}
 use Rattle.zarr_cli_parts.specs.Lines.{IsKeyOf, with_entries}
 use Rattle.zarr_cli_parts.specs.Run.{Costs, counts_of, IsUnasked}
 
--- what is run: entries are set, and then an array runs commands
+-- what is run: entries are set, and then an array runs commands, by one reading call for each chunk
+-- or not
 pub record Job : Type 0 where
+  pub once : Bool
   pub description : Description
   pub options : Options
   pub entries : List (List ℕ × List ℕ)
   pub commands : List Command
 
-abbrev pub job : Description → Options → List (List ℕ × List ℕ) → List Command → Job
-job description options entries commands = record {
+abbrev pub job : Bool → Description → Options → List (List ℕ × List ℕ) → List Command → Job
+job once description options entries commands = record {
+  once = once;
   description = description;
   options = options;
   entries = entries;
@@ -33,10 +36,10 @@ job description options entries commands = record {
 pub record Did {T : Type 0} (job : Job) (quiet : Type 0) (before now : Shown)
     (result : Result T Status) (passes : T → Type 0) : Type 0 where
   pub done : IfOk result passes
-  pub fault : IfErr result (λ status. IsRunFault job.description job.options job.commands
-      (with_entries job.entries before) now status)
-  pub between : IfErr result (λ status. LeavesBetween job.description job.options job.entries
-      job.commands before now (ending_of status))
+  pub fault : IfErr result (λ status. IsRunFault job.once job.description job.options
+      job.commands (with_entries job.entries before) now status)
+  pub between : IfErr result (λ status. LeavesBetween job.once job.description job.options
+      job.entries job.commands before now (ending_of status))
   pub complete : SeesNoDamage job.description job.options job.commands
       (with_entries job.entries before).content →
       ¬ Rose before.faults now.faults → IfErr result (λ status. status ≡ OutOfMemory)
@@ -58,4 +61,4 @@ pub record Replied (costs : Costs) (description : Description) (options : Option
   pub stored : StoresForAll description options commands before.content now.content
   pub undamaged : SeesNoDamage description options commands before.content
   pub refusals : RefusesRight description commands (map answer_of held)
-  pub cost : costs options commands before.content (counts_of before) (counts_of now)
+  pub cost : costs.ran options commands before.content (counts_of before) (counts_of now)

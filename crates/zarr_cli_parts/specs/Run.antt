@@ -1,5 +1,5 @@
 -- A run of lines: what it prints, what it costs, and what it leaves in the store.
-use Rattle.std.specs.Prelude.{◌≡◌, ℕ, Bool, false, List, ◌++◌}
+use Rattle.std.specs.Prelude.{◌≡◌, ℕ, Bool, true, false, List, ◌++◌}
 use Rattle.zarr_model.specs.Prelude.{Element, Array, Content, with_keys, Options, Shown, all_asks, all_puts, counted, Command, Description, replies, LeavesArray, SeesNoDamage, IsDamageSeen, SetsSome}
 use Rattle.zarr_cli_runs.specs.lines.Text.{replies_text}
 use Rattle.zarr_cli_runs.specs.array.Stored.{StoresForAll}
@@ -41,11 +41,11 @@ LinesWent description settings lines old new wrote = (run : LinesRun description
     (with_keys (line_entries lines) old) new output × wrote output
 
 -- a damaged chunk ended commands: the first that one of them saw, whose value stands
-pub record EndedByDamage (description : Description) (options : Options) (commands : List Command)
-    (before now : Shown) (key : List ℕ) : Type 0 where
+pub record EndedByDamage (once : Bool) (description : Description) (options : Options)
+    (commands : List Command) (before now : Shown) (key : List ℕ) : Type 0 where
   pub seen : IsDamageSeen description options commands before.content key
   pub stands : now.content key ≡ before.content key
-  pub cut : EndsAtDamage description options commands before now key
+  pub cut : EndsAtDamage once description options commands before now key
 
 -- how often a store was asked, how many bytes it handed out, and its writing calls
 pub record Counts : Type 0 where
@@ -56,9 +56,11 @@ pub record Counts : Type 0 where
 abbrev pub counts_of : Shown → Counts
 counts_of store = record { asks = store.asks; taken = store.taken; puts = store.puts }
 
--- what an array says that commands cost which all ran, over a store, by the counts before and after
-abbrev pub Costs : Type 1
-Costs = Options → List Command → Content → Counts → Counts → Type 0
+-- what an array says that commands cost: whether one reading call fetches a chunk, and what all cost
+-- that ran, over a store, by the counts before and after
+pub record Costs : Type 1 where
+  pub once : Bool
+  pub ran : Options → List Command → Content → Counts → Counts → Type 0
 
 -- a store that shows this content and these counts
 abbrev pub shown_by : Content → Counts → Shown
@@ -79,11 +81,14 @@ pub record CostsOpen (document : ArrayDocument) (options : Options) (commands : 
   pub puts : now.puts ≡ counted before.puts (all_puts (describe document) commands)
   pub taken : TakesRun document options commands (shown_by store before) (shown_by store now)
 
+abbrev pub open_costs : ArrayDocument → Costs
+open_costs document = record { once = true; ran = CostsOpen document }
+
 -- commands and then a dump, where it was asked for, cost so much
 pub record CostsAll (costs : Costs) (settings : Settings) (commands : List Command)
     (before now : Shown) : Type 0 where
   pub mid : Counts
-  pub commanded : costs settings.options commands before.content (counts_of before) mid
+  pub commanded : costs.ran settings.options commands before.content (counts_of before) mid
   pub more : ℕ
   pub dumped : IsDumpAsks settings.dump now.content more
   pub asks : now.asks ≡ counted mid.asks more

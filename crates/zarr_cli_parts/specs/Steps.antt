@@ -96,7 +96,7 @@ pub record RepliesTo (costs : Costs) (description : Description) (options : Opti
   pub left : LeavesArray description options commands before.content now.content
   pub stored : StoresForAll description options commands before.content now.content
   pub undamaged : SeesNoDamage description options commands before.content
-  pub cost : costs options commands before.content (counts_of before) (counts_of now)
+  pub cost : costs.ran options commands before.content (counts_of before) (counts_of now)
 
 -- commands were run over a store, and the text is what they print, at its cost
 pub record PrintsAll (costs : Costs) (description : Description) (settings : Settings)
@@ -114,26 +114,27 @@ pub record PrintsLines (costs : Costs) (description : Description) (settings : S
       IsUntouched (with_entries (line_entries lines) before) now
 
 -- the cause of each early end
-abbrev pub IsLinesFault : Description → Settings → List (List ℕ) → Shown → Shown → Status → Type 0
-IsLinesFault description settings lines before now (BadInput line) =
+abbrev pub IsLinesFault : Bool → Description → Settings → List (List ℕ) → Shown → Shown → Status
+    → Type 0
+IsLinesFault once description settings lines before now (BadInput line) =
     IsOutOfForm description lines line
-IsLinesFault description settings lines before now (Chunk key) = (run : LinesRun description lines)
-    × EndedByDamage description settings.options run.commands
-    (with_entries (line_entries lines) before) now key
-IsLinesFault description settings lines before now Store = (run : LinesRun description lines)
+IsLinesFault once description settings lines before now (Chunk key) =
+    (run : LinesRun description lines) × EndedByDamage once description settings.options
+    run.commands (with_entries (line_entries lines) before) now key
+IsLinesFault once description settings lines before now Store = (run : LinesRun description lines)
     × Rose before.faults now.faults
-IsLinesFault description settings lines before now OutOfMemory = Unit {0}
-IsLinesFault _ _ _ _ _ _ = ⊥
+IsLinesFault once description settings lines before now OutOfMemory = Unit {0}
+IsLinesFault _ _ _ _ _ _ _ = ⊥
 
 -- what a run of lines comes to before its text is written
 pub record RanLines {Z : Type 0} (costs : Costs) (description : Description) (settings : Settings)
     (lines : List (List ℕ)) (before now : Shown) (result : Result (Vec ℕ Z) Status) : Type 0 where
   pub told : MatchResult result
       (λ text. PrintsLines costs description settings lines before now text.items)
-      (λ status. IsLinesFault description settings lines before now status)
+      (λ status. IsLinesFault costs.once description settings lines before now status)
   pub between : IfErr result (λ status. (run : LinesRun description lines) →
-      LeavesBetween description settings.options (line_entries lines) run.commands before now
-      (ending_of status))
+      LeavesBetween costs.once description settings.options (line_entries lines) run.commands
+      before now (ending_of status))
   pub complete : (run : LinesRun description lines) → SeesNoDamage description settings.options
       run.commands (with_keys (line_entries lines) before.content) →
       ¬ Rose before.faults now.faults → IfErr result (λ status. status ≡ OutOfMemory)

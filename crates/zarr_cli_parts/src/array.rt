@@ -8,7 +8,7 @@ ghost use Rattle.zarr_cli_runs.specs.Commands.{TakesRun};
 ghost use Rattle.zarrs_codec_traits.specs.Views.{options_of};
 ghost use Rattle.zarrs_codec_array_bytes.specs.Steps.{kind_seen};
 ghost use Rattle.zarr_cli_parts.specs.Array.{job, Did, Replied};
-ghost use Rattle.zarr_cli_parts.specs.Run.{Costs, CostsOpen};
+ghost use Rattle.zarr_cli_parts.specs.Run.{Costs, open_costs};
 
 use std::alloc::Global;
 use zarr_cli_runs::commands::replies_of;
@@ -41,8 +41,9 @@ pub trait CommandArray {
         store: &mut S,
         options: &CodecOptions,
     ) -> Result<Vec<Reply>, Status>
-        ensures did { Did (job (described self.now) (options_of options.now) []
-            (map command_of commands.now)) (Unit {0}) (S.shown store.old) (S.shown store.new) result
+        ensures did { Did (job (costs self.now).once (described self.now)
+            (options_of options.now) [] (map command_of commands.now)) (Unit {0})
+            (S.shown store.old) (S.shown store.new) result
             (λ held. Replied (costs self.now) (described self.now) (options_of options.now)
             (map command_of commands.now) (S.shown store.old) (S.shown store.new) held.items) }
         ensures kept { AreReads (map command_of commands.now) → S.kept store.old store.new };
@@ -51,7 +52,7 @@ pub trait CommandArray {
 impl CommandArray for OpenArray {
     ghost described = { opened.described };
 
-    ghost costs = { λ array. CostsOpen (opened.documented array) };
+    ghost costs = { λ array. open_costs (opened.documented array) };
 
     fn data_type(&self) -> &DataType {
         self.data_type()
@@ -64,6 +65,6 @@ impl CommandArray for OpenArray {
         store: &mut S,
         options: &CodecOptions,
     ) -> Result<Vec<Reply>, Status> {
-        replies_of(alloc, self, commands, store, options)
+        replies_of(alloc, self.parts(), commands, store, options)
     }
 }

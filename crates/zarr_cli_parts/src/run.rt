@@ -60,8 +60,9 @@ pub fn text_of_commands<A: CommandArray, S: Store>(
     store: &mut S,
     options: &CodecOptions,
 ) -> Result<Vec<u8>, Status>
-    ensures did { Did (job (A.described array.now) (options_of options.now) []
-        (map command_of commands.now)) (Unit {0}) (S.shown store.old) (S.shown store.new) result
+    ensures did { Did (job (A.costs array.now).once (A.described array.now)
+        (options_of options.now) [] (map command_of commands.now)) (Unit {0})
+        (S.shown store.old) (S.shown store.new) result
         (λ text. RepliesTo (A.costs array.now) (A.described array.now) (options_of options.now)
         (map command_of commands.now) (S.shown store.old) (S.shown store.new) text.items) }
     ensures kept { AreReads (map command_of commands.now) → S.kept store.old store.new }
@@ -80,11 +81,11 @@ fn text_of_all<A: CommandArray, S: Store>(
     commands: &[Command],
     store: &mut S,
 ) -> Result<Vec<u8>, Status>
-    ensures { Did (job (A.described array.now) (options_of words.now.options) []
-        (map command_of commands.now)) (words.now.dump ≡ false) (S.shown store.old)
-        (S.shown store.new) result (λ text. PrintsAll (A.costs array.now) (A.described array.now)
-        (settings_view words.now) (map command_of commands.now) (S.shown store.old)
-        (S.shown store.new) text.items) }
+    ensures { Did (job (A.costs array.now).once (A.described array.now)
+        (options_of words.now.options) [] (map command_of commands.now)) (words.now.dump ≡ false)
+        (S.shown store.old) (S.shown store.new) result
+        (λ text. PrintsAll (A.costs array.now) (A.described array.now) (settings_view words.now)
+        (map command_of commands.now) (S.shown store.old) (S.shown store.new) text.items) }
 {
     match text_of_commands(alloc, array, commands, store, &words.options) {
         Ok(mut text) => match push_dump(alloc, words.dump, &mut text, store) {
@@ -104,8 +105,9 @@ pub(crate) fn run_parsed<A: CommandArray, S: Store>(
     parsed: &ParsedLines,
     store: &mut S,
 ) -> Result<Vec<u8>, Status>
-    ensures { Did (job (A.described array.now) (options_of words.now.options)
-        (map entry_view parsed.now.entries.items) (map command_of parsed.now.commands.items))
+    ensures { Did (job (A.costs array.now).once (A.described array.now)
+        (options_of words.now.options) (map entry_view parsed.now.entries.items)
+        (map command_of parsed.now.commands.items))
         (words.now.dump ≡ false) (S.shown store.old) (S.shown store.new) result
         (λ text. PrintsAll (A.costs array.now) (A.described array.now) (settings_view words.now)
         (map command_of parsed.now.commands.items)

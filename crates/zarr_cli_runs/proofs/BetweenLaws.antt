@@ -11,7 +11,7 @@ use Rattle.zarr_model.specs.Cost.{chunks_under}
 use Rattle.zarr_model.proofs.FailureLaws.{meeting_is}
 use Rattle.zarr_cli_made.specs.array.parts.Opening.{OpenRefusal}
 use Rattle.zarr_cli_made.specs.array.parts.OpenError.{open_refusal_of}
-use Rattle.zarr_cli_made.specs.array.Session.{FailsAt, HasSessionCause, IsNoticed, is_store}
+use Rattle.zarr_cli_made.specs.array.Session.{FailsAt, FailsBy, HasSessionCause, IsNoticed, is_store}
 use Rattle.zarr_cli_made.specs.array.Decoded.{AreDecoded}
 use Rattle.zarr_cli_made.specs.array.Stored.{StaysOrDecodes, DamageStands}
 use Rattle.zarr_cli_made.specs.array.regions.declared.error.SessionErrorKind.{SessionErrorKind}
@@ -76,13 +76,13 @@ noticed_seen description options commands old new key m k (command, which, asks,
       subst₂ (λ c i. passes_over description options old c i ≡ false) same its noticed,
     )
 
-module _ (description : Description) (options : Options) (entries : List (List ℕ × List ℕ)) (commands : List Command) (before now : Shown) (ending : Ending) where
+module _ (once : Bool) (description : Description) (options : Options) (entries : List (List ℕ × List ℕ)) (commands : List Command) (before now : Shown) (ending : Ending) where
   -- some key lines are set
-  pub between_set : (n : ℕ) → SetsSome entries n before.content now.content → LeavesBetween description options entries commands before now ending
+  pub between_set : (n : ℕ) → SetsSome entries n before.content now.content → LeavesBetween once description options entries commands before now ending
   between_set n set = record { honest = λ honest. inl (inl (n, set)); along = inl (n, set) }
 
   -- nothing was changed
-  pub between_untouched : ((key : List ℕ) → now.content key ≡ before.content key) → LeavesBetween description options entries commands before now ending
+  pub between_untouched : ((key : List ℕ) → now.content key ≡ before.content key) → LeavesBetween once description options entries commands before now ending
   between_untouched same = between_set 0 (record {
     few = omega arith;
     next = λ entry e. inl (same entry.0);
@@ -91,7 +91,7 @@ module _ (description : Description) (options : Options) (entries : List (List �
 
   -- all commands ran
   pub between_ran : LeavesArray description options commands (with_keys entries before.content) now.content → LeavesUndamaged description options commands (with_keys entries before.content) now.content →
-      LeavesBetween description options entries commands before now ending
+      LeavesBetween once description options entries commands before now ending
   between_ran left mended = record { honest = λ honest. inl (inr (inr left)); along = inr (inr mended) }
 
 -- an error at a place, seen from a store that shows the same
@@ -106,10 +106,9 @@ module _ (description : Description) (options : Options) (commands : List Comman
   )
   earlier_cause at Kind.OutOfMemory cause = subst (λ store. IsStarved description options commands store now.content at) content cause
 
-  pub earlier_failed : (at : Option (ℕ × ℕ)) (kind : SessionErrorKind) → FailsAt description options commands mid now at kind → FailsAt description options commands before now at kind
-  earlier_failed at kind fails = record {
+  earlier_at : (at : Option (ℕ × ℕ)) (kind : SessionErrorKind) → FailsAt description options commands mid now at kind → FailsAt description options commands before now at kind
+  earlier_at at kind fails = record {
     place = fails.place;
-    asks = subst (λ (n : ℕ). AsksUpTo description commands n now.asks at) asks fails.asks;
     puts = subst (λ (n : ℕ). PutsUpTo description commands n now.puts at) puts fails.puts;
     keys = subst (λ store. LeavesKeys description options (begun commands at) store now.content) content fails.keys;
     stored = subst (λ store. StaysOrDecodes description store now.content) content fails.stored;
@@ -119,7 +118,13 @@ module _ (description : Description) (options : Options) (commands : List Comman
     cause = earlier_cause at kind fails.cause;
   }
 
-module _ (description : Description) (options : Options) (commands : List Command) (before now : Shown) where
+  pub earlier_failed : (once : Bool) (at : Option (ℕ × ℕ)) (kind : SessionErrorKind) → FailsBy once description options commands mid now at kind → FailsBy once description options commands before now at kind
+  earlier_failed once at kind fails = record {
+    on = earlier_at at kind fails.on;
+    asks = λ told. subst (λ (n : ℕ). AsksUpTo description commands n now.asks at) asks (fails.asks told);
+  }
+
+module _ (once : Bool) (description : Description) (options : Options) (commands : List Command) (before now : Shown) where
   -- a session ended at a place, over an honest store
   honest_ended : (at : Option (ℕ × ℕ)) (kind : SessionErrorKind) → HasSessionCause description options commands before now at kind →
       IsHonest (layout description options) before.content → IsBetween description options [] commands before now (ending_of (session_status kind))
@@ -149,29 +154,29 @@ module _ (description : Description) (options : Options) (commands : List Comman
   told_by at Kind.OutOfMemory cause = refl
 
   -- and over any store
-  pub between_failed : before.puts ≤ 2 ^ 64 - 1 → (at : Option (ℕ × ℕ)) (kind : SessionErrorKind) → FailsAt description options commands before now at kind →
-      LeavesBetween description options [] commands before now (ending_of (session_status kind))
+  pub between_failed : before.puts ≤ 2 ^ 64 - 1 → (at : Option (ℕ × ℕ)) (kind : SessionErrorKind) → FailsBy once description options commands before now at kind →
+      LeavesBetween once description options [] commands before now (ending_of (session_status kind))
   between_failed few at kind fails = record {
-    honest = honest_ended at kind fails.cause;
+    honest = honest_ended at kind fails.on.cause;
     along = inr (inl (
       at,
       kind,
-      told_by at kind fails.cause,
-      earlier_failed description options commands (with_entries [] before) before now refl refl (omega (arith, few)) (omega arith) at kind fails,
+      told_by at kind fails.on.cause,
+      earlier_failed description options commands (with_entries [] before) before now refl refl (omega (arith, few)) (omega arith) once at kind fails,
     ));
   }
 
   -- what commands leave is left where nothing more was changed
   pub between_still : (mid : Shown) (ending : Ending) → LeavesArray description options commands before.content mid.content → LeavesUndamaged description options commands before.content mid.content →
-      now.content ≡ mid.content → LeavesBetween description options [] commands before now ending
-  between_still mid ending left mended same = between_ran description options [] commands before now ending
+      now.content ≡ mid.content → LeavesBetween once description options [] commands before now ending
+  between_still mid ending left mended same = between_ran once description options [] commands before now ending
       (subst (LeavesArray description options commands before.content) (sym same) left) (subst (LeavesUndamaged description options commands before.content) (sym same) mended)
 
 -- commands behind key lines that are set
-pub between_keys : (description : Description) (options : Options) (entries : List (List ℕ × List ℕ)) (commands : List Command) (before mid now : Shown) (ending : Ending) →
+pub between_keys : (once : Bool) (description : Description) (options : Options) (entries : List (List ℕ × List ℕ)) (commands : List Command) (before mid now : Shown) (ending : Ending) →
     mid.content ≡ with_keys entries before.content → mid.asks ≡ before.asks → mid.puts ≡ counted before.puts (length entries) → before.faults ≤ mid.faults →
-    LeavesBetween description options [] commands mid now ending → LeavesBetween description options entries commands before now ending
-between_keys description options entries commands before mid now ending set asks puts later left = record {
+    LeavesBetween once description options [] commands mid now ending → LeavesBetween once description options entries commands before now ending
+between_keys once description options entries commands before mid now ending set asks puts later left = record {
   honest = λ honest.
       ⊎_elim
       (λ (ends : EndsBetween description options [] commands false mid.content now.content). inl (behind false ends))
@@ -194,17 +199,17 @@ between_keys description options entries commands before mid now ending set asks
     behind by_store (inr (inl (m, k, cut))) = inr (inl (m, k, subst (λ store. IsLeftAt description options commands store now.content by_store (Some (m, k))) set cut))
     behind by_store (inr (inr all)) = inr (inr (subst (λ store. LeavesArray description options commands store now.content) set all))
 
-    beyond : EndsAlong description options [] commands mid now ending → EndsAlong description options entries commands before now ending
+    beyond : EndsAlong once description options [] commands mid now ending → EndsAlong once description options entries commands before now ending
     beyond (inl (n, some)) = inl (length entries, all_set n some)
-    beyond (inr (inl (at, kind, told, fails))) = inr (inl (at, kind, told, earlier_failed description options commands (with_entries entries before) (with_entries no_entries mid) now set asks (omega (arith, puts)) later at kind fails))
+    beyond (inr (inl (at, kind, told, fails))) = inr (inl (at, kind, told, earlier_failed description options commands (with_entries entries before) (with_entries no_entries mid) now set asks (omega (arith, puts)) later once at kind fails))
     beyond (inr (inr mended)) = inr (inr (subst (λ store. LeavesUndamaged description options commands store now.content) set mended))
 
 -- the line of a status other than that of a fault of the store may want memory
-pub between_last : (description : Description) (options : Options) (entries : List (List ℕ × List ℕ)) (commands : List Command) (before now : Shown) (status last : Status) →
+pub between_last : (once : Bool) (description : Description) (options : Options) (entries : List (List ℕ × List ℕ)) (commands : List Command) (before now : Shown) (status last : Status) →
     (last ≡ status) ⊎ (last ≡ OutOfMemory) → (status ≡ Store → last ≡ Store) →
-    LeavesBetween description options entries commands before now (ending_of status) → LeavesBetween description options entries commands before now (ending_of last)
-between_last description options entries commands before now status last (inl same) kept left = subst (λ s. LeavesBetween description options entries commands before now (ending_of s)) (sym same) left
-between_last description options entries commands before now status last (inr memory) kept left = subst (λ s. LeavesBetween description options entries commands before now (ending_of s)) (sym memory) (wanting status (λ is. stays (kept is)) left)
+    LeavesBetween once description options entries commands before now (ending_of status) → LeavesBetween once description options entries commands before now (ending_of last)
+between_last once description options entries commands before now status last (inl same) kept left = subst (λ s. LeavesBetween once description options entries commands before now (ending_of s)) (sym same) left
+between_last once description options entries commands before now status last (inr memory) kept left = subst (λ s. LeavesBetween once description options entries commands before now (ending_of s)) (sym memory) (wanting status (λ is. stays (kept is)) left)
   where
     stays : last ≡ Store → ⊥
     stays is = let both : Store ≡ OutOfMemory = sym is ∙ memory in cc
@@ -224,7 +229,7 @@ between_last description options entries commands before now status last (inr me
     in_place status other Kind.Store told = absurd (no_fault status other told)
     in_place status other Kind.OutOfMemory told = refl
 
-    wanting : (status : Status) → ¬ (status ≡ Store) → LeavesBetween description options entries commands before now (ending_of status) → LeavesBetween description options entries commands before now out_of_memory
+    wanting : (status : Status) → ¬ (status ≡ Store) → LeavesBetween once description options entries commands before now (ending_of status) → LeavesBetween once description options entries commands before now out_of_memory
     wanting status other left = record {
       honest = λ honest.
           ⊎_elim
@@ -234,7 +239,7 @@ between_last description options entries commands before now status last (inr me
       along = at left.along;
     }
       where
-        at : EndsAlong description options entries commands before now (ending_of status) → EndsAlong description options entries commands before now out_of_memory
+        at : EndsAlong once description options entries commands before now (ending_of status) → EndsAlong once description options entries commands before now out_of_memory
         at (inl set) = inl set
         at (inr (inl (place, kind, told, fails))) = inr (inl (place, kind, in_place status other kind told, fails))
         at (inr (inr mended)) = inr (inr mended)

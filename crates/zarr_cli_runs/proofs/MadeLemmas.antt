@@ -70,11 +70,11 @@ keys_counted before now keys n lists same is = (keys, subst (λ content. ListsKe
 
 -- replies and keys that were summed up
 pub summed_up : (description : Description) (n count : ℕ) (options : Options) (commands : List Command) (before mid now : Shown) (held : List Reply) (text : List ℕ) →
-    kind description ≡ fixed n → RepliedBy description options commands before mid held →
+    kind description ≡ fixed n → RepliedBy description options commands before mid held → mid.asks ≡ counted before.asks (all_asks description commands) →
     (keys : List (List ℕ)) × ListsKeys now.content keys × (count ≡ length keys) → now.content ≡ mid.content → now.asks ≡ counted mid.asks 1 → now.puts ≡ mid.puts →
     ((answers : List Model.Reply) → AllZip (Matches (fixed n)) (map answer_of held) answers → text ≡ summary_text answers count) →
     (lines : List ℕ) × (text ≡ summary_held n held count lines) → SumsAll description options commands before now text
-summed_up description n count options commands before mid now held text sized ran keys same asks unput sums is = record {
+summed_up description n count options commands before mid now held text sized ran asked keys same asks unput sums is = record {
   sums = record {
     summed = λ array means. (keys.0, keys.1, sums (Model.replies description commands array) (subst (λ k. AllZip (Matches k) (map answer_of held) (Model.replies description commands array)) sized (ran.matched array means)) ∙ ap (summary_text (Model.replies description commands array)) keys.2);
     numbers = counts n count description commands held now.content text is.0 ran.refusals keys is.1;
@@ -83,6 +83,6 @@ summed_up description n count options commands before mid now held text sized ra
     stored = subst (λ content. StoresForAll description options commands before.content content) (sym same) ran.stored;
     undamaged = ran.undamaged;
   };
-  asks = (let first : mid.asks ≡ counted before.asks (all_asks description commands) = ran.asks in counted_more before.asks mid.asks now.asks (all_asks description commands) 1 first asks);
+  asks = counted_more before.asks mid.asks now.asks (all_asks description commands) 1 asked asks;
   puts = unput ∙ ran.puts;
 }

@@ -1,7 +1,7 @@
 -- What a run leaves, also where it ended early.
-use Rattle.std.specs.Prelude.{◌≡◌, ◌⊎◌, ℕ, true, false, List, length, Option}
+use Rattle.std.specs.Prelude.{◌≡◌, ◌⊎◌, ℕ, Bool, true, false, List, length, Option}
 use Rattle.zarr_model.specs.Prelude.{Options, counted, IsHonest, with_keys, Command, Description, layout, Shown, Rose, SetsSome, EndsBetween}
-use Rattle.zarr_cli_made.specs.array.Session.{FailsAt}
+use Rattle.zarr_cli_made.specs.array.Session.{FailsBy}
 use Rattle.zarr_cli_made.specs.array.regions.declared.error.SessionErrorKind.{SessionErrorKind}
 use Rattle.zarr_cli_made.specs.array.regions.declared.error.SessionErrorKind.TheVariants.{NotOpened, ChunkDecode}
 use Rattle.zarr_cli_made.specs.array.regions.declared.error.SessionErrorKind.TheVariants as Kind
@@ -33,20 +33,20 @@ IsEndingBy Kind.OutOfMemory ending = ending ≡ out_of_memory
 
 -- over any store: a run ended while its key lines were set, as a session of its commands does with
 -- the error that its ending tells, or behind all of them
-abbrev pub EndsAlong : Description → Options → List (List ℕ × List ℕ) → List Command → Shown →
-    Shown → Ending → Type 0
-EndsAlong description options entries commands before now ending =
+abbrev pub EndsAlong : Bool → Description → Options → List (List ℕ × List ℕ) → List Command → Shown
+    → Shown → Ending → Type 0
+EndsAlong once description options entries commands before now ending =
     ((n : ℕ) × SetsSome entries n before.content now.content)
     ⊎ (((at : Option (ℕ × ℕ)) × (kind : SessionErrorKind) × IsEndingBy kind ending
-    × FailsAt description options commands (with_entries entries before) now at kind)
+    × FailsBy once description options commands (with_entries entries before) now at kind)
     ⊎ LeavesUndamaged description options commands (with_keys entries before.content) now.content)
 
 -- what a run with this ending leaves
-pub record LeavesBetween (description : Description) (options : Options)
+pub record LeavesBetween (once : Bool) (description : Description) (options : Options)
     (entries : List (List ℕ × List ℕ)) (commands : List Command) (before now : Shown)
     (ending : Ending) : Type 0 where
   -- a store that is honest once the key lines are set is in one of these states
   pub honest : IsHonest (layout description options) (with_keys entries before.content) →
       IsBetween description options entries commands before now ending
   -- and any store is
-  pub along : EndsAlong description options entries commands before now ending
+  pub along : EndsAlong once description options entries commands before now ending

@@ -1,13 +1,15 @@
 -- Commands that ran over a store: their replies, the keys that they may change, and why they ended
 -- early.
-use Rattle.std.specs.Prelude.{◌≡◌, ℕ, List, [], map, Option, Ok, true}
+use Rattle.std.specs.Prelude.{◌≡◌, ℕ, Bool, List, [], map, Option, Ok, true}
 use Rattle.std.specs.List.{AllZip, list_any}
-use Rattle.zarr_model.specs.Prelude.{Element, Array, Options, Content, Means, WhollyMeans, Shown, Command, Description, kind, layout, replies, array_after, Matches, LeavesArray, SeesNoDamage, MeetsNoDamage, KeepsDamage, RefusesRight, all_asks, all_puts, counted, Rose, IsDamageSeen, IsChunk, changes_chunk, undamaged, LeavesKeys}
+use Rattle.zarr_model.specs.Prelude.{Element, Array, Options, Content, Means, WhollyMeans, Shown, Command, Description, kind, layout, replies, array_after, Matches, LeavesArray, SeesNoDamage, MeetsNoDamage, KeepsDamage, RefusesRight, all_puts, counted, Rose, IsDamageSeen, IsChunk, changes_chunk, undamaged, LeavesKeys}
 use Rattle.zarr_cli_made.specs.array.Command.{answer_of}
 use Rattle.zarr_cli_made.specs.array.Stored.{StoresForAll}
 use Rattle.zarr_cli_made.specs.array.parts.Document.{ArrayDocument}
 use Rattle.zarr_cli_made.specs.array.Taken.{TakesAlone}
-use Rattle.zarr_cli_made.specs.array.Session.{FailsAt}
+use Rattle.zarr_cli_made.specs.array.Costs.{CostsOn}
+use Rattle.zarr_cli_made.specs.array.regions.Access.{Costs}
+use Rattle.zarr_cli_made.specs.array.Session.{FailsBy}
 use Rattle.zarr_cli_made.specs.array.declared.command.Reply.{Reply}
 use Rattle.zarr_cli_runs.specs.declared.status.Status.{Status}
 use Rattle.zarr_cli_runs.specs.declared.status.Status.TheVariants.{OutOfMemory, Document, Chunk, Store}
@@ -44,11 +46,13 @@ session_status (ChunkDecode key error) = Chunk key
 session_status Kind.Store = Store
 session_status Kind.OutOfMemory = OutOfMemory
 
--- commands ended as a session does at a damaged chunk, the first one that it saw
-abbrev pub EndsAtDamage : Description → Options → List Command → Shown → Shown → List ℕ → Type 0
-EndsAtDamage description options commands before now key = (at : Option (ℕ × ℕ))
+-- commands ended as a session does at a damaged chunk, the first one that it saw, by one call for
+-- each chunk or not
+abbrev pub EndsAtDamage : Bool → Description → Options → List Command → Shown → Shown → List ℕ
+    → Type 0
+EndsAtDamage once description options commands before now key = (at : Option (ℕ × ℕ))
     × (kind : SessionErrorKind) × (session_status kind ≡ Chunk key)
-    × FailsAt description options commands before now at kind
+    × FailsBy once description options commands before now at kind
 
 -- commands were run over a store, and these are their replies
 pub record RepliedBy (description : Description) (options : Options) (commands : List Command)
@@ -61,8 +65,12 @@ pub record RepliedBy (description : Description) (options : Options) (commands :
   pub stored : StoresForAll description options commands before.content now.content
   pub undamaged : SeesNoDamage description options commands before.content
   pub refusals : RefusesRight description commands (map answer_of held)
-  pub asks : now.asks ≡ counted before.asks (all_asks description commands)
   pub puts : now.puts ≡ counted before.puts (all_puts description commands)
+
+-- what commands cost that all ran
+abbrev pub CostsRun : Costs → Description → Options → List Command → Shown → Shown → Type 0
+CostsRun costs description options commands before now =
+    CostsOn costs description options commands before now (Ok [])
 
 -- commands that all ran took exactly the bytes that they need, where the codec `bytes` is all of
 -- the chain and presence before each is known
@@ -71,11 +79,12 @@ TakesRun document options commands before now =
     TakesAlone document options commands before now (Ok [])
 
 -- commands ended early by their cause
-abbrev pub IsRunFault : Description → Options → List Command → Shown → Shown → Status → Type 0
-IsRunFault description options commands before now (Chunk key) =
+abbrev pub IsRunFault : Bool → Description → Options → List Command → Shown → Shown → Status
+    → Type 0
+IsRunFault once description options commands before now (Chunk key) =
     IsDamageSeen description options commands before.content key
     × (now.content key ≡ before.content key)
-    × EndsAtDamage description options commands before now key
-IsRunFault description options commands before now Store = Rose before.faults now.faults
-IsRunFault description options commands before now OutOfMemory = Unit {0}
-IsRunFault _ _ _ _ _ _ = ⊥
+    × EndsAtDamage once description options commands before now key
+IsRunFault once description options commands before now Store = Rose before.faults now.faults
+IsRunFault once description options commands before now OutOfMemory = Unit {0}
+IsRunFault _ _ _ _ _ _ _ = ⊥

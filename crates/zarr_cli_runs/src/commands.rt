@@ -2,18 +2,20 @@
 
 ghost use Rattle.std.specs.Prelude.{◌≡◌, ◌<◌, ◌≤◌, map, List, [], ℕ, IfOk, IfErr, OnOk, OnErr};
 ghost use Rattle.zarr_model.specs.Prelude.{fixed, Rose, SeesNoDamage, AreRefused, IsUntouched};
-ghost use Rattle.zarr_cli_made.specs.array.OpenArray.{documented, described};
+ghost use Rattle.zarr_cli_made.specs.array.regions.Access.{described, is_once};
 ghost use Rattle.zarr_cli_made.specs.array.Command.{command_of, AreReads};
 ghost use Rattle.zarrs_codec_traits.specs.Views.{options_of};
 ghost use Rattle.zarrs_codec_array_bytes.specs.Steps.{kind_seen};
 ghost use Rattle.zarr_cli_made.specs.lines.Parts.{IsTextOf};
 ghost use Rattle.zarr_cli_runs.specs.Between.{LeavesBetween};
 ghost use Rattle.zarr_cli_runs.specs.Status.{ending_of};
-ghost use Rattle.zarr_cli_runs.specs.Commands.{IsChangedKey, RepliedBy, TakesRun, IsRunFault, session_status};
+ghost use Rattle.zarr_cli_runs.specs.Commands.{IsChangedKey, RepliedBy, CostsRun, IsRunFault, session_status};
 
 use crate::status::Status;
 use std::alloc::{AllocError, Global};
-use zarr_cli_made::{CodecOptions, Command, OpenArray, Reply, SessionErrorKind, push_reply};
+use zarr_array::ChunkAccess;
+use zarr_array::commands::run_commands;
+use zarr_cli_made::{CodecOptions, Command, Reply, SessionErrorKind, push_reply};
 use zarrs_data_type_names::DataType;
 use zarrs_storage::Store;
 
@@ -52,36 +54,40 @@ fn session_status(kind: SessionErrorKind) -> Status
 ///
 /// # Errors
 /// `Chunk` where a read or a write met a value that does not decode, `Store` where the store failed, and `OutOfMemory`.
-pub fn replies_of<S: Store>(
+pub fn replies_of<C: ChunkAccess, S: Store>(
     alloc: Global,
-    array: &OpenArray,
+    array: &C,
     commands: &[Command],
     store: &mut S,
     options: &CodecOptions,
 ) -> Result<Vec<Reply>, Status>
-    ensures ran { IfOk result (λ held. RepliedBy (described array.now) (options_of options.now)
-        (map command_of commands.now) (S.shown store.old) (S.shown store.new) held.items) }
-    ensures taken { OnOk result (TakesRun (documented array.now) (options_of options.now)
-        (map command_of commands.now) (S.shown store.old) (S.shown store.new)) }
-    ensures refused { AreRefused (described array.now) (map command_of commands.now) →
+    ensures ran { IfOk result (λ held. RepliedBy (described (C.seen array.now))
+        (options_of options.now) (map command_of commands.now) (S.shown store.old)
+        (S.shown store.new) held.items) }
+    ensures costs { OnOk result (CostsRun (C.seen array.now).costs
+        (described (C.seen array.now)) (options_of options.now) (map command_of commands.now)
+        (S.shown store.old) (S.shown store.new)) }
+    ensures refused { AreRefused (described (C.seen array.now)) (map command_of commands.now) →
         IsUntouched (S.shown store.old) (S.shown store.new) }
     ensures unchanged { (key : List ℕ) →
-        ¬ IsChangedKey (described array.now) (map command_of commands.now) key →
+        ¬ IsChangedKey (described (C.seen array.now)) (map command_of commands.now) key →
         (S.shown store.new).content key ≡ (S.shown store.old).content key }
     ensures later { (S.shown store.old).faults ≤ (S.shown store.new).faults }
     ensures fault { IfErr result (λ status.
-        IsRunFault (described array.now) (options_of options.now)
-        (map command_of commands.now) (S.shown store.old) (S.shown store.new) status) }
-    ensures between { IfErr result (λ status. LeavesBetween (described array.now)
-        (options_of options.now) [] (map command_of commands.now) (S.shown store.old)
-        (S.shown store.new) (ending_of status)) }
-    ensures complete { SeesNoDamage (described array.now) (options_of options.now)
+        IsRunFault (is_once (C.seen array.now).costs) (described (C.seen array.now))
+        (options_of options.now) (map command_of commands.now) (S.shown store.old)
+        (S.shown store.new) status) }
+    ensures between { IfErr result (λ status. LeavesBetween (is_once (C.seen array.now).costs)
+        (described (C.seen array.now)) (options_of options.now) []
+        (map command_of commands.now) (S.shown store.old) (S.shown store.new)
+        (ending_of status)) }
+    ensures complete { SeesNoDamage (described (C.seen array.now)) (options_of options.now)
         (map command_of commands.now) (S.shown store.old).content →
         ¬ Rose (S.shown store.old).faults (S.shown store.new).faults →
         IfErr result (λ status. status ≡ Status.OutOfMemory) }
     ensures kept { AreReads (map command_of commands.now) → S.kept store.old store.new }
 {
-    match array.run_commands(alloc, commands, store, options) {
+    match run_commands(array, alloc, commands, store, options) {
         Ok(replies) => Ok(replies),
         Err(error) => Err(session_status(error.kind)),
     }

@@ -1,6 +1,6 @@
 //! A run that is made from a number.
 
-ghost use Rattle.std.specs.Prelude.{◌≡◌, ◌<◌, map, List, [], ℕ, IfOk, IfErr, OnErr};
+ghost use Rattle.std.specs.Prelude.{◌≡◌, ◌<◌, map, List, [], ℕ, true, IfOk, IfErr, OnErr};
 ghost use Rattle.std.specs.List.{AllZip};
 ghost use Rattle.zarr_model.specs.Prelude.{Rose, SeesNoDamage, kind, fixed, Matches};
 ghost use Rattle.zarr_model.specs.Command as Model;
@@ -76,9 +76,9 @@ fn summary_of_commands<S: Store>(
         ¬ IsChangedKey (described array.now) (map command_of commands.now) key →
         (S.shown store.new).content key ≡ (S.shown store.old).content key }
     ensures fault { IfErr result (λ status.
-        IsRunFault (described array.now) (options_of options.now)
+        IsRunFault true (described array.now) (options_of options.now)
         (map command_of commands.now) (S.shown store.old) (S.shown store.new) status) }
-    ensures between { IfErr result (λ status. LeavesBetween (described array.now)
+    ensures between { IfErr result (λ status. LeavesBetween true (described array.now)
         (options_of options.now) [] (map command_of commands.now) (S.shown store.old)
         (S.shown store.new) (ending_of status)) }
     ensures complete { SeesNoDamage (described array.now) (options_of options.now)
@@ -86,7 +86,7 @@ fn summary_of_commands<S: Store>(
         ¬ Rose (S.shown store.old).faults (S.shown store.new).faults →
         IfErr result (λ status. status ≡ Status.OutOfMemory) }
 {
-    match replies_of(alloc, array, commands, store, options) {
+    match replies_of(alloc, array.parts(), commands, store, options) {
         Ok(replies) => match count_keys(alloc, store) {
             Ok(keys) => Ok(summary_of(alloc, &replies, array.data_type(), ELEMENT_SIZE, keys)?),
             Err(status) => Err(status),
@@ -110,9 +110,9 @@ fn summary_from<S: Store>(
         ¬ IsChangedKey (described array.now) (made_commands number) key →
         (S.shown store.new).content key ≡ (S.shown store.old).content key }
     ensures fault { IfErr result (λ status.
-        IsRunFault (described array.now) (options_of options.now)
+        IsRunFault true (described array.now) (options_of options.now)
         (made_commands number) (S.shown store.old) (S.shown store.new) status) }
-    ensures between { IfErr result (λ status. LeavesBetween (described array.now)
+    ensures between { IfErr result (λ status. LeavesBetween true (described array.now)
         (options_of options.now) [] (made_commands number) (S.shown store.old)
         (S.shown store.new) (ending_of status)) }
     ensures complete { SeesNoDamage (described array.now) (options_of options.now)
@@ -140,10 +140,11 @@ pub fn run_made<S: Store>(
     ensures unchanged { (key : List ℕ) → ¬ IsChangedKey made_array (made_commands number) key →
         (S.shown store.new).content key ≡ (S.shown store.old).content key }
     ensures fault { IfErr result (λ status.
-        IsRunFault made_array (options_of options.now)
+        IsRunFault true made_array (options_of options.now)
         (made_commands number) (S.shown store.old) (S.shown store.new) status) }
-    ensures between { IfErr result (λ status. LeavesBetween made_array (options_of options.now)
-        [] (made_commands number) (S.shown store.old) (S.shown store.new) (ending_of status)) }
+    ensures between { IfErr result (λ status. LeavesBetween true made_array
+        (options_of options.now) [] (made_commands number) (S.shown store.old)
+        (S.shown store.new) (ending_of status)) }
     ensures complete { SeesNoDamage made_array (options_of options.now)
         (made_commands number) (S.shown store.old).content →
         ¬ Rose (S.shown store.old).faults (S.shown store.new).faults →

@@ -46,13 +46,13 @@ pub read_done : (source : Description) (options : Options) (b : Region) (bytes :
     Runs source options (read b ∷ []) before now (Ok (answered bytes ∷ [])) → HasReadBand source options b bytes before now
 read_done source options b bytes before now none valid short same ran = record {
   accepted = none;
-  serves = ran.serves;
+  serves = ran.on.serves;
   valid = valid;
   short = short;
   asks = ran.asks ∙ ap (counted before.asks) (read_asks source b none);
-  undamaged = ran.undamaged;
+  undamaged = ran.on.undamaged;
   same = same;
-  later = ran.later;
+  later = ran.on.later;
 }
 
 module _ (target : Description) (options : Options) (covers : CoversShape target.shape target.grid) (sound : IsSound (layout target options)) (command : Command) (before now : Shown) where
@@ -75,18 +75,18 @@ module _ (target : Description) (options : Options) (covers : CoversShape target
   pub still_honest : (ended : Ended) → Runs target options (command ∷ []) before now ended → IsHonest (layout target options) before.content → IsHonest (layout target options) now.content
   still_honest (Ok answers) ran honest =
       honest-whole (layout target options) now.content (array_after target (command ∷ []) (stored_array (layout target options) before.content))
-      ((ran.serves honest).left.whole_chunks (stored_array (layout target options) before.content) (stored_array-meant (layout target options) covers sound before.content honest))
-  still_honest (Err error) ran honest = honest_failed error.kind error.at honest ran.failed.cause
+      ((ran.on.serves honest).left.whole_chunks (stored_array (layout target options) before.content) (stored_array-meant (layout target options) covers sound before.content honest))
+  still_honest (Err error) ran honest = honest_failed error.kind error.at honest ran.on.failed.cause
 
   -- what a command leaves however it ends
   pub leaves : (ended : Ended) → Runs target options (command ∷ []) before now ended → LeavesBand target options before now
-  leaves ended ran = record { others = ran.keys.other_keys; later = ran.later; honest = still_honest ended ran }
+  leaves ended ran = record { others = ran.on.keys.other_keys; later = ran.on.later; honest = still_honest ended ran }
 
 -- a write changes no chunk that its band does not meet
 pub stays_outside : (target : Description) (options : Options) (b : Region) (bytes : ArrayBytes) (before now : Shown) (ended : Ended) → refusal target (write b bytes) ≡ None →
     Runs target options (write b bytes ∷ []) before now ended → StaysOutside target b before.content now.content
 stays_outside target options b bytes before now ended none ran = λ chunk is_chunk out.
-    ran.keys.same_chunks chunk is_chunk (ap (λ met. met || false) (ap (λ why. is_among (chunks_under target why (write b bytes)) chunk) none ∙ out))
+    ran.on.keys.same_chunks chunk is_chunk (ap (λ met. met || false) (ap (λ why. is_among (chunks_under target why (write b bytes)) chunk) none ∙ out))
 
 -- each chunk that a write meets decodes before it
 write_decodes : (target : Description) (options : Options) (b : Region) (bytes : ArrayBytes) (store : Content) → refusal target (write b bytes) ≡ None →
@@ -115,16 +115,16 @@ pub write_done : (target : Description) (options : Options) (b : Region) (bytes 
     refusal target (write b bytes) ≡ None → Runs target options (write b bytes ∷ []) before now (Ok (answered_done ∷ [])) → HasWrittenBand target options b bytes before now
 write_done target options b bytes before now covers sound none ran = record {
   accepted = none;
-  serves = ran.serves;
+  serves = ran.on.serves;
   asks = ran.asks ∙ ap (counted before.asks) (write_asks target b bytes none);
-  puts = ran.puts ∙ ap (counted before.puts) (write_puts target b bytes none);
-  others = ran.keys.other_keys;
-  decodes = write_decodes target options b bytes before.content none ran.undamaged;
-  stays = λ chunk is_chunk. stays (ran.damage.each chunk is_chunk);
+  puts = ran.on.puts ∙ ap (counted before.puts) (write_puts target b bytes none);
+  others = ran.on.keys.other_keys;
+  decodes = write_decodes target options b bytes before.content none ran.on.undamaged;
+  stays = λ chunk is_chunk. stays (ran.on.damage.each chunk is_chunk);
   stood = write_stood target b options before.content now.content (stays_outside target options b bytes before now (Ok (answered_done ∷ [])) none ran)
-      (write_decodes target options b bytes before.content none ran.undamaged);
+      (write_decodes target options b bytes before.content none ran.on.undamaged);
   honest = still_honest target options covers sound (write b bytes) before now (Ok (answered_done ∷ [])) ran;
-  later = ran.later;
+  later = ran.on.later;
 }
   where
     stays : {A B C : Type 0} → A ⊎ (B × C) → A ⊎ B
@@ -149,7 +149,7 @@ written_done target options b bytes other before now covers sound none ran =
     let means : Means (layout target options) store array =
     Means-from_whole (layout target options) covers store array (stored_array-meant (layout target options) covers sound store (undamaged-honest (layout target options) sound before.content)) in
     let matches : Matches (kind target) (answered other) (reply_of (refusal target (write b bytes)) (write b bytes) array) =
-    (ran.answers (write_meets target options b bytes before.content ran.undamaged) array means).0 in
+    (ran.on.answers (write_meets target options b bytes before.content ran.on.undamaged) array means).0 in
     subst (λ why. Matches (kind target) (answered other) (reply_of why (write b bytes) array)) none matches
 
 -- an error of a command is no refusal of a document

@@ -1,5 +1,5 @@
 -- Reads over the slices of a store's values, and key lines and references before them.
-use Rattle.std.proofs.Common.{◌≡◌, ◌⊎◌, ℕ, ◌+◌, ◌-◌, ◌^◌, ◌≤◌, ◌<◌, List, [], ◌++◌, length, Vec, Option, Some, None, Result, Ok, Err, IfOk, IfErr, OnOk, inl, inr, refl, sym, ap, ◌∙◌, subst, arith, le_trans}
+use Rattle.std.proofs.Common.{◌≡◌, ◌⊎◌, ℕ, ◌+◌, ◌-◌, ◌^◌, ◌≤◌, ◌<◌, List, [], ◌++◌, length, Vec, Option, Some, None, Result, Ok, Err, IfOk, IfErr, OnOk, inl, inr, refl, sym, ap, ◌∙◌, subst, arith, le_trans, Bool}
 use Rattle.std.proofs.Math.Path.{fun_ext}
 use Rattle.std.specs.declared.alloc.Global.{Global}
 use Rattle.zarr_model.specs.Prelude.{Options, Content, Command, Description, Shown, Rose, counted, with_keys, SetsSome, SeesNoDamage, IsUntouched}
@@ -31,23 +31,23 @@ use Rattle.zarr_refs.specs.Reads.{IsReadsFault, ReadsBack, run_of, IsRefsFault, 
 rose_below : (old new : Over) → old.base.faults ≤ 2 ^ 64 - 1 → old.own_faults ≡ 0 → new.own_faults ≡ old.own_faults → Rose (shown_of old).faults (shown_of new).faults → Rose old.base.faults new.base.faults
 rose_below old new small none same rose = omega (arith, small, none, same, rose)
 
-reads_fault : (description : Description) (options : Options) (reads : List Command) (old new : Over) → old.base.faults ≤ 2 ^ 64 - 1 → old.own_faults ≡ 0 → new.own_faults ≡ old.own_faults → (status : Status) →
-    IsRunFault description options reads (with_entries [] (shown_of old)) (shown_of new) status → IsReadsFault description options reads (shown_of old).content (Rose old.base.faults new.base.faults) status
-reads_fault description options reads old new small none same (Chunk key) fault = fault.0
-reads_fault description options reads old new small none same Store fault = rose_below old new small none same fault
-reads_fault description options reads old new small none same OutOfMemory fault = tt
-reads_fault description options reads old new small none same Done fault = fault
-reads_fault description options reads old new small none same BadWords fault = fault
-reads_fault description options reads old new small none same (BadInput line) fault = fault
-reads_fault description options reads old new small none same (Document error) fault = fault
-reads_fault description options reads old new small none same Read fault = fault
-reads_fault description options reads old new small none same Write fault = fault
-reads_fault description options reads old new small none same TooLong fault = fault
+reads_fault : (once : Bool) (description : Description) (options : Options) (reads : List Command) (old new : Over) → old.base.faults ≤ 2 ^ 64 - 1 → old.own_faults ≡ 0 → new.own_faults ≡ old.own_faults → (status : Status) →
+    IsRunFault once description options reads (with_entries [] (shown_of old)) (shown_of new) status → IsReadsFault description options reads (shown_of old).content (Rose old.base.faults new.base.faults) status
+reads_fault once description options reads old new small none same (Chunk key) fault = fault.0
+reads_fault once description options reads old new small none same Store fault = rose_below old new small none same fault
+reads_fault once description options reads old new small none same OutOfMemory fault = tt
+reads_fault once description options reads old new small none same Done fault = fault
+reads_fault once description options reads old new small none same BadWords fault = fault
+reads_fault once description options reads old new small none same (BadInput line) fault = fault
+reads_fault once description options reads old new small none same (Document error) fault = fault
+reads_fault once description options reads old new small none same Read fault = fault
+reads_fault once description options reads old new small none same Write fault = fault
+reads_fault once description options reads old new small none same TooLong fault = fault
 
 -- what commands did over a store of slices, by what its base shows
 module _ (costs : Costs) (description : Description) (options : Options) (reads : List Command) (old new : Over) (small : old.base.faults ≤ 2 ^ 64 - 1) (none : old.own_faults ≡ 0) (kept : Keeps old new) where
   over_base : {Z : Type 0} (result : Result (Vec ℕ Z) Status) →
-      Did (job description options [] reads) (Unit {0}) (shown_of old) (shown_of new) result (λ text. RepliesTo costs description options reads (shown_of old) (shown_of new) text.items) →
+      Did (job costs.once description options [] reads) (Unit {0}) (shown_of old) (shown_of new) result (λ text. RepliesTo costs description options reads (shown_of old) (shown_of new) text.items) →
       ReadsBack description options reads (shown_of old).content (Rose old.base.faults new.base.faults) result
   over_base (Ok text) did = record {
     replied = did.done.replied;
@@ -58,13 +58,13 @@ module _ (costs : Costs) (description : Description) (options : Options) (reads 
   over_base (Err status) did = record {
     replied = tt;
     undamaged = tt;
-    fault = reads_fault description options reads old new small none kept.same_faults status did.fault;
+    fault = reads_fault costs.once description options reads old new small none kept.same_faults status did.fault;
     complete = λ sees calm. did.complete sees (λ rose. calm (rose_below old new small none kept.same_faults rose));
   }
 
   -- the same, where the content and the faults of the base are known by other names
   pub reads_back : {Z : Type 0} (content : Content) (before now : ℕ) (result : Result (Vec ℕ Z) Status) → (shown_of old).content ≡ content → old.base.faults ≡ before → new.base.faults ≡ now →
-      Did (job description options [] reads) (Unit {0}) (shown_of old) (shown_of new) result (λ text. RepliesTo costs description options reads (shown_of old) (shown_of new) text.items) →
+      Did (job costs.once description options [] reads) (Unit {0}) (shown_of old) (shown_of new) result (λ text. RepliesTo costs description options reads (shown_of old) (shown_of new) text.items) →
       ReadsBack description options reads content (Rose before now) result
   reads_back content before now result same is now_is did =
       subst (λ (b : ℕ). ReadsBack description options reads content (Rose b now) result) is

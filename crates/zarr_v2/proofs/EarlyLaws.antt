@@ -1,27 +1,26 @@
 -- What is owed where the reading or the document decided.
-use Rattle.std.proofs.Common.{◌≡◌, ◌∙◌, ◌⊎◌, inl, inr, refl, sym, ap, subst, ℕ, ◌≤◌, List, length, Option, Some, None, IsUtf8}
-use Rattle.zarr_model.specs.Prelude.{Told, Given, Shown, Rose, Description, IsUntouched}
+use Rattle.std.proofs.Common.{◌≡◌, true, ◌∙◌, ◌⊎◌, inl, inr, refl, sym, ap, subst, ℕ, ◌≤◌, List, length, Option, Some, None, IsUtf8}
+use Rattle.zarr_model.specs.Prelude.{Told, Given, Rose}
 use Rattle.zarr_cli_runs.specs.array.parts.Document.{describe}
 use Rattle.zarr_cli_runs.specs.array.parts.Opening.{OpenRefusal, chunk_too_large}
 use Rattle.zarr_cli_runs.specs.array.parts.OpenError.{open_refusal_of}
 use Rattle.zarr_cli_runs.specs.lines.Text.{input_lines}
-use Rattle.zarr_cli_runs.specs.Ending.{Ending, IsGivenLine, IsWritten}
+use Rattle.zarr_cli_runs.specs.Ending.{Ending, IsGivenLine}
 use Rattle.zarr_cli_runs.specs.Ending as end
 use Rattle.zarr_cli_runs.specs.Status.{ending_of, refused_by}
 use Rattle.zarr_cli_runs.specs.declared.status.Status.{Status}
 use Rattle.zarr_cli_runs.specs.declared.status.Status.TheVariants.{Done, BadWords, BadInput, Document, Chunk, Store, Read, Write, TooLong, OutOfMemory}
-use Rattle.zarr_cli_runs.proofs.BetweenLaws.{between_untouched}
 use Rattle.zarr_cli_parts.specs.Words.{Settings}
 use Rattle.zarr_cli_parts.specs.Input.{input_limit, IsInputFault}
-use Rattle.zarr_cli_parts.specs.Lines.{document_line, line_entries}
+use Rattle.zarr_cli_parts.specs.Lines.{document_line}
 use Rattle.zarr_cli_parts.specs.Status.{fault_status}
-use Rattle.zarr_cli_parts.specs.Run.{Costs, CostsOpen}
-use Rattle.zarr_cli_parts.specs.Answers.{AnswersLines, outside}
+use Rattle.zarr_cli_parts.specs.Run.{open_costs}
 use Rattle.zarr_cli_parts.specs.Seen.{Seen}
 use Rattle.zarr_cli_parts.specs.Written.{EndsWith}
 use Rattle.zarr_cli_parts.specs.declared.lines.InputFault.{InputFault}
 use Rattle.zarr_cli_parts.specs.declared.lines.InputFault.TheVariants as Fault
 use Rattle.zarr_cli_parts.proofs.InputLaws.{lines_said, fault_said}
+use Rattle.zarr_cli_parts.proofs.StarvedLaws.{same, lines_starved}
 use Rattle.zarr_v2.specs.Opening.{open_builtin_v2, IsNotOpened}
 use Rattle.zarr_v2.specs.Ending.{EndingV2, cli, ending_v2, line_v2, IsOrMemoryV2}
 use Rattle.zarr_v2.specs.Says.{stops, stops_cli, answer_says, all_say, says_v2, IsOfInput}
@@ -31,46 +30,6 @@ use Rattle.zarr_v2.specs.Answers.{AnswersV2}
 use Rattle.zarr_v2.specs.declared.status.V2Status.{V2Status}
 use Rattle.zarr_v2.specs.declared.status.V2Status.TheVariants.{Cli, Refused}
 use Rattle.zarr_v2.proofs.SaysLaws.{one_stop, no_run, large_said}
-
--- the store is as before
-module _ (old new : Shown) (still : new ≡ old) where
-  same : (key : List ℕ) → new.content key ≡ old.content key
-  same key = ap (λ (store : Shown). store.content key) still
-
-  untouched : IsUntouched old new
-  untouched = record {
-    content = same;
-    asks = ap (λ (store : Shown). store.asks) still;
-    puts = ap (λ (store : Shown). store.puts) still;
-    taken = ap (λ (store : Shown). store.taken) still;
-  }
-
-  unwritten : IsWritten end.out_of_memory → ⊥
-  unwritten (inl is) = cc
-  unwritten (inr is) = cc
-
-  -- a run of lines that memory was wanting for at once
-  lines_starved : (costs : Costs) (description : Description) (settings : Settings) (lines : List (List ℕ)) (before now : Given) →
-      IsGivenLine (line_v2 (cli end.out_of_memory)) before now →
-      AnswersLines costs description settings lines (outside before old) (outside now new) end.out_of_memory
-  lines_starved costs description settings lines before now line = record {
-    done = λ is. absurd cc;
-    front = λ is. absurd cc;
-    cost = λ run written. absurd (unwritten written);
-    bad_input = λ number is. absurd cc;
-    exactly_input = λ number out. inr refl;
-    chunk = λ key is. absurd cc;
-    complete = λ run sees sink store. inr refl;
-    unchanged = λ key free. same key;
-    between = λ run. between_untouched description settings.options (line_entries lines) run.commands old new end.out_of_memory same;
-    refused = λ run written all none. absurd (unwritten written);
-    unasked = λ run all none. (ap (λ (store : Shown). store.asks) still, ap (λ (store : Shown). store.taken) still);
-    store = λ is. absurd cc;
-    write = λ is. absurd cc;
-    line = line;
-    untouched = λ early. absurd early;
-    own = tt;
-  }
 
 -- an ending of a run that went on is none of these
 not_late : (input : List ℕ) (rose : Type 0) (ending : EndingV2) → (IsOfInput ending → ⊥) → (ending ≡ cli end.read_fault → ⊥) →
@@ -125,7 +84,7 @@ module _ (settings : Settings) (input : List ℕ) (before now : Seen) where
         lines = λ run read. (let memory = starved ending early read run in (
           end.out_of_memory,
           memory,
-          lines_starved before.store now.store still (CostsOpen run.document) (describe run.document) settings (input_lines input) before.sink now.sink
+          lines_starved before.store now.store still (open_costs run.document) (describe run.document) settings (input_lines input) before.sink now.sink
               (subst (λ (e : EndingV2). IsGivenLine (line_v2 e) before.sink now.sink) memory line),
         ));
       }

@@ -11,7 +11,7 @@ use Rattle.zarr_cli_runs.proofs.BetweenLaws.{honest_sees_none}
 use Rattle.zarr_cli_runs.proofs.TextLaws.{good_lines_all}
 use Rattle.zarr_cli_parts.specs.Words.{Settings}
 use Rattle.zarr_cli_parts.specs.Lines.{LinesRun, IsOutOfForm, document_line, store_after_keys}
-use Rattle.zarr_cli_parts.specs.Run.{CostsOpen}
+use Rattle.zarr_cli_parts.specs.Run.{open_costs}
 use Rattle.zarr_cli_parts.specs.Answers.{AnswersLines, IsOfLines, outside}
 use Rattle.zarr_cli_parts.specs.Seen.{Seen}
 use Rattle.zarr_v2_meaning.specs.ChunksV2.{ChunksV2, layout_v2}
@@ -80,7 +80,7 @@ module _ (settings : Settings) (input : List ℕ) (document : ArrayDocument) (sa
       rw test (ap (λ (n : ℕ). stops_cli (end.bad_input n)) (sym out.first))
 
   module _ (before now : Seen) (ending : Ending) (whole : now.source.left ≡ Some [])
-      (ran : AnswersLines (CostsOpen document) (describe document) settings (input_lines input) (outside before.sink before.store)
+      (ran : AnswersLines (open_costs document) (describe document) settings (input_lines input) (outside before.sink before.store)
       (outside now.sink now.store) ending) where
     other : (called_for : Ending) → (IsOfLines called_for → ⊥) → cli ending ≡ cli called_for → ⊥
     other called_for not is = not (subst IsOfLines (same_ending ending called_for is) ran.own)
@@ -140,7 +140,7 @@ module _ (settings : Settings) (input : List ℕ) (document : ArrayDocument) (sa
       lines = λ run calm. (
         ending,
         refl,
-        subst (λ d. AnswersLines (CostsOpen d) (describe d) settings (input_lines input) (outside before.sink before.store)
+        subst (λ d. AnswersLines (open_costs d) (describe d) settings (input_lines input) (outside before.sink before.store)
             (outside now.sink now.store) ending) (sym (its_document run)) ran,
       );
     }

@@ -7,7 +7,7 @@ use Rattle.zarr_cli_runs.specs.lines.Text.{input_lines}
 use Rattle.zarr_cli_runs.specs.Ending.{Ending, IsGiven, IsGivenFront, IsGivenLine}
 use Rattle.zarr_cli_runs.specs.Ending as end
 use Rattle.zarr_cli_parts.specs.Words.{Settings, HasNoReading}
-use Rattle.zarr_cli_parts.specs.Run.{CostsOpen}
+use Rattle.zarr_cli_parts.specs.Run.{open_costs}
 use Rattle.zarr_cli_parts.specs.Answers.{AnswersLines, outside}
 use Rattle.zarr_cli_parts.specs.Ends.{EndsBy}
 use Rattle.zarr_cli_parts.specs.Seen.{Seen}
@@ -20,7 +20,7 @@ use Rattle.zarr_v2.specs.Run.{RunV2, WentV2, IsHonestRun, HasDamageV2, SameButCh
 -- it leaves in any store, by the document of version 3 that the first line is translated to
 abbrev pub RunsLines : {input : List ℕ} → Settings → RunV2 input → Seen → Seen → EndingV2 → Type 0
 RunsLines {input = input} settings run before now ending = (own : Ending) × (ending ≡ cli own)
-    × AnswersLines (CostsOpen run.document) (describe run.document) settings (input_lines input)
+    × AnswersLines (open_costs run.document) (describe run.document) settings (input_lines input)
     (outside before.sink before.store) (outside now.sink now.store) own
 
 -- what a run owes over a source that tells its bytes, which are the input

@@ -4,7 +4,7 @@ use Rattle.zarr_cli_runs.specs.array.OpenArray.{documented, described}
 use Rattle.zarr_cli_runs.specs.array.parts.Opening.{open_builtin, opened}
 use Rattle.zarr_cli_runs.specs.Opening.{IsOpenFault}
 use Rattle.zarr_cli_runs.specs.Status.{ending_of}
-use Rattle.zarr_cli_parts.specs.Run.{CostsOpen}
+use Rattle.zarr_cli_parts.specs.Run.{open_costs}
 use Rattle.zarr_cli_parts.specs.Answers.{AnswersLines, outside}
 use Rattle.zarr_cli_parts.specs.Status.{settings_view}
 use Rattle.zarr_cli.specs.Input.{first_line, document_line}
@@ -20,7 +20,7 @@ returns-in-Ok-clause-told g c = λ known reads input within utf8 same before now
     let opens : open_builtin (document_line input) ≡ opened (documented array) = ap open_builtin (sym (c.first_line.ensures ∙ ap first_line same)) ∙ c.in-Ok.ensures in
     answers_of_lines known settings reads input (documented array) within utf8 opens
     (seen before (g.W.Sink.shown c.args.sink.now) (g.S.Store.shown c.args.store.now)) (seen now (g.W.Sink.shown c.run_lines.new.sink) (g.S.Store.shown c.run_lines.new.store)) (ending_of c.run_lines.result) whole
-    (subst (λ lines. AnswersLines (CostsOpen (documented array)) (described array) settings lines (outside (g.W.Sink.shown c.args.sink.now) (g.S.Store.shown c.args.store.now))
+    (subst (λ lines. AnswersLines (open_costs (documented array)) (described array) settings lines (outside (g.W.Sink.shown c.args.sink.now) (g.S.Store.shown c.args.store.now))
     (outside (g.W.Sink.shown c.run_lines.new.sink) (g.S.Store.shown c.run_lines.new.store)) (ending_of c.run_lines.result)) same c.run_lines.ensures.answers)
 
 pub returns-in-Ok-clause-ends : goal.returns-in-Ok-clause-ends

@@ -25,7 +25,7 @@ returns-in-Ok g c =
     (c.in-Ok.ensures.puts ∙ ap (λ entries. counted before.puts (length (map entry_view entries))) c.deref.ensures.value)
     c.in-Ok.ensures.cause.later now c.text_of_all.result
     (λ key free. c.set_entries.ensures.elsewhere key (subst (λ entries. ¬ IsKeyOf (map entry_view entries) key) (sym c.deref.ensures.value) free))
-    (subst (λ commands. Did (job array settings.options [] (map command_of commands)) (settings.dump ≡ false) mid now c.text_of_all.result (λ t. PrintsAll costs array settings (map command_of commands) mid now t.items))
+    (subst (λ commands. Did (job costs.once array settings.options [] (map command_of commands)) (settings.dump ≡ false) mid now c.text_of_all.result (λ t. PrintsAll costs array settings (map command_of commands) mid now t.items))
     c.deref-in-Ok.ensures.value c.text_of_all.ensures)
 
 pub returns-in-Err-Failed : goal.returns-in-Err-Failed

@@ -26,5 +26,5 @@ returns-in-Err g c =
     let commands = map command_of c.args.commands.now in
     let before = g.S.Store.shown c.args.store.now in
     let now = g.S.Store.shown c.text_of_commands.new.store in
-    still_early (job array settings.options [] commands) (settings.dump ≡ false) before now (λ text. RepliesTo costs array settings.options commands before now text.items) (λ text. PrintsAll costs array settings commands before now text.items)
+    still_early (job costs.once array settings.options [] commands) (settings.dump ≡ false) before now (λ text. RepliesTo costs array settings.options commands before now text.items) (λ text. PrintsAll costs array settings commands before now text.items)
     c.in-Err.status c.in-Err.ensures.did

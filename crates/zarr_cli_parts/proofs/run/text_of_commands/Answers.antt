@@ -31,5 +31,5 @@ returns-in-Err-clause-did g c =
     let commands = map command_of c.args.commands.now in
     let before = g.S.Store.shown c.args.store.now in
     let now = g.S.Store.shown c.replies.new.store in
-    still_early (job array options [] commands) (Unit {0}) before now (λ held. Replied costs array options commands before now held.items) (λ text. RepliesTo costs array options commands before now text.items)
+    still_early (job costs.once array options [] commands) (Unit {0}) before now (λ held. Replied costs array options commands before now held.items) (λ text. RepliesTo costs array options commands before now text.items)
     c.in-Err.status c.in-Err.ensures.did

@@ -58,4 +58,4 @@ returns-clause-rest g c =
 pub returns-clause-fails : goal.returns-clause-fails
 returns-clause-fails g c =
     write_fails (documented c.args.target.now) (options_of c.args.options.now) (region_of c.args.band.now) (raw_of c.args.bytes.now) (g.T.Store.shown c.args.to.now) (g.T.Store.shown c.write.new.store)
-    c.target_kind.result c.in-Err.error.kind c.in-Err.error.at c.requires c.target_kind.ensures c.in-Err.ensures.runs.failed.cause c.in-Err.ensures.told
+    c.target_kind.result c.in-Err.error.kind c.in-Err.error.at c.requires c.target_kind.ensures c.in-Err.ensures.runs.on.failed.cause c.in-Err.ensures.told

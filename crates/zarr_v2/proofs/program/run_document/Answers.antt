@@ -4,7 +4,7 @@ use Rattle.zarr_cli_runs.specs.array.OpenArray.{documented, described}
 use Rattle.zarr_cli_runs.specs.Status.{ending_of}
 use Rattle.zarr_cli_runs.specs.lines.Text.{input_lines}
 use Rattle.zarr_cli_parts.specs.Lines.{first_line, document_line}
-use Rattle.zarr_cli_parts.specs.Run.{CostsOpen}
+use Rattle.zarr_cli_parts.specs.Run.{open_costs}
 use Rattle.zarr_cli_parts.specs.Answers.{AnswersLines, outside}
 use Rattle.zarr_cli_parts.specs.Seen.{seen}
 use Rattle.zarr_cli_parts.specs.Status.{settings_view}
@@ -24,7 +24,7 @@ returns-in-Ok-clause-told g c = λ input within utf8 same before now whole.
     answers_of_lines settings input (documented array) (said input within utf8 ∙ ap (answer_says (input_lines input)) opens) opens
     (seen before (g.W.Sink.shown c.args.sink.now) (g.S.Store.shown c.args.store.now))
     (seen now (g.W.Sink.shown c.run_lines.new.sink) (g.S.Store.shown c.run_lines.new.store)) (ending_of c.run_lines.result) whole
-    (subst (λ lines. AnswersLines (CostsOpen (documented array)) (described array) settings lines
+    (subst (λ lines. AnswersLines (open_costs (documented array)) (described array) settings lines
     (outside (g.W.Sink.shown c.args.sink.now) (g.S.Store.shown c.args.store.now))
     (outside (g.W.Sink.shown c.run_lines.new.sink) (g.S.Store.shown c.run_lines.new.store)) (ending_of c.run_lines.result)) same c.run_lines.ensures.answers)
 

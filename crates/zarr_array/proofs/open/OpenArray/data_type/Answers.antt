@@ -1,4 +1,4 @@
-use Rattle.zarr_array.proofs.SizeLaws.{some_size}
+use Rattle.zarr_array_regions.proofs.SizeLaws.{some_size}
 use Rattle.zarrs_data_type.specs.DataType.{type_of}
 use Rattle.zarr_array.proofs.open.OpenArray.data_type.Goals as goal
 

@@ -1,4 +1,4 @@
 use Rattle.zarr_array.proofs.open.OpenArray.read.Goals as goal
 
 pub returns-clause-taken : goal.returns-clause-taken
-returns-clause-taken g c = c.in_ok-run_read.ensures.taken
+returns-clause-taken g c = c.in_ok-run_read.ensures.costs.taken

@@ -1,51 +1,70 @@
-use Rattle.std.proofs.Common.{length, sym, ap, ◌∙◌, subst₂}
+use Rattle.std.proofs.Common.{length, sym, ap, ◌∙◌}
+use Rattle.std.proofs.lemmas.Result.{err_from_is_err_and}
 use Rattle.zarrs_array_subset.specs.ArraySubset.{region}
 use Rattle.zarrs_codec_traits.specs.Views.{options_of}
-use Rattle.zarr_array_parts.specs.Parts.{described}
-use Rattle.zarr_array_regions.specs.RegionChunks.{chunk_at}
-use Rattle.zarr_array_regions.specs.Fetch.{NotFetched}
+use Rattle.zarr_array_regions.specs.Access.{described}
+use Rattle.zarr_array_regions.specs.Asked.{part_asked}
+use Rattle.zarr_array_regions.specs.RegionChunks.{asked_of}
 use Rattle.zarr_array_regions.proofs.AskedLaws.{shared_asked}
-use Rattle.zarr_array_regions.proofs.MetLaws.{its_rank, met_shares}
-use Rattle.zarr_array_regions.proofs.SharedSteps.{shared_lies, shared_many, its_part, held_shared}
-use Rattle.zarr_array_regions.proofs.TakenLaws.{shared_takes}
+use Rattle.zarr_array_regions.proofs.PaysLaws.{pays_shared}
+use Rattle.zarr_array_regions.proofs.SharedSteps.{shared_lies, shared_has, shared_many, its_part, held_shared}
+use Rattle.zarr_array_regions.proofs.StarvedLaws.{starved_before, asked_as}
 use Rattle.zarr_array_regions.proofs.region_chunks.RegionChunks.fetch_shared.Goals as goal
 
 pub of-requires : goal.of-requires
-of-requires g c = its_rank c.args.self.now c.requires.met c.args.number c.requires.below ∙ ap length (sym c.requires.place.lies)
+of-requires g c = c.requires.place.rank ∙ ap length (sym c.requires.place.at.lies)
 
 pub fetch_part-requires-clause-inside : goal.fetch_part-requires-clause-inside
 fetch_part-requires-clause-inside g c =
-    let met = c.args.self.now in
-    shared_lies (region met.subset.now) ((described met.array.now).grid.chunk_box (chunk_at met c.args.number)) (region c.args.place.subset) (region c.in_ok-shared.shared.within)
-    c.requires.place.lies c.in_ok-shared.ensures.within (met_shares met c.requires.met c.args.number c.requires.below)
+    let array = g.C.ChunkAccess.seen c.args.self.now.array.now in
+    shared_lies (region c.args.self.now.subset.now) ((described array).grid.chunk_box c.args.place.now.indices.items) (region c.args.place.now.subset) (region c.in_ok-shared.shared.within)
+    c.requires.place.at.lies c.in_ok-shared.ensures.within c.requires.place.shares
 
-pub returns-in-Ok-clause-fetched : goal.returns-in-Ok-clause-fetched
-returns-in-Ok-clause-fetched g c =
-    let met = c.args.self.now in (
-      c.in-Ok.ensures.fetched.0,
-      held_shared met.array.now (options_of c.args.options.now) (region met.subset.now) (chunk_at met c.args.number) (g.S.Store.shown c.args.store.now)
-          (record { place = c.args.place; shared = c.in_ok-shared.shared; elements = c.in-Ok.elements }) (its_rank met c.requires.met c.args.number c.requires.below) c.requires.place
-          c.in_ok-shared.ensures c.in-Ok.ensures.fetched.1,
+pub fetch_part-requires-clause-some : goal.fetch_part-requires-clause-some
+fetch_part-requires-clause-some g c =
+    let array = g.C.ChunkAccess.seen c.args.self.now.array.now in
+    shared_has (region c.args.self.now.subset.now) ((described array).grid.chunk_box c.args.place.now.indices.items) (region c.args.place.now.subset) (region c.in_ok-shared.shared.within)
+    c.requires.place.at.lies c.in_ok-shared.ensures.within c.requires.place.shares
+
+pub returns-clause-fetched : goal.returns-clause-fetched
+returns-clause-fetched g c =
+    let array = g.C.ChunkAccess.seen c.args.self.now.array.now in (
+      c.in_ok-elements.ensures.fetched.0,
+      held_shared array (options_of c.args.options.now) (region c.args.self.now.subset.now) (region c.args.place.now.subset) c.args.place.now.indices.items (g.S.Store.shown c.args.store.now)
+          (record { shared = c.in_ok-shared.shared; elements = c.in_ok-elements.elements }) c.requires.place.rank c.requires.place.at.lies
+          c.in_ok-shared.ensures c.in_ok-elements.ensures.fetched.1,
     )
 
-pub returns-in-Ok-clause-taken : goal.returns-in-Ok-clause-taken
-returns-in-Ok-clause-taken g c =
-    let met = c.args.self.now in
-    let chunk = chunk_at met c.args.number in
+pub returns-clause-paid : goal.returns-clause-paid
+returns-clause-paid g c =
+    let array = g.C.ChunkAccess.seen c.args.self.now.array.now in
+    let over = region c.args.self.now.subset.now in
+    let chunk = c.args.place.now.indices.items in
+    let box = (described array).grid.chunk_box chunk in
+    let own = region c.args.place.now.subset in
     let within = region c.in_ok-shared.shared.within in
-    let rank = its_rank met c.requires.met c.args.number c.requires.below in
-    shared_takes met.array.now (region met.subset.now) within chunk (g.S.Store.shown c.args.store.now) (g.S.Store.shown c.fetch_part.new.store) rank
-    (shared_many (region met.subset.now) (region c.args.place.subset) ((described met.array.now).grid.chunk_box chunk) within c.requires.place.lies rank c.in_ok-shared.ensures.within) c.in-Ok.ensures.taken
+    pays_shared array.costs (described array) (options_of c.args.options.now) over within chunk (g.S.Store.shown c.args.store.now) (g.S.Store.shown c.fetch_part.new.store) c.requires.place.rank
+    (its_part over own box within c.requires.place.at.lies c.in_ok-shared.ensures.within)
+    (shared_many over own box within c.requires.place.at.lies c.requires.place.rank c.in_ok-shared.ensures.within) c.in_ok-elements.ensures.paid
 
-pub returns-in-Err-clause-fetched : goal.returns-in-Err-clause-fetched
-returns-in-Err-clause-fetched g c =
-    let met = c.args.self.now in
-    let chunk = chunk_at met c.args.number in
-    let box = (described met.array.now).grid.chunk_box chunk in
+pub returns-in_err-shared-clause-fetched : goal.returns-in_err-shared-clause-fetched
+returns-in_err-shared-clause-fetched g c =
+    let p = err_from_is_err_and c.from_residual.result c.from_residual.ensures.1 in
+    let array = g.C.ChunkAccess.seen c.args.self.now.array.now in
+    let chunk = c.args.place.now.indices.items in
+    let store = g.S.Store.shown c.args.store.now in
+    rw (p.1, p.2) (starved_before (asked_of array (region c.args.self.now.subset.now) chunk) array (options_of c.args.options.now) chunk store)
+
+pub returns-in_err-elements-clause-fetched : goal.returns-in_err-elements-clause-fetched
+returns-in_err-elements-clause-fetched g c =
+    let p = err_from_is_err_and c.from_residual-in_err-elements.result c.from_residual-in_err-elements.ensures.1 in
+    let array = g.C.ChunkAccess.seen c.args.self.now.array.now in
+    let over = region c.args.self.now.subset.now in
+    let chunk = c.args.place.now.indices.items in
+    let box = (described array).grid.chunk_box chunk in
+    let own = region c.args.place.now.subset in
     let within = region c.in_ok-shared.shared.within in
-    let own = region c.args.place.subset in
-    let rank = its_rank met c.requires.met c.args.number c.requires.below in
-    subst₂ (λ a k. NotFetched a met.array.now (options_of c.args.options.now) chunk (g.S.Store.shown c.args.store.now) (g.S.Store.shown c.fetch_part.new.store) k)
-    (shared_asked (described met.array.now) (region met.subset.now) chunk within (its_part (region met.subset.now) own box within c.requires.place.lies c.in_ok-shared.ensures.within)
-    (shared_many (region met.subset.now) own box within c.requires.place.lies rank c.in_ok-shared.ensures.within))
-    (sym c.chunk_error.ensures) c.in-Err.ensures.fetched
+    rw (p.1, p.2) (asked_as (part_asked box within) array (options_of c.args.options.now) chunk (asked_of array over chunk)
+    (shared_asked (described array) over chunk within (its_part over own box within c.requires.place.at.lies c.in_ok-shared.ensures.within)
+    (shared_many over own box within c.requires.place.at.lies c.requires.place.rank c.in_ok-shared.ensures.within))
+    (g.S.Store.shown c.args.store.now) (g.S.Store.shown c.fetch_part.new.store) _ c.in_err-elements.ensures.fetched)

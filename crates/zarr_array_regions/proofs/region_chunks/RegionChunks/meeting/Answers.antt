@@ -1,10 +1,10 @@
 use Rattle.std.proofs.Common.{◌∙◌, sym}
 use Rattle.zarrs_array_subset.specs.ArraySubset.{region}
-use Rattle.zarr_array_parts.specs.Parts.{described}
+use Rattle.zarr_array_regions.specs.Access.{described}
 use Rattle.zarr_array_regions.proofs.MetLaws.{none_met}
 use Rattle.zarr_array_regions.proofs.region_chunks.RegionChunks.meeting.Goals as goal
 
 pub returns-then-num_elements-eq0 : goal.returns-then-num_elements-eq0
-returns-then-num_elements-eq0 c =
-    none_met (described c.args.array.now).grid (region c.args.subset.now) (region c.in_ok-chunks.chunks) c.in_ok-chunks.ensures.listed
+returns-then-num_elements-eq0 g c =
+    none_met (described (g.C.ChunkAccess.seen c.args.array.now)).grid (region c.args.subset.now) (region c.in_ok-chunks.chunks) c.in_ok-chunks.ensures.listed
     (sym c.num_elements.ensures ∙ c.if-num_elements-eq0.true)

@@ -1,10 +1,17 @@
 use Rattle.std.proofs.Common.{sym, subst}
 use Rattle.zarr_model.specs.Prelude.{IsChunk}
-use Rattle.zarr_array_parts.specs.Parts.{described}
-use Rattle.zarr_array_regions.proofs.MetLaws.{met_chunk}
+use Rattle.zarr_array_regions.specs.Access.{described}
+use Rattle.zarr_array_regions.proofs.MetLaws.{met_chunk, placed}
 use Rattle.zarr_array_regions.proofs.region_chunks.RegionChunks.place.Goals as goal
 
 pub place_of-requires : goal.place_of-requires
-place_of-requires c =
-    subst (IsChunk (described c.args.self.now.array.now).grid) (sym c.in_ok-indices.ensures)
-    (met_chunk c.args.self.now c.requires.met c.args.number c.requires.below)
+place_of-requires g c =
+    let met = c.args.self.now in
+    let array = g.C.ChunkAccess.seen met.array.now in
+    subst (IsChunk (described array).grid) (sym c.in_ok-indices.ensures) (met_chunk array met c.requires.met c.args.number c.requires.below)
+
+pub returns : goal.returns
+returns g c =
+    let met = c.args.self.now in
+    placed (g.C.ChunkAccess.seen met.array.now) met c.requires.met c.args.number c.requires.below (g.met.C.ChunkAccess.served met.array.now)
+    c.in_ok-indices.indices.items c.in_ok-indices.ensures c.place_of.result c.place_of.ensures

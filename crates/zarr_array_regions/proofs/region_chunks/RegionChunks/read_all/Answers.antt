@@ -9,5 +9,6 @@ use Rattle.zarr_array_regions.proofs.region_chunks.RegionChunks.read_all.Goals a
 pub returns-in-Ok-clause-read : goal.returns-in-Ok-clause-read
 returns-in-Ok-clause-read g c =
     let met = c.args.self.now in
-    starved_read met.array.now (options_of c.args.options.now) (region met.subset.now) (list_held c.read_chunks.new.elements) (g.S.Store.shown c.args.store.now) (g.S.Store.shown c.read_chunks.new.store)
-    c.num_chunks.result (c.num_chunks.ensures ∙ num_met met c.requires.met) c.in-Ok.ensures.read
+    let array = g.C.ChunkAccess.seen met.array.now in
+    starved_read array (options_of c.args.options.now) (region met.subset.now) (list_held c.read_chunks.new.elements) (g.S.Store.shown c.args.store.now) (g.S.Store.shown c.read_chunks.new.store)
+    c.num_chunks.result (c.num_chunks.ensures ∙ num_met array met c.requires.met) c.in-Ok.ensures.read

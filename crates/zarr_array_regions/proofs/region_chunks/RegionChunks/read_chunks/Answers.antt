@@ -3,7 +3,7 @@ use Rattle.zarr_model.specs.Prelude.{count, chunks_meeting}
 use Rattle.zarrs_array_subset.specs.ArraySubset.{region}
 use Rattle.zarrs_codec_traits.specs.Views.{options_of}
 use Rattle.zarr_array_elements.specs.BoxElements.{list_held}
-use Rattle.zarr_array_parts.specs.Parts.{described}
+use Rattle.zarr_array_regions.specs.Access.{described}
 use Rattle.zarr_array_regions.specs.RegionChunks.{chunk_at}
 use Rattle.zarr_array_regions.proofs.MetLaws.{num_met, met_here}
 use Rattle.zarr_array_regions.proofs.ReadSteps.{HasReadSome, none_read, one_read, stops_read, all_read}
@@ -11,9 +11,10 @@ use Rattle.zarr_array_regions.proofs.region_chunks.RegionChunks.read_chunks.Goal
 
 pub loop-number-init : goal.loop-number-init
 loop-number-init g c =
-    let met = c.args.self.now in (
+    let met = c.args.self.now in
+    let array = g.C.ChunkAccess.seen met.array.now in (
       c.requires.holds,
-      none_read met.array.now (options_of c.args.options.now) (region met.subset.now) (list_held c.args.elements.now) (g.S.Store.shown c.args.store.now) c.requires.as_long
+      none_read array (options_of c.args.options.now) (region met.subset.now) (list_held c.args.elements.now) (g.S.Store.shown c.args.store.now) c.requires.as_long
           (g.met.S.Store.counts_fit c.args.store.now).1 (g.met.S.Store.counts_fit c.args.store.now).2,
       g.met.S.Store.kept_self c.args.store.now,
       tt,
@@ -22,19 +23,21 @@ loop-number-init g c =
 pub returns-in-Err-clause-read : goal.returns-in-Err-clause-read
 returns-in-Err-clause-read g c =
     let met = c.args.self.now in
+    let array = g.C.ChunkAccess.seen met.array.now in
     let below : c.loop-number.number < count (region c.args.self.now.chunks) = omega arith in
-    stops_read met.array.now (options_of c.args.options.now) (region met.subset.now) c.loop-number.number (chunk_at met c.loop-number.number) (list_held c.loop-number.elements)
+    stops_read array (options_of c.args.options.now) (region met.subset.now) c.loop-number.number (chunk_at met c.loop-number.number) (list_held c.loop-number.elements)
     (g.S.Store.shown c.args.store.now) (g.S.Store.shown c.loop-number.store) (g.S.Store.shown c.read_chunk.new.store) c.in-Err.kind
-    (met_here met c.requires.met c.loop-number.number below) c.loop-number.invariant.1 c.in-Err.ensures.read
+    (met_here array met c.requires.met c.loop-number.number below) c.loop-number.invariant.1 c.in-Err.ensures.read
 
 pub loop-number-preserved : goal.loop-number-preserved
 loop-number-preserved g c =
     let met = c.args.self.now in
+    let array = g.C.ChunkAccess.seen met.array.now in
     let below : c.loop-number.number < count (region c.args.self.now.chunks) = omega arith in (
       c.read_chunk.ensures.holds,
-      one_read met.array.now (options_of c.args.options.now) (region met.subset.now) c.loop-number.number (chunk_at met c.loop-number.number) (list_held c.loop-number.elements) (list_held c.read_chunk.new.elements)
+      one_read array (options_of c.args.options.now) (region met.subset.now) c.loop-number.number (chunk_at met c.loop-number.number) (list_held c.loop-number.elements) (list_held c.read_chunk.new.elements)
           (g.S.Store.shown c.args.store.now) (g.S.Store.shown c.loop-number.store) (g.S.Store.shown c.read_chunk.new.store)
-          (met_here met c.requires.met c.loop-number.number below) c.loop-number.invariant.1 c.in-Ok.ensures.read,
+          (met_here array met c.requires.met c.loop-number.number below) c.loop-number.invariant.1 c.in-Ok.ensures.read,
       g.met.S.Store.kept_twice c.args.store.now c.loop-number.store c.read_chunk.new.store c.loop-number.invariant.2 c.read_chunk.ensures.kept,
       c.in-Ok.ensures.hand,
     )
@@ -42,8 +45,9 @@ loop-number-preserved g c =
 pub returns-clause-read : goal.returns-clause-read
 returns-clause-read g c =
     let met = c.args.self.now in
-    let num = num_met met c.requires.met in
-    let all : c.loop-number.number ≡ length (chunks_meeting (described c.args.self.now.array.now).grid (region c.args.self.now.subset.now)) = omega (arith, num) in
-    all_read met.array.now (options_of c.args.options.now) (region met.subset.now) (list_held c.loop-number.elements) (g.S.Store.shown c.args.store.now) (g.S.Store.shown c.loop-number.store) c.requires.met.inside
-    (subst (λ n. HasReadSome met.array.now (options_of c.args.options.now) (region met.subset.now) n (list_held c.loop-number.elements) (g.S.Store.shown c.args.store.now) (g.S.Store.shown c.loop-number.store)) all
+    let array = g.C.ChunkAccess.seen met.array.now in
+    let num = num_met array met c.requires.met in
+    let all : c.loop-number.number ≡ length (chunks_meeting (described array).grid (region c.args.self.now.subset.now)) = omega (arith, num) in
+    all_read array (options_of c.args.options.now) (region met.subset.now) (g.met.C.ChunkAccess.served met.array.now) (list_held c.loop-number.elements) (g.S.Store.shown c.args.store.now) (g.S.Store.shown c.loop-number.store) c.requires.met.inside
+    (subst (λ n. HasReadSome array (options_of c.args.options.now) (region met.subset.now) n (list_held c.loop-number.elements) (g.S.Store.shown c.args.store.now) (g.S.Store.shown c.loop-number.store)) all
     c.loop-number.invariant.1)

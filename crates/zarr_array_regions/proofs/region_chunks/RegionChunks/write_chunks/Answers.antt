@@ -3,7 +3,7 @@ use Rattle.zarr_model.specs.Prelude.{count, chunks_meeting}
 use Rattle.zarrs_array_subset.specs.ArraySubset.{region}
 use Rattle.zarrs_codec_array_bytes.specs.Raw.{raw_of}
 use Rattle.zarrs_codec_traits.specs.Views.{options_of}
-use Rattle.zarr_array_parts.specs.Parts.{described}
+use Rattle.zarr_array_regions.specs.Access.{described}
 use Rattle.zarr_array_regions.specs.RegionChunks.{chunk_at}
 use Rattle.zarr_array_regions.proofs.MetLaws.{num_met, met_here}
 use Rattle.zarr_array_regions.proofs.WriteSteps.{none_written, one_written, stops_written, all_written}
@@ -12,30 +12,34 @@ use Rattle.zarr_array_regions.proofs.region_chunks.RegionChunks.write_chunks.Goa
 pub loop-number-init : goal.loop-number-init
 loop-number-init g c =
     let met = c.args.self.now in
-    (none_written met.array.now (options_of c.args.options.now) (region met.subset.now) (raw_of c.args.bytes.now) (g.S.Store.shown c.args.store.now) (g.met.S.Store.counts_fit c.args.store.now).1 (g.met.S.Store.counts_fit c.args.store.now).2 (g.met.S.Store.counts_fit c.args.store.now).3, tt)
+    let array = g.C.ChunkAccess.seen met.array.now in
+    (none_written array (options_of c.args.options.now) (region met.subset.now) (raw_of c.args.bytes.now) (g.met.C.ChunkAccess.served met.array.now) (g.S.Store.shown c.args.store.now) (g.met.S.Store.counts_fit c.args.store.now).1 (g.met.S.Store.counts_fit c.args.store.now).2 (g.met.S.Store.counts_fit c.args.store.now).3, tt)
 
 pub returns-in-Err : goal.returns-in-Err
 returns-in-Err g c =
     let met = c.args.self.now in
+    let array = g.C.ChunkAccess.seen met.array.now in
     let below : c.loop-number.number < count (region c.args.self.now.chunks) = omega arith in
-    stops_written met.array.now (options_of c.args.options.now) (region met.subset.now) (raw_of c.args.bytes.now) c.loop-number.number (chunk_at met c.loop-number.number)
+    stops_written array (options_of c.args.options.now) (region met.subset.now) (raw_of c.args.bytes.now) (g.met.C.ChunkAccess.served met.array.now) c.loop-number.number (chunk_at met c.loop-number.number)
     (g.S.Store.shown c.args.store.now) (g.S.Store.shown c.loop-number.store) (g.S.Store.shown c.write_chunk.new.store) c.in-Err.kind
-    (met_here met c.requires.met c.loop-number.number below) c.loop-number.invariant.0 c.in-Err.ensures.written
+    (met_here array met c.requires.met c.loop-number.number below) c.loop-number.invariant.0 c.in-Err.ensures.written
 
 pub loop-number-preserved : goal.loop-number-preserved
 loop-number-preserved g c =
     let met = c.args.self.now in
+    let array = g.C.ChunkAccess.seen met.array.now in
     let below : c.loop-number.number < count (region c.args.self.now.chunks) = omega arith in (
-      one_written met.array.now (options_of c.args.options.now) (region met.subset.now) (raw_of c.args.bytes.now) c.loop-number.number (chunk_at met c.loop-number.number)
+      one_written array (options_of c.args.options.now) (region met.subset.now) (raw_of c.args.bytes.now) (g.met.C.ChunkAccess.served met.array.now) c.loop-number.number (chunk_at met c.loop-number.number)
           (g.S.Store.shown c.args.store.now) (g.S.Store.shown c.loop-number.store) (g.S.Store.shown c.write_chunk.new.store)
-          (met_here met c.requires.met c.loop-number.number below) c.loop-number.invariant.0 c.in-Ok.ensures.written,
+          (met_here array met c.requires.met c.loop-number.number below) c.loop-number.invariant.0 c.in-Ok.ensures.written,
       c.in-Ok.ensures.hand,
     )
 
 pub returns : goal.returns
 returns g c =
     let met = c.args.self.now in
-    let num = num_met met c.requires.met in
-    let all : c.loop-number.number ≡ length (chunks_meeting (described c.args.self.now.array.now).grid (region c.args.self.now.subset.now)) = omega (arith, num) in
-    all_written met.array.now (options_of c.args.options.now) (region met.subset.now) (raw_of c.args.bytes.now) c.loop-number.number (g.S.Store.shown c.args.store.now) (g.S.Store.shown c.loop-number.store) all
+    let array = g.C.ChunkAccess.seen met.array.now in
+    let num = num_met array met c.requires.met in
+    let all : c.loop-number.number ≡ length (chunks_meeting (described array).grid (region c.args.self.now.subset.now)) = omega (arith, num) in
+    all_written array (options_of c.args.options.now) (region met.subset.now) (raw_of c.args.bytes.now) c.loop-number.number (g.S.Store.shown c.args.store.now) (g.S.Store.shown c.loop-number.store) all
     c.loop-number.invariant.0

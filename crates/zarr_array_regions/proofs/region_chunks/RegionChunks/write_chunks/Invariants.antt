@@ -2,11 +2,11 @@ use Rattle.std.specs.Prelude.{IfSome}
 use Rattle.zarrs_array_subset.specs.ArraySubset.{region}
 use Rattle.zarrs_codec_array_bytes.specs.Raw.{raw_of}
 use Rattle.zarrs_codec_traits.specs.Views.{options_of}
-use Rattle.zarr_array_regions.specs.RegionChunks.{AreInHand}
+use Rattle.zarr_array_regions.specs.Access.{IsInHand}
 use Rattle.zarr_array_regions.proofs.WriteSteps.{HasWrittenSome}
 use Rattle.zarr_array_regions.proofs.region_chunks.RegionChunks.write_chunks.Given as goal
 
 abbrev pub invariant-loop-number : goal.invariant-loop-number
 invariant-loop-number g l =
-    HasWrittenSome l.self.array.now (options_of l.options) (region l.self.subset.now) (raw_of l.bytes) l.number (g.S.Store.shown l.fn.store) (g.S.Store.shown l.store)
-    × IfSome l.hand (AreInHand l.self.array.now)
+    HasWrittenSome (g.C.ChunkAccess.seen l.self.array.now) (options_of l.options) (region l.self.subset.now) (raw_of l.bytes) l.number (g.S.Store.shown l.fn.store) (g.S.Store.shown l.store)
+    × IfSome l.hand (IsInHand (g.C.ChunkAccess.serves l.self.array.now))

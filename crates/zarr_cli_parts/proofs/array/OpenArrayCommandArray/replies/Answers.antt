@@ -1,10 +1,20 @@
-use Rattle.std.proofs.Common.{map}
+use Rattle.std.proofs.Common.{true, List, [], map, ap, subst}
 use Rattle.zarr_cli_runs.specs.array.Command.{command_of}
+use Rattle.zarr_cli_runs.specs.array.parts.Document.{describe}
+use Rattle.zarr_cli_runs.specs.array.parts.Parts.{documented}
 use Rattle.zarrs_codec_traits.specs.Views.{options_of}
+use Rattle.zarr_cli_parts.specs.Array.{job, Did, Replied}
+use Rattle.zarr_cli_parts.specs.Run.{open_costs}
 use Rattle.zarr_cli_parts.proofs.RunLemmas.{array_did}
 use Rattle.zarr_cli_parts.proofs.array.OpenArrayCommandArray.replies.Goals as goal
 
 pub returns-clause-did : goal.returns-clause-did
 returns-clause-did g c =
-    array_did c.args.self.now (options_of c.args.options.now) (map command_of c.args.commands.now) (g.S.Store.shown c.args.store.now) (g.S.Store.shown c.replies_of.new.store) (g.met.S.Store.counts_fit c.args.store.now).3
-    c.replies_of.result c.replies_of.ensures.ran c.replies_of.ensures.taken c.replies_of.ensures.refused c.replies_of.ensures.unchanged c.replies_of.ensures.later c.replies_of.ensures.fault c.replies_of.ensures.between c.replies_of.ensures.complete
+    let options = options_of c.args.options.now in
+    let commands = map command_of c.args.commands.now in
+    let before = g.S.Store.shown c.args.store.now in
+    let now = g.S.Store.shown c.replies_of.new.store in
+    subst (λ document. Did (job true (describe document) options [] commands) (Unit {0}) before now c.replies_of.result (λ held. Replied (open_costs document) (describe document) options commands before now held.items))
+    (ap documented c.parts.ensures)
+    (array_did (documented c.parts.result.now) options commands before now (g.met.S.Store.counts_fit c.args.store.now).3
+    c.replies_of.result c.replies_of.ensures.ran c.replies_of.ensures.costs c.replies_of.ensures.refused c.replies_of.ensures.unchanged c.replies_of.ensures.later c.replies_of.ensures.fault c.replies_of.ensures.between c.replies_of.ensures.complete)

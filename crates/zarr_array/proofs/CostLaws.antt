@@ -1,0 +1,180 @@
+-- What commands cost that run one after another.
+use Rattle.std.proofs.Common.{◌≡◌, ℕ, ◌+◌, ◌-◌, ◌^◌, ◌<◌, ◌≤◌, ◌&&◌, Bool, true, false, List, [], ◌∷◌, ◌++◌, length, take, slice_get, Some, None, Ok, Err, refl, sym, ap, ap₂, ◌∙◌, ◌⊎◌, subst, arith, inl, inr, ⊎_elim, if◌then◌else◌}
+use Rattle.std.specs.List.{sum_by, list_all}
+use Rattle.std.proofs.Math.Path.{fun_ext}
+use Rattle.std.proofs.lemmas.Bool.{and_parts}
+use Rattle.std.proofs.lemmas.List.{take_all}
+use Rattle.std.proofs.lemmas.List.Sums.{sum_by-append}
+use Rattle.zarr_model.specs.Prelude.{Region, ArrayBytes, CoversShape, chunks_meeting, Options, Content, IsSound, layout, Shown, Command, read, write, erase, Refusal, Description, refusal, Answer, chunks_under, command_chunks, asks_store, asks_of, counted}
+use Rattle.zarr_model.proofs.NeededLaws.{read_needs, write_needs}
+use Rattle.zarr_model.proofs.StepLaws.{calls-lift}
+use Rattle.zarrs_storage.specs.Store.{SameContent}
+use Rattle.zarr_array_regions.specs.Access.{Cost, PartCost, Costs, by_chunk, by_part}
+use Rattle.zarr_array_regions.specs.Pays.{Pays, cost_of, costs_of, PaysRead, PaysChanges, PaysPart, CountsFirst}
+use Rattle.zarr_array_regions.specs.declared.error.SessionErrorKind.{SessionErrorKind}
+use Rattle.zarr_array_regions.specs.declared.error.SessionErrorKind.TheVariants.{OutOfMemory}
+use Rattle.zarr_array.specs.Command.{is_read, AreReads}
+use Rattle.zarr_array.specs.Costs.{read_cost, CostsOn}
+use Rattle.zarr_array.specs.Ended.{Ended}
+use Rattle.zarr_array.specs.Runs.{RunsOn}
+use Rattle.zarr_array.proofs.StepRuns.{no_chunks, no_calls}
+use Rattle.zarr_array.proofs.TakenLaws.{one_takes, refused_takes, erase_takes, more_takes}
+
+abbrev pub fails_at : ℕ → ℕ → SessionErrorKind → Ended
+fails_at m k kind = Err (record { at = Some (m, k); kind = kind })
+
+-- the calls up to a place of one command
+calls_at : (description : Description) (command : Command) (chunks : List (List ℕ)) (k before now : ℕ) → asks_store command ≡ true → command_chunks description command ≡ chunks → CountsFirst k (length chunks) before now →
+    (now ≡ counted before (0 + (if asks_store command then k else 0)))
+    ⊎ ((k < length (command_chunks description command)) × (now ≡ counted before (0 + (if asks_store command then k + 1 else 0))))
+calls_at description command chunks k before now asks listed counts =
+    rw asks (⊎_elim
+    (λ (done : now ≡ counted before k). inl (omega (arith, done)))
+    (λ (next : (k < length chunks) × (now ≡ counted before (k + 1))). inr (subst (λ cs. k < length cs) (sym listed) next.0, omega (arith, next.1)))
+    counts)
+
+-- reads among commands
+pub reads_parts : (commands : List Command) (command : Command) → AreReads (commands ++ command ∷ []) → AreReads commands × AreReads (command ∷ [])
+reads_parts [] command all = (refl, all)
+reads_parts (first ∷ commands) command all =
+    let parts = and_parts (is_read first) (list_all is_read (commands ++ command ∷ [])) all in
+    let rest = reads_parts commands command parts.1 in
+    (ap₂ (λ a b. a && b) parts.0 rest.0, rest.1)
+
+module _ (description : Description) (options : Options) where
+  -- what is read costs what its chunks cost
+  pub read_costs : (costs : Costs) (region : Region) (before now : Shown) (answers : List Answer) → refusal description (read region) ≡ None →
+      PaysRead costs description options region (chunks_meeting description.grid region) before now → CostsOn costs description options (read region ∷ []) before now (Ok answers)
+  read_costs (by_chunk alone) region before now answers accepted paid =
+      let listed : command_chunks description (read region) ≡ chunks_meeting description.grid region = ap (λ w. chunks_under description w (read region)) accepted in
+      record {
+        asks = omega (arith, paid.asks, ap length listed);
+        stopped = tt;
+        taken = λ told. one_takes description options (read region) None before now accepted (paid.taken told ∙ ap (counted before.taken) (sym (read_needs description region before.content)));
+      }
+  read_costs (by_part cost) region before now answers accepted paid =
+      let listed : command_chunks description (read region) ≡ chunks_meeting description.grid region = ap (λ w. chunks_under description w (read region)) accepted in
+      let each : List ℕ → Cost = cost_of cost description options region before.content in
+      λ reads. record {
+        asks = omega (arith, paid.asks, ap (λ cs. (costs_of each cs).asks) listed);
+        taken = omega (arith, paid.taken, ap (λ cs. (costs_of each cs).taken) listed);
+      }
+
+  pub read_stops : (costs : Costs) (region : Region) (k : ℕ) (before now : Shown) (kind : SessionErrorKind) → refusal description (read region) ≡ None →
+      PaysPart costs k (length (chunks_meeting description.grid region)) before now → CostsOn costs description options (read region ∷ []) before now (fails_at 0 k kind)
+  read_stops (by_chunk alone) region k before now kind accepted paid = record {
+    asks = tt;
+    stopped = (read region, refl, calls_at description (read region) (chunks_meeting description.grid region) k before.asks now.asks refl (ap (λ w. chunks_under description w (read region)) accepted) paid);
+    taken = λ told. tt;
+  }
+  read_stops (by_part cost) region k before now kind accepted paid = λ reads. tt
+
+  pub write_costs : (costs : Costs) (region : Region) (bytes : ArrayBytes) (before now : Shown) (answers : List Answer) → refusal description (write region bytes) ≡ None →
+      PaysChanges costs description (chunks_meeting description.grid region) (length (chunks_meeting description.grid region)) before now → CostsOn costs description options (write region bytes ∷ []) before now (Ok answers)
+  write_costs (by_chunk alone) region bytes before now answers accepted paid =
+      let listed : command_chunks description (write region bytes) ≡ chunks_meeting description.grid region = ap (λ w. chunks_under description w (write region bytes)) accepted in
+      record {
+        asks = omega (arith, paid.asks, ap length listed);
+        stopped = tt;
+        taken = λ told. one_takes description options (write region bytes) None before now accepted
+            (paid.taken told ∙ ap (counted before.taken) (ap (sum_by _) (take_all (length (chunks_meeting description.grid region)) (chunks_meeting description.grid region) (omega arith)) ∙ sym (write_needs description region bytes before.content)));
+      }
+  write_costs (by_part cost) region bytes before now answers accepted paid = λ reads. cc
+
+  pub write_stops : (costs : Costs) (region : Region) (bytes : ArrayBytes) (k : ℕ) (before now : Shown) (kind : SessionErrorKind) → refusal description (write region bytes) ≡ None →
+      PaysPart costs k (length (chunks_meeting description.grid region)) before now → CostsOn costs description options (write region bytes ∷ []) before now (fails_at 0 k kind)
+  write_stops (by_chunk alone) region bytes k before now kind accepted paid = record {
+    asks = tt;
+    stopped = (write region bytes, refl, calls_at description (write region bytes) (chunks_meeting description.grid region) k before.asks now.asks refl (ap (λ w. chunks_under description w (write region bytes)) accepted) paid);
+    taken = λ told. tt;
+  }
+  write_stops (by_part cost) region bytes k before now kind accepted paid = λ reads. tt
+
+  -- an erase reads nothing
+  pub erase_costs : (costs : Costs) (chunk : List ℕ) (before now : Shown) (answers : List Answer) → refusal description (erase chunk) ≡ None → now.asks ≡ before.asks → now.taken ≡ before.taken →
+      before.asks ≤ 2 ^ 64 - 1 → before.taken ≤ 2 ^ 64 - 1 → CostsOn costs description options (erase chunk ∷ []) before now (Ok answers)
+  erase_costs (by_chunk alone) chunk before now answers accepted unasked untaken fits room = record {
+    asks = omega (arith, unasked, fits);
+    stopped = tt;
+    taken = λ told. erase_takes description options chunk before now accepted untaken room;
+  }
+  erase_costs (by_part cost) chunk before now answers accepted unasked untaken fits room = λ reads. cc
+
+  pub erase_stops : (costs : Costs) (chunk : List ℕ) (before now : Shown) (kind : SessionErrorKind) → now.asks ≡ before.asks → before.asks ≤ 2 ^ 64 - 1 →
+      CostsOn costs description options (erase chunk ∷ []) before now (fails_at 0 0 kind)
+  erase_stops (by_chunk alone) chunk before now kind unasked fits = record {
+    asks = tt;
+    stopped = (erase chunk, refl, inl (omega (arith, unasked, fits)));
+    taken = λ told. tt;
+  }
+  erase_stops (by_part cost) chunk before now kind unasked fits = λ reads. tt
+
+  -- memory ran out before the first chunk of a command
+  pub starved_costs : (costs : Costs) (command : Command) (store : Shown) → store.asks ≤ 2 ^ 64 - 1 → CostsOn costs description options (command ∷ []) store store (fails_at 0 0 OutOfMemory)
+  starved_costs (by_chunk alone) command store fits = record {
+    asks = tt;
+    stopped = (command, refl, inl (none (asks_store command)));
+    taken = λ told. tt;
+  }
+    where
+      none : (b : Bool) → store.asks ≡ counted store.asks (0 + (if b then 0 else 0))
+      none true = omega (arith, fits)
+      none false = omega (arith, fits)
+  starved_costs (by_part cost) command store fits = λ reads. tt
+
+  -- a refused command costs nothing
+  refused_cost : (cost : PartCost) (command : Command) (store : Content) → command_chunks description command ≡ [] → read_cost cost description options store command ≡ record { asks = 0; taken = 0 }
+  refused_cost cost (read region) store none = ap (costs_of (cost_of cost description options region store)) none
+  refused_cost cost (write region bytes) store none = refl
+  refused_cost cost (erase chunk) store none = refl
+
+  pub refused_costs : (costs : Costs) (command : Command) (why : Refusal) (store : Shown) (answers : List Answer) → refusal description command ≡ Some why → store.asks ≤ 2 ^ 64 - 1 → store.taken ≤ 2 ^ 64 - 1 →
+      CostsOn costs description options (command ∷ []) store store (Ok answers)
+  refused_costs (by_chunk alone) command why store answers refused fits room = record {
+    asks = let none = no_calls description command why refused asks_store in omega (arith, fits, none);
+    stopped = tt;
+    taken = λ told. refused_takes description options command why store refused room;
+  }
+  refused_costs (by_part cost) command why store answers refused fits room =
+      let none : read_cost cost description options store.content command ≡ record { asks = 0; taken = 0 } = refused_cost cost command store.content (no_chunks description command why refused) in
+      λ reads. record { asks = omega (arith, fits, ap (λ (c : Cost). c.asks) none); taken = omega (arith, room, ap (λ (c : Cost). c.taken) none) }
+
+  -- no command
+  pub none_costs : (costs : Costs) (store : Shown) → store.asks ≤ 2 ^ 64 - 1 → store.taken ≤ 2 ^ 64 - 1 → CostsOn costs description options [] store store (Ok [])
+  none_costs (by_chunk alone) store fits room = record { asks = omega (arith, fits); stopped = tt; taken = λ told array tells. omega (arith, room) }
+  none_costs (by_part cost) store fits room = λ reads. record { asks = omega (arith, fits); taken = omega (arith, room) }
+
+  pub unbegun_costs : (costs : Costs) (commands : List Command) (store : Shown) → CostsOn costs description options commands store store (Err (record { at = None; kind = OutOfMemory }))
+  unbegun_costs (by_chunk alone) commands store = record { asks = tt; stopped = refl; taken = λ told. tt }
+  unbegun_costs (by_part cost) commands store = λ reads. tt
+
+  -- one more command
+  pub more_costs : (costs : Costs) → CoversShape description.shape description.grid → IsSound (layout description options) → (commands : List Command) (command : Command) (before mid now : Shown) (answers : List Answer) (answer : Answer) →
+      RunsOn description options commands before mid (Ok answers) → (AreReads commands → SameContent before mid) →
+      CostsOn costs description options commands before mid (Ok answers) → CostsOn costs description options (command ∷ []) mid now (Ok (answer ∷ [])) →
+      CostsOn costs description options (commands ++ command ∷ []) before now (Ok (answers ++ answer ∷ []))
+  more_costs (by_chunk alone) covers sound commands command before mid now answers answer ran same first second = record {
+    asks = omega (arith, first.asks, second.asks, sum_by-append (asks_of description) commands (command ∷ []));
+    stopped = tt;
+    taken = λ told. more_takes description options covers sound commands command before mid now answers ran (first.taken told) (second.taken told);
+  }
+  more_costs (by_part cost) covers sound commands command before mid now answers answer ran same first second = λ reads.
+      let parts = reads_parts commands command reads in
+      let each : Command → Cost = read_cost cost description options before.content in
+      let later : Pays (costs_of each (command ∷ [])) mid now = subst (λ s. Pays (costs_of (read_cost cost description options s) (command ∷ [])) mid now) (fun_ext (same parts.0)) (second parts.1) in
+      let here : Pays (costs_of each commands) before mid = first parts.0 in
+      record {
+        asks = omega (arith, here.asks, later.asks, sum_by-append (λ c. (each c).asks) commands (command ∷ []));
+        taken = omega (arith, here.taken, later.taken, sum_by-append (λ c. (each c).taken) commands (command ∷ []));
+      }
+
+  -- a command that failed after those before it
+  pub stops_costs : (costs : Costs) (commands : List Command) (i : ℕ) (command : Command) (before mid now : Shown) (answers : List Answer) (k : ℕ) (kind : SessionErrorKind) → slice_get commands i ≡ Some command →
+      CostsOn costs description options (take i commands) before mid (Ok answers) → CostsOn costs description options (command ∷ []) mid now (fails_at 0 k kind) →
+      CostsOn costs description options commands before now (fails_at i k kind)
+  stops_costs (by_chunk alone) commands i command before mid now answers k kind here first second = record {
+    asks = tt;
+    stopped = calls-lift description options commands i command here asks_store before.asks mid.asks now.asks k first.asks second.stopped;
+    taken = λ told. tt;
+  }
+  stops_costs (by_part cost) commands i command before mid now answers k kind here first second = λ reads. tt

@@ -1,0 +1,205 @@
+//! Commands over a store on any array that gives access to its chunks.
+
+ghost use Rattle.std.specs.Prelude.{IfOk, IfErr, ◌≡◌, ℕ, List, [], ◌∷◌, map, Some, None, IsOk};
+ghost use Rattle.zarrs_codec_array_bytes.specs.Raw.{raw_of};
+ghost use Rattle.zarr_model.specs.Prelude.{read, write, erase, AreRefused};
+ghost use Rattle.zarrs_array_subset.specs.ArraySubset.{region};
+ghost use Rattle.zarrs_storage.specs.Store.{SameContent};
+ghost use Rattle.zarr_array.specs.Command.{command_of, region_read, region_at, AreReads, IsReadReply, IsShortReply};
+ghost use Rattle.zarrs_codec_traits.specs.Views.{options_of};
+ghost use Rattle.zarr_array_regions.specs.Access.{described};
+ghost use Rattle.zarr_array_regions.specs.Tells.{TellsOfSome};
+ghost use Rattle.zarr_array.specs.Costs.{CostsOn};
+ghost use Rattle.zarr_array.specs.Ended.{ended, ended_step};
+ghost use Rattle.zarr_array.specs.WritesUpTo.{WritesUpTo};
+ghost use Rattle.zarr_array.specs.Runs.{RunsOn};
+
+use crate::command::{Command, Reply};
+use crate::error::{SessionError, SessionErrorKind};
+use crate::refusal::{erase_refusal, region_refusal, write_refusal};
+use std::alloc::Global;
+use zarr_array_regions::{ChunkAccess, CommandError, read_elements, write_elements};
+use zarrs_array_subset::ArraySubset;
+use zarrs_codec_array_bytes::ArrayBytes;
+use zarrs_codec_options::CodecOptions;
+use zarrs_storage::{StorageError, Store};
+
+/// Reads a region of an array: its elements in row-major order, or why it is refused.
+///
+/// # Errors
+/// What a chunk's value or the store told, or want of memory, and how many chunks were finished.
+pub fn run_read<C: ChunkAccess, S: Store>(
+    array: &C,
+    alloc: Global,
+    subset: &ArraySubset,
+    store: &mut S,
+    options: &CodecOptions,
+) -> Result<Reply, CommandError>
+    ensures runs { RunsOn (described (C.seen array.now)) (options_of options.now)
+        (read (region subset.now) ∷ [])
+        (S.shown store.old) (S.shown store.new) (ended_step result) }
+    ensures costs { CostsOn (C.seen array.now).costs (described (C.seen array.now))
+        (options_of options.now) (read (region subset.now) ∷ []) (S.shown store.old)
+        (S.shown store.new) (ended_step result) }
+    ensures answered { AreRefused (described (C.seen array.now))
+        (read (region subset.now) ∷ []) → IsOk result }
+    ensures same { SameContent (S.shown store.old) (S.shown store.new) }
+    ensures kept { S.kept store.old store.new }
+    ensures valid { IfOk result (IsReadReply (described (C.seen array.now)) (region subset.now)) }
+    ensures short { IfOk result IsShortReply }
+    ensures told { IfErr result (λ error. TellsOfSome (Some (region subset.now))
+        (described (C.seen array.now)) (C.seen array.now).says (options_of options.now)
+        (S.shown store.new) error.kind) }
+{
+    if let Some(refusal) = region_refusal(array, subset) {
+        return Ok(Reply::Refused(refusal));
+    }
+    let elements = read_elements(array, alloc, subset, store, options)?;
+    Ok(Reply::Elements(elements))
+}
+
+/// Writes elements to a region of an array, in its row-major order: done, or why it is refused.
+///
+/// # Errors
+/// What a chunk's value or the store told, or want of memory, and how many chunks were finished.
+pub fn run_write<C: ChunkAccess, S: Store>(
+    array: &C,
+    alloc: Global,
+    subset: &ArraySubset,
+    bytes: &ArrayBytes<'_>,
+    store: &mut S,
+    options: &CodecOptions,
+) -> Result<Reply, CommandError>
+    ensures runs { RunsOn (described (C.seen array.now)) (options_of options.now)
+        (write (region subset.now) (raw_of bytes.now) ∷ [])
+        (S.shown store.old) (S.shown store.new) (ended_step result) }
+    ensures costs { CostsOn (C.seen array.now).costs (described (C.seen array.now))
+        (options_of options.now) (write (region subset.now) (raw_of bytes.now) ∷ [])
+        (S.shown store.old) (S.shown store.new) (ended_step result) }
+    ensures answered { AreRefused (described (C.seen array.now))
+        (write (region subset.now) (raw_of bytes.now) ∷ []) → IsOk result }
+    ensures first { IfErr result (λ error. WritesUpTo (described (C.seen array.now))
+        (options_of options.now) (region subset.now) (raw_of bytes.now) error.chunks_done
+        (S.shown store.old) (S.shown store.new) error.kind) }
+    ensures told { IfErr result (λ error. TellsOfSome None
+        (described (C.seen array.now)) (C.seen array.now).says (options_of options.now)
+        (S.shown store.new) error.kind) }
+{
+    if let Some(refusal) = write_refusal(array, subset, bytes) {
+        return Ok(Reply::Refused(refusal));
+    }
+    write_elements(array, alloc, subset, bytes, store, options)?;
+    Ok(Reply::Done)
+}
+
+/// Erases a chunk by one call on the store, which reads nothing: done, or why it is refused.
+///
+/// # Errors
+/// Where the store failed, or for want of memory.
+pub fn run_erase<C: ChunkAccess, S: Store>(
+    array: &C,
+    alloc: Global,
+    chunk_indices: &[u64],
+    store: &mut S,
+    options: &CodecOptions,
+) -> Result<Reply, CommandError>
+    ensures runs { RunsOn (described (C.seen array.now)) (options_of options.now)
+        (erase chunk_indices.now ∷ [])
+        (S.shown store.old) (S.shown store.new) (ended_step result) }
+    ensures costs { CostsOn (C.seen array.now).costs (described (C.seen array.now))
+        (options_of options.now) (erase chunk_indices.now ∷ []) (S.shown store.old)
+        (S.shown store.new) (ended_step result) }
+    ensures answered { AreRefused (described (C.seen array.now))
+        (erase chunk_indices.now ∷ []) → IsOk result }
+    ensures told { IfErr result (λ error. TellsOfSome None
+        (described (C.seen array.now)) (C.seen array.now).says (options_of options.now)
+        (S.shown store.new) error.kind) }
+{
+    if let Some(refusal) = erase_refusal(array, chunk_indices) {
+        return Ok(Reply::Refused(refusal));
+    }
+    let key = array.chunk_key(alloc, chunk_indices)?;
+    match store.erase(&key) {
+        Ok(()) => Ok(Reply::Done),
+        Err(StorageError::Failed) => Err(CommandError {
+            chunks_done: 0,
+            kind: SessionErrorKind::Store,
+        }),
+        Err(StorageError::InvalidByteRange(_) | StorageError::OutOfMemory) => unreachable!(),
+    }
+}
+
+// Runs one command. A refused one makes no call on the store.
+fn run_command<C: ChunkAccess, S: Store>(
+    array: &C,
+    alloc: Global,
+    command: &Command,
+    store: &mut S,
+    options: &CodecOptions,
+) -> Result<Reply, CommandError>
+    ensures runs { RunsOn (described (C.seen array.now)) (options_of options.now)
+        (command_of command.now ∷ [])
+        (S.shown store.old) (S.shown store.new) (ended_step result) }
+    ensures costs { CostsOn (C.seen array.now).costs (described (C.seen array.now))
+        (options_of options.now) (command_of command.now ∷ []) (S.shown store.old)
+        (S.shown store.new) (ended_step result) }
+    ensures answered { AreRefused (described (C.seen array.now))
+        (command_of command.now ∷ []) → IsOk result }
+    ensures same { AreReads (command_of command.now ∷ [])
+        → SameContent (S.shown store.old) (S.shown store.new) }
+    ensures kept { AreReads (command_of command.now ∷ []) → S.kept store.old store.new }
+    ensures told { IfErr result (λ error. TellsOfSome (region_read (command_of command.now))
+        (described (C.seen array.now)) (C.seen array.now).says (options_of options.now)
+        (S.shown store.new) error.kind) }
+{
+    match command {
+        Command::Read(subset) => run_read(array, alloc, subset, store, options),
+        Command::Write(subset, bytes) => run_write(array, alloc, subset, bytes, store, options),
+        Command::Erase(chunk_indices) => run_erase(array, alloc, chunk_indices, store, options),
+    }
+}
+
+/// Runs commands over a store. The replies are those of one plain array that the store means.
+///
+/// The room for the replies is taken first. A refused command is answered, and the next ones run.
+///
+/// # Errors
+/// An error says at which command, and after how many of its chunks. [`SessionErrorKind::ChunkDecode`] names a chunk
+/// that the command met and whose value does not decode, [`SessionErrorKind::Store`] comes where the store failed,
+/// and `OutOfMemory` for want of memory. What the commands before did stands, and so do these chunks; and a damaged
+/// value stands until its chunk is erased.
+pub fn run_commands<C: ChunkAccess, S: Store>(
+    array: &C,
+    alloc: Global,
+    commands: &[Command],
+    store: &mut S,
+    options: &CodecOptions,
+) -> Result<Vec<Reply>, SessionError>
+    ensures runs { RunsOn (described (C.seen array.now)) (options_of options.now)
+        (map command_of commands.now) (S.shown store.old) (S.shown store.new) (ended result) }
+    ensures costs { CostsOn (C.seen array.now).costs (described (C.seen array.now))
+        (options_of options.now) (map command_of commands.now) (S.shown store.old)
+        (S.shown store.new) (ended result) }
+    ensures told { IfErr result (λ error. TellsOfSome
+        (region_at (map command_of commands.now) error.at) (described (C.seen array.now))
+        (C.seen array.now).says (options_of options.now) (S.shown store.new) error.kind) }
+    // Reads keep what a store says that its reading calls keep.
+    ensures kept { AreReads (map command_of commands.now) → S.kept store.old store.new }
+{
+    let mut replies = match Vec::with_capacity(alloc, commands.len()) {
+        Ok(replies) => replies,
+        Err(_) => return Err(SessionError::before_commands(SessionErrorKind::OutOfMemory)),
+    };
+    for (number, command) in commands.iter().enumerate() {
+        match run_command(array, alloc, command, store, options) {
+            Ok(reply) => replies.push(reply).unwrap(),
+            Err(error) => {
+                return Err(SessionError {
+                    at: Some((number, error.chunks_done)),
+                    kind: error.kind,
+                });
+            }
+        }
+    }
+    Ok(replies)
+}
