@@ -1,5 +1,5 @@
 -- What an inner chunk has, by its pair.
-use Rattle.std.proofs.Common.{◌≡◌, ℕ, Bool, true, false, List, [], length, replicate, if◌then◌else◌, Option, Some, None, IsSome, option_map, unwrap_or, Result, Ok, Err, IfOk, IfErr, refl, sym, ap, ◌∙◌, subst, inl, inr, ⊎_elim}
+use Rattle.std.proofs.Common.{◌≡◌, ◌<◌, ℕ, Bool, true, false, List, [], length, replicate, if◌then◌else◌, Option, Some, None, IsSome, option_map, unwrap_or, Result, Ok, Err, IfOk, IfErr, refl, sym, ap, ◌∙◌, subst, inl, inr, ⊎_elim}
 use Rattle.zarr_model.specs.Prelude.{Region, count, count_of, Element, IsChunk, kind, Options, box_content, ArrayBytes, meaning}
 use Rattle.zarr_model.proofs.BytesLaws.{length-meaning}
 use Rattle.zarrs_codec_bytes.specs.Overlap.{Copied}
@@ -20,7 +20,7 @@ use Rattle.zarr_shard_codec.specs.Shard.{inner_layout, inner_content}
 use Rattle.zarr_shard_codec.specs.ShardCodec.{inner_of, inner_grid, inner_dims, inner_level, own_array, inner_decoded, InnerSays}
 use Rattle.zarr_shard_codec.specs.Inner.{AreInner, found_at, inner_at, found_says}
 use Rattle.zarr_shard_codec.specs.Placing.{number_of}
-use Rattle.zarr_shard_codec.specs.Whole.{HoldsOver, HasPut, SaysInner}
+use Rattle.zarr_shard_codec.specs.Whole.{HoldsOver, HasPut, SaysAt}
 use Rattle.zarr_shard_codec.specs.declared.inner_chunks.InnerChunks.{InnerChunks}
 use Rattle.zarr_shard_codec.specs.declared.shard_codec.ShardCodec.{ShardCodec}
 use Rattle.zarr_shard_codec.proofs.CodecFacts.{chunk_dims}
@@ -120,6 +120,6 @@ module _ (codec : ShardCodec) (under : Options) (value index : List ℕ) (chunk 
 
   -- one that does not decode
   pub inner_fails : (e : CodecError) → IsDecodeError (inner_at (inner_decoded codec under) value (pair_at index number)) (found_says (InnerSays codec under) value (pair_at index number)) e →
-      IsDecodeError (inner_content (own_array codec under) value index chunk) (SaysInner codec under value index) e
+      IsDecodeError (inner_content (own_array codec under) value index chunk) (SaysAt codec under value index number) e
   inner_fails e told = ⊎_elim (λ memory. inl memory)
-      (λ both. inr (content_is_at ∙ ap (content_from (blank_list codec)) both.0, record { number = number; fails = both.0; said = both.1 })) told
+      (λ both. inr (content_is_at ∙ ap (content_from (blank_list codec)) both.0, record { fails = both.0; said = both.1 })) told

@@ -188,6 +188,6 @@ module _ (codec : ShardCodec) (under : Options) (value index : List ℕ) (region
       (sum_by calls_at (take k met)) (sum_by size_at (take k met)) before mid now e so_far.cost
       (λ none told. (
         cond-false _ _ _ (list_all_at decodes met k chunk (slice_get_within met k chunk here) (ap decodes (get_or_from_slice_get met k chunk chunk here) ∙ ap is_some none)),
-        record { chunk = chunk; place = k; met = here; fails = none; said = told },
+        record { chunk = chunk; place = k; met = here; first = so_far.decode; fails = none; said = told },
       ))
       (subst (λ v. NotRead (inner_content (own_array codec under) v index chunk) (says_at codec under v index chunk) mid now e) same failed)

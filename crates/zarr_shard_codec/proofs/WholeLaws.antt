@@ -1,5 +1,5 @@
 -- All inner chunks of a chunk, one after another.
-use Rattle.std.proofs.Common.{◌≡◌, ℕ, ◌+◌, ◌<◌, List, Option, Some, None, option_and_then, refl, sym, ap, ap₂, ◌∙◌, subst, inl, inr, ⊎_elim, IsSome}
+use Rattle.std.proofs.Common.{◌≡◌, ℕ, ◌+◌, ◌<◌, List, Option, Some, None, option_and_then, refl, sym, ap, ap₂, ◌∙◌, subst, inl, inr, ⊎_elim, IsSome, arith}
 use Rattle.zarr_model.specs.Prelude.{Region, count, count_of, whole, Element, Kind, kind, Options, ArrayBytes, meaning}
 use Rattle.zarr_model.proofs.RegionLaws.{sizes_whole}
 use Rattle.zarrs_codec_error.specs.declared.error.CodecError.{CodecError}
@@ -12,10 +12,10 @@ use Rattle.zarr_shard_codec.specs.Finding.{index_found, index_says}
 use Rattle.zarr_shard_codec.specs.Shard.{by_index}
 use Rattle.zarr_shard_codec.specs.ShardCodec.{inner_of, inner_grid, own_level, own_array, own_list}
 use Rattle.zarr_shard_codec.specs.Placing.{indices_at}
-use Rattle.zarr_shard_codec.specs.Whole.{content_of, HoldsOver, HasPut, SaysInner, says_of, shard_says}
+use Rattle.zarr_shard_codec.specs.Whole.{content_of, HoldsOver, HasPut, SaysAt, SaysInner, says_of, shard_says}
 use Rattle.zarr_shard_codec.specs.declared.shard_codec.ShardCodec.{ShardCodec}
 use Rattle.zarr_shard_codec.proofs.CodecFacts.{covers, num_chunks, near}
-use Rattle.zarr_shard_codec.proofs.PlacedLaws.{HasPlaced, none_placed, one_placed, all_placed, one_fails}
+use Rattle.zarr_shard_codec.proofs.PlacedLaws.{HasPlaced, chunk_there, none_placed, one_placed, all_placed, one_fails}
 
 -- the first inner chunks were put where they lie
 abbrev pub HasPutSome : ShardCodec → Options → List ℕ → List ℕ → ℕ → List Element → Type 0
@@ -29,11 +29,19 @@ module _ (codec : ShardCodec) (under : Options) (value index : List ℕ) where
       HasPutSome codec under value index (number + 1) (list_held new)
   one_put number old new below so_far put = one_placed (own_array codec under) (covers codec) value index number put.list (list_held old) (list_held new) (near codec number below) put.as_long put.content put.copied so_far
 
-  pub stops_putting : (number : ℕ) (e : CodecError) → number < count_of (inner_grid codec).grid_shape →
-      IsDecodeError (content_of codec under value index number) (SaysInner codec under value index) e → IsDecodeError (by_index (own_array codec under) value index) (SaysInner codec under value index) e
-  stops_putting number e below told =
+  pub stops_putting : (number : ℕ) (list : List Element) (e : CodecError) → number < count_of (inner_grid codec).grid_shape → HasPutSome codec under value index number list →
+      IsDecodeError (content_of codec under value index number) (SaysAt codec under value index number) e → IsDecodeError (by_index (own_array codec under) value index) (SaysInner codec under value index) e
+  stops_putting number list e below so_far told =
       ⊎_elim (λ memory. inl memory)
-      (λ both. inr (one_fails (own_array codec under) (covers codec) value index number (near codec number below) both.0, both.1)) told
+      (λ both. inr (
+        one_fails (own_array codec under) (covers codec) value index number (near codec number below) both.0,
+        record {
+          number = number;
+          below = below;
+          first = λ k less. so_far.decode k (indices_at codec k) less (chunk_there (inner_grid codec) k (near codec k (omega (arith, less, below))));
+          why = both.1;
+        },
+      )) told
 
   pub all_put : (number : ℕ) (list : List Element) → number ≡ count_of (inner_grid codec).grid_shape → HasPutSome codec under value index number list → by_index (own_array codec under) value index ≡ Some list
   all_put number list all put = all_placed (own_array codec under) (covers codec) value index number list (all ∙ num_chunks codec) put

@@ -83,7 +83,7 @@ says_no_fault None codec under number value e told =
     codec.shard.checked number value e told
 says_no_fault (Some index) codec under number value e told = found_no_fault codec under
     (part_of value (pair_at index told.number)) (length value)
-    (pair_at index told.number) e told.said
+    (pair_at index told.number) e told.why.said
 
 pub shard_no_fault : (codec : ShardCodec) (under : Options) (value : List ℕ) (e : CodecError)
     → shard_says codec under value e → IsNoFault e

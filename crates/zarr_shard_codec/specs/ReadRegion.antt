@@ -1,5 +1,6 @@
 -- What reading a region of a chunk owes.
-use Rattle.std.specs.Prelude.{◌≡◌, ◌≤◌, ◌⊎◌, ℕ, false, List, length, slice_get, Option, Some, None}
+use Rattle.std.specs.Prelude.{◌≡◌, ◌≤◌, ◌⊎◌, ℕ, true, false, List, length, take, slice_get, is_some, Option, Some, None}
+use Rattle.std.specs.List.{list_all}
 use Rattle.zarr_model.specs.Prelude.{Region, Element, chunks_meeting, ArrayBytes, has_long_element, Options, Shown, counted}
 use Rattle.zarrs_storage.specs.Store.{SameContent}
 use Rattle.zarrs_storage.specs.declared.byte_range.ByteRange.TheVariants.{Suffix}
@@ -38,13 +39,15 @@ pub record HasReadRegion (codec : ShardCodec) (region : Region) (wanted : Option
   pub short : has_long_element raw ≡ false
   pub cost : Costs calls bytes old new
 
--- an error tells why an inner chunk that a region meets has no elements: its pair names bytes past
--- the value, or its bytes do not decode
+-- an error tells why the first inner chunk that a region meets and that has no elements has none: its
+-- pair names bytes past the value, or its bytes do not decode
 pub record SaysMet (codec : ShardCodec) (under : Options) (region : Region)
     (value index : List ℕ) (e : CodecError) : Type 0 where
   pub chunk : List ℕ
   pub place : ℕ
   pub met : slice_get (chunks_meeting (inner_grid codec) region) place ≡ Some chunk
+  pub first : list_all (λ other. is_some (inner_content (own_array codec under) value index other))
+      (take place (chunks_meeting (inner_grid codec) region)) ≡ true
   pub fails : inner_content (own_array codec under) value index chunk ≡ None
   pub said : found_says (InnerSays codec under) value (pair_at index (number_of codec chunk)) e
 

@@ -1,5 +1,5 @@
 -- All inner chunks of a chunk, put together.
-use Rattle.std.specs.Prelude.{◌≡◌, ℕ, List, length, Option, Some, None}
+use Rattle.std.specs.Prelude.{◌≡◌, ◌<◌, ℕ, List, length, Option, Some, None, IsSome}
 use Rattle.zarr_model.specs.Prelude.{Region, count, count_of, kind, Element, Options}
 use Rattle.zarrs_codec_bytes.specs.Overlap.{Copied}
 use Rattle.zarrs_codec_error.specs.declared.error.CodecError.{CodecError}
@@ -34,12 +34,19 @@ pub record HasPut (codec : ShardCodec) (under : Options) (value index : List ℕ
   pub copied : Copied over ((inner_grid codec).chunk_box chunk) list (list_held old)
       (list_held new)
 
--- an error tells why some inner chunk does not decode
+-- an error tells why the inner chunk of a number does not decode
+pub record SaysAt (codec : ShardCodec) (under : Options) (value index : List ℕ) (number : ℕ)
+    (e : CodecError) : Type 0 where
+  pub fails : inner_at (inner_decoded codec under) value (pair_at index number) ≡ None
+  pub said : found_says (InnerSays codec under) value (pair_at index number) e
+
+-- that of the first that does not
 pub record SaysInner (codec : ShardCodec) (under : Options) (value index : List ℕ)
     (e : CodecError) : Type 0 where
   pub number : ℕ
-  pub fails : inner_at (inner_decoded codec under) value (pair_at index number) ≡ None
-  pub said : found_says (InnerSays codec under) value (pair_at index number) e
+  pub below : number < count_of (inner_grid codec).grid_shape
+  pub first : (k : ℕ) → k < number → IsSome (content_of codec under value index k)
+  pub why : SaysAt codec under value index number e
 
 -- which errors tell that a value decodes to nothing: those of its index, and else of an inner chunk
 abbrev pub says_of : Option (List ℕ) → ShardCodec → Options → ℕ → List ℕ → CodecError → Type 0

@@ -97,7 +97,17 @@ impl ArrayCodecTraits for ShardCodec {
 }
 
 impl ArrayToBytesCodecTraits for ShardCodec {
-    ghost use Rattle.std.specs.Prelude.{None};
+    ghost use Rattle.std.specs.Prelude.{◌≡◌, List, None, IfOk};
+    ghost use Rattle.zarr_model.specs.Prelude.{kind_of, count_of, Element, Options};
+    ghost use Rattle.zarrs_data_type_elements.specs.FillValue.{fill_bytes};
+    ghost use Rattle.zarrs_data_type_names.specs.DataType.{type_of};
+    ghost use Rattle.zarrs_codec_array_bytes.specs.Raw.{raw_of};
+    ghost use Rattle.zarrs_codec_array_bytes.specs.Refusals.{validity, then_answer, Answers};
+    ghost use Rattle.zarrs_codec_traits.specs.Errors.{unserved_at, RefusesBy};
+    ghost use Rattle.zarrs_codec_traits.specs.Views.{lengths, level_of, options_of};
+    ghost use Rattle.zarrs_codec_traits.specs.Words.{list_at, IsFit};
+    ghost use Rattle.zarr_shard_codec.specs.Encoding.{IsEncoded};
+    ghost use Rattle.zarr_shard_codec.specs.Serving.{shard_unserved};
     ghost use Rattle.zarrs_codec_options.specs.declared.bytes_representation.BytesRepresentation.TheVariants.{UnboundedSize};
     ghost use Rattle.zarrs_codec_traits.proofs.TakenLaws.{nothing_asked};
     ghost use Rattle.zarr_shard_codec.specs.Counted.{meaning_counted};
@@ -151,7 +161,25 @@ impl ArrayToBytesCodecTraits for ShardCodec {
         data_type: &DataType,
         fill_value: &FillValue,
         options: &CodecOptions,
-    ) -> Result<Vec<u8>, CodecError> {
+    ) -> Result<Vec<u8>, CodecError>
+        requires fits { IsFit (lengths shape.now) (type_of data_type.now) }
+        ensures unserved { RefusesBy (unserved_at (shard_unserved self.now)
+            (level_of shape.now data_type.now fill_value.now) (fill_bytes fill_value.now)) result }
+        ensures exact { let level = level_of shape.now data_type.now fill_value.now in
+            unserved_at (shard_unserved self.now) level (fill_bytes fill_value.now) ≡ None
+            → Answers (then_answer
+            (validity (kind_of level.data_type) (count_of level.shape) (raw_of bytes.entry))
+            (long_refusal (raw_of bytes.entry))) result }
+        ensures value { let level = level_of shape.now data_type.now fill_value.now in
+            unserved_at (shard_unserved self.now) level (fill_bytes fill_value.now) ≡ None
+            → IfOk result (λ v. (under : Options)
+            → shard_meaning self.now under level v.items ≡ list_at level (raw_of bytes.entry)) }
+        // The value is the inner chunks, one after another, and behind them the index of their pairs.
+        ensures laid { let level = level_of shape.now data_type.now fill_value.now in
+            unserved_at (shard_unserved self.now) level (fill_bytes fill_value.now) ≡ None
+            → (list : List Element) → list_at level (raw_of bytes.entry) ≡ Some list
+            → IfOk result (λ v. IsEncoded self.now (options_of options.now) list v.items) }
+    {
         self.expect_own(shape, data_type, fill_value)?;
         self.encode_value(alloc, &bytes, options)
     }

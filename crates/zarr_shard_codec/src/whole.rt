@@ -12,7 +12,7 @@ ghost use Rattle.zarr_shard_codec.specs.Inner.{AreInner};
 ghost use Rattle.zarr_shard_codec.specs.Placing.{indices_at};
 ghost use Rattle.zarr_shard_codec.specs.Shard.{by_index};
 ghost use Rattle.zarr_shard_codec.specs.ShardCodec.{inner_of, inner_grid, own_level, own_list, own_array};
-ghost use Rattle.zarr_shard_codec.specs.Whole.{content_of, HoldsOver, HasPut, SaysInner, shard_says};
+ghost use Rattle.zarr_shard_codec.specs.Whole.{content_of, HoldsOver, HasPut, SaysAt, SaysInner, shard_says};
 
 use crate::index::find_index;
 use crate::inner_chunks::{InnerChunks, put_at};
@@ -47,7 +47,7 @@ impl InnerChunks<'_> {
             (all_of (inner_of self.now.codec.now).shape) (indices_at self.now.codec.now number)
             elements.old elements.new)
             (IsDecodeError (content_of self.now.codec.now under value.now index.now number)
-            (SaysInner self.now.codec.now under value.now index.now)) }
+            (SaysAt self.now.codec.now under value.now index.now number)) }
     {
         match self.decode_inner(alloc, value, index, number as usize, options) {
             Ok(Some(bytes)) => {

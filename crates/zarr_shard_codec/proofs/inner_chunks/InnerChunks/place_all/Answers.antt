@@ -12,7 +12,7 @@ loop-number-init c = (c.requires.holds, none_put c.args.self.now.codec.now (opti
 pub returns-in-Err-clause-put : goal.returns-in-Err-clause-put
 returns-in-Err-clause-put c =
     let below : c.loop-number.number < count_of (inner_grid c.args.self.now.codec.now).grid_shape = omega (arith, c.num_inner-number-end.ensures) in
-    stops_putting c.args.self.now.codec.now (options_of c.args.options.now) c.args.value.now c.args.index.now c.loop-number.number c.in-Err.error below c.in-Err.ensures.put
+    stops_putting c.args.self.now.codec.now (options_of c.args.options.now) c.args.value.now c.args.index.now c.loop-number.number (list_held c.loop-number.elements) c.in-Err.error below c.loop-number.invariant.1 c.in-Err.ensures.put
 
 pub loop-number-preserved : goal.loop-number-preserved
 loop-number-preserved c =
