@@ -1,5 +1,5 @@
 -- What commands cost that run one after another.
-use Rattle.std.proofs.Common.{◌≡◌, ℕ, ◌+◌, ◌-◌, ◌^◌, ◌<◌, ◌≤◌, ◌&&◌, Bool, true, false, List, [], ◌∷◌, ◌++◌, length, take, slice_get, Some, None, Ok, Err, refl, sym, ap, ap₂, ◌∙◌, ◌⊎◌, subst, arith, inl, inr, ⊎_elim, if◌then◌else◌}
+use Rattle.std.proofs.Common.{◌≡◌, ℕ, ◌+◌, ◌-◌, ◌^◌, ◌<◌, ◌≤◌, ◌&&◌, ◌||◌, Bool, true, false, List, [], ◌∷◌, ◌++◌, length, take, slice_get, Option, Some, None, is_some, Ok, Err, refl, sym, ap, ap₂, ◌∙◌, ◌⊎◌, subst, arith, inl, inr, ⊎_elim, if◌then◌else◌}
 use Rattle.std.specs.List.{sum_by, list_all}
 use Rattle.std.proofs.Math.Path.{fun_ext}
 use Rattle.std.proofs.lemmas.Bool.{and_parts}
@@ -14,7 +14,7 @@ use Rattle.zarr_array_regions.specs.Pays.{Pays, cost_of, costs_of, PaysRead, Pay
 use Rattle.zarr_array_regions.specs.declared.error.SessionErrorKind.{SessionErrorKind}
 use Rattle.zarr_array_regions.specs.declared.error.SessionErrorKind.TheVariants.{OutOfMemory}
 use Rattle.zarr_array.specs.Command.{is_read, AreReads}
-use Rattle.zarr_array.specs.Costs.{read_cost, CostsOn}
+use Rattle.zarr_array.specs.Costs.{read_cost, only_reads, OnlyReads, CostsOn}
 use Rattle.zarr_array.specs.Ended.{Ended}
 use Rattle.zarr_array.specs.Runs.{RunsOn}
 use Rattle.zarr_array.proofs.StepRuns.{no_chunks, no_calls}
@@ -33,13 +33,28 @@ calls_at description command chunks k before now asks listed counts =
     (λ (next : (k < length chunks) × (now ≡ counted before (k + 1))). inr (subst (λ cs. k < length cs) (sym listed) next.0, omega (arith, next.1)))
     counts)
 
--- reads among commands
-pub reads_parts : (commands : List Command) (command : Command) → AreReads (commands ++ command ∷ []) → AreReads commands × AreReads (command ∷ [])
-reads_parts [] command all = (refl, all)
-reads_parts (first ∷ commands) command all =
-    let parts = and_parts (is_read first) (list_all is_read (commands ++ command ∷ [])) all in
-    let rest = reads_parts commands command parts.1 in
+-- what is so of each of some commands and of one more
+pub each_parts : (test : Command → Bool) (commands : List Command) (command : Command) → list_all test (commands ++ command ∷ []) ≡ true → (list_all test commands ≡ true) × (list_all test (command ∷ []) ≡ true)
+each_parts test [] command all = (refl, all)
+each_parts test (first ∷ commands) command all =
+    let parts = and_parts (test first) (list_all test (commands ++ command ∷ [])) all in
+    let rest = each_parts test commands command parts.1 in
     (ap₂ (λ a b. a && b) parts.0 rest.0, rest.1)
+
+-- an accepted command that does not read is none of those that only read
+pub reads_not : (description : Description) (command : Command) → refusal description command ≡ None → is_read command ≡ false → OnlyReads description (command ∷ []) → ⊥
+reads_not description command accepted other reads =
+    let none : ((is_read command || is_some (refusal description command)) && true) ≡ false = ap₂ (λ a (r : Option Refusal). (a || is_some r) && true) other accepted in
+    let both : true ≡ false = sym reads ∙ none in cc
+
+-- one that only reads changes nothing
+pub only_same : (description : Description) (options : Options) (command : Command) (before now : Shown) (ended : Ended) → (AreReads (command ∷ []) → SameContent before now) →
+    RunsOn description options (command ∷ []) before now ended → OnlyReads description (command ∷ []) → SameContent before now
+only_same description options command before now ended same runs reads = go (is_read command) same reads
+  where
+    go : (b : Bool) → ((b && true) ≡ true → SameContent before now) → ((b || is_some (refusal description command)) && true) ≡ true → SameContent before now
+    go true same reads = same refl
+    go false same reads = (runs.refused reads).content
 
 module _ (description : Description) (options : Options) where
   -- what is read costs what its chunks cost
@@ -79,7 +94,7 @@ module _ (description : Description) (options : Options) where
         taken = λ told. one_takes description options (write region bytes) None before now accepted
             (paid.taken told ∙ ap (counted before.taken) (ap (sum_by _) (take_all (length (chunks_meeting description.grid region)) (chunks_meeting description.grid region) (omega arith)) ∙ sym (write_needs description region bytes before.content)));
       }
-  write_costs (by_part cost) region bytes before now answers accepted paid = λ reads. cc
+  write_costs (by_part cost) region bytes before now answers accepted paid = λ reads. absurd (reads_not description (write region bytes) accepted refl reads)
 
   pub write_stops : (costs : Costs) (region : Region) (bytes : ArrayBytes) (k : ℕ) (before now : Shown) (kind : SessionErrorKind) → refusal description (write region bytes) ≡ None →
       PaysPart costs k (length (chunks_meeting description.grid region)) before now → CostsOn costs description options (write region bytes ∷ []) before now (fails_at 0 k kind)
@@ -98,7 +113,7 @@ module _ (description : Description) (options : Options) where
     stopped = tt;
     taken = λ told. erase_takes description options chunk before now accepted untaken room;
   }
-  erase_costs (by_part cost) chunk before now answers accepted unasked untaken fits room = λ reads. cc
+  erase_costs (by_part cost) chunk before now answers accepted unasked untaken fits room = λ reads. absurd (reads_not description (erase chunk) accepted refl reads)
 
   pub erase_stops : (costs : Costs) (chunk : List ℕ) (before now : Shown) (kind : SessionErrorKind) → now.asks ≡ before.asks → before.asks ≤ 2 ^ 64 - 1 →
       CostsOn costs description options (erase chunk ∷ []) before now (fails_at 0 0 kind)
@@ -150,7 +165,7 @@ module _ (description : Description) (options : Options) where
 
   -- one more command
   pub more_costs : (costs : Costs) → CoversShape description.shape description.grid → IsSound (layout description options) → (commands : List Command) (command : Command) (before mid now : Shown) (answers : List Answer) (answer : Answer) →
-      RunsOn description options commands before mid (Ok answers) → (AreReads commands → SameContent before mid) →
+      RunsOn description options commands before mid (Ok answers) → (OnlyReads description commands → SameContent before mid) →
       CostsOn costs description options commands before mid (Ok answers) → CostsOn costs description options (command ∷ []) mid now (Ok (answer ∷ [])) →
       CostsOn costs description options (commands ++ command ∷ []) before now (Ok (answers ++ answer ∷ []))
   more_costs (by_chunk alone) covers sound commands command before mid now answers answer ran same first second = record {
@@ -159,7 +174,7 @@ module _ (description : Description) (options : Options) where
     taken = λ told. more_takes description options covers sound commands command before mid now answers ran (first.taken told) (second.taken told);
   }
   more_costs (by_part cost) covers sound commands command before mid now answers answer ran same first second = λ reads.
-      let parts = reads_parts commands command reads in
+      let parts = each_parts (only_reads description) commands command reads in
       let each : Command → Cost = read_cost cost description options before.content in
       let later : Pays (costs_of each (command ∷ [])) mid now = subst (λ s. Pays (costs_of (read_cost cost description options s) (command ∷ [])) mid now) (fun_ext (same parts.0)) (second parts.1) in
       let here : Pays (costs_of each commands) before mid = first parts.0 in

@@ -1,9 +1,10 @@
 -- What commands cost a store by what fetching a chunk costs.
-use Rattle.std.specs.Prelude.{◌≡◌, Bool, true, List, IfErr, OnOk}
-use Rattle.zarr_model.specs.Prelude.{Options, Content, Shown, Command, read, write, erase, Description, command_chunks, all_asks, AsksUpTo, counted, TakesNeeded}
+use Rattle.std.specs.Prelude.{◌≡◌, ◌||◌, Bool, true, List, is_some, IfErr, OnOk}
+use Rattle.std.specs.List.{list_all}
+use Rattle.zarr_model.specs.Prelude.{Options, Content, Shown, Command, read, write, erase, Description, refusal, command_chunks, all_asks, AsksUpTo, counted, TakesNeeded}
 use Rattle.zarr_array_regions.specs.Access.{Cost, PartCost, Costs, by_chunk, by_part}
 use Rattle.zarr_array_regions.specs.Pays.{Pays, cost_of, costs_of}
-use Rattle.zarr_array.specs.Command.{AreReads}
+use Rattle.zarr_array.specs.Command.{is_read}
 use Rattle.zarr_array.specs.Ended.{Ended}
 
 -- one call fetched each chunk, by which exactly the bytes needed were taken where that is told
@@ -20,9 +21,17 @@ read_cost cost array options store (read region) =
 read_cost cost array options store (write region bytes) = record { asks = 0; taken = 0 }
 read_cost cost array options store (erase chunk) = record { asks = 0; taken = 0 }
 
--- what commands cost that ran; of those that write nothing is said where parts are paid for
+-- a command reads, or is refused; and each of a list does
+abbrev pub only_reads : Description → Command → Bool
+only_reads array command = is_read command || is_some (refusal array command)
+
+abbrev pub OnlyReads : Description → List Command → Type 0
+OnlyReads array commands = list_all (only_reads array) commands ≡ true
+
+-- what commands cost that ran; where parts are paid for, nothing is said beside an accepted write or
+-- erase
 abbrev pub CostsOn : Costs → Description → Options → List Command → Shown → Shown → Ended → Type 0
 CostsOn (by_chunk alone) array options commands before now ended =
     CostsByChunk alone array options commands before now ended
-CostsOn (by_part cost) array options commands before now ended = AreReads commands →
+CostsOn (by_part cost) array options commands before now ended = OnlyReads array commands →
     OnOk ended (Pays (costs_of (read_cost cost array options before.content) commands) before now)

@@ -111,6 +111,8 @@ pub fn run_erase<C: ChunkAccess, S: Store>(
         (S.shown store.new) (ended_step result) }
     ensures answered { AreRefused (described (C.seen array.now))
         (erase chunk_indices.now ∷ []) → IsOk result }
+    ensures unasked { (S.shown store.new).asks ≡ (S.shown store.old).asks }
+    ensures untaken { (S.shown store.new).taken ≡ (S.shown store.old).taken }
     ensures told { IfErr result (λ error. TellsOfSome None
         (described (C.seen array.now)) (C.seen array.now).says (options_of options.now)
         (S.shown store.new) error.kind) }

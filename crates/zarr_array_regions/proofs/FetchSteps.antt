@@ -23,18 +23,16 @@ use Rattle.zarr_array_parts.specs.Parts.{documented, described}
 use Rattle.zarr_array_parts.specs.declared.parts.ArrayParts.{ArrayParts}
 use Rattle.zarr_array_regions.specs.Asked.{part_asked, finds_asked}
 use Rattle.zarr_array_regions.specs.Codecs.{list_request, box_below, basic_seen}
-use Rattle.zarr_array_regions.specs.Chunk.{chunk_kind, FailsToFetch}
+use Rattle.zarr_array_regions.specs.Chunk.{chunk_kind}
 use Rattle.zarr_array_regions.specs.Access.{stored_by}
 use Rattle.zarr_array_regions.specs.Fetch.{NotFetched}
 use Rattle.zarr_array_regions.specs.Plain.{plain_access}
-use Rattle.zarr_array_regions.specs.Tells.{TellsOf}
 use Rattle.zarr_array_regions.specs.Told.{value_says}
-use Rattle.zarr_array_regions.specs.declared.error.SessionErrorKind.{SessionErrorKind}
 use Rattle.zarr_array_regions.proofs.AlikeLaws.{other_value}
 use Rattle.zarr_array_regions.proofs.BottomLaws.{below}
-use Rattle.zarr_array_regions.proofs.ChunkLaws.{by_kind, own_content}
+use Rattle.zarr_array_regions.proofs.CauseLaws as cause
+use Rattle.zarr_array_regions.proofs.ChunkLaws.{own_content}
 use Rattle.zarr_array_regions.proofs.FoundLaws.{nothing_found, unasked_unfound, outside_unfound}
-use Rattle.zarr_array_regions.proofs.TellsLaws.{told_of_storage}
 use Rattle.zarr_array_regions.proofs.ToldLaws.{no_fault_says, says_whole, says_all, says_nothing, says_range}
 
 -- a store was asked for one value, or for none, and nothing was changed
@@ -72,35 +70,17 @@ module _ (array : ArrayParts) (chain : BasicChain) (levels : ChunkLevels) (optio
     abbrev Why : Type 0
     Why = Unfetched asked (before.content its_key) before.faults now.faults error
 
-    abbrev Fails : List ℕ → SessionErrorKind → Type 0
-    Fails key kind = FailsToFetch (chunk_content (layout (described array) options) before.content chunk) (finds_asked (described array) options chunk asked (before.content its_key)) key before now kind
-
-    abbrev Tells : SessionErrorKind → Type 0
-    Tells kind = TellsOf (described array) (value_says (documented array)) options chunk asked now kind
-
-    failed : Why → Fails its_key (chunk_kind its_key error)
-    failed (inl (inl memory)) = subst (λ e. Fails its_key (chunk_kind its_key e)) (sym memory) tt
-    failed (inl (inr fault)) = subst (λ e. Fails its_key (chunk_kind its_key e)) (sym fault.0) fault.1
-    failed (inr why) = by_kind Fails its_key error
-        (λ fault is. absurd (no_fault_says fault (documented array) options chunk asked (before.content its_key) (subst (stored_by (value_says (documented array)) options chunk asked (before.content its_key)) is why.2))) tt
-        (refl, own_content array chain levels options chunk serves its_key before refl ∙ why.0, why.1)
-
-    told : Why → Tells (chunk_kind its_key error)
-    told (inl (inl memory)) = subst (λ e. Tells (chunk_kind its_key e)) (sym memory) tt
-    told (inl (inr fault)) = subst (λ e. Tells (chunk_kind its_key e)) (sym fault.0) tt
-    told (inr why) = by_kind (λ key kind. Tells kind) its_key error
-        (λ fault is. told_of_storage (described array) (value_says (documented array)) options chunk asked now fault) tt
-        (refl, subst (λ v. stored_by (value_says (documented array)) options chunk asked v error) (sym (may.same its_key)) why.2)
+    by_array : Why → cause.Unfetched (plain_access array) options chunk asked before now error
+    by_array (inl handle) = inl handle
+    by_array (inr why) = inr (record {
+      content = own_content array chain levels options chunk serves its_key before refl ∙ why.0;
+      unfound = why.1;
+      said = why.2;
+      unlike = λ fault is. no_fault_says fault (documented array) options chunk asked (before.content its_key) (subst (stored_by (value_says (documented array)) options chunk asked (before.content its_key)) is why.2);
+    })
 
     not_fetched : Why → NotFetched asked (plain_access array) options chunk before now (chunk_kind its_key error)
-    not_fetched why = record {
-      same = may.same;
-      paid = may.asks;
-      puts = may.puts;
-      later = may.later;
-      failed = failed why;
-      told = told why;
-    }
+    not_fetched why = cause.not_fetched (plain_access array) options chunk asked before now error (record { same = may.same; puts = may.puts; later = may.later }) may.asks (by_array why)
 
   -- the chain's call for all of a chunk failed
   pub fetch_failed : (key : List ℕ) (before now : Shown) (error : CodecError) → key ≡ its_key → MayHaveAsked before now →

@@ -12,6 +12,7 @@ pub mod BottomLaws
 pub mod AskedLaws
 pub mod AcceptedLaws
 pub mod TellsLaws
+pub mod CauseLaws
 pub mod PaysLaws
 pub mod StarvedLaws
 pub mod ToldLaws

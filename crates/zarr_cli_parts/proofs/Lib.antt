@@ -7,6 +7,6 @@ mod ReadLaws
 mod TakenLaws
 mod AsciiLaws
 mod StepLemmas
-mod RunLemmas
+pub mod RunLemmas
 mod RanLaws
 pub mod StarvedLaws

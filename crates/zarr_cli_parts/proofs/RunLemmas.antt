@@ -1,24 +1,21 @@
 -- Commands that ran, their text, a dump behind them, and key lines before them.
 use Rattle.std.proofs.Common.{◌≡◌, ℕ, ◌+◌, ◌-◌, ◌^◌, ◌<◌, ◌≤◌, Bool, true, false, List, [], ◌++◌, length, Contains, Vec, Result, Ok, Err, IfOk, IfErr, OnOk, OnErr, refl, sym, ap, ◌∙◌, subst, arith, le_trans}
 use Rattle.std.specs.declared.alloc.Global.{Global}
-use Rattle.zarr_model.specs.Prelude.{Command, Content, Description, kind, replies, counted, LeavesArray, IsDamageSeen, SeesNoDamage, AreRefused, IsUntouched, Rose, Shown, Options, with_keys}
+use Rattle.zarr_model.specs.Prelude.{Command, Content, Description, kind, replies, counted, all_puts, LeavesArray, IsDamageSeen, SeesNoDamage, AreRefused, IsUntouched, Rose, Shown, Options, with_keys}
 use Rattle.zarr_cli_runs.specs.array.Stored.{StoresForAll}
-use Rattle.zarr_cli_runs.specs.array.parts.Document.{ArrayDocument, describe}
 use Rattle.zarr_cli_runs.specs.array.declared.open.OpenArray.{OpenArray}
 use Rattle.zarr_cli_runs.specs.array.declared.command.Reply.{Reply}
 use Rattle.zarr_cli_runs.specs.Keys.{Dumps, IsDumpFault}
 use Rattle.zarr_cli_runs.specs.Between.{LeavesBetween}
 use Rattle.zarr_cli_runs.specs.Status.{ending_of}
-use Rattle.zarr_cli_runs.specs.Commands.{IsChangedKey, IsRunFault, RepliedBy, CostsRun, LeavesUndamaged}
-use Rattle.zarr_cli_runs.specs.array.regions.Access.{by_chunk}
-use Rattle.zarr_cli_runs.specs.array.regions.Plain.{is_bytes_alone}
+use Rattle.zarr_cli_runs.specs.Commands.{IsChangedKey, IsRunFault, RepliedBy, LeavesUndamaged}
 use Rattle.zarr_cli_runs.proofs.BetweenLaws.{between_keys, between_set, between_ran, earlier_failed}
 use Rattle.zarr_cli_runs.specs.declared.status.Status.{Status}
 use Rattle.zarr_cli_runs.specs.declared.status.Status.TheVariants.{Done, BadWords, BadInput, Document, Chunk, Store, Read, Write, TooLong, OutOfMemory}
 use Rattle.zarr_cli_runs.specs.lines.Parts.{IsTextOf}
 use Rattle.zarr_cli_parts.specs.Words.{Settings}
 use Rattle.zarr_cli_parts.specs.Lines.{IsKeyOf, with_entries}
-use Rattle.zarr_cli_parts.specs.Run.{Costs, Counts, counts_of, open_costs, CostsAll, Prints, SetsPart}
+use Rattle.zarr_cli_parts.specs.Run.{Costs, Counts, counts_of, CostsAll, Prints, SetsPart}
 use Rattle.zarr_cli_parts.specs.Array.{Job, job, Did, Replied}
 use Rattle.zarr_cli_parts.specs.Steps.{RepliesTo, PrintsAll}
 
@@ -69,38 +66,39 @@ untouched_then before mid now first second = record {
   puts = second.puts ∙ first.puts;
 }
 
--- an opened array's replies
-module _ (document : ArrayDocument) (options : Options) (commands : List Command) (before now : Shown) (few : before.puts ≤ 2 ^ 64 - 1) where
+-- replies of an array whose commands cost what they are paid for
+module _ (costs : Costs) (description : Description) (options : Options) (commands : List Command) (before now : Shown) (few : before.puts ≤ 2 ^ 64 - 1)
+    (Paid : Type 0) (pays : Paid → now.puts ≡ counted before.puts (all_puts description commands) → costs.ran options commands before.content (counts_of before) (counts_of now)) where
   none_set : before.puts ≡ counted before.puts 0
   none_set = omega (arith, few)
 
-  its_replies : {Z : Type 0} (result : Result (Vec Reply Z) Status) → IfOk result (λ held. RepliedBy (describe document) options commands before now held.items) → OnOk result (CostsRun (by_chunk (is_bytes_alone document)) (describe document) options commands before now) →
-      IfOk result (λ held. Replied (open_costs document) (describe document) options commands before now held.items)
-  its_replies (Ok held) ran takes = record {
+  its_replies : {Z : Type 0} (result : Result (Vec Reply Z) Status) → IfOk result (λ held. RepliedBy description options commands before now held.items) → OnOk result Paid →
+      IfOk result (λ held. Replied costs description options commands before now held.items)
+  its_replies (Ok held) ran paid = record {
     matched = ran.matched;
     mended = ran.mended;
     left = ran.left;
     stored = ran.stored;
     undamaged = ran.undamaged;
     refusals = ran.refusals;
-    cost = record { asks = takes.asks; puts = ran.puts; taken = takes.taken };
+    cost = pays paid ran.puts;
   }
-  its_replies (Err status) ran takes = tt
+  its_replies (Err status) ran paid = tt
 
   known_ok : {T : Type 0} (P : Type 0) (result : Result T Status) → P → OnOk result P
   known_ok P (Ok value) p = p
   known_ok P (Err status) p = tt
 
-  pub array_did : {Z : Type 0} (result : Result (Vec Reply Z) Status) → IfOk result (λ held. RepliedBy (describe document) options commands before now held.items) → OnOk result (CostsRun (by_chunk (is_bytes_alone document)) (describe document) options commands before now) →
-      (AreRefused (describe document) commands → IsUntouched before now) →
-      ((key : List ℕ) → ¬ IsChangedKey (describe document) commands key → now.content key ≡ before.content key) → before.faults ≤ now.faults →
-      IfErr result (λ status. IsRunFault true (describe document) options commands before now status) →
-      IfErr result (λ status. LeavesBetween true (describe document) options [] commands before now (ending_of status)) →
-      (SeesNoDamage (describe document) options commands before.content → ¬ Rose before.faults now.faults → IfErr result (λ status. status ≡ OutOfMemory)) →
-      Did (job true (describe document) options [] commands) (Unit {0}) before now result (λ held. Replied (open_costs document) (describe document) options commands before now held.items)
-  array_did result ran takes refused unchanged later fault between complete = record {
-    done = its_replies result ran takes;
-    fault = earlier_fault true (describe document) options commands (with_entries [] before) before now refl refl none_set (omega arith) result fault;
+  pub array_did : {Z : Type 0} (result : Result (Vec Reply Z) Status) → IfOk result (λ held. RepliedBy description options commands before now held.items) → OnOk result Paid →
+      (AreRefused description commands → IsUntouched before now) →
+      ((key : List ℕ) → ¬ IsChangedKey description commands key → now.content key ≡ before.content key) → before.faults ≤ now.faults →
+      IfErr result (λ status. IsRunFault costs.once description options commands before now status) →
+      IfErr result (λ status. LeavesBetween costs.once description options [] commands before now (ending_of status)) →
+      (SeesNoDamage description options commands before.content → ¬ Rose before.faults now.faults → IfErr result (λ status. status ≡ OutOfMemory)) →
+      Did (job costs.once description options [] commands) (Unit {0}) before now result (λ held. Replied costs description options commands before now held.items)
+  array_did result ran paid refused unchanged later fault between complete = record {
+    done = its_replies result ran paid;
+    fault = earlier_fault costs.once description options commands (with_entries [] before) before now refl refl none_set (omega arith) result fault;
     between = between;
     complete = complete;
     unchanged = λ key free none. unchanged key none;

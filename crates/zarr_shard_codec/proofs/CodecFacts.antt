@@ -26,7 +26,7 @@ use Rattle.zarr_shard_codec.specs.declared.shard_codec.ShardCodec.{ShardCodec}
 use Rattle.zarr_shard_codec.proofs.CutLaws.{cut_within, cut_some}
 
 -- a regular grid is the one of its lengths
-regular_of : (form : ChunkGrid) → is_regular form ≡ true → form ≡ regular (lengths_of form)
+pub regular_of : (form : ChunkGrid) → is_regular form ≡ true → form ≡ regular (lengths_of form)
 regular_of (regular own) e = refl
 regular_of (boundaries lengths) e = cc
 

@@ -13,7 +13,7 @@ use Rattle.zarrs_codec_held.proofs.EditLaws.{fault_later}
 use Rattle.zarrs_codec_held.proofs.IntervalLaws.{one_told}
 use Rattle.zarrs_codec_partial_bytes.specs.Stored.{taken_of}
 use Rattle.zarrs_codec_partial_bytes.proofs.StoredLaws.{handed_taken, stored_told}
-use Rattle.zarr_shard_codec.specs.ReadRegion.{Costs, NotRead}
+use Rattle.zarr_shard_codec.specs.ReadRegion.{HasCost, NotRead}
 
 -- one part of one range
 pub one_part : (value : Option (List ℕ)) (range : ByteRange) (parts : List (List ℕ)) → Some parts ≡ option_map (slices_of (range ∷ [])) value → length parts ≡ 1
@@ -44,7 +44,7 @@ module _ (key : List ℕ) (range : ByteRange) (old new : Shown) where
   abbrev Read : Result (Option (Vec (Vec ℕ Global) Global)) StorageError → Type 0
   Read result = GetsParts key (range ∷ []) old new result
 
-  pub range_costs : (given : Option (Vec (Vec ℕ Global) Global)) → Read (Ok given) → Costs 1 (taken_of (Some (range ∷ [])) under_key) old new
+  pub range_costs : (given : Option (Vec (Vec ℕ Global) Global)) → Read (Ok given) → HasCost 1 (taken_of (Some (range ∷ [])) under_key) old new
   range_costs given gets = record {
     same = gets.same;
     later = gets.cause.later;
@@ -71,11 +71,11 @@ module _ (key : List ℕ) (range : ByteRange) (old new : Shown) where
   }
 
 -- nothing was read
-pub no_cost : (store : Shown) → store.asks ≤ 2 ^ 64 - 1 → store.taken ≤ 2 ^ 64 - 1 → Costs 0 0 store store
+pub no_cost : (store : Shown) → store.asks ≤ 2 ^ 64 - 1 → store.taken ≤ 2 ^ 64 - 1 → HasCost 0 0 store store
 no_cost store fits room = record { same = λ key. refl; later = omega arith; asks = omega (arith, fits); taken = omega (arith, room) }
 
 -- some calls after others
-pub both_cost : (calls bytes more_calls more_bytes : ℕ) (before mid now : Shown) → Costs calls bytes before mid → Costs more_calls more_bytes mid now → Costs (calls + more_calls) (bytes + more_bytes) before now
+pub both_cost : (calls bytes more_calls more_bytes : ℕ) (before mid now : Shown) → HasCost calls bytes before mid → HasCost more_calls more_bytes mid now → HasCost (calls + more_calls) (bytes + more_bytes) before now
 both_cost calls bytes more_calls more_bytes before mid now first second = record {
   same = λ key. second.same key ∙ first.same key;
   later = le_trans first.later second.later;
@@ -87,7 +87,7 @@ both_cost calls bytes more_calls more_bytes before mid now first second = record
     sums a b c n m one two = omega (arith, one, two)
 
 -- what failed after some calls, for this reason or another that it brings
-pub unread_after : {A B : Type 0} (wanted : Option A) (more : Option B) (says tells : CodecError → Type 0) (calls bytes : ℕ) (before mid now : Shown) (e : CodecError) → Costs calls bytes before mid →
+pub unread_after : {A B : Type 0} (wanted : Option A) (more : Option B) (says tells : CodecError → Type 0) (calls bytes : ℕ) (before mid now : Shown) (e : CodecError) → HasCost calls bytes before mid →
     (more ≡ None → tells e → (wanted ≡ None) × says e) → NotRead more tells mid now e → NotRead wanted says before now e
 unread_after wanted more says tells calls bytes before mid now e cost brings failed = record {
   same = λ key. failed.same key ∙ cost.same key;

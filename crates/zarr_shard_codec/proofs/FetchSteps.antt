@@ -11,9 +11,9 @@ use Rattle.zarr_array_elements.specs.BoxElements.{kind_held, box_held, list_held
 use Rattle.zarr_array_elements.specs.declared.box_elements.BoxElements.{BoxElements}
 use Rattle.zarr_shard_codec.specs.Index.{Pair, pair_at}
 use Rattle.zarr_shard_codec.specs.Inner.{found_says, inner_at}
-use Rattle.zarr_shard_codec.specs.MetInner.{HasInner, HasPutInner, says_at}
+use Rattle.zarr_shard_codec.specs.MetInner.{HasInner, HasPutInner}
 use Rattle.zarr_shard_codec.specs.Placing.{number_of}
-use Rattle.zarr_shard_codec.specs.ReadRegion.{Costs, NotRead, HasReadRegion}
+use Rattle.zarr_shard_codec.specs.ReadRegion.{HasCost, NotRead, HasRegion, says_at}
 use Rattle.zarr_shard_codec.specs.Shard.{inner_content}
 use Rattle.zarr_shard_codec.specs.ShardCodec.{inner_grid, inner_level, inner_decoded, own_level, own_array, InnerSays}
 use Rattle.zarr_shard_codec.specs.Whole.{HoldsOver}
@@ -57,8 +57,8 @@ module _ (codec : ShardCodec) (under : Options) (value index : List ℕ) (region
 
 -- what a region's elements are as array bytes
 pub region_read : (codec : ShardCodec) (region : Region) (wanted : Option (List Element)) (calls bytes : ℕ) (old new : Shown) (elements : BoxElements) (raw : ArrayBytes) → HoldsOver codec region elements →
-    wanted ≡ Some (list_held elements) → meaning (kind_held elements) (count (box_held elements)) raw ≡ Some (list_held elements) → has_long_element raw ≡ false → Costs calls bytes old new →
-    HasReadRegion codec region wanted calls bytes old new raw
+    wanted ≡ Some (list_held elements) → meaning (kind_held elements) (count (box_held elements)) raw ≡ Some (list_held elements) → has_long_element raw ≡ false → HasCost calls bytes old new →
+    HasRegion codec region wanted calls bytes old new raw
 region_read codec region wanted calls bytes old new elements raw holds is means short cost =
     let at : list_at (at_box region (own_level codec)) raw ≡ Some (list_held elements) = subst₂ (λ k b. meaning k (count b) raw ≡ Some (list_held elements)) holds.of_kind holds.over means in
     record {

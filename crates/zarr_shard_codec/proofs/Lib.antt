@@ -1,10 +1,10 @@
 mod TableLaws
 mod ChecksumLaws
 mod IndexLaws
-mod ShardLaws
+pub mod ShardLaws
 mod PlacedLaws
 mod CutLaws
-mod CodecFacts
+pub mod CodecFacts
 mod InnerLaws
 mod WholeLaws
 mod PairLaws
@@ -13,7 +13,8 @@ mod MakingLaws
 mod OwnLaws
 mod FetchLaws
 mod MetLaws
-mod RegionLaws
+pub mod RegionLaws
 mod PartLaws
 mod FetchSteps
 mod ReadSteps
+pub mod FaultLaws

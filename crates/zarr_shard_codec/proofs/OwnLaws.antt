@@ -66,20 +66,29 @@ valid_list level raw valid = go (list_at level raw) refl ((refusal-meaning (kind
     go None is there = cc
 
 module _ {T : Type 0} (seen : T → List ℕ) (codec : ShardCodec) (options : Options) (list : List Element) (raw : ArrayBytes) where
+  abbrev IsValue : T → Type 0
+  IsValue v = IsEncoded codec options list (seen v) × ((under : Options) → own_list codec under (seen v) ≡ Some list)
+
+  -- a value that elements were encoded as decodes to them under all options
+  pub encoded_chunk : (r : Result T CodecError) → list_at (own_level codec) raw ≡ Some list → MatchResult r (λ v. IsEncoded codec options list (seen v)) (λ e. e ≡ errors.OutOfMemory) →
+      MatchResult r IsValue (λ e. e ≡ errors.OutOfMemory)
+  encoded_chunk (Ok v) means encoded =
+      let long : length list ≡ count (whole (inner_of codec).shape) = length-meaning (kind (inner_of codec)) (count_of (inner_of codec).shape) raw list means ∙ sym (ap count_of (sizes_whole (inner_of codec).shape)) in
+      (encoded, λ under. encoded_decodes codec options list (seen v) encoded under long)
+  encoded_chunk (Err e) means memory = memory
+
   -- elements that are all short are refused for want of memory alone
-  pub short_answers : (r : Result T CodecError) → has_long_element raw ≡ false → MatchResult r (λ v. IsEncoded codec options list (seen v)) (λ e. e ≡ errors.OutOfMemory) → Answers (long_refusal raw) r
-  short_answers (Ok v) short encoded = short_taken raw short
+  pub short_answers : (r : Result T CodecError) → has_long_element raw ≡ false → MatchResult r IsValue (λ e. e ≡ errors.OutOfMemory) → Answers (long_refusal raw) r
+  short_answers (Ok v) short is = short_taken raw short
   short_answers (Err e) short memory = inl memory
 
   -- they lie in their value as they are to
-  pub encoded_laid : (r : Result T CodecError) → MatchResult r (λ v. IsEncoded codec options list (seen v)) (λ e. e ≡ errors.OutOfMemory) → IfOk r (λ v. IsEncoded codec options list (seen v))
-  encoded_laid (Ok v) encoded = encoded
+  pub encoded_laid : (r : Result T CodecError) → MatchResult r IsValue (λ e. e ≡ errors.OutOfMemory) → IfOk r (λ v. IsEncoded codec options list (seen v))
+  encoded_laid (Ok v) is = is.0
   encoded_laid (Err e) memory = tt
 
-  -- which decodes to them under all options
-  pub encoded_means : (r : Result T CodecError) → list_at (own_level codec) raw ≡ Some list → MatchResult r (λ v. IsEncoded codec options list (seen v)) (λ e. e ≡ errors.OutOfMemory) →
+  -- and are what it means
+  pub encoded_means : (r : Result T CodecError) → list_at (own_level codec) raw ≡ Some list → MatchResult r IsValue (λ e. e ≡ errors.OutOfMemory) →
       IfOk r (λ v. (under : Options) → shard_meaning codec under (own_level codec) (seen v) ≡ list_at (own_level codec) raw)
-  encoded_means (Ok v) means encoded = λ under.
-      let long : length list ≡ count (whole (inner_of codec).shape) = length-meaning (kind (inner_of codec)) (count_of (inner_of codec).shape) raw list means ∙ sym (ap count_of (sizes_whole (inner_of codec).shape)) in
-      meaning_is codec under (seen v) ∙ (encoded_decodes codec options list (seen v) encoded under long ∙ sym means)
+  encoded_means (Ok v) means is = λ under. meaning_is codec under (seen v) ∙ (is.1 under ∙ sym means)
   encoded_means (Err e) means memory = tt

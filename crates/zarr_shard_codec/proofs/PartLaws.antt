@@ -75,7 +75,7 @@ module _ (codec : ShardCodec) (value : List ℕ) where
         region_found = ap (option_and_then (region_by_index (own_array codec under) value region)) own_is
 
         pub pairs_found : pairs_read codec under region value ≡ met_pairs codec region index
-        pairs_found = ap (pairs_by codec region) own_is
+        pairs_found = ap (pairs_by (inner_grid codec) region) own_is
 
         pub says_found_met : (e : CodecError) → SaysMet codec under region value index e → region_says codec under region value e
         says_found_met e told =

@@ -15,7 +15,7 @@ use Rattle.zarrs_codec_partial_bytes.specs.Stored.{taken_of}
 use Rattle.zarrs_codec_traits.specs.Words.{list_at, at_box, Gives, select}
 use Rattle.zarr_shard_codec.specs.Finding.{index_found, index_says}
 use Rattle.zarr_shard_codec.specs.Index.{Pair}
-use Rattle.zarr_shard_codec.specs.ReadRegion.{Costs, NotRead, HasReadRegion, SaysMet, region_says, held_says}
+use Rattle.zarr_shard_codec.specs.ReadRegion.{HasCost, NotRead, HasRegion, SaysMet, region_says, held_says}
 use Rattle.zarr_shard_codec.specs.Region.{index_len, own_part, region_by_index, own_region, met_pairs, pairs_read, held_region, held_asks, held_taken, region_content, region_asks, region_taken}
 use Rattle.zarr_shard_codec.specs.ShardCodec.{inner_of, inner_grid, own_level, own_list, own_array}
 use Rattle.zarr_shard_codec.specs.declared.shard_codec.ShardCodec.{ShardCodec}
@@ -35,16 +35,16 @@ has_none (suc n) e = let more : nat_le 1 (suc n) ≡ true = le-leb 1 (suc n) (om
 -- a read of the index, and then of the inner chunks that a region meets
 module _ (codec : ShardCodec) (under : Options) (region : Region) where
   abbrev ReadBy : List ℕ → Shown → Shown → ArrayBytes → Type 0
-  ReadBy value old new raw = HasReadRegion codec region (own_region codec under region value) (length (pairs_read codec under region value))
+  ReadBy value old new raw = HasRegion codec region (own_region codec under region value) (length (pairs_read codec under region value))
       (sum_by (λ (pair : Pair). pair.size) (pairs_read codec under region value)) old new raw
 
   pub then_read : (content mid_content : Option (List ℕ)) (bytes : List ℕ) (old mid new : Shown) (raw : ArrayBytes) → mid_content ≡ content → value_part content (Suffix (index_len codec)) ≡ Some (Some bytes) →
-      Costs 1 (taken_of (Some (Suffix (index_len codec) ∷ [])) content) old mid → ReadBy (held_bytes mid_content) mid new raw →
-      HasReadRegion codec region (held_region codec under region content) (held_asks codec under region content) (held_taken codec under region content) old new raw
+      HasCost 1 (taken_of (Some (Suffix (index_len codec) ∷ [])) content) old mid → ReadBy (held_bytes mid_content) mid new raw →
+      HasRegion codec region (held_region codec under region content) (held_asks codec under region content) (held_taken codec under region content) old new raw
   then_read None mid_content bytes old mid new raw same some first has = cc
   then_read (Some value) mid_content bytes old mid new raw same some first has =
       let own : ReadBy value mid new raw = subst (λ c. ReadBy (held_bytes c) mid new raw) same has in
-      let index : Costs 1 (index_len codec) old mid = subst (λ n. Costs 1 n old mid) (index_taken codec value bytes some) first in
+      let index : HasCost 1 (index_len codec) old mid = subst (λ n. HasCost 1 n old mid) (index_taken codec value bytes some) first in
       record {
         elements = own.elements;
         short = own.short;
@@ -52,7 +52,7 @@ module _ (codec : ShardCodec) (under : Options) (region : Region) where
       }
 
   pub then_unread : (content mid_content : Option (List ℕ)) (bytes : List ℕ) (old mid new : Shown) (e : CodecError) → mid_content ≡ content → value_part content (Suffix (index_len codec)) ≡ Some (Some bytes) →
-      Costs 1 (taken_of (Some (Suffix (index_len codec) ∷ [])) content) old mid → NotRead (own_region codec under region (held_bytes mid_content)) (region_says codec under region (held_bytes mid_content)) mid new e →
+      HasCost 1 (taken_of (Some (Suffix (index_len codec) ∷ [])) content) old mid → NotRead (own_region codec under region (held_bytes mid_content)) (region_says codec under region (held_bytes mid_content)) mid new e →
       NotRead (held_region codec under region content) (held_says codec under region content) old new e
   then_unread None mid_content bytes old mid new e same some first failed = cc
   then_unread (Some value) mid_content bytes old mid new e same some first failed =
@@ -62,28 +62,28 @@ module _ (codec : ShardCodec) (under : Options) (region : Region) where
 
   -- a region with elements, and one without
   pub some_read : (content : Option (List ℕ)) (old new : Shown) (raw : ArrayBytes) → nat_eq (count region) 0 ≡ false →
-      HasReadRegion codec region (held_region codec under region content) (held_asks codec under region content) (held_taken codec under region content) old new raw →
-      HasReadRegion codec region (region_content codec under region content) (region_asks codec under region content) (region_taken codec under region content) old new raw
+      HasRegion codec region (held_region codec under region content) (held_asks codec under region content) (held_taken codec under region content) old new raw →
+      HasRegion codec region (region_content codec under region content) (region_asks codec under region content) (region_taken codec under region content) old new raw
   some_read content old new raw some has =
       let test : nat_le 1 (count region) ≡ true = has_some (count region) some in record {
         elements = subst (Gives (list_at (at_box region (own_level codec)) raw)) (sym (cond-true _ _ _ test)) has.elements;
         short = has.short;
-        cost = subst₂ (λ n m. Costs n m old new) (sym (cond-true _ _ _ test)) (sym (cond-true _ _ _ test)) has.cost;
+        cost = subst₂ (λ n m. HasCost n m old new) (sym (cond-true _ _ _ test)) (sym (cond-true _ _ _ test)) has.cost;
       }
 
   pub some_unread : (content : Option (List ℕ)) (old new : Shown) (e : CodecError) → nat_eq (count region) 0 ≡ false → NotRead (held_region codec under region content) (held_says codec under region content) old new e →
       NotRead (region_content codec under region content) (held_says codec under region content) old new e
   some_unread content old new e some failed = subst (λ w. NotRead w (held_says codec under region content) old new e) (sym (cond-true _ _ _ (has_some (count region) some))) failed
 
-  pub none_read : (content : Option (List ℕ)) (store : Shown) (raw : ArrayBytes) → nat_eq (count region) 0 ≡ true → list_at (at_box region (own_level codec)) raw ≡ Some (replicate (count region) (inner_of codec).fill) → has_long_element raw ≡ false → Costs 0 0 store store →
-      HasReadRegion codec region (region_content codec under region content) (region_asks codec under region content) (region_taken codec under region content) store store raw
+  pub none_read : (content : Option (List ℕ)) (store : Shown) (raw : ArrayBytes) → nat_eq (count region) 0 ≡ true → list_at (at_box region (own_level codec)) raw ≡ Some (replicate (count region) (inner_of codec).fill) → has_long_element raw ≡ false → HasCost 0 0 store store →
+      HasRegion codec region (region_content codec under region content) (region_asks codec under region content) (region_taken codec under region content) store store raw
   none_read content store raw none means short cost =
       let zero_count : count region ≡ 0 = eqb-true _ _ none in
       let test : nat_le 1 (count region) ≡ false = ap (nat_le 1) zero_count in
       let empty : list_at (at_box region (own_level codec)) raw ≡ Some [] = means ∙ ap (λ n. Some (replicate n (inner_of codec).fill)) zero_count in record {
         elements = record { same = empty ∙ sym (cond-false _ _ _ test); there = subst IsSome (sym empty) refl };
         short = short;
-        cost = subst₂ (λ n m. Costs n m store store) (sym (cond-false _ _ _ test)) (sym (cond-false _ _ _ test)) cost;
+        cost = subst₂ (λ n m. HasCost n m store store) (sym (cond-false _ _ _ test)) (sym (cond-false _ _ _ test)) cost;
       }
 
   -- of a value that decodes it is the region's part
@@ -100,7 +100,7 @@ module _ (codec : ShardCodec) (under : Options) (region : Region) where
 -- the same of a call's result
 module _ (codec : ShardCodec) (under : Options) (region : Region) where
   abbrev Has : Option (List Element) → List Pair → Shown → Shown → ArrayBytes → Type 0
-  Has wanted pairs old new raw = HasReadRegion codec region wanted (length pairs) (sum_by (λ (pair : Pair). pair.size) pairs) old new raw
+  Has wanted pairs old new raw = HasRegion codec region wanted (length pairs) (sum_by (λ (pair : Pair). pair.size) pairs) old new raw
 
   abbrev pub ByIndex : List ℕ → List ℕ → Shown → Shown → Result code.ArrayBytes CodecError → Type 0
   ByIndex value index old new r = MatchResult r (λ v. Has (region_by_index (own_array codec under) value region index) (met_pairs codec region index) old new (raw_of v))
@@ -112,12 +112,12 @@ module _ (codec : ShardCodec) (under : Options) (region : Region) where
 
   abbrev ByContent : Option (List ℕ) → Shown → Shown → Result code.ArrayBytes CodecError → Type 0
   ByContent content old new r = MatchResult r
-      (λ v. HasReadRegion codec region (held_region codec under region content) (held_asks codec under region content) (held_taken codec under region content) old new (raw_of v))
+      (λ v. HasRegion codec region (held_region codec under region content) (held_asks codec under region content) (held_taken codec under region content) old new (raw_of v))
       (NotRead (held_region codec under region content) (held_says codec under region content) old new)
 
   abbrev ByAny : Option (List ℕ) → Shown → Shown → Result code.ArrayBytes CodecError → Type 0
   ByAny content old new r = MatchResult r
-      (λ v. HasReadRegion codec region (region_content codec under region content) (region_asks codec under region content) (region_taken codec under region content) old new (raw_of v))
+      (λ v. HasRegion codec region (region_content codec under region content) (region_asks codec under region content) (region_taken codec under region content) old new (raw_of v))
       (NotRead (region_content codec under region content) (held_says codec under region content) old new)
 
   module _ (value part : List ℕ) (at : own_part codec value ≡ Some part) where
@@ -133,7 +133,7 @@ module _ (codec : ShardCodec) (under : Options) (region : Region) where
     by_no_index store e both = record { same = λ key. refl; later = omega arith; cause = inr (region_unfound codec value part at under region e both.0 both.1) }
 
   pub by_part : (content mid_content : Option (List ℕ)) (bytes : List ℕ) (old mid new : Shown) (r : Result code.ArrayBytes CodecError) → mid_content ≡ content → value_part content (Suffix (index_len codec)) ≡ Some (Some bytes) →
-      Costs 1 (taken_of (Some (Suffix (index_len codec) ∷ [])) content) old mid → ByValue (held_bytes mid_content) mid new r → ByContent content old new r
+      HasCost 1 (taken_of (Some (Suffix (index_len codec) ∷ [])) content) old mid → ByValue (held_bytes mid_content) mid new r → ByContent content old new r
   by_part content mid_content bytes old mid new (Ok v) same some first has = then_read codec under region content mid_content bytes old mid new (raw_of v) same some first has
   by_part content mid_content bytes old mid new (Err e) same some first failed = then_unread codec under region content mid_content bytes old mid new e same some first failed
 

@@ -20,9 +20,9 @@ use Rattle.zarr_array_elements.specs.declared.box_elements.BoxElements.{BoxEleme
 use Rattle.zarr_array_elements.proofs.HeldLaws.{length-list_held}
 use Rattle.zarr_array_elements.proofs.ReadLaws.{HasRead, read-start, read-step, read-end}
 use Rattle.zarr_shard_codec.specs.Index.{Pair, is_absent, pair_at}
-use Rattle.zarr_shard_codec.specs.MetInner.{pair_calls, pair_size, HasPutInner, says_at}
+use Rattle.zarr_shard_codec.specs.MetInner.{pair_calls, pair_size, HasPutInner}
 use Rattle.zarr_shard_codec.specs.Placing.{number_of}
-use Rattle.zarr_shard_codec.specs.ReadRegion.{Costs, NotRead, SaysMet}
+use Rattle.zarr_shard_codec.specs.ReadRegion.{HasCost, NotRead, SaysMet, says_at}
 use Rattle.zarr_shard_codec.specs.Region.{met_decode, region_by_index, region_list, met_pairs, SelectsRegion, WholeIsAll}
 use Rattle.zarr_shard_codec.specs.Shard.{inner_layout, inner_pairs, inner_content, all_decode, by_index, index_of, shard_list}
 use Rattle.zarr_shard_codec.specs.ShardCodec.{inner_of, inner_grid, own_array}
@@ -138,7 +138,7 @@ module _ (codec : ShardCodec) (under : Options) (value index : List ℕ) (region
 
   -- the first k inner chunks were read into the region's elements
   pub record HasReadSome (k : ℕ) (list : List Element) (before now : Shown) : Type 0 where
-    pub cost : Costs (sum_by calls_at (take k met)) (sum_by size_at (take k met)) before now
+    pub cost : HasCost (sum_by calls_at (take k met)) (sum_by size_at (take k met)) before now
     pub decode : list_all decodes (take k met) ≡ true
     pub read : HasRead (inner_grid codec) region met k own_held list
 
@@ -160,7 +160,7 @@ module _ (codec : ShardCodec) (under : Options) (value index : List ℕ) (region
       let calls : sum_by calls_at (take (k + 1) met) ≡ sum_by calls_at (take k met) + calls_at chunk = sum_by_more calls_at met k chunk within ∙ ap (λ c. sum_by calls_at (take k met) + calls_at c) at in
       let sizes : sum_by size_at (take (k + 1) met) ≡ sum_by size_at (take k met) + size_at chunk = sum_by_more size_at met k chunk within ∙ ap (λ c. sum_by size_at (take k met) + size_at c) at in
       record {
-        cost = subst₂ (λ n m. Costs n m before now) (sym calls) (sym sizes) (both_cost (sum_by calls_at (take k met)) (sum_by size_at (take k met)) (calls_at chunk) (size_at chunk) before mid now so_far.cost own.cost);
+        cost = subst₂ (λ n m. HasCost n m before now) (sym calls) (sym sizes) (both_cost (sum_by calls_at (take k met)) (sum_by size_at (take k met)) (calls_at chunk) (size_at chunk) before mid now so_far.cost own.cost);
         decode = list_all_more decodes met k chunk within ∙ and_from _ _ so_far.decode (ap decodes at ∙ ap is_some own.put.content);
         read = read-step (inner_grid codec) region met own_held k chunk (list_held old) (list_held new) here so_far.read
             (subst (λ xs. Copied region ((inner_grid codec).chunk_box chunk) xs (list_held old) (list_held new)) elements own.put.copied);
@@ -168,7 +168,7 @@ module _ (codec : ShardCodec) (under : Options) (value index : List ℕ) (region
 
   -- all were
   pub all_read : (k : ℕ) (list : List Element) (before now : Shown) → k ≡ length met → ends_within region (inner_of codec).shape ≡ true → HasReadSome k list before now →
-      (region_by_index (own_array codec under) value region index ≡ Some list) × Costs (length (met_pairs codec region index)) (sum_by (λ pair. pair.size) (met_pairs codec region index)) before now
+      (region_by_index (own_array codec under) value region index ≡ Some list) × HasCost (length (met_pairs codec region index)) (sum_by (λ pair. pair.size) (met_pairs codec region index)) before now
   all_read k list before now all inside done =
       let every : take k met ≡ met = take_all k met (omega (arith, all)) in
       let pairs = map (λ chunk. pair_at index (number_of codec chunk)) met in
@@ -177,7 +177,7 @@ module _ (codec : ShardCodec) (under : Options) (value index : List ℕ) (region
       let decode : list_all decodes met ≡ true = ap (list_all decodes) (sym every) ∙ done.decode in
       let whole_read : HasRead (inner_grid codec) region met (length met) own_held list = subst (λ n. HasRead (inner_grid codec) region met n own_held list) all done.read in
       let same : list ≡ elements_in region own_held = read-end (inner_of codec).shape (inner_grid codec) region met own_held list (covers codec) inside refl whole_read in
-      (cond-true _ _ _ decode ∙ ap Some (sym same), subst₂ (λ n m. Costs n m before now) calls sizes done.cost)
+      (cond-true _ _ _ decode ∙ ap Some (sym same), subst₂ (λ n m. HasCost n m before now) calls sizes done.cost)
 
   -- one was not
   pub stops_reading : (k : ℕ) (chunk seen : List ℕ) (list : List Element) (before mid now : Shown) (e : CodecError) → slice_get met k ≡ Some chunk → seen ≡ value → HasReadSome k list before mid →

@@ -1,15 +1,13 @@
 -- A shard's elements by its inner chunks.
-use Rattle.std.proofs.Common.{◌≡◌, ℕ, Bool, true, false, List, length, get_or, Option, Some, None, option_and_then, refl, sym, ap, ◌∙◌}
-use Rattle.std.proofs.lemmas.List.{length-map}
-use Rattle.zarr_model.specs.Prelude.{Region, count_of, whole, tuples, place, ends_within, Element, null, Array, elements_in, Layout, stored_array}
-use Rattle.zarr_model.proofs.RegionLaws.{length-tuples, sizes_whole}
+use Rattle.std.proofs.Common.{◌≡◌, ℕ, Bool, true, false, List, get_or, Some, option_and_then, refl, sym, ap, ◌∙◌}
+use Rattle.zarr_model.specs.Prelude.{Region, whole, place, ends_within, Element, null, Array, elements_in, Layout, stored_array}
 use Rattle.zarr_model.proofs.ArrayLaws.{inside_shape}
 use Rattle.zarr_model.proofs.SessionLaws.{elements_in-agree}
 use Rattle.zarr_model.proofs.StoreLaws.{stored-at}
 use Rattle.zarrs_codec_traits.specs.Words.{select}
 use Rattle.zarr_array_elements.proofs.ReadLaws.{element_at}
-use Rattle.zarr_shard_codec.specs.Shard.{inner_layout, inner_pairs, all_decode, by_index, index_of, shard_list, inner_array}
-use Rattle.zarr_shard_codec.specs.Agree.{ElementIsInner, IsCountedShard, SelectsInner}
+use Rattle.zarr_shard_codec.specs.Shard.{inner_layout, inner_pairs, all_decode, by_index, index_of, shard_list}
+use Rattle.zarr_shard_codec.specs.Agree.{ElementIsInner, SelectsInner}
 
 -- a selection of a whole list of an array is the region's
 pub select_whole : (shape : List ℕ) (region : Region) (array : Array Element) → ends_within region shape ≡ true → select shape region (elements_in (whole shape) array) ≡ elements_in region array
@@ -28,16 +26,6 @@ module _ (checked validate : Bool) (array : Layout Element) (value : List ℕ) w
   pub shard_is : (index : List ℕ) (list : List Element) → index_of checked validate array value ≡ Some index → shard_list checked validate array value ≡ Some list → list ≡ elements_in (whole array.shape) (held index)
   shard_is index list at e = by_index_is index list (all_decode array value index) refl (sym (ap (option_and_then (by_index array value)) at) ∙ e)
 
-  pub shard_counted : (list : List Element) → shard_list checked validate array value ≡ Some list → length list ≡ count_of array.shape
-  shard_counted list e = go (index_of checked validate array value) refl e
-    where
-      go : (index : Option (List ℕ)) → index_of checked validate array value ≡ index → shard_list checked validate array value ≡ Some list → length list ≡ count_of array.shape
-      go None at e = let nothing : shard_list checked validate array value ≡ None = ap (option_and_then (by_index array value)) at in cc
-      go (Some index) at e =
-          ap length (shard_is index list at e)
-          ∙ length-map (tuples (whole array.shape)) (held index).element
-          ∙ length-tuples (whole array.shape) ∙ ap count_of (sizes_whole array.shape)
-
 pub element_is_inner : ElementIsInner
 element_is_inner checked validate array value index list elements chunk tuple d covers at decodes is_chunk here inside content =
     ap (λ l. get_or l (place (whole array.shape) tuple) d) (shard_is checked validate array value index list at decodes)
@@ -47,6 +35,3 @@ element_is_inner checked validate array value index list elements chunk tuple d 
 pub selects_inner : SelectsInner
 selects_inner checked validate array value index list region at decodes inside =
     ap (select array.shape region) (shard_is checked validate array value index list at decodes) ∙ select_whole array.shape region (held checked validate array value index) inside
-
-pub counted : IsCountedShard
-counted form validate inner level value list e = shard_counted form.checked validate (inner_array form inner level) value list e

@@ -4,7 +4,7 @@ use Rattle.std.proofs.lemmas.Nat.{xor_block, xor_shr, xor_mod, xor_comm}
 use native.Mathlib.Nat.{pow-suc, mul_assoc}
 use lib.Bits.{xor_assoc, xor_self, xor_zero_r, xor_zero_l}
 use Rattle.zarr_shard_codec.specs.Crc32c.{bit_step, bit_steps, byte_step, register_after}
-use Rattle.zarr_shard_codec.specs.Crc32cTable.{steps_from, eight_more, IsTableOf}
+use Rattle.zarr_shard_codec.specs.Crc32cTable.{steps_from, eight_more, IsTableOf, AreTables}
 use Rattle.zarr_shard_codec.specs.declared.crc32c_tables.TheConstants.{TABLE_0, TABLE_1, TABLE_2, TABLE_3, TABLE_4, TABLE_5, TABLE_6, TABLE_7}
 
 abbrev picked : Bool → ℕ → ℕ
@@ -115,29 +115,40 @@ next_table steps table next long is more byte within =
     ap (λ xs. slice_index xs byte) more ∙ (map_at (bit_steps 8) table byte (omega (arith, long, within))
     ∙ (ap (bit_steps 8) (is byte within) ∙ sym (steps-add steps 8 byte)))
 
-pub table_0 : IsTableOf 8 TABLE_0
+table_0 : IsTableOf 8 TABLE_0
 table_0 = first_table TABLE_0 refl
 
-pub table_1 : IsTableOf 16 TABLE_1
+table_1 : IsTableOf 16 TABLE_1
 table_1 = next_table 8 TABLE_0 TABLE_1 refl table_0 refl
 
-pub table_2 : IsTableOf 24 TABLE_2
+table_2 : IsTableOf 24 TABLE_2
 table_2 = next_table 16 TABLE_1 TABLE_2 refl table_1 refl
 
-pub table_3 : IsTableOf 32 TABLE_3
+table_3 : IsTableOf 32 TABLE_3
 table_3 = next_table 24 TABLE_2 TABLE_3 refl table_2 refl
 
-pub table_4 : IsTableOf 40 TABLE_4
+table_4 : IsTableOf 40 TABLE_4
 table_4 = next_table 32 TABLE_3 TABLE_4 refl table_3 refl
 
-pub table_5 : IsTableOf 48 TABLE_5
+table_5 : IsTableOf 48 TABLE_5
 table_5 = next_table 40 TABLE_4 TABLE_5 refl table_4 refl
 
-pub table_6 : IsTableOf 56 TABLE_6
+table_6 : IsTableOf 56 TABLE_6
 table_6 = next_table 48 TABLE_5 TABLE_6 refl table_5 refl
 
-pub table_7 : IsTableOf 64 TABLE_7
+table_7 : IsTableOf 64 TABLE_7
 table_7 = next_table 56 TABLE_6 TABLE_7 refl table_6 refl
+
+pub eight_tables : AreTables (TABLE_0 ∷ TABLE_1 ∷ TABLE_2 ∷ TABLE_3 ∷ TABLE_4 ∷ TABLE_5 ∷ TABLE_6 ∷ TABLE_7 ∷ [])
+eight_tables zero below = table_0
+eight_tables (suc zero) below = table_1
+eight_tables (suc (suc zero)) below = table_2
+eight_tables (suc (suc (suc zero))) below = table_3
+eight_tables (suc (suc (suc (suc zero)))) below = table_4
+eight_tables (suc (suc (suc (suc (suc zero))))) below = table_5
+eight_tables (suc (suc (suc (suc (suc (suc zero)))))) below = table_6
+eight_tables (suc (suc (suc (suc (suc (suc (suc zero))))))) below = table_7
+eight_tables (suc (suc (suc (suc (suc (suc (suc (suc k)))))))) below = absurd (omega (arith, below))
 
 -- a register with bytes joined to it, by the tables
 pub all_tables : (x a0 a1 a2 a3 a4 a5 a6 a7 : ℕ) → x < 18446744073709551616 →

@@ -2,11 +2,9 @@
 use Rattle.std.specs.Prelude.{◌≡◌, ℕ, Bool, true, false, if◌then◌else◌, List, length, Option, Some, None, option_and_then}
 use Rattle.std.proofs.Common.{sym, ap, ◌∙◌}
 use Rattle.std.proofs.lemmas.List.{length-map}
-use Rattle.zarr_model.specs.Prelude.{count_of, whole, tuples, Element, Layout, Level, Options, elements_in, stored_array, decode_chain}
+use Rattle.zarr_model.specs.Prelude.{count_of, whole, tuples, Element, Layout, Level, elements_in, stored_array}
 use Rattle.zarr_model.proofs.RegionLaws.{length-tuples, sizes_whole}
-use Rattle.zarr_shard_codec.specs.Shard.{inner_layout, inner_pairs, inner_array, all_decode, by_index, index_of}
-use Rattle.zarr_shard_codec.specs.ShardCodec.{inner_of, form_of, shard_meaning}
-use Rattle.zarr_shard_codec.specs.declared.shard_codec.ShardCodec.{ShardCodec}
+use Rattle.zarr_shard_codec.specs.Shard.{inner_layout, inner_pairs, inner_array, all_decode, by_index, index_of, Form, Meaning, decode_shard}
 
 -- the elements of an array over a shape are as many as its tuples
 list_counted : (array : Layout Element) (value index : List ℕ) (all : Bool) (list : List Element)
@@ -28,11 +26,8 @@ index_counted array value None list e = cc
 index_counted array value (Some index) list e =
     list_counted array value index (all_decode array value index) list e
 
-pub meaning_counted : (codec : ShardCodec) (under : Options) (level : Level) (value : List ℕ)
-    (list : List Element) → shard_meaning codec under level value ≡ Some list
+pub counted : (form : Form) (validate : Bool) (inner : Meaning) (level : Level) (value : List ℕ)
+    (list : List Element) → decode_shard form validate inner level value ≡ Some list
     → length list ≡ count_of level.shape
-meaning_counted codec under level value list e =
-    let array = inner_array (form_of codec)
-    (decode_chain ((inner_of codec).chain under)) level in
-    index_counted array value
-    (index_of codec.shard.checked under.validate_checksums array value) list e
+counted form validate inner level value list e = let array = inner_array form inner level in
+    index_counted array value (index_of form.checked validate array value) list e

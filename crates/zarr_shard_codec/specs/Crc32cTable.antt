@@ -1,5 +1,5 @@
 -- Tables: what some steps make of each number below 256.
-use Rattle.std.specs.Prelude.{◌≡◌, ◌<◌, ℕ, zero, suc, List, [], ◌∷◌, map, slice_index}
+use Rattle.std.specs.Prelude.{◌≡◌, ◌<◌, ◌+◌, ◌*◌, ℕ, zero, suc, List, [], ◌∷◌, map, slice_index, get_or}
 use Rattle.zarr_shard_codec.specs.Crc32c.{bit_steps}
 
 abbrev pub steps_from : ℕ → ℕ → List ℕ
@@ -12,3 +12,7 @@ eight_more table = map (bit_steps 8) table
 
 abbrev pub IsTableOf : ℕ → List ℕ → Type 0
 IsTableOf steps table = (byte : ℕ) → byte < 256 → slice_index table byte ≡ bit_steps steps byte
+
+-- one for each of 8, 16 and up to 64 steps
+abbrev pub AreTables : List (List ℕ) → Type 0
+AreTables tables = (k : ℕ) → k < 8 → IsTableOf (8 * k + 8) (get_or tables k [])

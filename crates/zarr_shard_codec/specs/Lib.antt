@@ -2,10 +2,11 @@ pub mod Crc32c
 pub mod Crc32cTable
 pub mod Crc32cCodec
 pub mod Index
+pub mod Finding
 pub mod Shard
 pub mod Agree
+pub mod Counted
 pub mod Pair
-pub mod Finding
 pub mod Written
 pub mod Fill
 pub mod ShardCodec
@@ -16,7 +17,6 @@ pub mod Encoding
 pub mod NoFault
 pub mod Serving
 pub mod Taking
-pub mod Counted
 pub mod Region
 pub mod ReadRegion
 pub mod MetInner

@@ -11,12 +11,12 @@ use Rattle.zarrs_codec_traits.specs.Words.{list_at, Gives}
 use Rattle.zarr_array_elements.specs.BoxElements.{list_held}
 use Rattle.zarr_array_elements.specs.declared.box_elements.BoxElements.{BoxElements}
 use Rattle.zarr_shard_codec.specs.Index.{Pair, is_absent, pair_at}
-use Rattle.zarr_shard_codec.specs.Inner.{AreInner, found_at, found_says, inner_at, GivesInner}
+use Rattle.zarr_shard_codec.specs.Inner.{AreInner, found_at, inner_at, GivesInner}
 use Rattle.zarr_shard_codec.specs.Placing.{number_of}
-use Rattle.zarr_shard_codec.specs.ReadRegion.{Costs, NotRead, SaysMet}
+use Rattle.zarr_shard_codec.specs.ReadRegion.{HasCost, NotRead, SaysMet, says_at}
 use Rattle.zarr_shard_codec.specs.Region.{region_by_index, met_pairs}
 use Rattle.zarr_shard_codec.specs.Shard.{inner_content}
-use Rattle.zarr_shard_codec.specs.ShardCodec.{inner_of, inner_grid, inner_level, inner_decoded, own_array, InnerSays}
+use Rattle.zarr_shard_codec.specs.ShardCodec.{inner_of, inner_grid, inner_level, inner_decoded, own_array}
 use Rattle.zarr_shard_codec.specs.Whole.{HasPut}
 use Rattle.zarr_shard_codec.specs.declared.met_inner.MetInner.{MetInner}
 use Rattle.zarr_shard_codec.specs.declared.shard_codec.ShardCodec.{ShardCodec}
@@ -58,26 +58,21 @@ pub record HasPair (codec : ShardCodec) (under : Options) (value : List ℕ) (pa
   pub gives : Gives (list_at (inner_level codec) raw)
       (found_at (inner_decoded codec under) value pair)
   pub short : has_long_element raw ≡ false
-  pub cost : Costs 1 pair.size old new
+  pub cost : HasCost 1 pair.size old new
 
 -- those of an inner chunk that may not be there
 pub record HasInner (codec : ShardCodec) (under : Options) (value : List ℕ) (pair : Pair)
     (old new : Shown) (given : Option code.ArrayBytes) : Type 0 where
   pub gives : GivesInner (inner_level codec) (inner_at (inner_decoded codec under) value pair) given
   pub short : IfSome given (λ v. has_long_element (raw_of v) ≡ false)
-  pub cost : Costs (pair_calls pair) (pair_size pair) old new
+  pub cost : HasCost (pair_calls pair) (pair_size pair) old new
 
 -- they were put into a region's elements
 pub record HasPutInner (codec : ShardCodec) (under : Options) (value index : List ℕ)
     (region : Region) (chunk : List ℕ) (before after : BoxElements) (old new : Shown) : Type 0 where
   pub put : HasPut codec under value index region chunk before after
   pub cost : let pair = pair_at index (number_of codec chunk) in
-      Costs (pair_calls pair) (pair_size pair) old new
-
--- which errors tell why an inner chunk has none
-abbrev pub says_at : ShardCodec → Options → List ℕ → List ℕ → List ℕ → CodecError → Type 0
-says_at codec under value index chunk e =
-    found_says (InnerSays codec under) value (pair_at index (number_of codec chunk)) e
+      HasCost (pair_calls pair) (pair_size pair) old new
 
 -- the inner chunk of a number was read so, or it was not
 abbrev pub ReadsInner : {T : Type 0} → MetInner → Options → ℕ → BoxElements → BoxElements → Shown
@@ -109,4 +104,4 @@ MetSays met under old e =
 pub record HasReadMet (met : MetInner) (under : Options) (old new : Shown)
     (elements : BoxElements) : Type 0 where
   pub content : met_content met under old ≡ Some (list_held elements)
-  pub cost : Costs (met_calls met) (met_size met) old new
+  pub cost : HasCost (met_calls met) (met_size met) old new

@@ -55,7 +55,7 @@ inner_no_fault codec under value e says =
     bytes e said) says.said
 
 -- a range past the value
-range_no_fault : (error : InvalidByteRangeError) (e : CodecError)
+pub range_no_fault : (error : InvalidByteRangeError) (e : CodecError)
     → e ≡ codec.InvalidByteRangeError error → IsNoFault e
 range_no_fault error e is = record { unlike = λ fault same. other fault (sym is ∙ same) }
   where
@@ -63,7 +63,7 @@ range_no_fault error e is = record { unlike = λ fault same. other fault (sym is
         → ⊥
     other fault same = cc
 
-found_no_fault : (codec : ShardCodec) (under : Options) (bytes : Option (List ℕ)) (len : ℕ)
+pub found_no_fault : (codec : ShardCodec) (under : Options) (bytes : Option (List ℕ)) (len : ℕ)
     (pair : Pair) (e : CodecError) → says_found bytes (InnerSays codec under) len pair e
     → IsNoFault e
 found_no_fault codec under None len pair e told = range_no_fault _ e told

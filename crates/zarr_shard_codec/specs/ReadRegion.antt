@@ -17,7 +17,7 @@ use Rattle.zarr_shard_codec.specs.Region.{index_len, own_part}
 use Rattle.zarr_shard_codec.specs.declared.shard_codec.ShardCodec.{ShardCodec}
 
 -- so many reading calls took so many bytes, and nothing was changed
-pub record Costs (calls bytes : ℕ) (old new : Shown) : Type 0 where
+pub record HasCost (calls bytes : ℕ) (old new : Shown) : Type 0 where
   pub same : SameContent old new
   pub later : old.faults ≤ new.faults
   pub asks : new.asks ≡ counted old.asks calls
@@ -33,11 +33,16 @@ pub record NotRead {A : Type 0} (wanted : Option A) (says : CodecError → Type 
 
 -- array bytes have the elements that are wanted of a region of a chunk, none of which is too long
 -- for its length to be stored
-pub record HasReadRegion (codec : ShardCodec) (region : Region) (wanted : Option (List Element))
+pub record HasRegion (codec : ShardCodec) (region : Region) (wanted : Option (List Element))
     (calls bytes : ℕ) (old new : Shown) (raw : ArrayBytes) : Type 0 where
   pub elements : Gives (list_at (at_box region (own_level codec)) raw) wanted
   pub short : has_long_element raw ≡ false
-  pub cost : Costs calls bytes old new
+  pub cost : HasCost calls bytes old new
+
+-- which errors tell why an inner chunk has none
+abbrev pub says_at : ShardCodec → Options → List ℕ → List ℕ → List ℕ → CodecError → Type 0
+says_at codec under value index chunk e =
+    found_says (InnerSays codec under) value (pair_at index (number_of codec chunk)) e
 
 -- an error tells why the first inner chunk that a region meets and that has no elements has none: its
 -- pair names bytes past the value, or its bytes do not decode
@@ -49,7 +54,7 @@ pub record SaysMet (codec : ShardCodec) (under : Options) (region : Region)
   pub first : list_all (λ other. is_some (inner_content (own_array codec under) value index other))
       (take place (chunks_meeting (inner_grid codec) region)) ≡ true
   pub fails : inner_content (own_array codec under) value index chunk ≡ None
-  pub said : found_says (InnerSays codec under) value (pair_at index (number_of codec chunk)) e
+  pub said : says_at codec under value index chunk e
 
 -- why there is nothing of a region by what the bytes of the index hold: its number is wrong, and
 -- else such an inner chunk

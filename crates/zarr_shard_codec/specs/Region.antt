@@ -2,13 +2,13 @@
 -- reach.
 use Rattle.std.specs.Prelude.{◌≡◌, ℕ, ◌+◌, Bool, true, not, nat_le, if◌then◌else◌, List, [], length, map, filter, replicate, Option, Some, None, is_some, option_and_then}
 use Rattle.std.specs.List.{list_all, sum_by}
-use Rattle.zarr_model.specs.Prelude.{Region, count, count_of, whole, ends_within, Element, elements_in, chunks_meeting, Layout, Options, stored_array}
+use Rattle.zarr_model.specs.Prelude.{Region, count, count_of, whole, place, ends_within, Element, elements_in, Grid, chunks_meeting, Layout, Options, stored_array}
 use Rattle.zarrs_codec_traits.specs.Words.{select}
 use Rattle.zarr_shard_parts.specs.Document.{index_size}
 use Rattle.zarr_shard_codec.specs.Index.{Pair, index_part, is_absent, pair_at}
+use Rattle.zarr_shard_codec.specs.Finding.{index_found}
 use Rattle.zarr_shard_codec.specs.Shard.{inner_layout, inner_pairs, inner_content, index_of, shard_list}
 use Rattle.zarr_shard_codec.specs.ShardCodec.{inner_of, inner_grid, own_array, own_list}
-use Rattle.zarr_shard_codec.specs.Placing.{number_of}
 use Rattle.zarr_shard_codec.specs.declared.shard_codec.ShardCodec.{ShardCodec}
 
 -- each inner chunk that a region meets has elements
@@ -47,10 +47,40 @@ abbrev pub WholeIsAll : Type 0
 WholeIsAll = (codec : ShardCodec) (under : Options) (value : List ℕ)
     → own_region codec under (whole (inner_of codec).shape) value ≡ own_list codec under value
 
--- the pairs of the inner chunks that a region meets and that are there
+-- the pairs of the inner chunks of a grid that a region meets and that are there
+abbrev pub pairs_met : Grid → Region → List ℕ → List Pair
+pairs_met grid region index = filter (λ pair. not (is_absent pair))
+    (map (λ chunk. pair_at index (place (whole grid.grid_shape) chunk)) (chunks_meeting grid region))
+
+-- those that a read of a region takes the inner chunks of, by the index of a value if it is found
+abbrev pub pairs_by : Grid → Region → Option (List ℕ) → List Pair
+pairs_by grid region None = []
+pairs_by grid region (Some index) = pairs_met grid region index
+
+abbrev pub pairs_of : Bool → Bool → Grid → Region → List ℕ → List Pair
+pairs_of checked validate grid region value =
+    pairs_by grid region (index_found checked validate (count_of grid.grid_shape) value)
+
+-- how many reading calls give a region with elements of what stands under a key, and how many bytes
+-- these take: of the index, and of each such inner chunk
+abbrev pub shard_asks : Bool → Bool → Grid → Region → Option (List ℕ) → ℕ
+shard_asks checked validate grid region None = 1
+shard_asks checked validate grid region (Some value) =
+    1 + length (pairs_of checked validate grid region value)
+
+abbrev pub shard_taken : Bool → Bool → Grid → Region → Option (List ℕ) → ℕ
+shard_taken checked validate grid region None = 0
+shard_taken checked validate grid region (Some value) =
+    index_size checked (count_of grid.grid_shape)
+    + sum_by (λ pair. pair.size) (pairs_of checked validate grid region value)
+
+-- the same pairs of a codec's own chunks
 abbrev pub met_pairs : ShardCodec → Region → List ℕ → List Pair
-met_pairs codec region index = filter (λ pair. not (is_absent pair))
-    (map (λ chunk. pair_at index (number_of codec chunk)) (chunks_meeting (inner_grid codec) region))
+met_pairs codec region index = pairs_met (inner_grid codec) region index
+
+abbrev pub pairs_read : ShardCodec → Options → Region → List ℕ → List Pair
+pairs_read codec under region value =
+    pairs_of codec.shard.checked under.validate_checksums (inner_grid codec) region value
 
 -- how many bytes an index has, and those of a value's index, and the index
 abbrev pub index_len : ShardCodec → ℕ
@@ -63,14 +93,6 @@ abbrev pub own_index : ShardCodec → Options → List ℕ → Option (List ℕ)
 own_index codec under value =
     index_of codec.shard.checked under.validate_checksums (own_array codec under) value
 
--- the pairs that a read of a region takes the inner chunks of
-abbrev pub pairs_by : ShardCodec → Region → Option (List ℕ) → List Pair
-pairs_by codec region None = []
-pairs_by codec region (Some index) = met_pairs codec region index
-
-abbrev pub pairs_read : ShardCodec → Options → Region → List ℕ → List Pair
-pairs_read codec under region value = pairs_by codec region (own_index codec under value)
-
 -- what a region with elements has by what stands under the chunk's key, the fill where nothing does;
 -- and how many reading calls give it, and how many bytes these take
 abbrev pub held_region : ShardCodec → Options → Region → Option (List ℕ) → Option (List Element)
@@ -78,13 +100,12 @@ held_region codec under region None = Some (replicate (count region) (inner_of c
 held_region codec under region (Some value) = own_region codec under region value
 
 abbrev pub held_asks : ShardCodec → Options → Region → Option (List ℕ) → ℕ
-held_asks codec under region None = 1
-held_asks codec under region (Some value) = 1 + length (pairs_read codec under region value)
+held_asks codec under region value =
+    shard_asks codec.shard.checked under.validate_checksums (inner_grid codec) region value
 
 abbrev pub held_taken : ShardCodec → Options → Region → Option (List ℕ) → ℕ
-held_taken codec under region None = 0
-held_taken codec under region (Some value) =
-    index_len codec + sum_by (λ pair. pair.size) (pairs_read codec under region value)
+held_taken codec under region value =
+    shard_taken codec.shard.checked under.validate_checksums (inner_grid codec) region value
 
 -- the same of any region: for one without elements nothing is read
 abbrev pub region_content : ShardCodec → Options → Region → Option (List ℕ) → Option (List Element)

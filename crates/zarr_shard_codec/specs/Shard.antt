@@ -3,7 +3,8 @@
 use Rattle.std.specs.Prelude.{ℕ, Bool, if◌then◌else◌, List, Option, Some, None, is_some, option_and_then}
 use Rattle.std.specs.List.{list_all}
 use Rattle.zarr_model.specs.Prelude.{whole, count_of, place, Element, elements_in, Grid, chunks, regular_grid, Level, Content, Layout, chunk_content, stored_array}
-use Rattle.zarr_shard_codec.specs.Index.{pair_of, pair_part, pair_at, is_absent, part_of, index_part, index_in}
+use Rattle.zarr_shard_codec.specs.Index.{pair_of, pair_part, pair_at, is_absent, part_of}
+use Rattle.zarr_shard_codec.specs.Finding.{index_found}
 
 -- the inner chunks of a value, by those of an array: under the indices of each stands its pair,
 -- which names what decodes
@@ -42,8 +43,7 @@ inner_count array = count_of array.grid.grid_shape
 
 -- the index of a value, if there is room for one and its number is right where it is tested
 abbrev pub index_of : Bool → Bool → Layout Element → List ℕ → Option (List ℕ)
-index_of checked validate array value =
-    option_and_then (index_in checked validate) (index_part checked (inner_count array) value)
+index_of checked validate array value = index_found checked validate (inner_count array) value
 
 -- what a shard decodes to, where each of its parts does
 abbrev pub shard_list : Bool → Bool → Layout Element → List ℕ → Option (List Element)

@@ -6,9 +6,7 @@ ghost use Rattle.std.specs.Prelude.{◌≡◌, ◌+◌, ◌*◌, ◌%◌, ℕ};
 ghost use Rattle.zarr_shard_codec.specs.Crc32c.{crc32c, byte_step, bit_steps, register_after};
 ghost use Rattle.zarr_shard_codec.specs.Crc32cTable.{IsTableOf};
 
-use crate::crc32c_tables::{
-    table_0, table_1, table_2, table_3, table_4, table_5, table_6, table_7,
-};
+use crate::crc32c_tables::tables;
 
 // What a table has for the lowest byte of a number.
 fn lowest_in(table: &[u32; 256], number: u64) -> u32
@@ -23,22 +21,23 @@ fn byte_step(register: u32, byte: u8) -> u32
     ensures { result ≡ byte_step register byte }
 {
     let joined = register ^ u32::from(byte);
-    (joined / 256) ^ lowest_in(table_0(), u64::from(joined))
+    (joined / 256) ^ lowest_in(&tables()[0], u64::from(joined))
 }
 
 // The register after eight bytes: each of them, and of the register, is led through all steps that are left to it.
 fn word_step(register: u32, word: [u8; 8]) -> u32
     ensures { result ≡ register_after register word }
 {
+    let tables = tables();
     let joined = u64::from_le_bytes(word) ^ u64::from(register);
-    lowest_in(table_0(), joined >> 56)
-        ^ lowest_in(table_1(), joined >> 48)
-        ^ lowest_in(table_2(), joined >> 40)
-        ^ lowest_in(table_3(), joined >> 32)
-        ^ lowest_in(table_4(), joined >> 24)
-        ^ lowest_in(table_5(), joined >> 16)
-        ^ lowest_in(table_6(), joined >> 8)
-        ^ lowest_in(table_7(), joined)
+    lowest_in(&tables[0], joined >> 56)
+        ^ lowest_in(&tables[1], joined >> 48)
+        ^ lowest_in(&tables[2], joined >> 40)
+        ^ lowest_in(&tables[3], joined >> 32)
+        ^ lowest_in(&tables[4], joined >> 24)
+        ^ lowest_in(&tables[5], joined >> 16)
+        ^ lowest_in(&tables[6], joined >> 8)
+        ^ lowest_in(&tables[7], joined)
 }
 
 // The register after bytes, one by one.

@@ -1,7 +1,6 @@
 //! The tables of CRC-32C.
 
-ghost use Rattle.std.specs.Prelude.{◌≡◌};
-ghost use Rattle.zarr_shard_codec.specs.Crc32cTable.{IsTableOf};
+ghost use Rattle.zarr_shard_codec.specs.Crc32cTable.{AreTables};
 
 const TABLE_0: [u32; 256] = [
     0x00000000, 0xf26b8303, 0xe13b70f7, 0x1350f3f4, 0xc79a971f, 0x35f1141c, 0x26a1e7e8, 0xd4ca64eb,
@@ -283,66 +282,15 @@ const TABLE_7: [u32; 256] = [
     0xe54c35a1, 0xac704886, 0x7734cfef, 0x3e08b2c8, 0xc451b7cc, 0x8d6dcaeb, 0x56294d82, 0x1f1530a5,
 ];
 
-/// What 8 steps make of each byte.
-#[tactic(auto, using(crate::proofs::TableLaws::table_0))]
-pub(crate) fn table_0() -> &'static [u32; 256]
-    ensures { IsTableOf 8 result.now }
-{
-    &TABLE_0
-}
+// In one place, so that a lookup needs no address of its own.
+const TABLES: [[u32; 256]; 8] = [
+    TABLE_0, TABLE_1, TABLE_2, TABLE_3, TABLE_4, TABLE_5, TABLE_6, TABLE_7,
+];
 
-/// What 16 steps make of each byte.
-#[tactic(auto, using(crate::proofs::TableLaws::table_1))]
-pub(crate) fn table_1() -> &'static [u32; 256]
-    ensures { IsTableOf 16 result.now }
+/// What 8, 16 and up to 64 steps make of each byte.
+#[tactic(auto, using(crate::proofs::TableLaws::eight_tables))]
+pub(crate) fn tables() -> &'static [[u32; 256]; 8]
+    ensures { AreTables result.now }
 {
-    &TABLE_1
-}
-
-/// What 24 steps make of each byte.
-#[tactic(auto, using(crate::proofs::TableLaws::table_2))]
-pub(crate) fn table_2() -> &'static [u32; 256]
-    ensures { IsTableOf 24 result.now }
-{
-    &TABLE_2
-}
-
-/// What 32 steps make of each byte.
-#[tactic(auto, using(crate::proofs::TableLaws::table_3))]
-pub(crate) fn table_3() -> &'static [u32; 256]
-    ensures { IsTableOf 32 result.now }
-{
-    &TABLE_3
-}
-
-/// What 40 steps make of each byte.
-#[tactic(auto, using(crate::proofs::TableLaws::table_4))]
-pub(crate) fn table_4() -> &'static [u32; 256]
-    ensures { IsTableOf 40 result.now }
-{
-    &TABLE_4
-}
-
-/// What 48 steps make of each byte.
-#[tactic(auto, using(crate::proofs::TableLaws::table_5))]
-pub(crate) fn table_5() -> &'static [u32; 256]
-    ensures { IsTableOf 48 result.now }
-{
-    &TABLE_5
-}
-
-/// What 56 steps make of each byte.
-#[tactic(auto, using(crate::proofs::TableLaws::table_6))]
-pub(crate) fn table_6() -> &'static [u32; 256]
-    ensures { IsTableOf 56 result.now }
-{
-    &TABLE_6
-}
-
-/// What 64 steps make of each byte.
-#[tactic(auto, using(crate::proofs::TableLaws::table_7))]
-pub(crate) fn table_7() -> &'static [u32; 256]
-    ensures { IsTableOf 64 result.now }
-{
-    &TABLE_7
+    &TABLES
 }

@@ -5,7 +5,7 @@ ghost use Rattle.zarrs_storage.specs.Store.{value_bytes};
 ghost use Rattle.zarrs_codec_held.specs.Held.{value_part};
 ghost use Rattle.zarrs_codec_held.specs.Reads.{TellsRangeOf};
 ghost use Rattle.zarrs_codec_partial_bytes.specs.Stored.{taken_of};
-ghost use Rattle.zarr_shard_codec.specs.ReadRegion.{Costs, NotRead};
+ghost use Rattle.zarr_shard_codec.specs.ReadRegion.{HasCost, NotRead};
 
 use std::alloc::Global;
 use zarrs_codec_error::CodecError;
@@ -24,7 +24,7 @@ pub(crate) fn fetch_range<S: Store>(
 ) -> Result<Option<Vec<u8>>, CodecError>
     ensures read { let value = (S.shown store.old).content key.now in MatchResult result
         (λ v. (value_part value range ≡ Some (value_bytes v))
-        × Costs 1 (taken_of (Some (range ∷ [])) value) (S.shown store.old) (S.shown store.new))
+        × HasCost 1 (taken_of (Some (range ∷ [])) value) (S.shown store.old) (S.shown store.new))
         (NotRead (value_part value range) (TellsRangeOf (Some (range ∷ [])) value)
         (S.shown store.old) (S.shown store.new)) }
     ensures kept { S.kept store.old store.new }

@@ -1,6 +1,6 @@
 //! Making the codec of shards: of how chunks keep inner chunks, or of metadata.
 
-ghost use Rattle.std.specs.Prelude.{◌≡◌, ◌<◌, true, is_some, Some, None, IfOk};
+ghost use Rattle.std.specs.Prelude.{◌≡◌, ◌<◌, true, Some, None, IfOk, option_map};
 ghost use Rattle.zarr_model.specs.Prelude.{count_of, kind_of, fill_element};
 ghost use Rattle.zarrs_plugin.specs.Registry.{registry_of};
 ghost use Rattle.zarrs_metadata_values.specs.Configuration.{configuration_seen};
@@ -41,15 +41,20 @@ fn chunk_shape(alloc: Global, grid: &BasicGrid) -> Result<ChunkShape, AllocError
     }
 }
 
-// A copy of the configuration of metadata that has one.
-fn configuration_of(alloc: Global, metadata: &MetadataV3) -> Result<Configuration, AllocError>
-    requires { is_some (extension_seen metadata.now).configuration ≡ true }
-    ensures { IfOk result
-        (λ c. Some (configuration_seen c) ≡ (extension_seen metadata.now).configuration) }
+// A copy of the configuration of metadata, if it has one.
+fn configuration_of(
+    alloc: Global,
+    metadata: &MetadataV3,
+) -> Result<Option<Configuration>, AllocError>
+    ensures { IfOk result (λ copy. option_map configuration_seen copy
+        ≡ (extension_seen metadata.now).configuration) }
 {
     match metadata.configuration() {
-        Some(configuration) => configuration.try_clone(alloc),
-        None => unreachable!(),
+        Some(configuration) => {
+            let copy = configuration.try_clone(alloc)?;
+            Ok(Some(copy))
+        }
+        None => Ok(None),
     }
 }
 
@@ -60,7 +65,7 @@ impl ShardCodec {
         alloc: Global,
         shard: Shard,
         fill_value: FillValue,
-        configuration: Configuration,
+        configuration: Option<Configuration>,
     ) -> Result<ShardCodec, AllocError>
         requires filled { fill_element (kind_of (shard_form shard).inner.data_type)
             (fill_bytes fill_value) ≡ Some (shard_form shard).inner.fill }
@@ -78,21 +83,17 @@ impl ShardCodec {
         })
     }
 
-    /// The codec of chunks that keep inner chunks so, with the configuration that its metadata has. A chunk has an element.
+    /// The codec of chunks that keep inner chunks so, which tells no configuration. A chunk has an element.
     ///
     /// # Errors
     /// [`AllocError`] where memory runs out.
-    pub fn new(
-        alloc: Global,
-        shard: Shard,
-        configuration: Configuration,
-    ) -> Result<ShardCodec, AllocError>
+    pub fn new(alloc: Global, shard: Shard) -> Result<ShardCodec, AllocError>
         requires { 0 < count_of (shard_shape (shard_form shard)) }
         ensures shard { IfOk result (λ codec. codec.shard ≡ shard) }
-        ensures configuration { IfOk result (λ codec. codec.configuration ≡ configuration) }
+        ensures configuration { IfOk result (λ codec. codec.configuration ≡ None) }
     {
         let fill_value = shard.inner.fill_value().try_clone(alloc)?;
-        Self::with_fill(alloc, shard, fill_value, configuration)
+        Self::with_fill(alloc, shard, fill_value, None)
     }
 
     /// The codec of chunks of this shape, of elements of a data type, with a fill value, by its metadata and the names of
@@ -115,7 +116,8 @@ impl ShardCodec {
         ensures served { IfOk result (λ codec. unserved_at (shard_unserved codec)
             (level_of shape.now data_type.now fill_value.now) (fill_bytes fill_value.now)
             ≡ None) }
-        ensures configuration { IfOk result (λ codec. Some (configuration_seen codec.configuration)
+        ensures configuration { IfOk result (λ codec.
+            option_map configuration_seen codec.configuration
             ≡ (extension_seen metadata.now).configuration) }
     {
         let shard = Shard::for_chunk(alloc, metadata, shape, data_type, fill_value, registries)?;

@@ -10,7 +10,7 @@ ghost use Rattle.zarrs_codec_traits.specs.Words.{list_at};
 ghost use Rattle.zarr_array_elements.specs.BoxElements.{kind_held, box_held, list_held};
 ghost use Rattle.zarr_array_elements.specs.Elements.{list_in};
 ghost use Rattle.zarr_shard_codec.specs.Placing.{number_of as number_in};
-ghost use Rattle.zarr_shard_codec.specs.ReadRegion.{HasReadRegion, NotRead};
+ghost use Rattle.zarr_shard_codec.specs.ReadRegion.{HasRegion, NotRead};
 ghost use Rattle.zarr_shard_codec.specs.ShardCodec.{inner_of, inner_grid, inner_level};
 ghost use Rattle.zarr_shard_codec.specs.Whole.{HoldsOver};
 
@@ -217,7 +217,7 @@ impl MetInner<'_> {
         requires met { AreMet self.now }
         requires there { IsSome ((S.shown store.old).content self.now.key.now) }
         ensures read { MatchResult result
-            (λ v. HasReadRegion (codec_of self.now) (region_met self.now)
+            (λ v. HasRegion (codec_of self.now) (region_met self.now)
             (met_content self.now (options_of options.now) (S.shown store.old))
             (met_calls self.now) (met_size self.now) (S.shown store.old) (S.shown store.new)
             (raw_of v))

@@ -9,7 +9,7 @@ ghost use Rattle.zarrs_codec_array_bytes.specs.Raw.{raw_of};
 ghost use Rattle.zarrs_codec_traits.specs.Views.{options_of};
 ghost use Rattle.zarrs_codec_traits.specs.Words.{list_at, at_box, select};
 ghost use Rattle.zarr_array_elements.specs.BoxElements.{list_held};
-ghost use Rattle.zarr_shard_codec.specs.ReadRegion.{HasReadRegion, NotRead, SaysMet, region_says, held_says};
+ghost use Rattle.zarr_shard_codec.specs.ReadRegion.{HasRegion, NotRead, SaysMet, region_says, held_says};
 ghost use Rattle.zarr_shard_codec.specs.Region.{index_len as own_len, region_by_index, own_region, met_pairs, own_part, pairs_read, held_region, held_asks, held_taken, region_content, region_asks, region_taken, SelectsRegion, WholeIsAll};
 ghost use Rattle.zarr_shard_codec.specs.ShardCodec.{inner_of, inner_grid, own_level, own_array, own_list};
 ghost use Rattle.zarr_shard_codec.specs.Whole.{HoldsOver};
@@ -38,13 +38,6 @@ pub fn whole_is_all()
 {}
 
 impl ShardCodec {
-    /// The shape of a chunk.
-    pub fn shape(&self) -> &[u64]
-        ensures { result.now ≡ (inner_of self.now).shape }
-    {
-        self.shard.inner.shape()
-    }
-
     /// The elements of a region inside the chunk, which are all the fill value.
     ///
     /// # Errors
@@ -109,7 +102,7 @@ impl ShardCodec {
             let wanted = region_by_index (own_array self.now under) value (region_of region.now)
             index.now in let pairs = met_pairs self.now (region_of region.now) index.now in
             MatchResult result
-            (λ v. HasReadRegion self.now (region_of region.now) wanted (length pairs)
+            (λ v. HasRegion self.now (region_of region.now) wanted (length pairs)
             (sum_by (λ pair. pair.size) pairs) (S.shown store.old) (S.shown store.new) (raw_of v))
             (NotRead wanted (SaysMet self.now under (region_of region.now) value index.now)
             (S.shown store.old) (S.shown store.new)) }
@@ -146,7 +139,7 @@ impl ShardCodec {
             let wanted = own_region self.now under (region_of region.now) value in
             let pairs = pairs_read self.now under (region_of region.now) value in
             MatchResult result
-            (λ v. HasReadRegion self.now (region_of region.now) wanted (length pairs)
+            (λ v. HasRegion self.now (region_of region.now) wanted (length pairs)
             (sum_by (λ pair. pair.size) pairs) (S.shown store.old) (S.shown store.new) (raw_of v))
             (NotRead wanted (region_says self.now under (region_of region.now) value)
             (S.shown store.old) (S.shown store.new)) }
@@ -178,7 +171,7 @@ impl ShardCodec {
             let value = (S.shown store.old).content key.now in
             let wanted = held_region self.now under (region_of region.now) value in
             MatchResult result
-            (λ v. HasReadRegion self.now (region_of region.now) wanted
+            (λ v. HasRegion self.now (region_of region.now) wanted
             (held_asks self.now under (region_of region.now) value)
             (held_taken self.now under (region_of region.now) value) (S.shown store.old)
             (S.shown store.new) (raw_of v))
@@ -217,7 +210,7 @@ impl ShardCodec {
             let value = (S.shown store.old).content key.now in
             let wanted = region_content self.now under (region_of region.now) value in
             MatchResult result
-            (λ v. HasReadRegion self.now (region_of region.now) wanted
+            (λ v. HasRegion self.now (region_of region.now) wanted
             (region_asks self.now under (region_of region.now) value)
             (region_taken self.now under (region_of region.now) value) (S.shown store.old)
             (S.shown store.new) (raw_of v))

@@ -9,6 +9,7 @@ ghost use Rattle.zarr_shard_parts.specs.Document.{lengths_of};
 ghost use Rattle.zarr_shard_codec.specs.Fill.{denotes};
 
 use std::alloc::{AllocError, Global};
+use zarr_array_parts::ArrayParts;
 use zarr_chain::ChunkLevels;
 use zarr_shard_parts::Shard;
 use zarrs_array_subset::{ChunkShape, shape_product, unravel_index};
@@ -22,8 +23,8 @@ use zarrs_metadata_parts::Configuration;
 /// See <https://zarr-specs.readthedocs.io/en/latest/v3/codecs/sharding-indexed/index.html>.
 #[derive(Drop)]
 pub struct ShardCodec {
-    // The configuration in the metadata that the codec was made of.
-    pub(crate) configuration: Configuration,
+    // The configuration in the metadata that the codec was made of, if it was made of metadata.
+    pub(crate) configuration: Option<Configuration>,
     // How a chunk keeps inner chunks.
     pub(crate) shard: Shard,
     // The shape of an inner chunk.
@@ -40,6 +41,20 @@ pub struct ShardCodec {
 impl ShardCodec {
     ghost use Rattle.zarr_array_parts.specs.ChunkLevels.{ServesShape};
     ghost use Rattle.zarr_shard_codec.specs.ShardCodec.{inner_of, inner_dims};
+
+    /// The shape of a chunk.
+    pub fn shape(&self) -> &[u64]
+        ensures { result.now ≡ (inner_of self.now).shape }
+    {
+        self.shard.inner.shape()
+    }
+
+    /// The inner chunks of a chunk, as those of an array with the chunk's shape.
+    pub fn inner(&self) -> &ArrayParts
+        ensures { result.now ≡ self.now.shard.inner }
+    {
+        &self.shard.inner
+    }
 
     /// How many elements a chunk has.
     #[tactic(auto, using(crate::proofs::CodecFacts::own_fits))]

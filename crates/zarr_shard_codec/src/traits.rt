@@ -33,9 +33,10 @@ impl ExtensionName for ShardCodec {
 }
 
 impl CodecTraits for ShardCodec {
+    ghost use Rattle.std.specs.Prelude.{option_map};
     ghost use Rattle.zarrs_metadata_values.specs.Configuration.{configuration_seen};
 
-    ghost written = { λ c _ _. Some (configuration_seen c.configuration) };
+    ghost written = { λ c _ _. option_map configuration_seen c.configuration };
 
     ghost decodes_parts = { λ _. record { partial_read = false; partial_decode = false } };
 
@@ -47,8 +48,13 @@ impl CodecTraits for ShardCodec {
         _version: ZarrVersion,
         _options: &CodecMetadataOptions,
     ) -> Result<Option<Configuration>, AllocError> {
-        let configuration = self.configuration.try_clone(alloc)?;
-        Ok(Some(configuration))
+        match &self.configuration {
+            Some(configuration) => {
+                let copy = configuration.try_clone(alloc)?;
+                Ok(Some(copy))
+            }
+            None => Ok(None),
+        }
     }
 
     fn partial_decoder_capability(&self) -> PartialDecoderCapability {
@@ -98,7 +104,7 @@ impl ArrayCodecTraits for ShardCodec {
 
 impl ArrayToBytesCodecTraits for ShardCodec {
     ghost use Rattle.std.specs.Prelude.{◌≡◌, List, None, IfOk};
-    ghost use Rattle.zarr_model.specs.Prelude.{kind_of, count_of, Element, Options};
+    ghost use Rattle.zarr_model.specs.Prelude.{kind_of, count_of, Element, Options, decode_chain};
     ghost use Rattle.zarrs_data_type_elements.specs.FillValue.{fill_bytes};
     ghost use Rattle.zarrs_data_type_names.specs.DataType.{type_of};
     ghost use Rattle.zarrs_codec_array_bytes.specs.Raw.{raw_of};
@@ -110,9 +116,9 @@ impl ArrayToBytesCodecTraits for ShardCodec {
     ghost use Rattle.zarr_shard_codec.specs.Serving.{shard_unserved};
     ghost use Rattle.zarrs_codec_options.specs.declared.bytes_representation.BytesRepresentation.TheVariants.{UnboundedSize};
     ghost use Rattle.zarrs_codec_traits.proofs.TakenLaws.{nothing_asked};
-    ghost use Rattle.zarr_shard_codec.specs.Counted.{meaning_counted};
     ghost use Rattle.zarr_shard_codec.specs.NoFault.{shard_no_fault};
-    ghost use Rattle.zarr_shard_codec.specs.ShardCodec.{shard_meaning};
+    ghost use Rattle.zarr_shard_codec.specs.ShardCodec.{inner_of, form_of, shard_meaning};
+    ghost use Rattle.zarr_shard_codec.specs.Counted.{counted};
     ghost use Rattle.zarr_shard_codec.specs.Taking.{long_refusal, short_taken, long_form};
     ghost use Rattle.zarr_shard_codec.specs.Whole.{shard_says};
 
@@ -130,7 +136,8 @@ impl ArrayToBytesCodecTraits for ShardCodec {
 
     ghost compacts = { λ _. false };
 
-    ghost counted = { meaning_counted };
+    ghost counted = { λ c under. counted (form_of c) under.validate_checksums
+        (decode_chain ((inner_of c).chain under)) };
 
     ghost taken = { λ _ _ _ bytes served few there short. short_taken bytes short };
 

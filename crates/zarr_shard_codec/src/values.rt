@@ -10,7 +10,7 @@ ghost use Rattle.zarrs_codec_traits.specs.Errors.{IsDecodeError};
 ghost use Rattle.zarrs_codec_traits.specs.Views.{options_of};
 ghost use Rattle.zarrs_codec_traits.specs.Words.{list_at, Gives};
 ghost use Rattle.zarr_shard_codec.specs.Encoding.{IsEncoded};
-ghost use Rattle.zarr_shard_codec.specs.ShardCodec.{inner_of, own_level, shard_meaning};
+ghost use Rattle.zarr_shard_codec.specs.ShardCodec.{inner_of, own_level, own_list, shard_meaning};
 ghost use Rattle.zarr_shard_codec.specs.Taking.{long_refusal};
 ghost use Rattle.zarr_shard_codec.specs.Whole.{shard_says};
 
@@ -24,8 +24,11 @@ use zarrs_codec_error::CodecError;
 use zarrs_codec_options::CodecOptions;
 
 impl ShardCodec {
-    // The box of all of a chunk.
-    fn all(&self, alloc: Global) -> Result<ArraySubset, AllocError>
+    /// The box of all of a chunk.
+    ///
+    /// # Errors
+    /// [`AllocError`] where memory runs out.
+    pub fn whole(&self, alloc: Global) -> Result<ArraySubset, AllocError>
         ensures { IfOk result (λ all. region all ≡ whole (inner_of self.now).shape) }
     {
         let shape = self.shard.inner.shape().to_vec(alloc)?;
@@ -49,13 +52,16 @@ impl ShardCodec {
             (IsDecodeError wanted (shard_says self.now (options_of options.now) value.now)) }
         ensures short { IfOk result (λ v. has_long_element (raw_of v) ≡ false) }
     {
-        let all = self.all(alloc)?;
+        let all = self.whole(alloc)?;
         let inner = InnerChunks::of(self, alloc)?;
         inner.decode_within(alloc, &all, value, options)
     }
 
-    // The value of a chunk with these elements, none of which is too long.
-    fn encode_short(
+    /// The value of a chunk with these elements, none of which is too long. It decodes to them under all options.
+    ///
+    /// # Errors
+    /// [`CodecError::OutOfMemory`].
+    pub fn encode_chunk(
         &self,
         alloc: Global,
         bytes: &ArrayBytes<'_>,
@@ -64,7 +70,9 @@ impl ShardCodec {
         requires short { has_long_element (raw_of bytes.now) ≡ false }
         ensures { (list : List Element)
             → list_at (own_level self.now) (raw_of bytes.now) ≡ Some list
-            → MatchResult result (λ v. IsEncoded self.now (options_of options.now) list v.items)
+            → MatchResult result
+            (λ v. IsEncoded self.now (options_of options.now) list v.items
+            × ((under : Options) → own_list self.now under v.items ≡ Some list))
             (λ e. e ≡ errors.OutOfMemory) }
     {
         let inner = InnerChunks::of(self, alloc)?;
@@ -91,7 +99,7 @@ impl ShardCodec {
         if has_long_element(bytes) {
             return Err(CodecError::InvalidVariableSizedArrayOffsets);
         }
-        self.encode_short(alloc, bytes, options)
+        self.encode_chunk(alloc, bytes, options)
     }
 
     /// The value of a chunk with these elements, which decodes to them under all options.

@@ -1,13 +1,13 @@
 use Rattle.std.proofs.Common.{◌≡◌, ◌+◌, [], ◌∷◌, ◌++◌, map, take, Ok, arith, ap, ◌∙◌, sym, subst, subst₂, vec_len, le_trans, if◌then◌else◌, is_ok}
 use Rattle.std.proofs.lemmas.List.{map-append}
-use Rattle.zarr_array.specs.Command.{command_of, answer_of, AreReads}
+use Rattle.zarr_array.specs.Command.{command_of, answer_of}
 use Rattle.zarrs_codec_traits.specs.Views.{options_of}
-use Rattle.zarr_array.specs.Costs.{CostsOn}
+use Rattle.zarr_array.specs.Costs.{only_reads, OnlyReads, CostsOn}
 use Rattle.zarr_array_regions.specs.Access.{described}
 use Rattle.zarr_array.specs.Runs.{RunsOn}
 use Rattle.zarr_array.proofs.RunsLaws.{command_here, read_here, one_more_ran, stops_at, take_next, take_whole}
 use Rattle.zarr_array.proofs.SessionSteps.{told_at}
-use Rattle.zarr_array.proofs.CostLaws.{reads_parts, more_costs, stops_costs, unbegun_costs}
+use Rattle.zarr_array.proofs.CostLaws.{each_parts, only_same, more_costs, stops_costs, unbegun_costs}
 use Rattle.zarr_array.proofs.commands.run_commands.Goals as goal
 
 pub loop-number-preserved : goal.loop-number-preserved
@@ -38,9 +38,12 @@ loop-number-preserved g c = record {
   same =
       let commands = map command_of c.args.commands.now in
       let here = command_here command_of c.args.commands.now c.loop-number.number c.index-commands-number.result c.loop-number-test.true c.index-commands-number.is in
+      let array = described (g.C.ChunkAccess.seen c.args.array.now) in
       λ reads key.
-      let parts = reads_parts (take c.loop-number.number commands) (command_of c.index-commands-number.result) (subst AreReads (take_next commands c.loop-number.number (command_of c.index-commands-number.result) here) reads) in
-      c.run_command.ensures.same parts.1 key ∙ c.loop-number.invariant.same parts.0 key;
+      let parts = each_parts (only_reads array) (take c.loop-number.number commands) (command_of c.index-commands-number.result)
+      (subst (OnlyReads array) (take_next commands c.loop-number.number (command_of c.index-commands-number.result) here) reads) in
+      only_same array (options_of c.args.options.now) (command_of c.index-commands-number.result) (g.S.Store.shown c.loop-number.store) (g.S.Store.shown c.run_command.new.store) _
+      c.run_command.ensures.same c.in-Ok-run_command.ensures.runs parts.1 key ∙ c.loop-number.invariant.same parts.0 key;
   kept =
       let here = command_here command_of c.args.commands.now c.loop-number.number c.index-commands-number.result c.loop-number-test.true c.index-commands-number.is in
       λ reads. g.met.S.Store.kept_twice c.args.store.now c.loop-number.store c.run_command.new.store (c.loop-number.invariant.kept reads)

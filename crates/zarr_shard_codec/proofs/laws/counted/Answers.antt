@@ -1,4 +1,4 @@
-use Rattle.zarr_shard_codec.proofs.ShardLaws.{counted}
+use Rattle.zarr_shard_codec.specs.Counted.{counted}
 use Rattle.zarr_shard_codec.proofs.laws.counted.Goals as goal
 
 pub returns : goal.returns

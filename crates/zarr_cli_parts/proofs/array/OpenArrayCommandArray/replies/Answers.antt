@@ -2,6 +2,9 @@ use Rattle.std.proofs.Common.{true, List, [], map, ap, subst}
 use Rattle.zarr_cli_runs.specs.array.Command.{command_of}
 use Rattle.zarr_cli_runs.specs.array.parts.Document.{describe}
 use Rattle.zarr_cli_runs.specs.array.parts.Parts.{documented}
+use Rattle.zarr_cli_runs.specs.array.regions.Access.{by_chunk}
+use Rattle.zarr_cli_runs.specs.array.regions.Plain.{is_bytes_alone}
+use Rattle.zarr_cli_runs.specs.Commands.{CostsRun}
 use Rattle.zarrs_codec_traits.specs.Views.{options_of}
 use Rattle.zarr_cli_parts.specs.Array.{job, Did, Replied}
 use Rattle.zarr_cli_parts.specs.Run.{open_costs}
@@ -16,5 +19,7 @@ returns-clause-did g c =
     let now = g.S.Store.shown c.replies_of.new.store in
     subst (λ document. Did (job true (describe document) options [] commands) (Unit {0}) before now c.replies_of.result (λ held. Replied (open_costs document) (describe document) options commands before now held.items))
     (ap documented c.parts.ensures)
-    (array_did (documented c.parts.result.now) options commands before now (g.met.S.Store.counts_fit c.args.store.now).3
+    (array_did (open_costs (documented c.parts.result.now)) (describe (documented c.parts.result.now)) options commands before now (g.met.S.Store.counts_fit c.args.store.now).3
+    (CostsRun (by_chunk (is_bytes_alone (documented c.parts.result.now))) (describe (documented c.parts.result.now)) options commands before now)
+    (λ paid puts. record { asks = paid.asks; puts = puts; taken = paid.taken })
     c.replies_of.result c.replies_of.ensures.ran c.replies_of.ensures.costs c.replies_of.ensures.refused c.replies_of.ensures.unchanged c.replies_of.ensures.later c.replies_of.ensures.fault c.replies_of.ensures.between c.replies_of.ensures.complete)

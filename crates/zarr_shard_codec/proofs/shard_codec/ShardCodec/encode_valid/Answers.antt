@@ -10,15 +10,15 @@ returns-clause-exact c =
     let codec = c.args.self.now in
     let raw = raw_of c.args.bytes.now in
     let (list, is) = valid_list (own_level codec) raw c.requires.valid in
-    short_answers (λ v. v.items) codec (options_of c.args.options.now) list raw c.encode_short.result (sym c.has_long_element.ensures ∙ c.if-has_long_element.false) (c.encode_short.ensures list is)
+    short_answers (λ v. v.items) codec (options_of c.args.options.now) list raw c.encode_chunk.result (sym c.has_long_element.ensures ∙ c.if-has_long_element.false) (c.encode_chunk.ensures list is)
 
 pub returns-clause-laid : goal.returns-clause-laid
 returns-clause-laid c = λ list is.
-    encoded_laid (λ v. v.items) c.args.self.now (options_of c.args.options.now) list (raw_of c.args.bytes.now) c.encode_short.result (c.encode_short.ensures list is)
+    encoded_laid (λ v. v.items) c.args.self.now (options_of c.args.options.now) list (raw_of c.args.bytes.now) c.encode_chunk.result (c.encode_chunk.ensures list is)
 
 pub returns-clause-value : goal.returns-clause-value
 returns-clause-value c =
     let codec = c.args.self.now in
     let raw = raw_of c.args.bytes.now in
     let (list, is) = valid_list (own_level codec) raw c.requires.valid in
-    encoded_means (λ v. v.items) codec (options_of c.args.options.now) list raw c.encode_short.result is (c.encode_short.ensures list is)
+    encoded_means (λ v. v.items) codec (options_of c.args.options.now) list raw c.encode_chunk.result is (c.encode_chunk.ensures list is)

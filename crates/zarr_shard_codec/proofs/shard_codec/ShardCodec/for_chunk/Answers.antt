@@ -12,10 +12,6 @@ use Rattle.zarr_shard_parts.proofs.ChunkLaws.{IsMadeFor, made_for}
 use Rattle.zarr_shard_codec.proofs.MakingLaws.{made_served}
 use Rattle.zarr_shard_codec.proofs.shard_codec.ShardCodec.for_chunk.Goals as goal
 
-pub configuration_of-requires : goal.configuration_of-requires
-configuration_of-requires c =
-    (made_for (registry_of c.args.registries.now.codecs) (lengths c.args.shape.now) (type_of c.args.data_type.now) (fill_bytes c.args.fill_value.now) (extension_seen c.args.metadata.now) (shard_form c.in_ok-shard.shard) c.in_ok-shard.ensures).configured
-
 pub with_fill-requires-clause-filled : goal.with_fill-requires-clause-filled
 with_fill-requires-clause-filled c =
     let made = made_for (registry_of c.args.registries.now.codecs) (lengths c.args.shape.now) (type_of c.args.data_type.now) (fill_bytes c.args.fill_value.now) (extension_seen c.args.metadata.now) (shard_form c.in_ok-shard.shard) c.in_ok-shard.ensures in
