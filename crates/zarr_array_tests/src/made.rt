@@ -1,13 +1,17 @@
-//! Documents, arrays, regions, replies and keys.
+//! Documents, arrays, regions, values and elements.
 
 use std::alloc::Global;
 use std::ops::Range;
 use std::process::Abort;
-use zarr_array::{OpenArray, Reply, builtin_registries};
+use zarr_array::{OpenArray, builtin_registries};
 use zarrs_array_subset::ArraySubset;
 use zarrs_codec_array_bytes::ArrayBytes;
 use zarrs_codec_array_bytes::array_bytes::bytes_in;
 use zarrs_storage::{MemoryStore, Store, StoreKey};
+
+/// A document of a square in four chunks.
+pub const SQUARE: &str =
+    r#"{"zarr_format":3,"node_type":"array","shape":[4,4],"data_type":"uint8","chunk_grid":{"name":"regular","configuration":{"chunk_shape":[2,2]}},"chunk_key_encoding":"default","fill_value":0,"codecs":["bytes"]}"#;
 
 /// A document of a line of two-byte numbers, stored the greater byte first, in three chunks, the last of which goes past
 /// it.
@@ -25,21 +29,22 @@ pub fn region(rt: &impl Abort, alloc: Global, ranges: &[Range<u64>]) -> ArraySub
     ArraySubset::new_with_ranges(alloc, ranges).expect(rt, "memory")
 }
 
-/// Whether a reply is these elements.
-pub fn has_elements(reply: &Reply, elements: &[u8]) -> bool {
-    match reply {
-        Reply::Elements(ArrayBytes::Fixed(fixed)) => bytes_in(fixed) == elements,
-        _ => false,
-    }
-}
-
 /// A key that is in form.
 pub fn key_of(rt: &impl Abort, alloc: Global, key: &str) -> StoreKey {
     let text = String::from_str(alloc, key).expect(rt, "memory");
     StoreKey::new(text).ok().expect(rt, key)
 }
 
-/// How many keys a store has.
-pub fn number_of_keys(rt: &impl Abort, alloc: Global, store: &MemoryStore) -> usize {
-    store.keys(alloc).expect(rt, "memory").len()
+/// Sets the value under a key.
+pub fn put(rt: &impl Abort, alloc: Global, store: &mut MemoryStore, key: &str, value: &[u8]) {
+    let key = key_of(rt, alloc, key);
+    store.set(alloc, &key, value).ok().expect(rt, "a value");
+}
+
+/// Whether these are elements of one size, and the bytes of all.
+pub fn are_elements(bytes: &ArrayBytes<'_>, elements: &[u8]) -> bool {
+    match bytes {
+        ArrayBytes::Fixed(fixed) => bytes_in(fixed) == elements,
+        _ => false,
+    }
 }

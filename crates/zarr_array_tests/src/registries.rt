@@ -5,12 +5,12 @@ ghost use Rattle.zarrs_plugin.specs.NamePattern.{exact};
 ghost use Rattle.zarrs_plugin.specs.Registry.{with_entry};
 ghost use Rattle.zarr_basics.specs.Registries.{names_of, builtin_names};
 
+use crate::made::SQUARE;
 use std::alloc::{AllocError, Global};
 use std::process::Abort;
 use zarr_array::{CodecKind, GridKind, NamePattern, OpenArray, Registries, builtin_registries};
-use zarr_test_parts::SQUARE;
 
-// A text of the document, what stands in its place, and whether it is opened.
+// A text of the square's document, what stands in its place, and whether it is opened.
 const TABLE: &str = r#"["bytes"] ["b8"] opened
 "regular" "even" opened
 ["bytes"] ["b"] PluginUnsupportedError
@@ -39,7 +39,7 @@ fn with_other_names(rt: &impl Abort, alloc: Global) -> Registries {
     registries
 }
 
-// The name of the refusal of a document with one text in place of another.
+// The name of the refusal of the square's document with one text in place of another.
 fn answer(
     rt: &impl Abort,
     alloc: Global,
@@ -59,21 +59,15 @@ fn cut(row: &str) -> (&str, &str) {
     row.split_once(' ').unwrap_or((row, ""))
 }
 
-// A row of the table is so.
-fn is_so(rt: &impl Abort, alloc: Global, row: &str, registries: &Registries) {
-    let (old, rest) = cut(row);
-    let (new, want) = cut(rest);
-    assert!(rt; answer(rt, alloc, old, new, registries) == want, "{row}");
-}
-
-fn are_so(rt: &impl Abort, alloc: Global, registries: &Registries) {
-    for row in TABLE.lines() {
-        is_so(rt, alloc, row, registries);
-    }
-}
-
 #[test]
 fn registered_names_are_known(rt: HostRuntime) {
     let registries = with_other_names(&rt, rt.alloc());
-    are_so(&rt, rt.alloc(), &registries);
+    for row in TABLE.lines() {
+        let (old, rest) = cut(row);
+        let (new, want) = cut(rest);
+        assert!(rt;
+            answer(&rt, rt.alloc(), old, new, &registries) == want,
+            "{row}"
+        );
+    }
 }

@@ -5,6 +5,7 @@ use std::alloc::{AllocError, Global};
 use zarr_cli::program::run_program;
 use zarr_rechunk::run_rechunk;
 use zarr_refs::run_refs;
+use zarr_shard::run_shard_program;
 use zarr_v2::run_v2_program;
 use zarrs_storage::{
     FailingStore, MemorySink, MemorySource, MemoryStore, StorageError, Store, StoreKey,
@@ -24,6 +25,8 @@ pub enum Program {
     Rechunk,
     /// `v2`.
     V2,
+    /// `shard`.
+    Shard,
 }
 
 impl Program {
@@ -33,6 +36,7 @@ impl Program {
             "refs" => Program::Refs,
             "rechunk" => Program::Rechunk,
             "v2" => Program::V2,
+            "shard" => Program::Shard,
             _ => Program::Zarr,
         }
     }
@@ -54,6 +58,7 @@ impl Program {
                 run_rechunk(alloc, words, source, sink, store, &mut to).code()
             }
             Program::V2 => run_v2_program(alloc, words, source, sink, store).code(),
+            Program::Shard => run_shard_program(alloc, words, source, sink, store).code(),
         }
     }
 }

@@ -3,8 +3,11 @@
 use std::alloc::{AllocError, Global};
 use std::test::Fail;
 use zarr_cli::program::run_program;
-use zarr_test_parts::HEIGHTS;
 use zarrs_storage::{MemorySink, MemorySource, MemoryStore};
+
+// A document of heights in millimetres, in chunks that end in digests.
+const HEIGHTS: &str =
+    r#"{"shape":[1000,700],"data_type":"int32","chunk_grid":{"name":"regular","configuration":{"chunk_shape":[128,128]}},"chunk_key_encoding":{"name":"default","configuration":{"separator":"/"}},"fill_value":0,"codecs":[{"name":"bytes","configuration":{"endian":"little"}},{"name":"zarr_basics.sha256"}],"attributes":{"title":"height","units":"mm","version":2},"dimension_names":["y","x"],"storage_transformers":[],"zarr_format":3,"node_type":"array"}"#;
 
 // Half a byte, as a digit.
 fn digit(half: u8) -> u8 {

@@ -1,4 +1,4 @@
-//! Whole runs over a store that fails, a source without end and a sink that takes a byte a call.
+//! Whole runs from a number, over a source without end, and into a sink that takes a byte a call.
 
 ghost use Rattle.std.specs.Prelude.{◌≡◌, None};
 
@@ -6,10 +6,11 @@ use std::alloc::{AllocError, Global};
 use std::test::Fail;
 use zarr_cli::Status;
 use zarr_cli::program::run_program;
-use zarr_test_parts::SQUARE;
-use zarrs_storage::{
-    FailingStore, IoFailed, MemorySink, MemorySource, MemoryStore, Sink, Source, Store,
-};
+use zarrs_storage::{IoFailed, MemorySink, MemorySource, MemoryStore, Sink, Source, Store};
+
+/// A document of a square in four chunks.
+pub const SQUARE: &str =
+    r#"{"zarr_format":3,"node_type":"array","shape":[4,4],"data_type":"uint8","chunk_grid":{"name":"regular","configuration":{"chunk_shape":[2,2]}},"chunk_key_encoding":"default","fill_value":0,"codecs":["bytes"]}"#;
 
 // A run over an empty store in memory, which never fails.
 fn run_in_memory<R: Source, W: Sink>(
@@ -35,30 +36,6 @@ fn sink_with_room(alloc: Global) -> Result<MemorySink, AllocError> {
     let mut sink = MemorySink::new(alloc, Vec::new(alloc));
     sink.reserve(100)?;
     Ok(sink)
-}
-
-fn dump_word(alloc: Global) -> Result<Vec<String>, AllocError> {
-    let mut words = Vec::with_capacity(alloc, 1)?;
-    words.push(String::from_str(alloc, "--dump")?)?;
-    Ok(words)
-}
-
-#[test]
-fn a_fault_of_the_store_leaves_no_reply(rt: HostRuntime) -> Result<(), Fail> {
-    let alloc = rt.alloc();
-    let words = dump_word(alloc)?;
-    // The call of the store that fails, the reading calls until then, and the keys that are left.
-    for (failing, asks, keys) in [(0, 0, 0), (1, 1, 1), (2, 2, 1)] {
-        let mut source = source_of(alloc, "key c/0/0 h00\nread 0..1")?;
-        let mut sink = sink_with_room(alloc)?;
-        let numbers = vec![in alloc; failing]?;
-        let mut store = FailingStore::new(MemoryStore::new(alloc), numbers);
-        let status = run_program(alloc, &words, &mut source, &mut sink, &mut store);
-        assert_eq!(rt; sink.written(), b"store\n".as_slice(), "at {failing}");
-        assert_eq!(rt; (status.code(), store.asks()), (6, asks), "at {failing}");
-        assert_eq!(rt; store.memory().keys(alloc)?.len(), keys, "at {failing}");
-    }
-    Ok(())
 }
 
 // A source of spaces.

@@ -1,0 +1,26 @@
+//! The program `shard`: reads the document of a sharded array, key lines and commands from standard input, and writes the replies
+//! to standard output.
+#![tactic(auto)]
+
+use std::io;
+use std::process::ExitCode;
+use std::rt::Env;
+use zarr_cli_parts::Status;
+use zarr_cli_parts::args::words;
+use zarr_shard::run_shard_program;
+use zarrs_storage::{MemoryStore, ReadSource, WriteSink};
+
+fn run<R: Env + AllocGlobal + Input + Print>(rt: &R) -> u8 {
+    let alloc = rt.alloc();
+    let Ok(words) = words(rt) else {
+        return Status::OutOfMemory.code();
+    };
+    let mut source = ReadSource::new(rt.reader());
+    let mut sink = WriteSink::new(io::writer(rt));
+    let mut store = MemoryStore::new(alloc);
+    run_shard_program(alloc, &words, &mut source, &mut sink, &mut store).code()
+}
+
+fn main(rt: HostRuntime) -> ExitCode {
+    ExitCode::from(run(&rt))
+}

@@ -1,0 +1,9 @@
+mod BoxLaws
+mod ShapeLaws
+mod DescribedLaws
+mod FetchLaws
+mod AccessLaws
+mod StoreLaws
+mod SaysLaws
+mod LinesLaws
+mod EarlyLaws

@@ -1,0 +1,136 @@
+//! The chunks of a sharded array, fetched by their inner chunks and stored whole.
+
+ghost use Rattle.std.specs.Prelude.{◌≡◌, List, Some, IfOk, IfSome};
+ghost use Rattle.std.specs.List.{list_all};
+ghost use Rattle.zarr_model.specs.Prelude.{Element, same_element};
+ghost use Rattle.zarrs_codec_array_bytes.specs.Raw.{raw_of};
+ghost use Rattle.zarrs_codec_traits.specs.Views.{options_of};
+ghost use Rattle.zarrs_codec_traits.specs.Words.{list_at};
+ghost use Rattle.zarr_array_regions.specs.Access.{IsInHand};
+ghost use Rattle.zarr_array_regions.specs.Chunk.{is_dropped};
+ghost use Rattle.zarr_array_regions.specs.RegionChunks.{IsPlace};
+ghost use Rattle.zarr_shard_codec.specs.ShardCodec.{inner_of, own_level};
+ghost use Rattle.zarr_shard.specs.Access.{shard_access, shard_served, serves_all};
+ghost use Rattle.zarr_shard.specs.ShardArray.{described};
+
+use crate::array::ShardArray;
+use std::alloc::{AllocError, Global};
+use zarr_array_regions::{ChunkAccess, ChunkPlace};
+use zarr_basics_grids::BasicGrid;
+use zarr_chain_stored::Fetched;
+use zarr_shard_codec::ShardCodec;
+use zarrs_array_subset::ArraySubset;
+use zarrs_codec_array_bytes::ArrayBytes;
+use zarrs_codec_error::CodecError;
+use zarrs_codec_options::CodecOptions;
+use zarrs_data_type_elements::FillValue;
+use zarrs_data_type_names::DataType;
+use zarrs_storage::{StorageError, Store, StoreKey};
+
+// Whether all elements of a chunk are the fill value.
+fn is_blank(codec: &ShardCodec, elements: &ArrayBytes<'_>) -> bool
+    ensures { (list : List Element)
+        → list_at (own_level codec.now) (raw_of elements.now) ≡ Some list
+        → result ≡ list_all (same_element (inner_of codec.now).fill) list }
+{
+    elements.is_fill_value(codec.inner().fill_value())
+}
+
+// Whether a chunk with these elements is not stored.
+fn is_left_out(array: &ShardArray, elements: &ArrayBytes<'_>, options: &CodecOptions) -> bool
+    ensures { (list : List Element)
+        → list_at (own_level array.now.codec) (raw_of elements.now) ≡ Some list
+        → result ≡ is_dropped (described array.now) (options_of options.now) list }
+{
+    !options.store_empty_chunks() && is_blank(&array.codec, elements)
+}
+
+impl ChunkAccess for ShardArray {
+    // All chunks have one shape, and the codec what serves for it.
+    type Levels = ();
+
+    ghost seen = { shard_access };
+
+    ghost serves = { serves_all };
+
+    ghost served = { shard_served };
+
+    fn grid(&self) -> &BasicGrid {
+        &self.grid
+    }
+
+    fn data_type(&self) -> &DataType {
+        self.codec.inner().data_type()
+    }
+
+    fn fill_value(&self) -> &FillValue {
+        self.codec.inner().fill_value()
+    }
+
+    fn chunk_key(&self, alloc: Global, chunk_indices: &[u64]) -> Result<StoreKey, AllocError> {
+        let key = self.codec.inner().keys().key(alloc, chunk_indices)?;
+        Ok(key)
+    }
+
+    fn levels_at(
+        &self,
+        _alloc: Global,
+        _hand: Option<()>,
+        _place: &ChunkPlace,
+    ) -> Result<(), AllocError>
+        requires hand { IfSome _hand (IsInHand (serves_all self.now)) }
+        requires place { IsPlace (shard_access self.now).description _place.now }
+        ensures { IfOk result (serves_all self.now _place.now.indices.items) }
+    {
+        Ok(())
+    }
+
+    fn fetch_elements<S: Store>(
+        &self,
+        alloc: Global,
+        place: &ChunkPlace,
+        _levels: &(),
+        store: &mut S,
+        options: &CodecOptions,
+    ) -> Result<ArrayBytes<'static>, CodecError> {
+        let whole = self.codec.whole(alloc)?;
+        self.codec
+            .read_region(alloc, store, &place.key, &whole, options)
+    }
+
+    fn fetch_part<S: Store>(
+        &self,
+        alloc: Global,
+        place: &ChunkPlace,
+        _levels: &(),
+        within: &ArraySubset,
+        store: &mut S,
+        options: &CodecOptions,
+    ) -> Result<Fetched, CodecError> {
+        match self
+            .codec
+            .read_region(alloc, store, &place.key, within, options)
+        {
+            Ok(bytes) => Ok(Fetched::Region(bytes)),
+            Err(error) => Err(error),
+        }
+    }
+
+    fn store_elements<S: Store>(
+        &self,
+        alloc: Global,
+        place: &ChunkPlace,
+        _levels: &(),
+        elements: ArrayBytes<'static>,
+        store: &mut S,
+        options: &CodecOptions,
+    ) -> Result<(), StorageError> {
+        if is_left_out(self, &elements, options) {
+            return store.erase(&place.key);
+        }
+        match self.codec.encode_chunk(alloc, &elements, options) {
+            Ok(value) => store.set(alloc, &place.key, &value),
+            Err(_) => Err(StorageError::OutOfMemory),
+        }
+    }
+}
