@@ -117,6 +117,55 @@ def moved(shape, chunks, other):
     return document(shape, chunks) + document(shape, other) + key_lines(counts, chunks[0] * chunks[1])
 
 
+CRC_TABLE = []
+for byte in range(256):
+    register = byte
+    for _ in range(8):
+        register = register >> 1 ^ (0x82F63B78 if register & 1 else 0)
+    CRC_TABLE.append(register)
+
+
+def crc32c(value):
+    register = 0xFFFFFFFF
+    for byte in value:
+        register = register >> 8 ^ CRC_TABLE[(register ^ byte) & 255]
+    return register ^ 0xFFFFFFFF
+
+
+def sharded(side, inner, reads, checked=False):
+    """An array that is one shard of a square of `side` by `side` inner chunks, each a square of `inner` by `inner`."""
+    length = side * inner
+    index_codecs = '{"name":"bytes","configuration":{"endian":"little"}}' + (',"crc32c"' if checked else "")
+    opened = document((length, length), (length, length))
+    codec = opened.index('"codecs"')
+    size = inner * inner
+    index = b"".join((n * size).to_bytes(8, "little") + size.to_bytes(8, "little") for n in range(side * side))
+    if checked:
+        index += crc32c(index).to_bytes(4, "little")
+    values = bytes(n % 251 + 1 for n in range(length * length))
+    return (
+        opened[:codec]
+        + f'"codecs":[{{"name":"sharding_indexed","configuration":{{"chunk_shape":[{inner},{inner}],'
+        + f'"codecs":["bytes"],"index_codecs":[{index_codecs}]}}}}]}}\n'
+        + f"key c/0/0 h{values.hex()}{index.hex()}\n"
+        + "".join(reads)
+    )
+
+
+def inner_reads(side, inner, number):
+    """So many reads, each of one inner chunk."""
+    for n in range(number):
+        row, column = n % side * inner, n * 7 % side * inner
+        yield f"read {row}..{row + inner},{column}..{column + inner}\n"
+
+
+def unsharded(side, inner, reads):
+    """The same array without inner chunks."""
+    length = side * inner
+    values = bytes(n % 251 + 1 for n in range(length * length))
+    return document((length, length), (length, length)) + f"key c/0/0 h{values.hex()}\n" + "".join(reads)
+
+
 def cases():
     """Each case: its group, its name, a function that makes its input, and the program where it is not `zarr`."""
     yield "read", "one read of 600 x 800 from 64 chunks of 128 x 128", one_read
@@ -207,6 +256,38 @@ def cases():
             f"write of {shape[0]} x {shape[1]} in chunks of 10 x 100",
             lambda shape=shape: write_and_read(shape, (10, 100)).rsplit("read", 1)[0],
         )
+    for checked in (False, True):
+        index = "an index with a CRC-32C" if checked else "an index"
+        for number in (0, 1_000, 2_000):
+            yield (
+                "inner chunks",
+                f"{number:,} reads of an inner chunk of 64 x 64 of 4 x 4, by {index}",
+                lambda number=number, checked=checked: sharded(64, 4, inner_reads(64, 4, number), checked),
+                "shard",
+            )
+    for side, inner in ((16, 64), (64, 16)):
+        length = side * inner
+        for number in (0, 1):
+            read = "read" if number else "no read"
+            reads = [f"read {box((length, length))}\n"] * number
+            yield (
+                "shards",
+                f"{read} of {length} x {length} in one shard of {side} x {side} inner chunks of {inner} x {inner}",
+                lambda side=side, inner=inner, reads=reads: sharded(side, inner, reads),
+                "shard",
+            )
+            yield (
+                "shards",
+                f"{read} of {length} x {length} in one chunk, without the {side} x {side} inner ones",
+                lambda side=side, inner=inner, reads=reads: unsharded(side, inner, reads),
+            )
+            yield (
+                "shards",
+                f"{read} of {length} x {length} in {side} x {side} chunks, each under its own key",
+                lambda side=side, inner=inner, length=length, reads=reads: document((length, length), (inner, inner))
+                + key_lines((side, side), inner * inner)
+                + "".join(reads),
+            )
 
 
 if __name__ == "__main__":

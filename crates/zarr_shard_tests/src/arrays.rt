@@ -81,8 +81,8 @@ fn an_array_is_written_read_and_erased(rt: HostRuntime) {
     assert!(rt; store.puts() == 2);
     let (asks, taken) = (store.asks(), store.taken());
     assert!(rt; is_read(&rt, alloc, &array, 3..4, &[11], &mut store));
-    assert!(rt; store.asks() == asks + 2);
-    assert!(rt; store.taken() == taken + 34);
+    assert!(rt; store.asks() == asks.wrapping_add(2));
+    assert!(rt; store.taken() == taken.wrapping_add(34));
     let reply = array.erase(alloc, &[0], &mut store, &CodecOptions::default());
     assert!(rt; matches!(&reply_in(&rt, reply), Reply::Done));
     assert!(rt; is_read(&rt, alloc, &array, 1..6, &[0, 0, 0, 12, 0], &mut store));
