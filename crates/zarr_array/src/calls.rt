@@ -19,7 +19,7 @@ use crate::open::OpenArray;
 use std::alloc::Global;
 use zarrs_array_subset::ArraySubset;
 use zarrs_codec_array_bytes::ArrayBytes;
-use zarrs_codec_options::CodecOptions;
+use zarrs_codec_error::CodecOptions;
 use zarrs_storage::Store;
 
 impl OpenArray {

@@ -21,7 +21,7 @@ use std::alloc::Global;
 use zarr_array_regions::{ChunkAccess, CommandError, read_elements, write_elements};
 use zarrs_array_subset::ArraySubset;
 use zarrs_codec_array_bytes::ArrayBytes;
-use zarrs_codec_options::CodecOptions;
+use zarrs_codec_error::CodecOptions;
 use zarrs_storage::{StorageError, Store};
 
 /// Reads a region of an array: its elements in row-major order, or why it is refused.

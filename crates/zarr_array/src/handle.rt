@@ -16,8 +16,7 @@ use zarr_chain::ChunkLevels;
 use zarr_codecs_array_to_bytes::BasicArrayToBytes;
 use zarrs_array_subset::ArraySubset;
 use zarrs_codec_array_bytes::ArrayBytes;
-use zarrs_codec_error::CodecError;
-use zarrs_codec_options::CodecOptions;
+use zarrs_codec_error::{CodecError, CodecOptions};
 use zarrs_storage::{Store, StoreKey};
 
 /// The codecs of an array over the chunk under one key of a store.

@@ -19,7 +19,7 @@ use crate::error::{SessionError, SessionErrorKind};
 use crate::open::OpenArray;
 use std::alloc::Global;
 use zarr_array_regions::{OpenError, Registries};
-use zarrs_codec_options::CodecOptions;
+use zarrs_codec_error::CodecOptions;
 use zarrs_storage::Store;
 
 impl OpenArray {

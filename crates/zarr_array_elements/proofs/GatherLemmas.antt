@@ -6,9 +6,9 @@ use Rattle.zarr_model.specs.Element.{Element, null, Kind, fixed_size}
 use Rattle.zarr_model.specs.ArrayBytes.{ArrayBytes, meaning}
 use Rattle.zarr_model.specs.Command.{has_long_element}
 use Rattle.zarr_model.proofs.BytesLaws.{length-meaning}
-use Rattle.zarrs_codec_bytes.specs.Picking.{AllBelow, picked, gathered, replaced, size_in}
-use Rattle.zarrs_codec_bytes.proofs.GatherLaws.{extract_means}
-use Rattle.zarrs_codec_bytes.proofs.ReplaceLaws.{length-replaced, picked-range, picked-replaced, zeros_below, zeros_pick}
+use Rattle.zarrs_codec_slices.specs.Picking.{AllBelow, picked, gathered, replaced, size_in}
+use Rattle.zarrs_codec_slices.proofs.GatherLaws.{extract_means}
+use Rattle.zarrs_codec_slices.proofs.ReplaceLaws.{length-replaced, picked-range, picked-replaced, zeros_below, zeros_pick}
 use Rattle.zarrs_codec_array_bytes.specs.Refusals.{lengths_refusal}
 use Rattle.zarrs_codec_array_bytes.proofs.CheckLaws.{still_short, below_twice}
 use Rattle.zarrs_codec_array_bytes.proofs.ExtractLaws.{lengths_kept}

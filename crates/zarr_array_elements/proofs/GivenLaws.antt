@@ -6,7 +6,7 @@ use Rattle.std.proofs.lemmas.List.Folds.{flat_map-map}
 use Rattle.zarr_model.specs.Region.{Span}
 use Rattle.zarrs_chunk_grid_indexer.specs.Runs.{joined, span_of}
 use Rattle.zarrs_chunk_grid_indexer.specs.Bytes.{AllWithin}
-use Rattle.zarrs_codec_bytes.specs.PickedRuns.{run_numbers, AreRunsBelow}
+use Rattle.zarrs_codec_slices.specs.PickedRuns.{run_numbers, AreRunsBelow}
 use Rattle.zarrs_codec_array_bytes.proofs.RunLaws.{runs_listed, runs_below}
 
 pub runs_joined : (old new : List (ℕ × ℕ)) (pieces : List Span) (numbers : List ℕ) → map span_of new ≡ map span_of old ++ pieces → joined pieces ≡ numbers → run_numbers new ≡ run_numbers old ++ numbers

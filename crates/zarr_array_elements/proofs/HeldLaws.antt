@@ -1,7 +1,7 @@
 -- A box of elements has as many as the box.
 use Rattle.std.proofs.Common.{◌≡◌, length, ◌∙◌}
 use Rattle.zarr_model.specs.Region.{count}
-use Rattle.zarrs_codec_bytes.proofs.ReplaceLaws.{length-replaced}
+use Rattle.zarrs_codec_slices.proofs.ReplaceLaws.{length-replaced}
 use Rattle.zarrs_codec_array_bytes.specs.Raw.{raw_of}
 use Rattle.zarr_array_elements.specs.Elements.{blanks}
 use Rattle.zarr_array_elements.specs.Placed.{placed_bytes}

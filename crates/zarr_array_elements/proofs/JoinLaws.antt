@@ -9,7 +9,7 @@ use Rattle.zarr_model.specs.ArrayBytes.{ArrayBytes, fixed_bytes, variable_bytes,
 use Rattle.zarr_model.proofs.BytesLaws.{when_some, length-meaning, mask_length}
 use Rattle.zarr_model.proofs.ListLaws.{list_all_joined, mask_over-append}
 use Rattle.zarr_model.proofs.RefusalLaws.{rise_within}
-use Rattle.zarrs_codec_bytes.proofs.MaskLaws.{masked_parts}
+use Rattle.zarrs_codec_slices.proofs.MaskLaws.{masked_parts}
 use Rattle.zarr_array_elements.specs.Joined.{joined, joined_offsets}
 
 -- elements of one size

@@ -4,9 +4,9 @@ use Rattle.std.proofs.lemmas.Bool.{and_parts, and_from, lt-ltb}
 use Rattle.zarr_model.specs.Element.{Element, Kind, fixed, variable, optional}
 use Rattle.zarr_model.specs.ArrayBytes.{ArrayBytes, fixed_bytes, variable_bytes, optional_bytes, offsets_rise_to, are_offsets, meaning}
 use Rattle.zarr_model.proofs.BytesLaws.{when_some}
-use Rattle.zarrs_codec_bytes.specs.Picking.{stay_within}
-use Rattle.zarrs_codec_bytes.proofs.ValueLaws.{rising_within}
-use Rattle.zarrs_codec_bytes.proofs.MaskLaws.{masked_parts}
+use Rattle.zarrs_codec_slices.specs.Picking.{stay_within}
+use Rattle.zarrs_codec_slices.proofs.ValueLaws.{rising_within}
+use Rattle.zarrs_codec_slices.proofs.MaskLaws.{masked_parts}
 use Rattle.zarrs_codec_array_bytes_update.specs.Pairs.{are_alike}
 use Rattle.zarr_array_elements.specs.Grown.{are_sound}
 

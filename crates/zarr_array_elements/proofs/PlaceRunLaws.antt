@@ -7,9 +7,9 @@ use Rattle.std.proofs.lemmas.List.Elements.{All-nil, All-cons, All-head, All-tai
 use Rattle.std.proofs.lemmas.List.{length-append, length-replicate, get_or_append_left, get_or-append_right, get_or-replicate, drop_more, drop_all, append_assoc, append-nil, same_lists, get_or_default, length-set, get_or-set_same, get_or-set_other}
 use Rattle.std.proofs.lemmas.Grind.{flat_map-append}
 use Rattle.std.proofs.lemmas.List.Sorted.{All-permutation, IsPermutation-sym}
-use Rattle.zarrs_codec_bytes.proofs.ReplaceLaws.{length-replaced, get_or-replaced}
-use Rattle.zarrs_codec_bytes.specs.Picking.{AllBelow, replaced, last_given}
-use Rattle.zarrs_codec_bytes.specs.PickedRuns.{run_numbers, AreRunsBelow}
+use Rattle.zarrs_codec_slices.proofs.ReplaceLaws.{length-replaced, get_or-replaced}
+use Rattle.zarrs_codec_slices.specs.Picking.{AllBelow, replaced, last_given}
+use Rattle.zarrs_codec_slices.specs.PickedRuns.{run_numbers, AreRunsBelow}
 use Rattle.zarr_array_elements.specs.declared.place_runs.GivenRun.{GivenRun}
 use Rattle.zarr_array_elements.specs.PlaceRuns.{numbered_from, has_place, given_at, AreRising, numbers_over, IsGivenWithin}
 

@@ -9,13 +9,13 @@ use Rattle.zarr_model.specs.ArrayBytes.{ArrayBytes, fixed_bytes, variable_bytes,
 use Rattle.zarr_model.proofs.BytesLaws.{length-meaning, length-mask_over, mask_length}
 use Rattle.zarr_model.proofs.RegionLaws.{place_below}
 use Rattle.zarr_model.proofs.ListLaws.{list_all-at}
-use Rattle.zarrs_codec_bytes.specs.Elements.{fixed_elements}
-use Rattle.zarrs_codec_bytes.specs.Overlap.{Copied}
-use Rattle.zarrs_codec_bytes.specs.Picking.{piece_of, size_in}
-use Rattle.zarrs_codec_bytes.proofs.FixedLaws.{meaning_is, meaning_long}
-use Rattle.zarrs_codec_bytes.proofs.LeafLaws.{fixed_at}
-use Rattle.zarrs_codec_bytes.proofs.GatherLaws.{get_or-mask_over}
-use Rattle.zarrs_codec_bytes.proofs.MaskLaws.{masked_parts}
+use Rattle.zarrs_codec_slices.specs.Elements.{fixed_elements}
+use Rattle.zarrs_codec_slices.specs.Overlap.{Copied}
+use Rattle.zarrs_codec_slices.specs.Picking.{piece_of, size_in}
+use Rattle.zarrs_codec_slices.proofs.FixedLaws.{meaning_is, meaning_long}
+use Rattle.zarrs_codec_slices.proofs.LeafLaws.{fixed_at}
+use Rattle.zarrs_codec_slices.proofs.GatherLaws.{get_or-mask_over}
+use Rattle.zarrs_codec_slices.proofs.MaskLaws.{masked_parts}
 use Rattle.zarrs_codec_array_bytes.specs.Refusals.{holds_fixed}
 use Rattle.zarr_array_elements.specs.Elements.{list_in, PutsOverlap}
 use Rattle.zarr_array_elements.specs.Placed.{kind_over}

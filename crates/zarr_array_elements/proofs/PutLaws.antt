@@ -7,10 +7,10 @@ use Rattle.zarr_model.specs.Element.{Element, null, Kind}
 use Rattle.zarr_model.specs.ArrayBytes.{ArrayBytes, meaning}
 use Rattle.zarr_model.proofs.BytesLaws.{length-meaning}
 use Rattle.zarrs_array_subset.specs.Boxes.{overlap_of, moved_back}
-use Rattle.zarrs_codec_bytes.specs.Overlap.{Copied}
-use Rattle.zarrs_codec_bytes.specs.Picking.{picked, replaced}
-use Rattle.zarrs_codec_bytes.specs.PickedRuns.{run_numbers, AreRunsBelow}
-use Rattle.zarrs_codec_bytes.proofs.ReplaceLaws.{length-replaced}
+use Rattle.zarrs_codec_slices.specs.Overlap.{Copied}
+use Rattle.zarrs_codec_slices.specs.Picking.{picked, replaced}
+use Rattle.zarrs_codec_slices.specs.PickedRuns.{run_numbers, AreRunsBelow}
+use Rattle.zarrs_codec_slices.proofs.ReplaceLaws.{length-replaced}
 use Rattle.zarrs_codec_array_bytes.specs.Selection.{linear}
 use Rattle.zarr_array_elements.specs.Elements.{list_in, blanks, PutsOverlap}
 use Rattle.zarr_array_elements.specs.Shared.{shared_in}

@@ -7,7 +7,7 @@ use Rattle.zarr_model.proofs.RegionLaws.{length-tuples, get_or-tuples, contains-
 use Rattle.zarr_model.proofs.ArrayLaws.{inside_shape}
 use Rattle.zarr_model.proofs.SessionLaws.{share_tuple-from}
 use Rattle.zarr_model.proofs.FailureLaws.{meets_at}
-use Rattle.zarrs_codec_bytes.specs.Overlap.{Copied}
+use Rattle.zarrs_codec_slices.specs.Overlap.{Copied}
 
 -- the list of a region has the array's elements in the boxes of the first chunks of a list
 pub record HasRead {E : Type 0} (grid : Grid) (region : Region) (chunks : List (List ℕ)) (done : ℕ) (array : Array E) (list : List E) : Type 0 where

@@ -9,10 +9,10 @@ use Rattle.zarr_model.proofs.RegionLaws.{place_below, contains-tuple_at, get_or-
 use Rattle.zarrs_array_subset.specs.Boxes.{is_within, overlap_of, moved_back, starts_past}
 use Rattle.zarrs_array_subset.proofs.MoveLaws.{overlap_is_both}
 use Rattle.zarr_array_elements.specs.Shared.{shared_in}
-use Rattle.zarrs_codec_bytes.specs.Overlap.{Copied}
-use Rattle.zarrs_codec_bytes.specs.Picking.{AllBelow, picked, replaced, last_given}
-use Rattle.zarrs_codec_bytes.proofs.ReplaceLaws.{get_or-replaced, length-replaced}
-use Rattle.zarrs_codec_bytes.proofs.RowLaws.{indices_below}
+use Rattle.zarrs_codec_slices.specs.Overlap.{Copied}
+use Rattle.zarrs_codec_slices.specs.Picking.{AllBelow, picked, replaced, last_given}
+use Rattle.zarrs_codec_slices.proofs.ReplaceLaws.{get_or-replaced, length-replaced}
+use Rattle.zarrs_codec_slices.proofs.RowLaws.{indices_below}
 use Rattle.zarrs_chunk_grid_iterators.proofs.BoxFacts.{box_inside}
 
 -- the last element that is given to a place, where each that is given to it is one and the same

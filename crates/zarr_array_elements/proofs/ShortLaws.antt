@@ -6,10 +6,10 @@ use Rattle.zarr_model.specs.Element.{Element, of_bytes, Kind, fixed, variable, o
 use Rattle.zarr_model.specs.ArrayBytes.{ArrayBytes, fixed_bytes, variable_bytes, optional_bytes, between_offsets, offsets_rise_to, are_offsets, meaning}
 use Rattle.zarr_model.specs.Command.{has_long_step, has_long_element}
 use Rattle.zarr_model.proofs.BytesLaws.{when_some}
-use Rattle.zarrs_codec_bytes.proofs.MaskLaws.{masked_parts}
+use Rattle.zarrs_codec_slices.proofs.MaskLaws.{masked_parts}
 use Rattle.zarr_array_elements.specs.Joined.{joined, joined_offsets}
 use Rattle.zarr_array_elements.specs.Grown.{grown_bytes}
-use Rattle.zarrs_codec_bytes.specs.PickedRuns.{run_numbers}
+use Rattle.zarrs_codec_slices.specs.PickedRuns.{run_numbers}
 use Rattle.zarr_array_elements.specs.Given.{given_meaning, given_list, given_joined, has_long_given}
 use Rattle.zarr_array_elements.specs.declared.given.Given.{Given}
 use Rattle.zarr_array_elements.proofs.MeansLaws.{some_list}

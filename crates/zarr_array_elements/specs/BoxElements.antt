@@ -4,7 +4,7 @@ use Rattle.zarr_model.specs.Region.{Region, count}
 use Rattle.zarr_model.specs.Element.{Element, Kind}
 use Rattle.zarr_model.specs.Command.{has_long_element}
 use Rattle.zarrs_array_subset.specs.ArraySubset.{region}
-use Rattle.zarrs_codec_bytes.specs.Picking.{replaced}
+use Rattle.zarrs_codec_slices.specs.Picking.{replaced}
 use Rattle.zarrs_codec_array_bytes.specs.Raw.{raw_of}
 use Rattle.zarrs_codec_array_bytes.specs.Steps.{kind_seen}
 use Rattle.zarr_array_elements.specs.Elements.{list_in, blanks}

@@ -3,7 +3,7 @@ use Rattle.std.specs.Prelude.{◌≡◌, ℕ, List, [], get_or, replicate, Some,
 use Rattle.zarr_model.specs.Region.{Region, count}
 use Rattle.zarr_model.specs.Element.{Element, null, Kind}
 use Rattle.zarr_model.specs.ArrayBytes.{ArrayBytes, meaning}
-use Rattle.zarrs_codec_bytes.specs.Overlap.{Copied}
+use Rattle.zarrs_codec_slices.specs.Overlap.{Copied}
 
 -- the elements that array bytes mean over a box
 abbrev pub list_in : Kind → Region → ArrayBytes → List Element

@@ -3,7 +3,7 @@ use Rattle.std.specs.Prelude.{ℕ, Bool, true, false, List, [], length, Option, 
 use Rattle.zarr_model.specs.Element.{Element, Kind}
 use Rattle.zarr_model.specs.ArrayBytes.{ArrayBytes, meaning}
 use Rattle.zarr_model.specs.Command.{has_long_element}
-use Rattle.zarrs_codec_bytes.specs.PickedRuns.{run_numbers}
+use Rattle.zarrs_codec_slices.specs.PickedRuns.{run_numbers}
 use Rattle.zarrs_codec_array_bytes_update.specs.Pairs.{are_alike}
 use Rattle.zarr_array_elements.specs.Joined.{joined}
 use Rattle.zarr_array_elements.specs.Grown.{grown_bytes}

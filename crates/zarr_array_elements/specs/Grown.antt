@@ -1,7 +1,7 @@
 -- Elements that grow piece by piece, as array bytes.
 use Rattle.std.specs.Prelude.{Bool, true, ◌&&◌, nat_lt, length}
 use Rattle.zarr_model.specs.ArrayBytes.{ArrayBytes, fixed_bytes, variable_bytes, optional_bytes}
-use Rattle.zarrs_codec_bytes.specs.Picking.{are_within}
+use Rattle.zarrs_codec_slices.specs.Picking.{are_within}
 use Rattle.zarr_array_elements.specs.declared.grown.Grown as code
 
 abbrev pub grown_bytes : code.Grown → ArrayBytes

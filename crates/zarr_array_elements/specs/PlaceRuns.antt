@@ -1,8 +1,8 @@
 -- Runs of elements that were given to neighbouring places.
 use Rattle.std.specs.Prelude.{◌≡◌, ◌^◌, length, ℕ, ◌+◌, ◌-◌, ◌<◌, ◌≤◌, ◌&&◌, Bool, nat_le, nat_lt, if◌then◌else◌, List, [], ◌∷◌, ◌++◌, replicate}
 use Rattle.std.specs.List.{range_with_len}
-use Rattle.zarrs_codec_bytes.specs.Picking.{replaced}
-use Rattle.zarrs_codec_bytes.specs.PickedRuns.{run_numbers, AreRunsBelow}
+use Rattle.zarrs_codec_slices.specs.Picking.{replaced}
+use Rattle.zarrs_codec_slices.specs.PickedRuns.{run_numbers, AreRunsBelow}
 use Rattle.zarr_array_elements.specs.declared.place_runs.GivenRun.{GivenRun}
 use Rattle.zarr_array_elements.specs.declared.place_runs.PlacePicks.{PlacePicks}
 

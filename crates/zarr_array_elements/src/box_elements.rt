@@ -6,10 +6,10 @@ ghost use Rattle.zarr_model.specs.Element.{Element, fill_element, fixed_size};
 ghost use Rattle.zarr_model.specs.ArrayBytes.{meaning};
 ghost use Rattle.zarr_model.specs.Command.{has_long_element};
 ghost use Rattle.zarrs_array_subset.specs.ArraySubset.{region};
-ghost use Rattle.zarrs_data_type_elements.specs.FillValue.{fill_bytes};
-ghost use Rattle.zarrs_codec_bytes.specs.Filling.{filled_with};
-ghost use Rattle.zarrs_codec_bytes.specs.Overlap.{Copied};
-ghost use Rattle.zarrs_codec_bytes.specs.Picking.{size_in};
+ghost use Rattle.zarrs_data_type_bytes.specs.FillValue.{fill_bytes};
+ghost use Rattle.zarrs_codec_slices.specs.Filling.{filled_with};
+ghost use Rattle.zarrs_codec_slices.specs.Overlap.{Copied};
+ghost use Rattle.zarrs_codec_slices.specs.Picking.{size_in};
 ghost use Rattle.zarrs_codec_array_bytes.specs.Raw.{raw_of};
 ghost use Rattle.zarrs_codec_array_bytes.specs.Steps.{kind_seen, bytes_seen};
 ghost use Rattle.zarr_array_elements.specs.Elements.{list_in};
@@ -20,7 +20,7 @@ use std::alloc::{AllocError, Global};
 use zarrs_array_subset::ArraySubset;
 use zarrs_codec_array_bytes::ArrayBytes;
 use zarrs_codec_array_bytes::array_bytes::step::element_size;
-use zarrs_data_type_elements::FillValue;
+use zarrs_data_type_bytes::FillValue;
 use zarrs_data_type_names::DataType;
 
 // The elements, by what their kind is.

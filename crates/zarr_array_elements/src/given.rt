@@ -3,7 +3,7 @@
 ghost use Rattle.std.specs.Prelude.{◌≡◌, ◌+◌, ◌++◌, ◌<◌, ◌^◌, true, Some, None, IfOk, OnOk};
 ghost use Rattle.zarr_model.specs.Region.{count_of, tuples};
 ghost use Rattle.zarrs_array_subset.specs.ArraySubset.{region};
-ghost use Rattle.zarrs_codec_bytes.specs.PickedRuns.{run_numbers, AreRunsBelow};
+ghost use Rattle.zarrs_codec_slices.specs.PickedRuns.{run_numbers, AreRunsBelow};
 ghost use Rattle.zarrs_codec_array_bytes.specs.Raw.{raw_of};
 ghost use Rattle.zarrs_codec_array_bytes.specs.Selection.{linear};
 ghost use Rattle.zarr_array_elements.specs.Grown.{grown_bytes};

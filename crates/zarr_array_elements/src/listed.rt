@@ -7,11 +7,11 @@ ghost use Rattle.zarr_model.specs.ArrayBytes.{meaning};
 ghost use Rattle.zarr_model.specs.Command.{has_long_element};
 ghost use Rattle.zarrs_array_subset.specs.ArraySubset.{region};
 ghost use Rattle.zarrs_array_subset.specs.Boxes.{is_within};
-ghost use Rattle.zarrs_data_type_elements.specs.FillValue.{fill_bytes};
-ghost use Rattle.zarrs_codec_bytes.specs.Filling.{filled_with};
-ghost use Rattle.zarrs_codec_bytes.specs.Overlap.{Copied};
-ghost use Rattle.zarrs_codec_bytes.specs.Picking.{replaced, size_in};
-ghost use Rattle.zarrs_codec_bytes.specs.PickedRuns.{AreRunsBelow};
+ghost use Rattle.zarrs_data_type_bytes.specs.FillValue.{fill_bytes};
+ghost use Rattle.zarrs_codec_slices.specs.Filling.{filled_with};
+ghost use Rattle.zarrs_codec_slices.specs.Overlap.{Copied};
+ghost use Rattle.zarrs_codec_slices.specs.Picking.{replaced, size_in};
+ghost use Rattle.zarrs_codec_slices.specs.PickedRuns.{AreRunsBelow};
 ghost use Rattle.zarrs_codec_array_bytes.specs.Raw.{raw_of};
 ghost use Rattle.zarrs_codec_array_bytes.specs.Steps.{kind_seen, bytes_seen};
 ghost use Rattle.zarr_array_elements.specs.Elements.{list_in, blanks};
@@ -26,7 +26,7 @@ use zarrs_array_subset::ArraySubset;
 use zarrs_codec_array_bytes::ArrayBytes;
 use zarrs_codec_array_bytes::array_bytes::gather::{select, select_runs};
 use zarrs_codec_array_bytes::array_bytes::step::element_size;
-use zarrs_data_type_elements::FillValue;
+use zarrs_data_type_bytes::FillValue;
 use zarrs_data_type_names::DataType;
 
 /// Elements of any kind over a box: one blank element, which stands at all its places, and those that were given to some

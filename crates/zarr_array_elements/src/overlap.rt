@@ -5,7 +5,7 @@ ghost use Rattle.zarr_model.specs.Region.{count};
 ghost use Rattle.zarr_model.specs.ArrayBytes.{meaning};
 ghost use Rattle.zarr_model.specs.Command.{has_long_element};
 ghost use Rattle.zarrs_array_subset.specs.ArraySubset.{region};
-ghost use Rattle.zarrs_codec_bytes.specs.Overlap.{Copied};
+ghost use Rattle.zarrs_codec_slices.specs.Overlap.{Copied};
 ghost use Rattle.zarrs_codec_array_bytes.specs.Raw.{raw_of};
 ghost use Rattle.zarrs_codec_array_bytes.specs.Steps.{kind_seen, bytes_seen};
 ghost use Rattle.zarr_array_elements.specs.Elements.{list_in, PutsOverlap};

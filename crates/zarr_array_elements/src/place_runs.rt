@@ -2,10 +2,10 @@
 
 ghost use Rattle.std.specs.Prelude.{IsPermutation, get_or, ◌-◌, ◌≡◌, ◌+◌, ◌++◌, ◌∷◌, [], ◌≤◌, ◌^◌, ◌<◌, length, replicate, IfOk, IfSome, OnOk, ℕ};
 ghost use Rattle.std.specs.List.{All, range_with_len};
-ghost use Rattle.zarrs_codec_bytes.specs.PickedRuns.{run_numbers, AreRunsBelow};
+ghost use Rattle.zarrs_codec_slices.specs.PickedRuns.{run_numbers, AreRunsBelow};
 
 use std::alloc::{AllocError, Global};
-use zarrs_codec_bytes::pick_runs::runs_of;
+use zarrs_codec_slices::pick_runs::runs_of;
 
 // A run of elements that were given to neighbouring places: the first place, the number of the first element, and how
 // many.

@@ -6,9 +6,9 @@ ghost use Rattle.zarr_model.specs.Element.{Element, fill_element};
 ghost use Rattle.zarr_model.specs.ArrayBytes.{meaning};
 ghost use Rattle.zarr_model.specs.Command.{has_long_element};
 ghost use Rattle.zarrs_array_subset.specs.ArraySubset.{region};
-ghost use Rattle.zarrs_data_type_elements.specs.FillValue.{fill_bytes};
-ghost use Rattle.zarrs_codec_bytes.specs.Elements.{fixed_elements};
-ghost use Rattle.zarrs_codec_bytes.specs.Overlap.{Copied};
+ghost use Rattle.zarrs_data_type_bytes.specs.FillValue.{fill_bytes};
+ghost use Rattle.zarrs_codec_slices.specs.Elements.{fixed_elements};
+ghost use Rattle.zarrs_codec_slices.specs.Overlap.{Copied};
 ghost use Rattle.zarrs_codec_array_bytes.specs.Raw.{raw_of};
 ghost use Rattle.zarrs_codec_array_bytes.specs.Refusals.{holds_fixed};
 ghost use Rattle.zarrs_codec_array_bytes.specs.Steps.{kind_seen, bytes_seen};
@@ -21,8 +21,8 @@ use zarrs_array_subset::ArraySubset;
 use zarrs_codec_array_bytes::array_bytes::bytes_in;
 use zarrs_codec_array_bytes::array_bytes::step::element_size;
 use zarrs_codec_array_bytes::{ArrayBytes, ArrayBytesOptional};
-use zarrs_codec_bytes::overlap::copy_elements;
-use zarrs_data_type_elements::FillValue;
+use zarrs_codec_slices::overlap::copy_elements;
+use zarrs_data_type_bytes::FillValue;
 use zarrs_data_type_names::DataType;
 
 /// Elements of one size, as many as there are places.

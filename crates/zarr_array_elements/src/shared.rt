@@ -7,7 +7,7 @@ ghost use Rattle.zarr_model.specs.ArrayBytes.{meaning};
 ghost use Rattle.zarr_model.specs.Command.{has_long_element};
 ghost use Rattle.zarrs_array_subset.specs.ArraySubset.{region};
 ghost use Rattle.zarrs_array_subset.specs.Boxes.{overlap_of, moved_back, maxes};
-ghost use Rattle.zarrs_codec_bytes.specs.Picking.{picked};
+ghost use Rattle.zarrs_codec_slices.specs.Picking.{picked};
 ghost use Rattle.zarrs_codec_array_bytes.specs.Raw.{raw_of};
 ghost use Rattle.zarrs_codec_array_bytes.specs.Steps.{kind_seen, bytes_seen};
 ghost use Rattle.zarr_array_elements.specs.Shared.{shared_in, lengths_shared};

@@ -2,10 +2,10 @@
 use Rattle.std.proofs.Common.{◌≡◌, ℕ, ◌+◌, ◌*◌, ◌^◌, ◌<◌, ◌≤◌, Bool, true, false, List, [], ◌∷◌, length, map, Option, Some, None, is_some, IsSome, unwrap_or, refl, sym, ap, ◌∙◌, subst, arith}
 use Rattle.std.proofs.lemmas.List.{length-map}
 use Rattle.zarr_model.specs.Prelude.{count, count_of, Element, null, kind, kind_of, fixed_size, fill_element, has_long_element, Options, Level, Chain, ArrayCodec, decode_chain, decode_array_to_bytes, IsChunk}
-use Rattle.zarrs_data_type_elements.specs.FillValue.{fill_bytes}
+use Rattle.zarrs_data_type_bytes.specs.FillValue.{fill_bytes}
 use Rattle.zarrs_data_type_names.specs.DataType.{type_of}
-use Rattle.zarrs_codec_bytes.specs.Filling.{innermost_fill, filled_with}
-use Rattle.zarrs_codec_bytes.specs.Picking.{size_in}
+use Rattle.zarrs_codec_slices.specs.Filling.{innermost_fill, filled_with}
+use Rattle.zarrs_codec_slices.specs.Picking.{size_in}
 use Rattle.zarrs_codec_traits.specs.Words.{IsFit}
 use Rattle.zarr_chain.specs.Chain.{IsServed, HasFill, blank_chunk, first_level, first_fill, bottom_level, steps, chain_of}
 use Rattle.zarr_chain.specs.Values.{byte_codecs}

@@ -10,8 +10,8 @@ use Rattle.zarrs_metadata_parts.specs.MetadataV3.{object_extension, extension_of
 use Rattle.zarrs_metadata.specs.AdditionalFields.{is_array_key}
 use Rattle.zarrs_metadata.specs.ArrayMetadata.{extensions_or_none, is_array, named_fields, required_fields, optional_fields, with_optional_fields, array_members}
 use Rattle.zarrs_metadata.specs.DimensionNames.{dimension_names}
-use Rattle.zarrs_metadata_v2_nodes.specs.CodecsV2.{compressor_of, filters_of}
-use Rattle.zarrs_metadata_v2_nodes.specs.ArrayMetadataV2.{order_of, separator_of_text, positive_number, positive_numbers, required_v2, optional_v2, with_optional_fields_v2, array_v2_members}
+use Rattle.zarrs_metadata_v2.specs.CodecsV2.{compressor_of, filters_of}
+use Rattle.zarrs_metadata_v2.specs.ArrayMetadataV2.{order_of, separator_of_text, positive_number, positive_numbers, required_v2, optional_v2, with_optional_fields_v2, array_v2_members}
 use Rattle.zarr_basics_grids.specs.Configurations.{chunk_shape_in}
 use Rattle.zarr_basics_grids.specs.GridForms.{regular}
 use Rattle.zarr_basics.specs.Configurations.{given_separator}

@@ -7,8 +7,8 @@ use Rattle.zarrs_plugin.specs.Registry.{Names}
 use Rattle.zarrs_metadata_parts.specs.MetadataV3.{extension_seen, extensions_seen}
 use Rattle.zarrs_metadata_parts.specs.declared.v3.metadata.MetadataV3.{MetadataV3}
 use Rattle.zarrs_plugin.specs.declared.error.PluginCreateError.{PluginCreateError}
-use Rattle.zarrs_data_type_elements.specs.FillValue.{fill_bytes}
-use Rattle.zarrs_data_type_elements.specs.declared.fill_value.FillValue.{FillValue}
+use Rattle.zarrs_data_type_bytes.specs.FillValue.{fill_bytes}
+use Rattle.zarrs_data_type_bytes.specs.declared.fill_value.FillValue.{FillValue}
 use Rattle.zarrs_data_type_names.specs.DataType.{type_of, is_type}
 use Rattle.zarrs_plugin.specs.Making.{other}
 use Rattle.zarrs_data_type_names.specs.Making.{Makes, type_by, type_in}

@@ -3,9 +3,9 @@ use Rattle.std.proofs.Common.{◌≡◌, ℕ, ◌+◌, ◌*◌, ◌^◌, ◌<◌
 use Rattle.std.proofs.lemmas.Bool.{or_parts}
 use Rattle.zarr_model.specs.Prelude.{Region, count, starts, sizes, ends_within, IsChunk, CoversShape, Options, IsSound, layout, kind, fixed_size, is_too_large, region_refusal, refused_if, or_then, incompatible_dimensionality, subset_out_of_bounds, region_too_large}
 use Rattle.zarrs_array_subset.specs.Boxes.{is_box}
-use Rattle.zarrs_data_type_elements.specs.FillValue.{fill_bytes}
-use Rattle.zarrs_codec_bytes.specs.Filling.{innermost_fill}
-use Rattle.zarrs_codec_bytes.specs.Picking.{size_in}
+use Rattle.zarrs_data_type_bytes.specs.FillValue.{fill_bytes}
+use Rattle.zarrs_codec_slices.specs.Filling.{innermost_fill}
+use Rattle.zarrs_codec_slices.specs.Picking.{size_in}
 use Rattle.zarr_basics_grids.specs.BasicGrid.{basic_covers}
 use Rattle.zarr_basics_grids.specs.Limits.{has_large_chunk}
 use Rattle.zarr_basics_grids.proofs.LimitLaws.{small_chunk}

@@ -1,8 +1,8 @@
 -- Elements that are not too long to be stored.
 use Rattle.std.proofs.Common.{◌≡◌, ℕ, ◌^◌, ◌<◌, false, List, length, Option, Some, None, refl}
 use Rattle.zarr_model.specs.Prelude.{Kind, fixed, variable, optional, fixed_size, has_long_element}
-use Rattle.zarrs_codec_bytes.specs.Filling.{inner_fill, innermost_fill, filled_with}
-use Rattle.zarrs_codec_bytes.proofs.FilledLaws.{filled_short}
+use Rattle.zarrs_codec_slices.specs.Filling.{inner_fill, innermost_fill, filled_with}
+use Rattle.zarrs_codec_slices.proofs.FilledLaws.{filled_short}
 
 -- elements of a fixed size are never too long, nor are others where the fill value is not
 sized_short : (kind : Kind) (n number : ℕ) (filler : List ℕ) → fixed_size kind ≡ Some n → has_long_element (filled_with kind number filler) ≡ false

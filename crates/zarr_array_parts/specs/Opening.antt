@@ -20,7 +20,7 @@ use Rattle.zarr_basics_grids.specs.GridForms.{ChunkGrid, grid_of}
 use Rattle.zarr_basics.specs.Registries.{KnownNames, builtin_names}
 use Rattle.zarr_basics_grids.specs.declared.grid_kind.GridKind.{GridKind}
 use Rattle.zarr_basics.specs.declared.registries.ChunkKeyKind.{ChunkKeyKind}
-use Rattle.zarrs_codec_bytes.specs.Filling.{innermost_fill}
+use Rattle.zarrs_codec_slices.specs.Filling.{innermost_fill}
 use Rattle.zarrs_codec_traits.specs.Errors.{Unserved}
 use Rattle.zarrs_codec_traits.specs.Errors as reason
 use Rattle.zarr_codecs_array_to_bytes.specs.Plain.{Plain, unserved_by, stores_lengths}

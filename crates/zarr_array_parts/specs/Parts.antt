@@ -1,7 +1,7 @@
 -- What the parts of an array stand for: its document, and the array that it describes.
 use Rattle.std.specs.Prelude.{◌≡◌, Option, Some, None, Result, Ok, Err}
 use Rattle.zarr_model.specs.Prelude.{Description}
-use Rattle.zarrs_data_type_elements.specs.FillValue.{fill_bytes}
+use Rattle.zarrs_data_type_bytes.specs.FillValue.{fill_bytes}
 use Rattle.zarrs_data_type.specs.DataType.{type_of}
 use Rattle.zarr_basics_grids.specs.BasicGrid.{basic_shape, basic_form}
 use Rattle.zarr_basics.specs.Keys.{keys_of}

@@ -7,7 +7,7 @@ ghost use Rattle.zarrs_metadata.specs.ArrayMetadata.{array_seen};
 ghost use Rattle.zarrs_metadata_parts.specs.FillValueMetadata.{fill_view};
 ghost use Rattle.zarrs_metadata_parts.specs.MetadataV3.{extension_seen, extensions_seen};
 ghost use Rattle.zarrs_plugin.specs.Registry.{registry_of};
-ghost use Rattle.zarrs_data_type_elements.specs.FillValue.{fill_bytes};
+ghost use Rattle.zarrs_data_type_bytes.specs.FillValue.{fill_bytes};
 ghost use Rattle.zarrs_data_type.specs.DataType.{type_of, is_type};
 ghost use Rattle.zarrs_data_type.specs.FillMetadata.{fill_of};
 ghost use Rattle.zarr_basics_grids.specs.BasicGrid.{basic_shape, basic_form};

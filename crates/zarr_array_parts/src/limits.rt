@@ -2,10 +2,10 @@
 
 ghost use Rattle.std.specs.Prelude.{◌≡◌, ◌-◌, true, false, None, [], if◌then◌else◌, length, take};
 ghost use Rattle.zarr_model.specs.Prelude.{fixed_size};
-ghost use Rattle.zarrs_data_type_elements.specs.FillValue.{fill_bytes};
-ghost use Rattle.zarrs_data_type_elements.specs.Pieces.{ends_in_zero};
+ghost use Rattle.zarrs_data_type_bytes.specs.FillValue.{fill_bytes};
+ghost use Rattle.zarrs_data_type_bytes.specs.Pieces.{ends_in_zero};
 ghost use Rattle.zarrs_data_type.specs.DataType.{type_of};
-ghost use Rattle.zarrs_codec_bytes.specs.Filling.{innermost_fill};
+ghost use Rattle.zarrs_codec_slices.specs.Filling.{innermost_fill};
 ghost use Rattle.zarrs_codec_array_bytes.specs.Steps.{kind_seen};
 ghost use Rattle.zarr_basics_grids.specs.BasicGrid.{basic_grid};
 ghost use Rattle.zarr_basics_grids.specs.Limits.{has_large_chunk};
@@ -19,7 +19,7 @@ use zarrs_chunk_grid_traits::ChunkGridTraits;
 use zarrs_codec_array_bytes::array_bytes::step::{Step, step_of};
 use zarrs_codec_traits::num_elements;
 use zarrs_data_type::{DataType, FillValue};
-use zarrs_data_type_elements::ends_in_zero;
+use zarrs_data_type_bytes::ends_in_zero;
 
 // What stands in 4 bytes is less.
 const LONG: u64 = 1 << 32;

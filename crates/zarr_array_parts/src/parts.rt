@@ -6,9 +6,9 @@ ghost use Rattle.std.specs.Prelude.{◌≡◌, ℕ, List, Some, true, false, is_
 ghost use Rattle.serde_json.specs.Read.{read as read_json};
 ghost use Rattle.zarr_model.specs.Prelude.{fill_element, kind, kind_of, has_long_element, IsChunk};
 ghost use Rattle.zarrs_metadata.specs.ArrayMetadata.{array_seen};
-ghost use Rattle.zarrs_data_type_elements.specs.FillValue.{fill_bytes};
+ghost use Rattle.zarrs_data_type_bytes.specs.FillValue.{fill_bytes};
 ghost use Rattle.zarrs_data_type.specs.DataType.{type_of, is_type};
-ghost use Rattle.zarrs_codec_bytes.specs.Filling.{filled_with};
+ghost use Rattle.zarrs_codec_slices.specs.Filling.{filled_with};
 ghost use Rattle.zarr_basics_grids.specs.BasicGrid.{basic_shape, basic_grid, basic_form};
 ghost use Rattle.zarr_basics.specs.Keys.{keys_of};
 ghost use Rattle.zarr_basics.specs.Registries.{names_of};

@@ -1,7 +1,7 @@
 -- A region that is not refused.
 use Rattle.std.proofs.Common.{◌≡◌, ◌+◌, ◌*◌, ◌^◌, ◌<◌, ◌==◌, not, Bool, true, false, length, None, refl}
 use Rattle.zarr_model.specs.Prelude.{Region, count, ends_within, Description, kind, fixed_size, is_too_large, region_refusal, refused_if, or_then, incompatible_dimensionality, subset_out_of_bounds, region_too_large}
-use Rattle.zarrs_codec_bytes.specs.Picking.{size_in}
+use Rattle.zarrs_codec_slices.specs.Picking.{size_in}
 use Rattle.zarr_array_parts.proofs.ServedLaws.{counts_of}
 
 -- it lies inside, and has room

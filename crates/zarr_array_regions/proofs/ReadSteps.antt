@@ -3,7 +3,7 @@ use Rattle.std.proofs.Common.{◌≡◌, ℕ, ◌+◌, ◌-◌, ◌^◌, ◌<◌
 use Rattle.std.proofs.lemmas.Option.{slice_get_within}
 use Rattle.zarr_model.specs.Prelude.{Region, count, ends_within, Element, Kind, kind, ArrayBytes, meaning, has_long_element, Array, elements_in, chunks_meeting, HasMet, Options, box_content, chunk_content, Shown, Description, layout, finds_shared}
 use Rattle.zarrs_storage.specs.Store.{SameContent}
-use Rattle.zarrs_codec_bytes.specs.Overlap.{Copied}
+use Rattle.zarrs_codec_slices.specs.Overlap.{Copied}
 use Rattle.zarr_array_elements.specs.Elements.{list_in}
 use Rattle.zarr_array_elements.proofs.ReadLaws.{HasRead, read-start, read-step, read-end, chunk_copied}
 use Rattle.zarr_array_elements.proofs.DecodeLaws.{each-step, each-all}

@@ -2,7 +2,7 @@
 use Rattle.std.proofs.Common.{ℕ, ◌+◌, ◌*◌, ◌^◌, ◌<◌, List}
 use Rattle.zarr_model.specs.Prelude.{count, Description, IsChunk, kind, fixed_size}
 use Rattle.zarrs_chunk_grid_traits.specs.ChunkGrid.{BoxFits}
-use Rattle.zarrs_codec_bytes.specs.Picking.{size_in}
+use Rattle.zarrs_codec_slices.specs.Picking.{size_in}
 use Rattle.zarr_basics_grids.proofs.LimitLaws.{small_chunk}
 use Rattle.zarr_array_parts.proofs.ServedLaws.{counts_of}
 use Rattle.zarr_array_regions.specs.Access.{IsServed}

@@ -8,7 +8,7 @@ use Rattle.zarr_model.specs.Region.{share_tuple}
 use Rattle.zarr_model.proofs.RegionLaws.{place_below, contains-tuple_at, get_or-tuples, length-tuples, tuple_at-place, count_within}
 use Rattle.zarrs_array_subset.specs.Boxes.{overlap_of, moved_back}
 use Rattle.zarrs_array_subset.proofs.MoveLaws.{overlap_is_both}
-use Rattle.zarrs_codec_bytes.specs.Overlap.{Copied}
+use Rattle.zarrs_codec_slices.specs.Overlap.{Copied}
 use Rattle.zarrs_codec_traits.specs.Words.{select}
 use Rattle.zarr_array_elements.proofs.ShareLaws.{count-moved, places-moved, shares_second}
 

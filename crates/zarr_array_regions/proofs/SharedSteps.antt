@@ -5,8 +5,8 @@ use Rattle.zarr_model.specs.Region.{part_of_box}
 use Rattle.zarr_model.specs.Region.{share_tuple}
 use Rattle.zarrs_array_subset.specs.ArraySubset.{region as region_of_subset}
 use Rattle.zarrs_array_subset.specs.Boxes.{overlap_of, moved_back}
-use Rattle.zarrs_codec_bytes.specs.Overlap.{Copied}
-use Rattle.zarrs_codec_bytes.specs.Picking.{size_in}
+use Rattle.zarrs_codec_slices.specs.Overlap.{Copied}
+use Rattle.zarrs_codec_slices.specs.Picking.{size_in}
 use Rattle.zarrs_codec_traits.specs.Words.{list_at, at_box, select}
 use Rattle.zarr_array_elements.specs.Elements.{list_in}
 use Rattle.zarr_array_elements.specs.SharedBox.{IsSharedBy}

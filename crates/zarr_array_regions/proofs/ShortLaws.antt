@@ -3,7 +3,7 @@ use Rattle.std.proofs.Common.{◌≡◌, ℕ, ◌<◌, true, false, List, ap, �
 use Rattle.zarr_model.specs.Prelude.{Region, count, tuple_at, ends_within, Kind, kind, has_long_element, IsChunk}
 use Rattle.zarr_model.proofs.RegionLaws.{contains-tuple_at}
 use Rattle.zarr_model.proofs.ArrayLaws.{inside_shape}
-use Rattle.zarrs_codec_bytes.specs.Filling.{filled_with}
+use Rattle.zarrs_codec_slices.specs.Filling.{filled_with}
 use Rattle.zarr_array_regions.specs.Access.{Access, IsServed, described}
 
 -- a region that has an element meets a chunk, and so the fill value is not too long

@@ -9,7 +9,7 @@ use Rattle.zarr_model.proofs.ElementLaws.{each_same}
 use Rattle.zarrs_storage.specs.Store.{IsFault, IsPlain}
 use Rattle.zarrs_storage.specs.declared.store.StorageError.{StorageError}
 use Rattle.zarrs_storage.specs.declared.store.StorageError.TheVariants as Storage
-use Rattle.zarrs_codec_bytes.specs.Overlap.{Copied}
+use Rattle.zarrs_codec_slices.specs.Overlap.{Copied}
 use Rattle.zarr_chain_stored.specs.Put.{Decoding, IsPut, PutsChunk, MayPutChunk}
 use Rattle.zarr_array_regions.specs.Chunk.{is_dropped, decode_at, storage_kind}
 use Rattle.zarr_array_regions.specs.Write.{HoldsChunk, ChangesChunk, FailsToChange}

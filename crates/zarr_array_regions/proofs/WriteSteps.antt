@@ -3,7 +3,7 @@ use Rattle.std.proofs.Common.{◌≡◌, ℕ, ◌+◌, ◌-◌, ◌^◌, ◌≤�
 use Rattle.zarr_model.specs.Prelude.{Region, count, Element, Kind, kind, ArrayBytes, meaning, has_long_element, written_elements, Array, chunks_meeting, Options, Shown, layout, chunk_content, counted}
 use Rattle.zarr_model.proofs.BytesLaws.{length-meaning}
 use Rattle.zarrs_storage.specs.declared.store.StorageError.{StorageError}
-use Rattle.zarrs_codec_bytes.specs.Overlap.{Copied}
+use Rattle.zarrs_codec_slices.specs.Overlap.{Copied}
 use Rattle.zarr_array_elements.specs.Elements.{list_in}
 use Rattle.zarr_array_regions.specs.Access.{Access, IsServed, described}
 use Rattle.zarr_array_regions.specs.declared.error.SessionErrorKind.{SessionErrorKind}

@@ -2,7 +2,7 @@
 use Rattle.std.specs.Prelude.{◌≡◌, ◌<◌, ◌≤◌, ℕ, List, false, length, slice_get, Some, None, IsSome, Result, MatchResult}
 use Rattle.zarr_model.specs.Prelude.{Region, count, Element, Array, kind, ArrayBytes, meaning, has_long_element, elements_in, chunks_meeting, chunk_content, HasMet, ChunkHas, finds_shared, Shown, Options, Description, layout, Rose}
 use Rattle.zarrs_storage.specs.Store.{SameContent}
-use Rattle.zarrs_codec_bytes.specs.Overlap.{Copied}
+use Rattle.zarrs_codec_slices.specs.Overlap.{Copied}
 use Rattle.zarr_array_elements.specs.Elements.{list_in}
 use Rattle.zarr_array_elements.specs.BoxElements.{kind_held, box_held, list_held, HoldsShort}
 use Rattle.zarr_array_elements.specs.declared.box_elements.BoxElements.{BoxElements}

@@ -1,7 +1,7 @@
 -- What writing one chunk does to a store.
 use Rattle.std.specs.Prelude.{◌≡◌, ◌+◌, ◌*◌, ◌^◌, ◌<◌, ◌≤◌, ◌||◌, ◌⊎◌, not, false, ℕ, List, None, IsSome}
 use Rattle.zarr_model.specs.Prelude.{Element, Array, Options, Content, chunk_content, Shown, Description, layout, present_in, is_blank, ChunkHas, Rose, counted, Region, count, written, written_elements, kind, fixed_size, ArrayBytes, meaning, has_long_element}
-use Rattle.zarrs_codec_bytes.specs.Picking.{size_in}
+use Rattle.zarrs_codec_slices.specs.Picking.{size_in}
 use Rattle.zarr_array_regions.specs.declared.error.SessionErrorKind.{SessionErrorKind}
 use Rattle.zarr_array_regions.specs.declared.error.SessionErrorKind.TheVariants.{NotOpened, ChunkDecode, Store, OutOfMemory}
 use Rattle.zarr_array_regions.specs.Access.{Access, described}

@@ -3,10 +3,10 @@
 ghost use Rattle.std.specs.Prelude.{◌≡◌, ◌<◌, ℕ, List, true, false, MatchResult, OnOk, IfOk, IfSome};
 ghost use Rattle.zarr_model.specs.Prelude.{fixed, kind, kind_of, fill_element, count, sizes, ends_within, has_long_element, IsChunk};
 ghost use Rattle.zarrs_array_subset.specs.ArraySubset.{region};
-ghost use Rattle.zarrs_data_type_elements.specs.FillValue.{fill_bytes};
+ghost use Rattle.zarrs_data_type_bytes.specs.FillValue.{fill_bytes};
 ghost use Rattle.zarrs_data_type_names.specs.DataType.{type_of};
 ghost use Rattle.zarrs_codec_array_bytes.specs.Raw.{raw_of};
-ghost use Rattle.zarrs_codec_bytes.specs.Filling.{filled_with};
+ghost use Rattle.zarrs_codec_slices.specs.Filling.{filled_with};
 ghost use Rattle.zarrs_codec_traits.specs.Views.{options_of};
 ghost use Rattle.zarr_basics_grids.specs.BasicGrid.{basic_grid, basic_shape};
 ghost use Rattle.zarr_array_regions.specs.Access.{Access, IsServed, IsInHand};
@@ -24,9 +24,8 @@ use zarr_array_parts::BasicGrid;
 use zarr_chain_stored::Fetched;
 use zarrs_array_subset::ArraySubset;
 use zarrs_codec_array_bytes::ArrayBytes;
-use zarrs_codec_error::CodecError;
-use zarrs_codec_options::CodecOptions;
-use zarrs_data_type_elements::FillValue;
+use zarrs_codec_error::{CodecError, CodecOptions};
+use zarrs_data_type_bytes::FillValue;
 use zarrs_data_type_names::DataType;
 use zarrs_storage::{StorageError, Store, StoreKey};
 

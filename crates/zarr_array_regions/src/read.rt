@@ -4,7 +4,7 @@ ghost use Rattle.std.specs.Prelude.{◌≡◌, ◌+◌, ◌<◌, ◌*◌, ◌^�
 ghost use Rattle.zarr_model.specs.Prelude.{count, ends_within, kind, fixed_size};
 ghost use Rattle.zarrs_array_subset.specs.ArraySubset.{region};
 ghost use Rattle.zarrs_array_subset.specs.Boxes.{is_within};
-ghost use Rattle.zarrs_codec_bytes.specs.Picking.{size_in};
+ghost use Rattle.zarrs_codec_slices.specs.Picking.{size_in};
 ghost use Rattle.zarrs_codec_array_bytes.specs.Raw.{raw_of};
 ghost use Rattle.zarrs_codec_traits.specs.Views.{options_of};
 ghost use Rattle.zarr_array_elements.specs.BoxElements.{list_held};
@@ -20,7 +20,7 @@ use std::alloc::Global;
 use zarr_array_elements::BoxElements;
 use zarrs_array_subset::ArraySubset;
 use zarrs_codec_array_bytes::ArrayBytes;
-use zarrs_codec_options::CodecOptions;
+use zarrs_codec_error::CodecOptions;
 use zarrs_storage::Store;
 
 impl<C: ChunkAccess> RegionChunks<'_, C> {

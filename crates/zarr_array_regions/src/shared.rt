@@ -3,7 +3,7 @@
 ghost use Rattle.std.specs.Prelude.{◌≡◌, List, OnOk, MatchResult};
 ghost use Rattle.zarr_model.specs.Prelude.{Element};
 ghost use Rattle.zarrs_array_subset.specs.ArraySubset.{region};
-ghost use Rattle.zarrs_codec_bytes.specs.Overlap.{Copied};
+ghost use Rattle.zarrs_codec_slices.specs.Overlap.{Copied};
 ghost use Rattle.zarrs_codec_traits.specs.Views.{options_of};
 ghost use Rattle.zarr_array_elements.specs.BoxElements.{list_held};
 ghost use Rattle.zarr_array_regions.specs.Access.{described};
@@ -19,8 +19,7 @@ use crate::region_chunks::RegionChunks;
 use std::alloc::{AllocError, Global};
 use zarr_array_elements::{BoxElements, SharedBox};
 use zarr_chain_stored::Fetched;
-use zarrs_codec_error::CodecError;
-use zarrs_codec_options::CodecOptions;
+use zarrs_codec_error::{CodecError, CodecOptions};
 use zarrs_storage::Store;
 
 /// A chunk's elements for what it shares with a region.

@@ -18,7 +18,7 @@ use std::alloc::Global;
 use zarr_array_elements::put_overlap;
 use zarrs_array_subset::ArraySubset;
 use zarrs_codec_array_bytes::ArrayBytes;
-use zarrs_codec_options::CodecOptions;
+use zarrs_codec_error::CodecOptions;
 use zarrs_storage::Store;
 
 impl<C: ChunkAccess> RegionChunks<'_, C> {

@@ -6,7 +6,7 @@ use Rattle.zarr_model.specs.Command.{has_long_element}
 use Rattle.zarr_model.specs.Element.{Element, kind_of, fill_element}
 use Rattle.zarr_model.specs.Region.{count_of}
 use Rattle.zarr_model.specs.Codec.{Level, ArrayCodec, Options, Chain, decode_bytes, decode_chain}
-use Rattle.zarrs_codec_bytes.specs.Filling.{filled_with}
+use Rattle.zarrs_codec_slices.specs.Filling.{filled_with}
 use Rattle.zarrs_codec_error.specs.declared.error.CodecError.{CodecError}
 use Rattle.zarrs_codec_traits.specs.Errors.{unserved_at}
 use Rattle.zarrs_codec_traits.specs.Words.{IsFit}

@@ -4,7 +4,7 @@ use Rattle.zarr_model.specs.Element.{Element, DataType, fill_element, kind_of}
 use Rattle.zarr_model.specs.Region.{count_of}
 use Rattle.zarr_model.specs.ArrayBytes.{ArrayBytes}
 use Rattle.zarr_model.specs.Codec.{Level, ArrayCodec}
-use Rattle.zarrs_data_type_elements.specs.FillValue.{fill_bytes}
+use Rattle.zarrs_data_type_bytes.specs.FillValue.{fill_bytes}
 use Rattle.zarrs_codec_array_bytes.specs.Refusals.{told_by, validity}
 use Rattle.zarrs_codec_error.specs.declared.error.CodecError.{CodecError}
 use Rattle.zarrs_codec_error.specs.declared.error.CodecError.TheVariants as codec

@@ -3,7 +3,7 @@
 ghost use Rattle.std.specs.Prelude.{◌≡◌, ℕ, List, length, Option, IsSome, None, IfOk, MatchResult};
 ghost use Rattle.zarr_model.specs.Codec.{Level};
 ghost use Rattle.zarr_model.specs.Element.{fill_element, kind_of};
-ghost use Rattle.zarrs_data_type_elements.specs.FillValue.{fill_bytes};
+ghost use Rattle.zarrs_data_type_bytes.specs.FillValue.{fill_bytes};
 ghost use Rattle.zarrs_data_type_names.specs.DataType.{type_of};
 ghost use Rattle.zarrs_codec_traits.specs.Views.{lengths, level_of};
 ghost use Rattle.zarrs_codec_traits.specs.Words.{IsFit};
@@ -21,7 +21,7 @@ use zarrs_codec_error::CodecError;
 use zarrs_codec_traits::{
     ArrayToArrayCodecTraits, ArrayToBytesCodecTraits, BytesToBytesCodecTraits,
 };
-use zarrs_data_type_elements::FillValue;
+use zarrs_data_type_bytes::FillValue;
 use zarrs_data_type_names::DataType;
 
 /// What is below a codec.

@@ -15,8 +15,7 @@ ghost use Rattle.zarr_chain.specs.Answers.{StaysShort};
 use crate::representation::ChunkRepresentation;
 use std::alloc::Global;
 use zarrs_codec_array_bytes::ArrayBytes;
-use zarrs_codec_error::CodecError;
-use zarrs_codec_options::{BytesRepresentation, CodecOptions};
+use zarrs_codec_error::{BytesRepresentation, CodecError, CodecOptions};
 use zarrs_codec_traits::{ArrayToArrayCodecTraits, BytesToBytesCodecTraits};
 
 /// What a value decodes to through the codecs, the last one first.

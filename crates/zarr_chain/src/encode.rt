@@ -13,8 +13,7 @@ ghost use Rattle.zarr_chain.specs.Answers.{StaysShort};
 use crate::representation::ChunkRepresentation;
 use std::alloc::Global;
 use zarrs_codec_array_bytes::ArrayBytes;
-use zarrs_codec_error::CodecError;
-use zarrs_codec_options::CodecOptions;
+use zarrs_codec_error::{CodecError, CodecOptions};
 use zarrs_codec_traits::{ArrayToArrayCodecTraits, BytesToBytesCodecTraits};
 
 /// The elements of the bottom that decode to those of the first level, the first codec first.

@@ -1,13 +1,13 @@
 //! The levels of a chunk.
 
 ghost use Rattle.std.specs.Prelude.{◌≡◌};
-ghost use Rattle.zarrs_data_type_elements.specs.FillValue.{fill_bytes};
+ghost use Rattle.zarrs_data_type_bytes.specs.FillValue.{fill_bytes};
 ghost use Rattle.zarrs_data_type_names.specs.DataType.{type_of};
 ghost use Rattle.zarrs_codec_traits.specs.Views.{lengths};
 
 use crate::representation::ChunkRepresentation;
 use std::num::NonZeroU64;
-use zarrs_data_type_elements::FillValue;
+use zarrs_data_type_bytes::FillValue;
 use zarrs_data_type_names::DataType;
 
 /// What the elements of a chunk are above each codec of a chain.

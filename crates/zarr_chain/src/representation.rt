@@ -2,14 +2,14 @@
 
 ghost use Rattle.std.specs.Prelude.{◌≡◌, ◌<◌, IfOk};
 ghost use Rattle.std.specs.List.{AllByRecursion};
-ghost use Rattle.zarrs_data_type_elements.specs.FillValue.{fill_bytes};
+ghost use Rattle.zarrs_data_type_bytes.specs.FillValue.{fill_bytes};
 ghost use Rattle.zarrs_codec_traits.specs.Views.{level_of};
 
 use std::alloc::{AllocError, Global};
 use std::num::NonZeroU64;
 use zarrs_array_subset::ChunkShape;
 use zarrs_codec_traits::same_shape;
-use zarrs_data_type_elements::{FillValue, are_bytes};
+use zarrs_data_type_bytes::{FillValue, are_bytes};
 use zarrs_data_type_names::DataType;
 
 /// The shape, the data type and the fill value of a chunk at one level.

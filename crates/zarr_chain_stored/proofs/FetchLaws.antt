@@ -5,12 +5,12 @@ use Rattle.zarr_model.specs.Region.{count_of}
 use Rattle.zarr_model.specs.Element.{Element, Kind, fixed, variable, optional, kind_of, fill_element, fixed_size}
 use Rattle.zarr_model.specs.ArrayBytes.{meaning}
 use Rattle.zarr_model.specs.Codec.{Level}
-use Rattle.zarrs_data_type_elements.specs.FillValue.{fill_bytes}
-use Rattle.zarrs_data_type_elements.specs.declared.fill_value.FillValue.{FillValue}
+use Rattle.zarrs_data_type_bytes.specs.FillValue.{fill_bytes}
+use Rattle.zarrs_data_type_bytes.specs.declared.fill_value.FillValue.{FillValue}
 use Rattle.zarrs_data_type_names.specs.DataType.{type_of}
 use Rattle.zarrs_data_type_names.specs.declared.data_type.DataType.{DataType}
-use Rattle.zarrs_codec_bytes.specs.Filling.{has_size, inner_fill, innermost_fill, filled_with}
-use Rattle.zarrs_codec_bytes.proofs.FilledLaws.{element_fits, filled_short}
+use Rattle.zarrs_codec_slices.specs.Filling.{has_size, inner_fill, innermost_fill, filled_with}
+use Rattle.zarrs_codec_slices.proofs.FilledLaws.{element_fits, filled_short}
 use Rattle.zarrs_codec_error.specs.declared.error.CodecError.{CodecError}
 use Rattle.zarrs_codec_error.specs.declared.error.CodecError.TheVariants as codec
 use Rattle.zarrs_codec_array_bytes.specs.declared.array_bytes.ArrayBytes as code

@@ -8,13 +8,13 @@ use Rattle.zarr_model.specs.ArrayBytes.{ends_from}
 use Rattle.zarr_model.specs.Region.{Region, count, count_of, ends_within}
 use Rattle.zarr_model.specs.Codec.{Level}
 use Rattle.zarr_model.proofs.RegionLaws.{count_within}
-use Rattle.zarrs_codec_bytes.specs.Filling.{inner_fill, filled_with}
+use Rattle.zarrs_codec_slices.specs.Filling.{inner_fill, filled_with}
 use Rattle.zarrs_codec_error.specs.declared.error.CodecError.{CodecError}
 use Rattle.zarrs_codec_error.specs.declared.error.CodecError.TheVariants as codec
 use Rattle.zarrs_codec_array_bytes.specs.declared.array_bytes.ArrayBytes as code
 use Rattle.zarrs_codec_array_bytes.specs.Raw.{raw_of}
-use Rattle.zarrs_data_type_elements.specs.FillValue.{fill_bytes}
-use Rattle.zarrs_data_type_elements.specs.declared.fill_value.FillValue.{FillValue}
+use Rattle.zarrs_data_type_bytes.specs.FillValue.{fill_bytes}
+use Rattle.zarrs_data_type_bytes.specs.declared.fill_value.FillValue.{FillValue}
 use Rattle.zarrs_data_type_names.specs.DataType.{type_of}
 use Rattle.zarrs_data_type_names.specs.declared.data_type.DataType as names
 use Rattle.zarrs_codec_traits.specs.Views.{lengths, level_of}

@@ -9,7 +9,7 @@ use Rattle.zarr_model.proofs.RefusalLaws.{kept, not_refused, offsets_long}
 use Rattle.zarrs_codec_error.specs.declared.error.CodecError.{CodecError}
 use Rattle.zarrs_codec_error.specs.declared.error.CodecError.TheVariants as codec
 use Rattle.zarrs_codec_array_bytes.specs.declared.array_bytes.ArrayBytes as code
-use Rattle.zarrs_codec_bytes.specs.Picking.{size_in}
+use Rattle.zarrs_codec_slices.specs.Picking.{size_in}
 use Rattle.zarrs_codec_array_bytes.specs.Levels.{inner_length}
 use Rattle.zarrs_codec_array_bytes.specs.Refusals.{fine, lengths_refusal, first_answer, then_answer, sized_answer, told_by, Answers}
 use Rattle.zarrs_codec_array_bytes.proofs.ToldLaws.{says_some}

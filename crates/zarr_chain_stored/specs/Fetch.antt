@@ -5,7 +5,7 @@ use Rattle.zarr_model.specs.Element.{Element, kind_of, fill_element}
 use Rattle.zarr_model.specs.ArrayBytes.{ArrayBytes}
 use Rattle.zarr_model.specs.Codec.{Level, ArrayCodec, Options}
 use Rattle.zarr_model.specs.Command.{has_long_element}
-use Rattle.zarrs_codec_bytes.specs.Filling.{filled_with}
+use Rattle.zarrs_codec_slices.specs.Filling.{filled_with}
 use Rattle.zarrs_codec_error.specs.declared.error.CodecError.{CodecError}
 use Rattle.zarrs_codec_array_bytes.specs.declared.array_bytes.ArrayBytes as code
 use Rattle.zarrs_codec_array_bytes.specs.Raw.{raw_of}

@@ -3,7 +3,7 @@ use Rattle.std.specs.Prelude.{◌≡◌, ℕ, Bool, List, Option, Some, None}
 use Rattle.zarr_model.specs.Region.{Region, tuples}
 use Rattle.zarr_model.specs.Element.{Element}
 use Rattle.zarr_model.specs.Store.{Content}
-use Rattle.zarrs_codec_bytes.specs.Picking.{replaced}
+use Rattle.zarrs_codec_slices.specs.Picking.{replaced}
 use Rattle.zarrs_codec_array_bytes.specs.Selection.{linear}
 use Rattle.zarr_chain_stored.specs.Put.{Decoding, PutsChunk, MayPutChunk}
 

@@ -29,9 +29,8 @@ use std::alloc::Global;
 use zarr_chain::{ChunkLevels, CodecChain, decode_through, last_or};
 use zarrs_array_subset::ArraySubset;
 use zarrs_codec_array_bytes::ArrayBytes;
-use zarrs_codec_error::CodecError;
+use zarrs_codec_error::{CodecError, CodecOptions};
 use zarrs_codec_held::parts_in_memory;
-use zarrs_codec_options::CodecOptions;
 use zarrs_codec_traits::{
     ArrayToArrayCodecTraits, ArrayToBytesCodecTraits, BytesToBytesCodecTraits,
 };

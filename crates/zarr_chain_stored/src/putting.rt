@@ -12,7 +12,7 @@ ghost use Rattle.zarr_chain_stored.specs.Seen.{chain_seen, CanPut, StoresChunk};
 use std::alloc::Global;
 use zarr_chain::{ChunkLevels, CodecChain};
 use zarrs_codec_array_bytes::ArrayBytes;
-use zarrs_codec_options::CodecOptions;
+use zarrs_codec_error::CodecOptions;
 use zarrs_codec_traits::{
     ArrayToArrayCodecTraits, ArrayToBytesCodecTraits, BytesToBytesCodecTraits,
 };

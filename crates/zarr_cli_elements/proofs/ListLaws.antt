@@ -1,8 +1,8 @@
 -- Elements that are put one after another are the array bytes of their list.
 use Rattle.std.proofs.Common.{◌≡◌, ℕ, ◌+◌, ◌<◌, true, false, List, [], ◌∷◌, ◌++◌, length, map, flat_map, Option, Some, None, option_map, refl, sym, ap, ap₂, ◌∙◌, subst, arith, append_assoc, append-nil}
 use Rattle.std.proofs.lemmas.List.{length-append, map-append}
-use Rattle.zarrs_codec_bytes.specs.Picking.{are_within}
-use Rattle.zarrs_codec_bytes.proofs.ValueLaws.{gathered_within}
+use Rattle.zarrs_codec_slices.specs.Picking.{are_within}
+use Rattle.zarrs_codec_slices.proofs.ValueLaws.{gathered_within}
 use Rattle.zarr_model.specs.Element.{Element, Kind, fixed, variable, optional}
 use Rattle.zarr_model.specs.ArrayBytes.{ArrayBytes, fixed_bytes, variable_bytes, optional_bytes, bytes_of, mask_byte, held, ends_from, array_bytes}
 use Rattle.zarr_cli_elements.specs.Text.{all_some}

@@ -8,8 +8,8 @@ use borrow.Rule.Slice.PartMut.{put_mid}
 use Rattle.hex.specs.Hex.{encode_lower}
 use Rattle.zarr_model.specs.Prelude.{Element, of_bytes, Kind, fixed, ArrayBytes, fixed_bytes, variable_bytes, optional_bytes, meaning, pieces}
 use Rattle.zarr_model.proofs.Choices.{some_now}
-use Rattle.zarrs_codec_bytes.specs.Elements.{elements_of, fixed_elements}
-use Rattle.zarrs_codec_bytes.proofs.FixedLaws.{meaning_is, meaning_long}
+use Rattle.zarrs_codec_slices.specs.Elements.{elements_of, fixed_elements}
+use Rattle.zarrs_codec_slices.proofs.FixedLaws.{meaning_is, meaning_long}
 use Rattle.zarr_cli_elements.specs.Text.{element_text, elements_text, hex_text}
 use Rattle.zarr_cli_elements.specs.Fixed.{bytes_text}
 use Rattle.zarr_cli_elements.specs.Place.{fixed_part}

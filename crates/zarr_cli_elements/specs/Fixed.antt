@@ -3,7 +3,7 @@ use Rattle.std.specs.Prelude.{◌≡◌, ℕ, ◌+◌, ◌*◌, ◌/◌, Bool, t
 use Rattle.std.specs.Option.{option_map_or}
 use Rattle.std.specs.Borrow.{Bor}
 use Rattle.zarr_model.specs.Prelude.{Element, fixed, of_bytes, bytes_of}
-use Rattle.zarrs_codec_bytes.specs.Elements.{elements_of}
+use Rattle.zarrs_codec_slices.specs.Elements.{elements_of}
 use Rattle.zarr_cli_elements.specs.Text.{all_some, element_of, hex_text}
 
 -- what stands behind a word: nothing, or a space and more words

@@ -6,7 +6,7 @@ pub mod entry;
 mod indices;
 pub mod parse;
 mod parts;
-pub mod reply_text;
+mod reply_text;
 
 pub use entry::{Entry, parse_key_line, push_entry};
 pub use parse::{LineError, ParsedLines, parse_command_line, parse_lines};

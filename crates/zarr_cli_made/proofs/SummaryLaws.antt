@@ -6,7 +6,7 @@ use Rattle.std.specs.List.{AllZip, sum_by}
 use Rattle.zarr_model.specs.Prelude.{Element, fixed, ArrayBytes, fixed_bytes, variable_bytes, optional_bytes, meaning, Matches}
 use Rattle.zarr_model.specs.Command as Model
 use Rattle.zarr_model.proofs.Choices.{some_now}
-use Rattle.zarrs_codec_bytes.proofs.FixedLaws.{meaning_long}
+use Rattle.zarrs_codec_slices.proofs.FixedLaws.{meaning_long}
 use Rattle.zarrs_codec_array_bytes.specs.Raw.{raw_of}
 use Rattle.zarr_cli_lines.specs.array.Command.{answer_of}
 use Rattle.zarr_cli_lines.specs.array.declared.command.Reply.{Reply}

@@ -14,8 +14,8 @@ use Rattle.zarrs_chunk_grid_iterators.proofs.BoxFacts.{box_within}
 use Rattle.zarrs_storage.specs.declared.byte_range.ByteRange.{ByteRange}
 use Rattle.zarrs_storage.specs.ByteRange.{slice_of, slices_of}
 use Rattle.zarr_model.specs.declared.endianness.Endianness.{Endianness}
-use Rattle.zarrs_data_type_elements.specs.ByteOrder.{in_order}
-use Rattle.zarrs_data_type_elements.specs.CodecSupport.{bytes_table}
+use Rattle.zarrs_data_type_bytes.specs.ByteOrder.{in_order}
+use Rattle.zarrs_data_type_bytes.specs.CodecSupport.{bytes_table}
 use Rattle.zarrs_codec_error.specs.declared.error.CodecError.{CodecError}
 use Rattle.zarrs_codec_error.specs.declared.error.CodecError.TheVariants as codec
 use Rattle.zarrs_codec_array_bytes.specs.Refusals.{Told, fine, refused, wrong_length, unfit, other_fill, no_memory, odd, told_by, then_answer}

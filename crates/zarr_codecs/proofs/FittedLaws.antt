@@ -11,7 +11,7 @@ use Rattle.zarr_model.specs.Codec.{ByteOrder, Level, Options, bytes_codec, decod
 use Rattle.zarr_model.specs.declared.endianness.Endianness.{Endianness}
 use Rattle.zarrs_chunk_grid_iterators.specs.Runs.{runs}
 use Rattle.zarrs_chunk_grid_iterators.proofs.BoxFacts.{box_within}
-use Rattle.zarrs_data_type_elements.specs.CodecSupport.{bytes_table}
+use Rattle.zarrs_data_type_bytes.specs.CodecSupport.{bytes_table}
 use Rattle.zarrs_storage.specs.declared.byte_range.ByteRange.{ByteRange}
 use Rattle.zarrs_storage.specs.ByteRange.{slice_of, slices_of, first_invalid}
 use Rattle.zarr_codecs.specs.BytesCodec.{stored_order, component_unserved, type_unserved, element_bytes, bytes_size}

@@ -9,10 +9,10 @@ use Rattle.zarr_model.specs.ArrayBytes.{ArrayBytes, fixed_bytes, pieces, meaning
 use Rattle.zarr_model.specs.Codec.{ByteOrder, little, big, from_order, component_size, decode_fixed, Level, Options, bytes_codec, decode_array_to_bytes}
 use Rattle.zarr_model.specs.declared.endianness.Endianness.{Endianness}
 use Rattle.zarr_model.specs.declared.endianness.Endianness.TheVariants.{Little, Big}
-use Rattle.zarrs_data_type_elements.specs.Pieces.{components_reversed}
-use Rattle.zarrs_data_type_elements.specs.ByteOrder.{ordered, in_order}
-use Rattle.zarrs_data_type_elements.specs.CodecSupport.{bytes_table, at_least_one}
-use Rattle.zarrs_data_type_elements.proofs.OrderLaws.{decodes}
+use Rattle.zarrs_data_type_bytes.specs.Pieces.{components_reversed}
+use Rattle.zarrs_data_type_bytes.specs.ByteOrder.{ordered, in_order}
+use Rattle.zarrs_data_type_bytes.specs.CodecSupport.{bytes_table, at_least_one}
+use Rattle.zarrs_data_type_bytes.proofs.OrderLaws.{decodes}
 use Rattle.zarr_model.specs.Command.{bytes_refusal, unexpected_chunk_decoded_size}
 use Rattle.zarr_model.proofs.RefusalLaws.{not_refused}
 use Rattle.zarrs_codec_error.specs.declared.error.CodecError.{CodecError}

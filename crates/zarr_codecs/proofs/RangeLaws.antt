@@ -16,9 +16,9 @@ use Rattle.zarr_model.proofs.RegionLaws.{length-tuples}
 use Rattle.zarrs_chunk_grid_iterators.specs.Runs.{runs, joined}
 use Rattle.zarrs_chunk_grid_iterators.proofs.BoxFacts.{box_inside, box_joins}
 use Rattle.zarrs_storage.specs.ByteRange.{slices_of}
-use Rattle.zarrs_codec_bytes.specs.Picking.{AllBelow, piece_of}
-use Rattle.zarrs_codec_bytes.proofs.LeafLaws.{below_rest, map_below, get_or-pieces}
-use Rattle.zarrs_codec_bytes.proofs.RowLaws.{indices_below}
+use Rattle.zarrs_codec_slices.specs.Picking.{AllBelow, piece_of}
+use Rattle.zarrs_codec_slices.proofs.LeafLaws.{below_rest, map_below, get_or-pieces}
+use Rattle.zarrs_codec_slices.proofs.RowLaws.{indices_below}
 use Rattle.zarrs_codec_traits.specs.Words.{at_box, select}
 use Rattle.zarr_codecs.specs.Ranges.{run_range, run_ranges}
 

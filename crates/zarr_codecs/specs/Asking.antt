@@ -11,7 +11,7 @@ use Rattle.zarr_model.specs.Codec.{ByteOrder, Level, Options, bytes_codec, decod
 use Rattle.zarr_model.proofs.BytesLaws.{when_some}
 use Rattle.zarrs_chunk_grid_iterators.specs.Runs.{runs}
 use Rattle.zarrs_chunk_grid_iterators.proofs.BoxFacts.{box_within}
-use Rattle.zarrs_codec_bytes.specs.Picking.{size_in}
+use Rattle.zarrs_codec_slices.specs.Picking.{size_in}
 use Rattle.zarrs_storage.specs.declared.byte_range.ByteRange.{ByteRange}
 use Rattle.zarrs_storage.specs.ByteRange.{first_invalid}
 use Rattle.zarr_codecs.specs.BytesCodec.{element_bytes, bytes_size}

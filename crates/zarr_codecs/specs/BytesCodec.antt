@@ -12,9 +12,9 @@ use Rattle.zarrs_plugin.specs.Making as making
 use Rattle.zarrs_metadata_parts.specs.Making.{or_config}
 use Rattle.zarr_model.specs.declared.endianness.Endianness.{Endianness}
 use Rattle.zarr_model.specs.declared.endianness.Endianness.TheVariants.{Little, Big}
-use Rattle.zarrs_data_type_elements.specs.CodecSupport.{bytes_table}
-use Rattle.zarrs_data_type_elements.specs.declared.codec_support.CodecName.TheVariants as names
-use Rattle.zarrs_codec_bytes.specs.Picking.{size_in}
+use Rattle.zarrs_data_type_bytes.specs.CodecSupport.{bytes_table}
+use Rattle.zarrs_data_type_bytes.specs.declared.codec_support.CodecName.TheVariants as names
+use Rattle.zarrs_codec_slices.specs.Picking.{size_in}
 use Rattle.zarrs_codec_traits.specs.Errors.{Unserved, unsupported, endianness_missing}
 use Rattle.zarrs_codec_traits.specs.Words.{taken}
 

@@ -2,9 +2,9 @@
 
 ghost use Rattle.std.specs.Prelude.{◌≡◌, ◌<◌, ◌*◌, ◌^◌, Ok, None, Some, true, refl, IfOk, IfErr, option_map};
 ghost use Rattle.std.proofs.Common.{inl};
-ghost use Rattle.zarrs_data_type_elements.specs.BytesSupport.{component_of};
-ghost use Rattle.zarrs_data_type_elements.specs.ByteOrder.{in_order};
-ghost use Rattle.zarrs_data_type_elements.specs.CodecSupport.{bytes_table};
+ghost use Rattle.zarrs_data_type_bytes.specs.BytesSupport.{component_of};
+ghost use Rattle.zarrs_data_type_bytes.specs.ByteOrder.{in_order};
+ghost use Rattle.zarrs_data_type_bytes.specs.CodecSupport.{bytes_table};
 ghost use Rattle.zarrs_data_type_names.specs.DataType.{type_of};
 ghost use Rattle.zarrs_codec_traits.specs.Errors.{unserved_error};
 
@@ -18,16 +18,15 @@ use zarr_model::Endianness;
 use zarrs_array_subset::{ArraySubset, ChunkShape};
 use zarrs_codec_array_bytes::ArrayBytes;
 use zarrs_codec_array_bytes::array_bytes::step::element_size;
-use zarrs_codec_error::{CodecError, InvalidBytesLengthError};
-use zarrs_codec_options::{
-    BytesRepresentation, CodecMetadataOptions, CodecOptions, PartialDecoderCapability,
-    PartialEncoderCapability, RecommendedConcurrency,
+use zarrs_codec_error::{
+    BytesRepresentation, CodecError, CodecMetadataOptions, CodecOptions, InvalidBytesLengthError,
+    PartialDecoderCapability, PartialEncoderCapability, RecommendedConcurrency,
 };
 use zarrs_codec_traits::{
     ArrayCodecTraits, ArrayToBytesCodecTraits, CodecTraits, CodecTraitsV3, fixed_value,
     num_elements, same_shape, unsupported_codec,
 };
-use zarrs_data_type_elements::{BytesSupport, FillValue};
+use zarrs_data_type_bytes::{BytesSupport, FillValue};
 use zarrs_data_type_names::DataType;
 use zarrs_metadata_parts::making::unmade;
 use zarrs_metadata_parts::{Configuration, MetadataV3};
@@ -225,7 +224,7 @@ impl ArrayToBytesCodecTraits for BytesCodec {
     ghost use Rattle.zarr_model.proofs.ChainLaws.{array_to_bytes-counted};
     ghost use Rattle.zarrs_codec_array_bytes.specs.Refusals.{fine, told_by, wrong_length};
     ghost use Rattle.zarrs_codec_traits.proofs.FaultLaws.{told_no_fault};
-    ghost use Rattle.zarrs_codec_options.specs.declared.bytes_representation.BytesRepresentation.TheVariants.{FixedSize};
+    ghost use Rattle.zarrs_codec_error.specs.declared.bytes_representation.BytesRepresentation.TheVariants.{FixedSize};
     ghost use Rattle.zarr_codecs.specs.BytesCodec.{stored_order, element_bytes, bytes_size};
     ghost use Rattle.zarr_codecs.specs.Ranges.{run_ranges};
     ghost use Rattle.zarr_codecs.specs.Asking.{runs_asked};

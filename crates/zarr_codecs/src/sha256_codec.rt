@@ -13,10 +13,9 @@ ghost use Rattle.zarr_codecs.specs.Sha256.{ends_in_digest, with_digest_size};
 use serde_json::Map;
 use sha2::{Digest, Sha256};
 use std::alloc::{AllocError, Global};
-use zarrs_codec_error::{CodecError, InvalidBytesLengthError};
-use zarrs_codec_options::{
-    BytesRepresentation, CodecMetadataOptions, CodecOptions, PartialDecoderCapability,
-    PartialEncoderCapability, RecommendedConcurrency,
+use zarrs_codec_error::{
+    BytesRepresentation, CodecError, CodecMetadataOptions, CodecOptions, InvalidBytesLengthError,
+    PartialDecoderCapability, PartialEncoderCapability, RecommendedConcurrency,
 };
 use zarrs_codec_traits::{
     BytesToBytesCodecTraits, CodecTraits, CodecTraitsV3, expect_none, unsupported_codec,

@@ -6,10 +6,10 @@ use Rattle.zarr_model.specs.Region.{Region, count_of, ends_within}
 use Rattle.zarr_model.specs.Element.{Element, DataType, kind_of, fill_element}
 use Rattle.zarr_model.specs.Codec.{Level, KeepsCount, opposite}
 use Rattle.zarr_model.proofs.ChainLaws.{offset-keeps_count, transpose-keeps_count}
-use Rattle.zarrs_codec_bytes.specs.Filling.{innermost_fill}
+use Rattle.zarrs_codec_slices.specs.Filling.{innermost_fill}
 use Rattle.zarrs_codec_traits.specs.Errors.{unsupported}
 use Rattle.zarrs_codec_traits.specs.Words.{AreBytes, IsFit, taken}
-use Rattle.zarrs_data_type_elements.specs.declared.codec_support.CodecName.TheVariants as names
+use Rattle.zarrs_data_type_bytes.specs.declared.codec_support.CodecName.TheVariants as names
 use Rattle.zarr_codecs_numbers.proofs.LevelLaws.{offset_serves, below_fills, below_denotes, below_proper, below_short, same_count, between_shapes}
 use Rattle.zarr_codecs_axes.proofs.OrderLaws.{length-permuted}
 use Rattle.zarr_codecs_moving.proofs.LevelLaws.{rank_serves, fill_stays, count_kept, fit_kept, region_stays, above_below}

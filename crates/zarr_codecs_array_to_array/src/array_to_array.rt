@@ -9,13 +9,12 @@ use zarr_codecs_offset::OffsetCodec;
 use zarr_codecs_transpose::TransposeCodec;
 use zarrs_array_subset::{ArraySubset, ChunkShape};
 use zarrs_codec_array_bytes::ArrayBytes;
-use zarrs_codec_error::CodecError;
-use zarrs_codec_options::{
-    CodecMetadataOptions, CodecOptions, PartialDecoderCapability, PartialEncoderCapability,
-    RecommendedConcurrency,
+use zarrs_codec_error::{
+    CodecError, CodecMetadataOptions, CodecOptions, PartialDecoderCapability,
+    PartialEncoderCapability, RecommendedConcurrency,
 };
 use zarrs_codec_traits::{ArrayCodecTraits, ArrayToArrayCodecTraits, CodecTraits};
-use zarrs_data_type_elements::FillValue;
+use zarrs_data_type_bytes::FillValue;
 use zarrs_data_type_names::DataType;
 use zarrs_metadata_parts::Configuration;
 use zarrs_plugin::{ExtensionName, ZarrVersion};

@@ -8,7 +8,7 @@ use Rattle.zarr_model.specs.ArrayBytes.{ArrayBytes, fixed_bytes, variable_bytes,
 use Rattle.zarr_model.proofs.BytesLaws.{mask_length}
 use Rattle.zarr_model.specs.Codec.{Level, Options, ArrayToBytes, bytes_codec, vlen_codec, optional_codec, decode_fixed, decode_array_to_bytes}
 use Rattle.zarr_model.specs.Command.{has_long_element, invalid_mask, bytes_refusal, refused_if, or_then}
-use Rattle.zarrs_codec_bytes.specs.Picking.{size_in}
+use Rattle.zarrs_codec_slices.specs.Picking.{size_in}
 use Rattle.zarrs_codec_array_bytes.specs.declared.array_bytes.ArrayBytes as code
 use Rattle.zarrs_codec_array_bytes.specs.Levels.{inner_length}
 use Rattle.zarrs_codec_array_bytes.specs.Raw.{raw_of}
@@ -16,7 +16,7 @@ use Rattle.zarrs_codec_array_bytes.specs.Refusals.{Told, fine, refused, told_by,
 use Rattle.zarrs_codec_array_bytes.proofs.ToldLaws.{says_some}
 use Rattle.zarrs_codec_error.specs.declared.error.CodecError.{CodecError}
 use Rattle.zarrs_codec_error.specs.declared.error.CodecError.TheVariants as codec
-use Rattle.zarrs_data_type_elements.specs.declared.codec_support.CodecName.TheVariants as names
+use Rattle.zarrs_data_type_bytes.specs.declared.codec_support.CodecName.TheVariants as names
 use Rattle.zarrs_data_type_names.specs.DataType.{inner_of}
 use Rattle.zarrs_codec_traits.specs.Errors.{Unserved, unsupported, unserved_error, IsNoFault, RefusesBy, Serves, IsDecodeError}
 use Rattle.zarrs_codec_traits.proofs.FaultLaws.{served_no_fault, decoded_no_fault}

@@ -6,7 +6,7 @@ use Rattle.zarr_model.specs.Codec.{Level, Options, decode_array_to_bytes}
 use Rattle.zarr_model.specs.Parts.{finds_part}
 use Rattle.zarrs_storage.specs.ByteRange.{first_invalid}
 use Rattle.zarrs_storage.specs.declared.byte_range.ByteRange.{ByteRange}
-use Rattle.zarrs_codec_bytes.specs.Picking.{size_in}
+use Rattle.zarrs_codec_slices.specs.Picking.{size_in}
 use Rattle.zarrs_codec_traits.proofs.TakenLaws.{nothing_asked}
 use Rattle.zarr_codecs.specs.Asking.{long_value}
 use Rattle.zarr_codecs.specs.BytesCodec.{stored_order, element_bytes}

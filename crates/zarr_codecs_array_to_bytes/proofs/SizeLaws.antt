@@ -3,7 +3,7 @@ use Rattle.std.proofs.Common.{◌≡◌, ℕ, zero, suc, ◌^◌, ◌<◌, ◌�
 use Rattle.std.proofs.lemmas.Bool.{leb-true}
 use Rattle.zarr_model.specs.Element.{DataType, bool_type, int_type, uint_type, raw_type, string_type, bytes_type, optional_type, fixed, kind_of, fixed_size}
 use Rattle.zarr_model.specs.declared.endianness.Endianness.{Endianness}
-use Rattle.zarrs_data_type_elements.specs.CodecSupport.{at_least_one, bytes_table}
+use Rattle.zarrs_data_type_bytes.specs.CodecSupport.{at_least_one, bytes_table}
 use Rattle.zarrs_data_type_names.specs.DataType.{is_type, inner_of}
 use Rattle.zarr_codecs.specs.BytesCodec.{component_unserved}
 use Rattle.zarr_codecs_vlen.specs.Vlen.{type_unserved}

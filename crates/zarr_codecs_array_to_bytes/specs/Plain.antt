@@ -9,13 +9,13 @@ use Rattle.zarr_model.specs.Command.{expected_optional_bytes, invalid_mask}
 use Rattle.zarrs_metadata_parts.specs.MetadataV3.{configured}
 use Rattle.zarr_model.specs.declared.endianness.Endianness.{Endianness}
 use Rattle.zarrs_storage.specs.declared.byte_range.ByteRange.{ByteRange}
-use Rattle.zarrs_data_type_elements.specs.declared.codec_support.CodecName.TheVariants as names
+use Rattle.zarrs_data_type_bytes.specs.declared.codec_support.CodecName.TheVariants as names
 use Rattle.zarrs_codec_array_bytes.specs.Refusals.{Told, told_by, fine, refused, wrong_length}
 use Rattle.zarrs_codec_error.specs.declared.error.CodecError.{CodecError}
 use Rattle.zarrs_codec_error.specs.declared.error.CodecError.TheVariants as codec
-use Rattle.zarrs_codec_options.specs.declared.bytes_representation.BytesRepresentation.{BytesRepresentation}
-use Rattle.zarrs_codec_options.specs.declared.bytes_representation.BytesRepresentation.TheVariants.{FixedSize, BoundedSize, UnboundedSize}
-use Rattle.zarrs_codec_options.specs.declared.capability.PartialDecoderCapability.{PartialDecoderCapability}
+use Rattle.zarrs_codec_error.specs.declared.bytes_representation.BytesRepresentation.{BytesRepresentation}
+use Rattle.zarrs_codec_error.specs.declared.bytes_representation.BytesRepresentation.TheVariants.{FixedSize, BoundedSize, UnboundedSize}
+use Rattle.zarrs_codec_error.specs.declared.capability.PartialDecoderCapability.{PartialDecoderCapability}
 use Rattle.zarrs_codec_traits.specs.Errors.{Unserved, unsupported}
 use Rattle.zarrs_codec_held.specs.Reads.{TellsRangeOf}
 use Rattle.zarr_codecs.specs.BytesCodec.{stored_order, type_unserved, element_bytes, order_members}

@@ -14,10 +14,9 @@ use crate::serving::expect_optional;
 use std::alloc::Global;
 use std::num::NonZeroU64;
 use zarrs_codec_array_bytes::ArrayBytes;
-use zarrs_codec_error::CodecError;
-use zarrs_codec_options::CodecOptions;
+use zarrs_codec_error::{CodecError, CodecOptions};
 use zarrs_codec_traits::{ArrayToBytesCodecTraits, num_elements};
-use zarrs_data_type_elements::FillValue;
+use zarrs_data_type_bytes::FillValue;
 use zarrs_data_type_names::DataType;
 
 /// The value that a codec encodes elements to.

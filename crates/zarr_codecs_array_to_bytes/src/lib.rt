@@ -14,5 +14,5 @@ mod optional;
 mod serving;
 
 pub use codecs::{BasicArrayToBytes, OptionalCodec};
-pub use inner::{inner_metadata, inner_reads_back};
+pub use inner::inner_metadata;
 pub use zarr_codecs_vlen::VlenCodec;

@@ -3,7 +3,7 @@
 ghost use Rattle.std.specs.Prelude.{◌≡◌, None, Some, IfOk, IfErr, MatchResult};
 ghost use Rattle.zarr_model.specs.Region.{count_of};
 ghost use Rattle.zarr_model.specs.Element.{optional_type};
-ghost use Rattle.zarrs_data_type_elements.specs.declared.codec_support.CodecName.TheVariants as names;
+ghost use Rattle.zarrs_data_type_bytes.specs.declared.codec_support.CodecName.TheVariants as names;
 ghost use Rattle.zarrs_data_type_names.specs.DataType.{type_of, inner_of};
 ghost use Rattle.zarrs_codec_traits.specs.Errors.{unsupported, unserved_error, Serves};
 ghost use Rattle.zarrs_codec_traits.specs.Views.{lengths};
@@ -14,10 +14,9 @@ ghost use Rattle.zarr_codecs_array_to_bytes.specs.Answers.{IsUnserved};
 
 use crate::codecs::BasicArrayToBytes;
 use std::num::NonZeroU64;
-use zarrs_codec_error::CodecError;
-use zarrs_codec_options::{BytesRepresentation, RecommendedConcurrency};
+use zarrs_codec_error::{BytesRepresentation, CodecError, RecommendedConcurrency};
 use zarrs_codec_traits::{ArrayCodecTraits, ArrayToBytesCodecTraits, num_elements};
-use zarrs_data_type_elements::{CodecName, DataTypeCodecError, FillValue};
+use zarrs_data_type_bytes::{CodecName, DataTypeCodecError, FillValue};
 use zarrs_data_type_names::DataType;
 
 /// The type inside an optional one, which alone the codec of optional elements serves.

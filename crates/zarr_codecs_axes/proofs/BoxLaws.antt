@@ -8,7 +8,7 @@ use Rattle.zarr_model.specs.Codec.{permuted, permuted_box}
 use Rattle.zarr_model.proofs.ArrayLaws.{inside_shape}
 use Rattle.zarr_model.proofs.RegionLaws.{count_whole, length-tuples, contains-tuple_at, place_below, tuple_at-place}
 use Rattle.zarr_model.specs.Region.{span_at}
-use Rattle.zarrs_codec_bytes.specs.Picking.{picked}
+use Rattle.zarrs_codec_slices.specs.Picking.{picked}
 use Rattle.zarr_codecs_axes.specs.Order.{is_order}
 use Rattle.zarr_codecs_axes.specs.Moved.{moved_places}
 use Rattle.zarr_codecs_axes.proofs.OrderLaws.{order_below, length-permuted, permuted_at}

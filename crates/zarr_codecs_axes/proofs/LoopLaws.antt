@@ -9,7 +9,7 @@ use Rattle.std.proofs.Math.Nat.{add-mul, le-mul_of_pos_right, mul_comm}
 use Rattle.std.proofs.lemmas.List.Concat.{flat_map_single}
 use Rattle.zarr_model.specs.Region.{count_of, whole, contains}
 use Rattle.zarr_model.specs.Codec.{permuted}
-use Rattle.zarrs_codec_bytes.specs.Picking.{AllBelow}
+use Rattle.zarrs_codec_slices.specs.Picking.{AllBelow}
 use Rattle.zarr_codecs_axes.specs.Order.{are_apart, is_order, scattered, row_major, dot}
 use Rattle.zarr_codecs_axes.specs.Moved.{strided, moved_steps}
 use Rattle.zarr_codecs_axes.proofs.OrderLaws.{order_below, place_of}

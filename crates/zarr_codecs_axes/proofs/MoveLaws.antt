@@ -5,7 +5,7 @@ use Rattle.std.proofs.lemmas.Simd.{map-map}
 use Rattle.zarr_model.specs.Region.{Region, count, count_of, whole, contains, tuples, place, tuple_at}
 use Rattle.zarr_model.specs.Codec.{permuted}
 use Rattle.zarr_model.proofs.RegionLaws.{count_whole, length-tuples, get_or-tuples, contains-tuple_at, place_below, tuple_at-place, place-tuple_at}
-use Rattle.zarrs_codec_bytes.specs.Picking.{AllBelow, picked}
+use Rattle.zarrs_codec_slices.specs.Picking.{AllBelow, picked}
 use Rattle.zarr_codecs_axes.specs.Order.{is_order, inverse}
 use Rattle.zarr_codecs_axes.specs.Moved.{moved_places}
 use Rattle.zarr_codecs_axes.proofs.OrderLaws.{permuted_back}

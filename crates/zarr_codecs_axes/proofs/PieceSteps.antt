@@ -2,7 +2,7 @@
 use Rattle.std.proofs.Common.{◌≡◌, ℕ, ◌+◌, ◌-◌, ◌*◌, ◌<◌, List, [], ◌∷◌, ◌++◌, length, get_or, take, drop, flat_map, Result, Ok, Err, IfOk, arith, ap, ap₂, sym, ◌∙◌}
 use Rattle.std.specs.List.{range_with_len}
 use Rattle.std.proofs.lemmas.List.{append-nil, drop_more}
-use Rattle.zarrs_codec_bytes.specs.Picking.{piece_of}
+use Rattle.zarrs_codec_slices.specs.Picking.{piece_of}
 use Rattle.zarr_codecs_axes.specs.Moved.{strided}
 use Rattle.zarr_codecs_axes.proofs.LoopLaws.{next_part, split_first}
 use Rattle.zarr_codecs_axes.proofs.RunLaws.{flat_map-flat_map, flat_map_same}

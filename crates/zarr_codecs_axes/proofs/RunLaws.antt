@@ -8,9 +8,9 @@ use Rattle.std.proofs.lemmas.List.{append-nil, length-map, ext_get_or, drop-drop
 use Rattle.std.proofs.lemmas.List.FromFn.{length-range_with_len, get_or-range_with_len}
 use Rattle.zarr_model.specs.Region.{count, count_of, whole, tuples, tuple_at}
 use Rattle.zarr_model.proofs.RegionLaws.{length-tuples, place-tuple_at, contains-tuple_at, count_whole}
-use Rattle.zarrs_codec_bytes.specs.Picking.{AllBelow, piece_of, picked_piece}
-use Rattle.zarrs_codec_bytes.proofs.LeafLaws.{below_rest}
-use Rattle.zarrs_codec_bytes.proofs.PieceLaws.{piece_ends}
+use Rattle.zarrs_codec_slices.specs.Picking.{AllBelow, piece_of, picked_piece}
+use Rattle.zarrs_codec_slices.proofs.LeafLaws.{below_rest}
+use Rattle.zarrs_codec_slices.proofs.PieceLaws.{piece_ends}
 use Rattle.zarr_codecs_axes.specs.Order.{row_major, dot}
 use Rattle.zarr_codecs_axes.specs.Moved.{strided, in_runs}
 use Rattle.zarr_codecs_axes.proofs.PlaceLaws.{place-dot, strided-dot, length-row_major, contains_at}

@@ -2,7 +2,7 @@
 
 ghost use Rattle.std.specs.Prelude.{◌≡◌, ◌+◌, ◌-◌, ◌*◌, ◌<◌, ◌++◌, length, map, IfOk};
 ghost use Rattle.std.specs.List.{flat_map, range_with_len};
-ghost use Rattle.zarrs_codec_bytes.specs.Picking.{piece_of};
+ghost use Rattle.zarrs_codec_slices.specs.Picking.{piece_of};
 ghost use Rattle.zarr_codecs_axes.specs.Order.{dot};
 ghost use Rattle.zarr_codecs_axes.specs.Moved.{strided};
 
@@ -30,7 +30,7 @@ fn push_bytes(
 
 // So many pieces of one size, each by a step behind the one before.
 #[inline(always)]
-#[tactic(auto, using(crate::proofs::LoopLaws::run_below, zarrs_codec_bytes::proofs::PieceLaws::piece_ends))]
+#[tactic(auto, using(crate::proofs::LoopLaws::run_below, zarrs_codec_slices::proofs::PieceLaws::piece_ends))]
 fn push_sized(
     given: Vec<u8>,
     items: &[u8],

@@ -4,7 +4,7 @@ ghost use Rattle.std.specs.Prelude.{◌≡◌, ◌<◌, ◌+◌, ◌-◌, ◌*�
 ghost use Rattle.std.specs.List.{range_with_len};
 ghost use Rattle.zarr_model.specs.Region.{count_of};
 ghost use Rattle.zarr_model.specs.Codec.{permuted};
-ghost use Rattle.zarrs_codec_bytes.specs.Picking.{AllBelow};
+ghost use Rattle.zarrs_codec_slices.specs.Picking.{AllBelow};
 ghost use Rattle.zarr_codecs_axes.specs.Order.{is_order, scattered, row_major, dot};
 ghost use Rattle.zarr_codecs_axes.specs.Moved.{moved_places as places_of, moved_steps as steps_of, strided};
 

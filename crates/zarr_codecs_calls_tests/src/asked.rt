@@ -6,18 +6,17 @@ ghost use Rattle.zarrs_codec_traits.specs.Views.{lengths};
 ghost use Rattle.zarrs_codec_traits.specs.Words.{IsFit};
 ghost use Rattle.zarrs_data_type_names.specs.DataType.{type_of};
 
-use crate::kinds::{line, optional, optional_numbers, second};
-use crate::texts::is_text;
+use crate::call_kinds::{line, optional, optional_numbers, second};
+use crate::call_texts::is_text;
 use std::alloc::Global;
 use std::num::NonZeroU64;
 use zarr_codecs::BytesCodec;
 use zarr_codecs_array_to_bytes::BasicArrayToBytes;
 use zarr_codecs_vlen::VlenCodec;
 use zarr_model::Endianness;
-use zarrs_codec_error::CodecError;
-use zarrs_codec_options::CodecOptions;
+use zarrs_codec_error::{CodecError, CodecOptions};
 use zarrs_codec_traits::{ArrayCodecTraits, ArrayToBytesCodecTraits};
-use zarrs_data_type_elements::FillValue;
+use zarrs_data_type_bytes::FillValue;
 use zarrs_data_type_names::DataType;
 
 // What is stored in place of a value.

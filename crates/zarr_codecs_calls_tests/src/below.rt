@@ -7,8 +7,8 @@ ghost use Rattle.zarrs_array_subset.specs.ArraySubset.{region as box_of};
 ghost use Rattle.zarrs_codec_traits.specs.Views.{lengths};
 ghost use Rattle.zarrs_codec_traits.specs.Words.{IsFit};
 
-use crate::kinds::{columns, line, second, table};
-use crate::texts::is_text;
+use crate::call_kinds::{columns, line, second, table};
+use crate::call_texts::is_text;
 use std::alloc::{AllocError, Global};
 use std::borrow::CowSlice;
 use std::num::NonZeroU64;
@@ -18,10 +18,9 @@ use zarr_codecs_offset::OffsetCodec;
 use zarrs_array_subset::ArraySubset;
 use zarrs_codec_array_bytes::ArrayBytes;
 use zarrs_codec_array_bytes::array_bytes::bytes_in;
-use zarrs_codec_error::CodecError;
-use zarrs_codec_options::CodecOptions;
+use zarrs_codec_error::{CodecError, CodecOptions};
 use zarrs_codec_traits::{ArrayCodecTraits, ArrayToArrayCodecTraits};
-use zarrs_data_type_elements::FillValue;
+use zarrs_data_type_bytes::FillValue;
 use zarrs_data_type_names::DataType;
 
 // The fill value of all numbers here.

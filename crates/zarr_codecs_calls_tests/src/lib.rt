@@ -1,4 +1,4 @@
-//! Each call of the codecs of this project that no other crate of tests makes, with an answer from outside.
+//! Calls of codecs and of handles on bytes, each once.
 #![tactic(auto)]
 
 #[cfg(test)]
@@ -6,10 +6,16 @@ mod asked;
 #[cfg(test)]
 mod below;
 #[cfg(test)]
-mod kinds;
+mod call_kinds;
 #[cfg(test)]
-mod making;
+mod call_making;
+#[cfg(test)]
+mod call_texts;
+#[cfg(test)]
+mod handle_kinds;
+#[cfg(test)]
+mod handles;
 #[cfg(test)]
 mod parts;
 #[cfg(test)]
-mod texts;
+mod targets;

@@ -7,8 +7,8 @@ ghost use Rattle.zarrs_array_subset.specs.ArraySubset.{region as box_of};
 ghost use Rattle.zarrs_codec_traits.specs.Views.{lengths};
 ghost use Rattle.zarrs_codec_traits.specs.Words.{IsFit};
 
-use crate::kinds::{columns, line, second, table};
-use crate::texts::{error_text, is_text};
+use crate::call_kinds::{columns, line, second, table};
+use crate::call_texts::{error_text, is_text};
 use std::alloc::{AllocError, Global};
 use std::num::NonZeroU64;
 use zarr_codecs::BytesCodec;
@@ -16,10 +16,9 @@ use zarr_model::Endianness;
 use zarrs_array_subset::ArraySubset;
 use zarrs_codec_array_bytes::ArrayBytes;
 use zarrs_codec_array_bytes::array_bytes::bytes_in;
-use zarrs_codec_error::CodecError;
-use zarrs_codec_options::CodecOptions;
+use zarrs_codec_error::{CodecError, CodecOptions};
 use zarrs_codec_traits::ArrayToBytesCodecTraits;
-use zarrs_data_type_elements::FillValue;
+use zarrs_data_type_bytes::FillValue;
 use zarrs_data_type_names::DataType;
 use zarrs_storage::extract_byte_ranges;
 

@@ -4,7 +4,7 @@ use Rattle.std.specs.Prelude.{◌≡◌, ℕ, nat_le, List, length, codes, Optio
 use Rattle.serde_json.specs.Data.{Members, no_members}
 use Rattle.zarr_model.specs.Codec.{Options, checksum_codec}
 use Rattle.zarrs_codec_error.specs.declared.error.CodecError.{CodecError}
-use Rattle.zarrs_codec_options.specs.declared.bytes_representation.BytesRepresentation.{BytesRepresentation}
+use Rattle.zarrs_codec_error.specs.declared.bytes_representation.BytesRepresentation.{BytesRepresentation}
 use Rattle.zarrs_codec_traits.specs.Errors.{IsNoFault}
 use Rattle.zarr_codecs.proofs.DigestLaws.{digested}
 use Rattle.zarr_codecs.specs.Sha256.{sha256_says, digest_no_fault, with_digest_size}

@@ -5,9 +5,8 @@ ghost use Rattle.zarr_codecs_kinds.specs.BytesToBytes.{byte_form};
 
 use std::alloc::{AllocError, Global};
 use zarr_codecs::Sha256Codec;
-use zarrs_codec_error::CodecError;
-use zarrs_codec_options::{
-    BytesRepresentation, CodecMetadataOptions, CodecOptions, PartialDecoderCapability,
+use zarrs_codec_error::{
+    BytesRepresentation, CodecError, CodecMetadataOptions, CodecOptions, PartialDecoderCapability,
     PartialEncoderCapability, RecommendedConcurrency,
 };
 use zarrs_codec_traits::{BytesToBytesCodecTraits, CodecTraits};

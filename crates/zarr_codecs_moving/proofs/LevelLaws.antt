@@ -8,7 +8,7 @@ use Rattle.zarr_model.specs.Element.{Element, null, DataType, Kind, kind_of, fix
 use Rattle.zarr_model.specs.ArrayBytes.{ArrayBytes, meaning}
 use Rattle.zarr_model.specs.Codec.{Level, permuted, transpose_codec}
 use Rattle.zarr_model.proofs.BytesLaws.{length-meaning}
-use Rattle.zarrs_codec_bytes.specs.Picking.{size_in}
+use Rattle.zarrs_codec_slices.specs.Picking.{size_in}
 use Rattle.zarrs_codec_traits.specs.Words.{Gives, IsFit, taken, select}
 use Rattle.zarr_codecs_axes.specs.Order.{is_order, inverse}
 use Rattle.zarr_model.specs.Codec.{permuted_box}

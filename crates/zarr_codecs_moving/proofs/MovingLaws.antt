@@ -6,8 +6,8 @@ use Rattle.zarr_model.specs.Region.{count_of}
 use Rattle.zarr_model.specs.Element.{Element, null, Kind, fixed_size}
 use Rattle.zarr_model.specs.ArrayBytes.{ArrayBytes, meaning}
 use Rattle.zarr_model.specs.Command.{has_long_element}
-use Rattle.zarrs_codec_bytes.specs.Picking.{AllBelow, gathered, picked, size_in}
-use Rattle.zarrs_codec_bytes.proofs.GatherLaws.{extract_means}
+use Rattle.zarrs_codec_slices.specs.Picking.{AllBelow, gathered, picked, size_in}
+use Rattle.zarrs_codec_slices.proofs.GatherLaws.{extract_means}
 use Rattle.zarrs_codec_array_bytes.specs.Refusals.{fine, validity}
 use Rattle.zarrs_codec_array_bytes.proofs.CheckLaws.{still_short, below_twice}
 use Rattle.zarrs_codec_traits.specs.Words.{Gives}
@@ -18,7 +18,7 @@ use Rattle.zarr_codecs_axes.proofs.MoveLaws.{length-moved, moved_below}
 use Rattle.zarr_codecs_moving.specs.Moving.{moved_list}
 use Rattle.zarrs_codec_array_bytes.proofs.ExtractLaws.{valid_list, valid_long}
 use Rattle.zarr_model.proofs.BytesLaws.{length-meaning}
-use Rattle.zarrs_codec_bytes.proofs.ReplaceLaws.{picked-range}
+use Rattle.zarrs_codec_slices.proofs.ReplaceLaws.{picked-range}
 use Rattle.zarr_codecs_moving.proofs.SplitLaws.{parts_of}
 
 pub no_places : (order shape : List ℕ) (number : ℕ) → number ≡ count_of shape → number ≡ 0 → [] ≡ moved_places order shape

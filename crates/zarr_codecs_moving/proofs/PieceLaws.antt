@@ -1,7 +1,7 @@
 -- Runs of elements, moved as pieces of bytes.
 use Rattle.std.proofs.Common.{◌≡◌, ℕ, ◌+◌, ◌-◌, ◌*◌, ◌<◌, true, List, length, map, flat_map, arith, ap, sym, ◌∙◌, subst, refl}
 use Rattle.zarr_model.specs.Region.{count_of}
-use Rattle.zarrs_codec_bytes.specs.Picking.{AllBelow, piece_of, picked_piece}
+use Rattle.zarrs_codec_slices.specs.Picking.{AllBelow, piece_of, picked_piece}
 use Rattle.zarr_codecs_axes.specs.Order.{is_order, dot}
 use Rattle.zarr_codecs_axes.specs.Moved.{moved_places, moved_steps, strided, in_runs}
 use Rattle.zarr_codecs_axes.proofs.LoopLaws.{greatest_below}

@@ -4,7 +4,7 @@ use Rattle.std.specs.List.{range_with_len}
 use Rattle.std.proofs.lemmas.List.{length-take-le, length-drop, take-append-drop, take_all}
 use Rattle.std.proofs.Math.Nat.{le-mul_of_pos_right, mul_assoc, mul_comm}
 use Rattle.zarr_model.specs.Region.{count_of}
-use Rattle.zarrs_codec_bytes.specs.Picking.{AllBelow}
+use Rattle.zarrs_codec_slices.specs.Picking.{AllBelow}
 use Rattle.zarr_codecs_axes.specs.Order.{is_order}
 use Rattle.zarr_codecs_axes.specs.Moved.{moved_places, in_runs}
 use Rattle.zarr_codecs_axes.proofs.CountLaws.{count_of-permuted}

@@ -5,7 +5,7 @@ use Rattle.std.proofs.lemmas.List.{length-map}
 use Rattle.zarr_model.specs.Region.{Span, Region, starts, sizes}
 use Rattle.zarr_model.specs.Codec.{permuted}
 use Rattle.zarrs_array_subset.specs.Boxes.{region_of, is_box}
-use Rattle.zarrs_codec_bytes.specs.Picking.{AllBelow}
+use Rattle.zarrs_codec_slices.specs.Picking.{AllBelow}
 use Rattle.zarr_codecs_axes.specs.Order.{is_order}
 use Rattle.zarr_model.specs.Codec.{permuted_box}
 use Rattle.zarr_codecs_axes.proofs.OrderLaws.{order_below, length-permuted, permuted_at}

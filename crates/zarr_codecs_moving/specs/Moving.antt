@@ -2,8 +2,8 @@
 use Rattle.std.specs.Prelude.{ℕ, ◌==◌, if◌then◌else◌, List, length, Option, Some, None}
 use Rattle.zarr_model.specs.Element.{Element, null}
 use Rattle.zarr_model.specs.Codec.{permuted}
-use Rattle.zarrs_codec_bytes.specs.Picking.{picked}
-use Rattle.zarrs_data_type_elements.specs.declared.codec_support.CodecName.TheVariants as names
+use Rattle.zarrs_codec_slices.specs.Picking.{picked}
+use Rattle.zarrs_data_type_bytes.specs.declared.codec_support.CodecName.TheVariants as names
 use Rattle.zarrs_codec_traits.specs.Errors.{Unserved, unsupported}
 use Rattle.zarr_codecs_axes.specs.Order.{inverse}
 use Rattle.zarr_codecs_axes.specs.Moved.{moved_places}

@@ -8,7 +8,7 @@ ghost use Rattle.zarrs_data_type_names.specs.DataType.{type_of};
 ghost use Rattle.zarrs_codec_error.specs.declared.error.CodecError.TheVariants as codec;
 ghost use Rattle.zarrs_codec_array_bytes.specs.Raw.{raw_of};
 ghost use Rattle.zarrs_codec_array_bytes.specs.Refusals.{validity, lengths_refusal, Answers};
-ghost use Rattle.zarrs_codec_bytes.specs.Picking.{gathered};
+ghost use Rattle.zarrs_codec_slices.specs.Picking.{gathered};
 ghost use Rattle.zarrs_codec_array_bytes.specs.Steps.{kind_seen};
 ghost use Rattle.zarrs_codec_traits.specs.Words.{Gives, IsFit};
 ghost use Rattle.zarr_codecs_axes.specs.Order.{is_order};

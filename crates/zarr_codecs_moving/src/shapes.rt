@@ -3,7 +3,7 @@
 ghost use Rattle.std.specs.Prelude.{◌≡◌, true, length, IfOk, IfErr, MatchResult, option_map, None, Some};
 ghost use Rattle.zarr_model.specs.Codec.{permuted};
 ghost use Rattle.zarrs_array_subset.specs.ArraySubset.{region as box_of};
-ghost use Rattle.zarrs_codec_bytes.specs.Picking.{AllBelow};
+ghost use Rattle.zarrs_codec_slices.specs.Picking.{AllBelow};
 ghost use Rattle.zarrs_codec_error.specs.declared.error.CodecError.TheVariants as codec;
 ghost use Rattle.zarrs_codec_traits.specs.Errors.{unserved_error};
 ghost use Rattle.zarrs_codec_traits.specs.Views.{lengths};
@@ -16,7 +16,7 @@ use std::num::NonZeroU64;
 use zarr_codecs_axes::permuted_numbers;
 use zarrs_array_subset::{ArraySubset, ChunkShape};
 use zarrs_codec_error::CodecError;
-use zarrs_data_type_elements::{CodecName, DataTypeCodecError};
+use zarrs_data_type_bytes::{CodecName, DataTypeCodecError};
 
 /// The lengths in an order.
 ///

@@ -8,7 +8,7 @@ use Rattle.zarr_model.specs.Element.{Element, of_bytes, null, some, Kind, fixed,
 use Rattle.zarr_model.specs.Codec.{Level, less_offset, number_of_bytes, element_less, opposite, offset_codec}
 use Rattle.zarr_model.proofs.BytesLaws.{when_some}
 use Rattle.zarr_model.proofs.VlenLaws.{length-low_bytes}
-use Rattle.zarrs_codec_bytes.specs.Filling.{innermost_fill}
+use Rattle.zarrs_codec_slices.specs.Filling.{innermost_fill}
 use Rattle.zarrs_codec_traits.specs.Words.{AreBytes, select, taken}
 use Rattle.zarr_codecs_numbers.specs.Numbers.{bytes_less}
 use Rattle.zarr_codecs_numbers.specs.Offset.{type_unserved, offset_unserved}

@@ -9,7 +9,7 @@ use Rattle.zarr_model.specs.ArrayBytes.{fixed_bytes, meaning, pieces}
 use Rattle.zarr_model.specs.Codec.{number_of_bytes, low_bytes, less_offset, element_less, opposite}
 use Rattle.zarr_model.proofs.BytesLaws.{when_some}
 use Rattle.zarr_model.proofs.VlenLaws.{number_of_bytes-low_bytes, low_bytes-number_of_bytes, length-low_bytes}
-use Rattle.zarrs_data_type_elements.proofs.RoundLaws.{number_below}
+use Rattle.zarrs_data_type_bytes.proofs.RoundLaws.{number_below}
 use Rattle.zarr_codecs_numbers.specs.Numbers.{bytes_less, raised, each_piece, TakesOff}
 use Rattle.zarr_codecs_numbers.proofs.PieceLaws.{low-mod, pieces-each, length-each}
 

@@ -1,7 +1,7 @@
 -- Which data types an offset is added to.
 use Rattle.std.specs.Prelude.{Option, Some, None, option_and_then}
 use Rattle.zarr_model.specs.Element.{DataType, bool_type, int_type, uint_type, raw_type, string_type, bytes_type, optional_type}
-use Rattle.zarrs_data_type_elements.specs.declared.codec_support.CodecName.TheVariants as names
+use Rattle.zarrs_data_type_bytes.specs.declared.codec_support.CodecName.TheVariants as names
 use Rattle.zarrs_codec_traits.specs.Errors.{Unserved, unsupported}
 
 -- whole numbers are served

@@ -1,7 +1,7 @@
 //! The fill value below an offset.
 
 ghost use Rattle.std.specs.Prelude.{◌≡◌, ◌≤◌, ◌^◌, ◌==◌, ℤ, length, true, IfOk, MatchResult};
-ghost use Rattle.zarrs_data_type_elements.specs.FillValue.{fill_bytes};
+ghost use Rattle.zarrs_data_type_bytes.specs.FillValue.{fill_bytes};
 ghost use Rattle.zarrs_codec_error.specs.declared.error.CodecError.TheVariants as codec;
 ghost use Rattle.zarrs_codec_traits.specs.Errors.{FillAnswers};
 ghost use Rattle.zarr_codecs_numbers.specs.Numbers.{bytes_less, TakesOff};
@@ -9,7 +9,7 @@ ghost use Rattle.zarr_codecs_numbers.specs.Numbers.{bytes_less, TakesOff};
 use std::alloc::Global;
 use zarr_codecs_numbers::raise;
 use zarrs_codec_error::CodecError;
-use zarrs_data_type_elements::{DataTypeFillValueError, FillValue};
+use zarrs_data_type_bytes::{DataTypeFillValueError, FillValue};
 
 /// The number in a fill value of `size` bytes, and so much more.
 ///

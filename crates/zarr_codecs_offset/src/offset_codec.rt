@@ -8,10 +8,10 @@ ghost use Rattle.zarrs_plugin.specs.Making.{Makes};
 ghost use Rattle.zarrs_plugin.specs.declared.error.PluginKind.TheVariants as kinds;
 ghost use Rattle.zarrs_plugin.specs.declared.error.PluginCreateError.TheVariants as plugin;
 ghost use Rattle.zarrs_metadata_parts.specs.Making.{or_config};
-ghost use Rattle.zarrs_data_type_elements.specs.FillValue.{fill_bytes};
+ghost use Rattle.zarrs_data_type_bytes.specs.FillValue.{fill_bytes};
 ghost use Rattle.zarrs_data_type_names.specs.DataType.{type_of};
 ghost use Rattle.zarrs_codec_error.specs.declared.error.CodecError.TheVariants as codec;
-ghost use Rattle.zarrs_codec_bytes.specs.Filling.{has_size};
+ghost use Rattle.zarrs_codec_slices.specs.Filling.{has_size};
 ghost use Rattle.zarrs_codec_array_bytes.specs.Raw.{raw_of};
 ghost use Rattle.zarrs_codec_array_bytes.specs.Refusals.{validity, Answers};
 ghost use Rattle.zarrs_codec_array_bytes.specs.Steps.{kind_seen, bytes_seen};
@@ -29,16 +29,15 @@ use std::num::NonZeroU64;
 use zarr_codecs_numbers::amount_of;
 use zarrs_array_subset::{ArraySubset, ChunkShape};
 use zarrs_codec_array_bytes::ArrayBytes;
-use zarrs_codec_error::CodecError;
-use zarrs_codec_options::{
-    CodecMetadataOptions, CodecOptions, PartialDecoderCapability, PartialEncoderCapability,
-    RecommendedConcurrency,
+use zarrs_codec_error::{
+    CodecError, CodecMetadataOptions, CodecOptions, PartialDecoderCapability,
+    PartialEncoderCapability, RecommendedConcurrency,
 };
 use zarrs_codec_traits::{
     ArrayCodecTraits, ArrayToArrayCodecTraits, CodecTraits, CodecTraitsV3, num_elements,
     same_shape, unsupported_codec,
 };
-use zarrs_data_type_elements::FillValue;
+use zarrs_data_type_bytes::FillValue;
 use zarrs_data_type_names::DataType;
 use zarrs_metadata_parts::making::unmade;
 use zarrs_metadata_parts::{Configuration, MetadataV3};

@@ -3,7 +3,7 @@
 ghost use Rattle.std.specs.Prelude.{◌≡◌, ◌<◌, ◌≤◌, ◌^◌, true, None, Some, IfOk, IfErr, option_map};
 ghost use Rattle.std.specs.List.{AllByRecursion};
 ghost use Rattle.zarr_model.specs.Element.{kind_of, fixed};
-ghost use Rattle.zarrs_data_type_elements.specs.declared.codec_support.CodecName.TheVariants as names;
+ghost use Rattle.zarrs_data_type_bytes.specs.declared.codec_support.CodecName.TheVariants as names;
 ghost use Rattle.zarrs_data_type_names.specs.DataType.{type_of};
 ghost use Rattle.zarrs_codec_error.specs.declared.error.CodecError.TheVariants as codec;
 ghost use Rattle.zarrs_codec_array_bytes.specs.Levels.{is_fixed};
@@ -18,7 +18,7 @@ use zarr_codecs_numbers::raise_each;
 use zarrs_codec_array_bytes::ArrayBytes;
 use zarrs_codec_error::CodecError;
 use zarrs_codec_traits::fixed_value;
-use zarrs_data_type_elements::{CodecName, DataTypeCodecError};
+use zarrs_data_type_bytes::{CodecName, DataTypeCodecError};
 use zarrs_data_type_names::DataType;
 
 fn unserved() -> CodecError

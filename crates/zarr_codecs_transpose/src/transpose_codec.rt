@@ -19,16 +19,15 @@ use zarr_codecs_moving::{
 };
 use zarrs_array_subset::{ArraySubset, ChunkShape};
 use zarrs_codec_array_bytes::ArrayBytes;
-use zarrs_codec_error::CodecError;
-use zarrs_codec_options::{
-    CodecMetadataOptions, CodecOptions, PartialDecoderCapability, PartialEncoderCapability,
-    RecommendedConcurrency,
+use zarrs_codec_error::{
+    CodecError, CodecMetadataOptions, CodecOptions, PartialDecoderCapability,
+    PartialEncoderCapability, RecommendedConcurrency,
 };
 use zarrs_codec_traits::{
     ArrayCodecTraits, ArrayToArrayCodecTraits, CodecTraits, CodecTraitsV3, same_fill, same_shape,
     unsupported_codec,
 };
-use zarrs_data_type_elements::FillValue;
+use zarrs_data_type_bytes::FillValue;
 use zarrs_data_type_names::DataType;
 use zarrs_metadata_parts::making::unmade;
 use zarrs_metadata_parts::{Configuration, MetadataV3};

@@ -6,8 +6,8 @@ use Rattle.zarr_model.specs.ArrayBytes.{ArrayBytes, fixed_bytes, variable_bytes,
 use Rattle.zarr_model.specs.Codec.{decode_vlen, vlen_value}
 use Rattle.zarr_model.specs.Command.{bytes_refusal, has_long_step, invalid_variable_sized_array_offsets}
 use Rattle.zarr_model.proofs.RefusalLaws.{not_refused}
-use Rattle.zarrs_codec_bytes.specs.Picking.{size_in, are_within}
-use Rattle.zarrs_codec_bytes.proofs.ValueLaws.{rising_within}
+use Rattle.zarrs_codec_slices.specs.Picking.{size_in, are_within}
+use Rattle.zarrs_codec_slices.proofs.ValueLaws.{rising_within}
 use Rattle.zarrs_codec_array_bytes.specs.Levels.{inner_length, is_variable}
 use Rattle.zarrs_codec_array_bytes.specs.Refusals.{fine, validity}
 use Rattle.zarrs_codec_array_bytes.proofs.CheckLaws.{sized_fine}

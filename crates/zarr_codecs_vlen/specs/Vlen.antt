@@ -10,8 +10,8 @@ use Rattle.zarrs_metadata_values.specs.Configuration.{is_none_or_empty}
 use Rattle.zarrs_metadata_parts.specs.MetadataV3.{Extension}
 use Rattle.zarrs_plugin.specs.Making.{Unmade, config}
 use Rattle.zarrs_plugin.specs.Making as making
-use Rattle.zarrs_data_type_elements.specs.declared.codec_support.CodecName.{CodecName}
-use Rattle.zarrs_data_type_elements.specs.declared.codec_support.CodecName.TheVariants as names
+use Rattle.zarrs_data_type_bytes.specs.declared.codec_support.CodecName.{CodecName}
+use Rattle.zarrs_data_type_bytes.specs.declared.codec_support.CodecName.TheVariants as names
 use Rattle.zarrs_codec_array_bytes.specs.Refusals.{Told, fine, refused}
 use Rattle.zarrs_codec_traits.specs.Errors.{Unserved, unsupported, IsFormRefusal}
 use Rattle.zarrs_codec_traits.specs.Words.{taken}

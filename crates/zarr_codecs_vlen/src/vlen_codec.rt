@@ -18,16 +18,15 @@ use std::alloc::{AllocError, Global};
 use std::num::NonZeroU64;
 use zarrs_array_subset::{ArraySubset, ChunkShape};
 use zarrs_codec_array_bytes::ArrayBytes;
-use zarrs_codec_error::CodecError;
-use zarrs_codec_options::{
-    BytesRepresentation, CodecMetadataOptions, CodecOptions, PartialDecoderCapability,
+use zarrs_codec_error::{
+    BytesRepresentation, CodecError, CodecMetadataOptions, CodecOptions, PartialDecoderCapability,
     PartialEncoderCapability, RecommendedConcurrency,
 };
 use zarrs_codec_traits::{
     ArrayCodecTraits, ArrayToBytesCodecTraits, CodecTraits, CodecTraitsV3, expect_none, extracted,
     num_elements, only_part, same_shape, unsupported_codec,
 };
-use zarrs_data_type_elements::{CodecName, DataTypeCodecError, FillValue};
+use zarrs_data_type_bytes::{CodecName, DataTypeCodecError, FillValue};
 use zarrs_data_type_names::DataType;
 use zarrs_metadata_parts::{Configuration, MetadataV3};
 use zarrs_plugin::{ExtensionName, PluginCreateError, ZarrVersion};
@@ -249,7 +248,7 @@ impl ArrayToBytesCodecTraits for VlenCodec {
     ghost use Rattle.zarrs_codec_array_bytes.specs.Refusals.{told_by, refused};
     ghost use Rattle.zarrs_codec_traits.proofs.FaultLaws.{told_no_fault};
     ghost use Rattle.zarrs_codec_error.specs.declared.error.CodecError.TheVariants as codec;
-    ghost use Rattle.zarrs_codec_options.specs.declared.bytes_representation.BytesRepresentation.TheVariants.{UnboundedSize};
+    ghost use Rattle.zarrs_codec_error.specs.declared.bytes_representation.BytesRepresentation.TheVariants.{UnboundedSize};
     ghost use Rattle.zarrs_codec_traits.proofs.TakenLaws.{nothing_asked};
     ghost use Rattle.zarr_codecs_vlen.specs.Vlen.{vlen_beyond, few_taken, form_refused};
 

@@ -2,7 +2,7 @@
 use Rattle.std.specs.Prelude.{◌≡◌, ◌<◌, ℕ, false, get_or}
 use Rattle.zarr_model.specs.Prelude.{Element, count, sizes, contains, tuple_at, whole}
 use Rattle.zarrs_array_subset.specs.ArraySubset.{region}
-use Rattle.zarrs_codec_bytes.specs.Elements.{fixed_elements}
+use Rattle.zarrs_codec_slices.specs.Elements.{fixed_elements}
 use Rattle.zarrs_codec_view.specs.declared.array_bytes_fixed_disjoint_view.ArrayBytesFixedDisjointView.{ArrayBytesFixedDisjointView}
 
 -- a view is of the same box of the same bytes, and the elements outside its box are as they were

@@ -1,7 +1,7 @@
 //! A value decoded into a view of a caller's bytes, by any array-to-bytes codec.
 
 ghost use Rattle.std.specs.Prelude.{◌≡◌, None, IfOk};
-ghost use Rattle.zarrs_data_type_elements.specs.FillValue.{fill_bytes};
+ghost use Rattle.zarrs_data_type_bytes.specs.FillValue.{fill_bytes};
 ghost use Rattle.zarrs_data_type_names.specs.DataType.{type_of};
 ghost use Rattle.zarrs_codec_traits.specs.Errors.{unserved_at};
 ghost use Rattle.zarrs_codec_traits.specs.Views.{lengths, level_of};
@@ -10,11 +10,10 @@ ghost use Rattle.zarr_promises.specs.Targets.{KeepsOthers};
 
 use std::alloc::Global;
 use std::num::NonZeroU64;
-use zarrs_codec_error::CodecError;
-use zarrs_codec_options::CodecOptions;
+use zarrs_codec_error::{CodecError, CodecOptions};
 use zarrs_codec_traits::ArrayToBytesCodecTraits;
 use zarrs_codec_view::{ArrayBytesDecodeIntoTarget, ArrayBytesFixedDisjointView};
-use zarrs_data_type_elements::FillValue;
+use zarrs_data_type_bytes::FillValue;
 use zarrs_data_type_names::DataType;
 
 /// Decodes a value into a view's box. The view is still of the same bytes, and those of other elements are as they were.

@@ -7,9 +7,9 @@ use Rattle.zarr_model.specs.Element.{Element, of_bytes, Kind, fixed, variable, o
 use Rattle.zarr_model.specs.ArrayBytes.{ArrayBytes, fixed_bytes, variable_bytes, optional_bytes, pieces, between_offsets, offsets_rise_to, are_offsets, is_mask, masked, mask_over, meaning, bytes_of, mask_byte, held, ends_from, array_bytes}
 use Rattle.zarr_model.proofs.BytesLaws.{when_some, length-meaning, mask_length}
 use Rattle.zarr_model.proofs.RefusalLaws.{rise_within}
-use Rattle.zarrs_codec_bytes.proofs.MaskLaws.{masked_parts}
+use Rattle.zarrs_codec_slices.proofs.MaskLaws.{masked_parts}
 use Rattle.zarrs_codec_array_bytes.proofs.ExtractLaws.{lengths_kept}
-use Rattle.zarrs_codec_bytes.specs.Picking.{size_in}
+use Rattle.zarrs_codec_slices.specs.Picking.{size_in}
 use Rattle.zarr_rechunk.specs.Cleared.{kept_piece, kept_value, kept_flag, pieces_under, values_under, mask_under, under_mask, cleared, fit_masks, AreElements}
 use Rattle.zarr_rechunk.proofs.MaskLaws.{length-mask_under}
 

@@ -3,8 +3,8 @@ use Rattle.std.proofs.Common.{◌≡◌, ℕ, zero, suc, ◌+◌, ◌-◌, ◌*�
 use Rattle.std.proofs.lemmas.List.{drop_all, length-replicate}
 use Rattle.std.proofs.Math.Nat.{suc-mul}
 use Rattle.zarr_model.specs.ArrayBytes.{ArrayBytes, optional_bytes, ends_from}
-use Rattle.zarrs_codec_bytes.specs.Picking.{are_within, value_of}
-use Rattle.zarrs_codec_bytes.proofs.ValueLaws.{gathered_within}
+use Rattle.zarrs_codec_slices.specs.Picking.{are_within, value_of}
+use Rattle.zarrs_codec_slices.proofs.ValueLaws.{gathered_within}
 use Rattle.zarrs_codec_array_bytes.specs.Refusals.{lengths_refusal}
 use Rattle.zarrs_codec_array_bytes.proofs.CheckLaws.{mask_long, inner_long}
 use Rattle.zarr_rechunk.specs.Cleared.{kept_piece, kept_value, kept_flag, pieces_under, values_under, mask_under}

@@ -6,7 +6,7 @@ use Rattle.zarr_model.specs.Element.{Element, of_bytes, null, some, Kind, fixed,
 use Rattle.zarr_model.specs.ArrayBytes.{ArrayBytes, fixed_bytes, variable_bytes, optional_bytes, pieces, between_offsets, are_offsets, masked, mask_over, meaning, bytes_of, held, ends_from, array_bytes}
 use Rattle.zarr_model.specs.Command.{has_long_step, has_long_element}
 use Rattle.zarr_model.proofs.BytesLaws.{when_some}
-use Rattle.zarrs_codec_bytes.proofs.MaskLaws.{masked_parts}
+use Rattle.zarrs_codec_slices.proofs.MaskLaws.{masked_parts}
 
 -- an element of a kind is short: one of a fixed size, of which no length is stored, always is
 abbrev IsShort : Kind → Element → Type 0

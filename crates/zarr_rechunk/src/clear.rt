@@ -3,7 +3,7 @@
 ghost use Rattle.std.specs.Prelude.{◌≡◌, ◌<◌, ◌+◌, ◌*◌, ◌^◌, ◌++◌, ◌∷◌, [], true, Some, None, ℕ, List, length, flat_map, IfOk, OnOk};
 ghost use Rattle.zarr_model.specs.Element.{Element};
 ghost use Rattle.zarr_model.specs.ArrayBytes.{ends_from, meaning, array_bytes};
-ghost use Rattle.zarrs_codec_bytes.specs.Picking.{are_within};
+ghost use Rattle.zarrs_codec_slices.specs.Picking.{are_within};
 ghost use Rattle.zarrs_codec_array_bytes.specs.Raw.{raw_of};
 ghost use Rattle.zarrs_codec_array_bytes.specs.Steps.{kind_seen};
 ghost use Rattle.zarrs_codec_array_bytes.specs.Refusals.{lengths_refusal};
@@ -14,7 +14,7 @@ use std::borrow::CowSlice;
 use zarrs_codec_array_bytes::array_bytes::bytes_in;
 use zarrs_codec_array_bytes::array_bytes::step::element_size;
 use zarrs_codec_array_bytes::{ArrayBytes, ArrayBytesVariableLength};
-use zarrs_codec_bytes::values::value_at;
+use zarrs_codec_slices::values::value_at;
 use zarrs_data_type_names::DataType;
 
 // Appends an element of one size, or as many zero bytes where it is null.

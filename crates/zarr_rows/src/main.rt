@@ -1,8 +1,15 @@
 //! Tries each row of standard input, and prints what comes of it.
 #![tactic(auto)]
 
+mod document;
+mod extension;
+mod field;
+mod fill;
+mod group;
+mod kind;
 mod row;
 mod run;
+mod version_2;
 
 use row::Row;
 use std::alloc::{AllocError, Global};

@@ -1,5 +1,6 @@
 //! One row: its name, what it tries, and on what.
 
+use crate::kind::TextKind;
 use crate::run::{Program, Run, run_each_line};
 use hex::decode;
 use std::alloc::{AllocError, Global};
@@ -33,6 +34,8 @@ enum Kind {
     Lines,
     // A run for each of so many calls of the store, which fails.
     Calls(u64),
+    // Texts, read and written.
+    Texts(TextKind),
 }
 
 /// A row of the tables.
@@ -82,6 +85,8 @@ impl Row {
             self.run.program = Program::named(name);
         } else if setting == "lines" {
             self.kind = Kind::Lines;
+        } else if let Some(kind) = TextKind::of_word(setting) {
+            self.kind = Kind::Texts(kind);
         }
         Ok(())
     }
@@ -138,6 +143,7 @@ impl Row {
             Kind::Run => self.run.run(alloc, out),
             Kind::Lines => run_each_line(alloc, self.run.program, self.run.text(), out),
             Kind::Calls(calls) => self.run.run_each_call(alloc, calls, out),
+            Kind::Texts(kind) => kind.try_text(alloc, self.run.text(), out),
         }
     }
 }

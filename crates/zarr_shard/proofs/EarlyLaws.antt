@@ -19,7 +19,7 @@ use Rattle.zarr_cli_parts.specs.declared.lines.InputFault.{InputFault}
 use Rattle.zarr_cli_parts.specs.declared.lines.InputFault.TheVariants as Fault
 use Rattle.zarr_cli_parts.proofs.InputLaws.{fault_said, lines_said}
 use Rattle.zarr_cli_parts.proofs.StarvedLaws.{same, lines_starved}
-use Rattle.zarr_shard_parts.specs.Opening.{open_builtin_sharded}
+use Rattle.zarr_shard_open.specs.Opening.{open_builtin_sharded}
 use Rattle.zarr_shard.specs.Answers.{AnswersShard}
 use Rattle.zarr_shard.specs.Costs.{shard_costs}
 use Rattle.zarr_shard.specs.Run.{ShardRun, IsOfRun, RunsLines}

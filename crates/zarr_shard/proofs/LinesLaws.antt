@@ -10,7 +10,7 @@ use Rattle.zarr_cli_parts.specs.Words.{Settings}
 use Rattle.zarr_cli_parts.specs.Lines.{LinesRun, IsOutOfForm}
 use Rattle.zarr_cli_parts.specs.Answers.{IsOfLines}
 use Rattle.zarr_cli_parts.specs.Seen.{Seen}
-use Rattle.zarr_shard_parts.specs.Document.{ShardDocument}
+use Rattle.zarr_shard_open.specs.Document.{ShardDocument}
 use Rattle.zarr_shard.specs.Answers.{AnswersShard}
 use Rattle.zarr_shard.specs.Run.{ShardRun, IsOfRun, RunsLines}
 use Rattle.zarr_shard.specs.Says.{stops, runs, good_behind, lines_say, input_says, IsOfInput}

@@ -1,7 +1,7 @@
 -- What an input says, by what its lines and its first line say.
 use Rattle.std.proofs.Common.{◌≡◌, ◌∙◌, sym, refl, ℕ, ◌+◌, Bool, true, false, cond, nat_lt, List, length, drop}
 use Rattle.zarr_cli_runs.specs.Ending.{Ending, bad_input}
-use Rattle.zarr_shard_parts.specs.Document.{ShardDocument}
+use Rattle.zarr_shard_open.specs.Document.{ShardDocument}
 use Rattle.zarr_shard.specs.Says.{Says, stops, runs, good_behind, lines_say, input_says}
 
 same_stop : (a b : Ending) → stops a ≡ stops b → a ≡ b

@@ -7,7 +7,7 @@ use Rattle.zarr_basics_grids.specs.GridForms.{regular, boundaries, grid_of}
 use Rattle.zarr_basics_grids.specs.declared.basic_grid.BasicGrid.{BasicGrid}
 use Rattle.zarr_basics_grids.specs.declared.basic_grid.BasicGrid.TheVariants.{Regular, Boundary}
 use Rattle.zarr_basics_grids.proofs.RegularFacts.{sizes_are}
-use Rattle.zarr_shard_parts.specs.Document.{lengths_of}
+use Rattle.zarr_shard_open.specs.Document.{lengths_of}
 
 not_regular : (lengths : List (List ℕ)) (dims : List ℕ) → boundaries lengths ≡ regular dims → ⊥
 not_regular lengths dims is = cc

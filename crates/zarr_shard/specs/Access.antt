@@ -8,7 +8,7 @@ use Rattle.zarr_basics_grids.specs.GridForms.{grid_of}
 use Rattle.zarr_array_parts.proofs.DocumentLaws.{countable_is}
 use Rattle.zarr_array_parts.specs.Document.{describe}
 use Rattle.zarr_array_parts.specs.Sizes.{are_countable}
-use Rattle.zarr_shard_parts.specs.Document.{ShardDocument}
+use Rattle.zarr_shard_open.specs.Document.{ShardDocument}
 use Rattle.zarr_shard_codec.specs.Region.{shard_asks, shard_taken}
 use Rattle.zarr_shard_codec.specs.ReadRegion.{region_says}
 use Rattle.zarr_shard_codec.specs.ShardCodec.{inner_of}

@@ -6,7 +6,7 @@ use Rattle.zarr_array_regions.specs.Tells.{TellsOfSome}
 use Rattle.zarr_array_regions.specs.declared.error.SessionErrorKind.{SessionErrorKind}
 use Rattle.zarr_array.specs.Costs.{CostsOn}
 use Rattle.zarr_array.specs.Ended.{Ended}
-use Rattle.zarr_shard_parts.specs.Document.{ShardDocument}
+use Rattle.zarr_shard_open.specs.Document.{ShardDocument}
 use Rattle.zarr_shard.specs.Access.{shard_cost, chunk_says}
 use Rattle.zarr_shard.specs.ShardArray.{describe_sharded, described}
 use Rattle.zarr_shard.specs.declared.array.ShardArray.{ShardArray}

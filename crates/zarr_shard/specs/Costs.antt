@@ -4,7 +4,7 @@ use Rattle.zarr_model.specs.Prelude.{Options, Content, Command, all_puts, counte
 use Rattle.zarr_array.specs.Costs.{read_cost, OnlyReads}
 use Rattle.zarr_array_regions.specs.Pays.{Pays, costs_of}
 use Rattle.zarr_cli_parts.specs.Run.{Costs, Counts, shown_by}
-use Rattle.zarr_shard_parts.specs.Document.{ShardDocument}
+use Rattle.zarr_shard_open.specs.Document.{ShardDocument}
 use Rattle.zarr_shard.specs.Access.{shard_cost}
 use Rattle.zarr_shard.specs.ShardArray.{describe_sharded}
 

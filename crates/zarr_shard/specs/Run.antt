@@ -8,7 +8,7 @@ use Rattle.zarr_cli_parts.specs.Answers.{AnswersLines, outside}
 use Rattle.zarr_cli_parts.specs.Lines.{LinesRun, IsLineKey}
 use Rattle.zarr_cli_parts.specs.Seen.{Seen}
 use Rattle.zarr_cli_parts.specs.Words.{Settings}
-use Rattle.zarr_shard_parts.specs.Document.{ShardDocument}
+use Rattle.zarr_shard_open.specs.Document.{ShardDocument}
 use Rattle.zarr_shard.specs.Costs.{shard_costs}
 use Rattle.zarr_shard.specs.Says.{input_says, runs}
 use Rattle.zarr_shard.specs.ShardArray.{describe_sharded}

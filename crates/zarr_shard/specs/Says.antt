@@ -6,8 +6,8 @@ use Rattle.zarr_cli_runs.specs.lines.Text.{line_command, good_lines}
 use Rattle.zarr_cli_runs.specs.Ending.{Ending, bad_input, refused_document, too_long}
 use Rattle.zarr_cli_parts.specs.Input.{text_says}
 use Rattle.zarr_cli_parts.specs.Lines.{first_line}
-use Rattle.zarr_shard_parts.specs.Document.{ShardDocument}
-use Rattle.zarr_shard_parts.specs.Opening.{ShardAnswer, opened, not_opened, open_builtin_sharded}
+use Rattle.zarr_shard_open.specs.Document.{ShardDocument}
+use Rattle.zarr_shard_open.specs.Opening.{ShardAnswer, opened, not_opened, open_builtin_sharded}
 use Rattle.zarr_shard.specs.ShardArray.{describe_sharded}
 
 pub data Says : Type 0 where

@@ -7,9 +7,9 @@ use Rattle.zarr_basics_grids.specs.GridForms.{regular, grid_of}
 use Rattle.zarr_array_parts.specs.Document.{ArrayDocument, describe}
 use Rattle.zarr_array_parts.specs.OpenError.{open_refusal_of}
 use Rattle.zarr_array_parts.specs.declared.open_error.OpenError.{OpenError}
-use Rattle.zarr_shard_parts.specs.Document.{ShardDocument, sharded}
-use Rattle.zarr_shard_parts.specs.Opening.{ShardAnswer, opened}
-use Rattle.zarr_shard_parts.specs.Views.{IsRefusedBy}
+use Rattle.zarr_shard_open.specs.Document.{ShardDocument, sharded}
+use Rattle.zarr_shard_open.specs.Opening.{ShardAnswer, opened}
+use Rattle.zarr_shard_open.specs.Views.{IsRefusedBy}
 use Rattle.zarr_shard_codec.specs.Region.{region_list}
 use Rattle.zarr_shard_codec.specs.Shard.{Form, Meaning, inner_array, decode_shard}
 use Rattle.zarr_shard_codec.specs.ShardCodec.{codec_form}

@@ -5,7 +5,7 @@ use Rattle.zarr_array_parts.specs.OpenError.{open_refusal_of}
 use Rattle.zarr_cli_runs.specs.Ending.{Ending, read_fault, out_of_memory}
 use Rattle.zarr_cli_runs.specs.declared.status.Status.{Status}
 use Rattle.zarr_cli_runs.specs.declared.status.Status.TheVariants.{Document, OutOfMemory}
-use Rattle.zarr_shard_parts.specs.Opening.{ShardAnswer, opened, not_opened}
+use Rattle.zarr_shard_open.specs.Opening.{ShardAnswer, opened, not_opened}
 use Rattle.zarr_shard.specs.Says.{input_says, stops, IsOfInput}
 use Rattle.zarr_shard.specs.ShardArray.{documented}
 use Rattle.zarr_shard.specs.declared.array.ShardArray.{ShardArray}

@@ -21,9 +21,8 @@ use zarr_chain_stored::Fetched;
 use zarr_shard_codec::ShardCodec;
 use zarrs_array_subset::ArraySubset;
 use zarrs_codec_array_bytes::ArrayBytes;
-use zarrs_codec_error::CodecError;
-use zarrs_codec_options::CodecOptions;
-use zarrs_data_type_elements::FillValue;
+use zarrs_codec_error::{CodecError, CodecOptions};
+use zarrs_data_type_bytes::FillValue;
 use zarrs_data_type_names::DataType;
 use zarrs_storage::{StorageError, Store, StoreKey};
 

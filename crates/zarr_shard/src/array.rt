@@ -9,16 +9,16 @@ ghost use Rattle.zarr_basics_grids.specs.GridForms.{regular};
 ghost use Rattle.zarr_array_parts.specs.basics.Registries.{names_of};
 ghost use Rattle.zarr_array_parts.specs.Parts.{Opens};
 ghost use Rattle.zarr_array_parts.specs.Sizes.{are_countable};
-ghost use Rattle.zarr_shard_parts.specs.Document.{sharded, shard_shape};
-ghost use Rattle.zarr_shard_parts.specs.Opening.{has_large_shard, shard_document_of, open_sharded};
-ghost use Rattle.zarr_shard_parts.specs.Views.{shard_form, sharded_document};
+ghost use Rattle.zarr_shard_open.specs.Document.{sharded, shard_shape};
+ghost use Rattle.zarr_shard_open.specs.Opening.{has_large_shard, shard_document_of, open_sharded};
+ghost use Rattle.zarr_shard_open.specs.Views.{shard_form, sharded_document};
 ghost use Rattle.zarr_shard_codec.specs.ShardCodec.{codec_form};
 
 use std::alloc::{AllocError, Global};
 use zarr_array_parts::{OpenError, Registries};
 use zarr_basics_grids::BasicGrid;
 use zarr_shard_codec::ShardCodec;
-use zarr_shard_parts::{Shard, ShardParts};
+use zarr_shard_open::{Shard, ShardParts};
 use zarrs_metadata::ArrayMetadataV3;
 
 /// An array that a document describes, whose chunks keep inner chunks: a read of a region takes of each chunk that it meets

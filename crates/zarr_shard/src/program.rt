@@ -10,7 +10,7 @@ ghost use Rattle.zarr_cli_parts.specs.Input.{input_limit};
 ghost use Rattle.zarr_cli_parts.specs.Seen.{seen};
 ghost use Rattle.zarr_cli_parts.specs.Status.{words_of, settings_view};
 ghost use Rattle.zarr_cli_parts.specs.Words.{Settings, ReadsBy, HasNoReading};
-ghost use Rattle.zarr_shard_parts.specs.Opening.{open_builtin_sharded};
+ghost use Rattle.zarr_shard_open.specs.Opening.{open_builtin_sharded};
 ghost use Rattle.zarr_shard.specs.Answers.{AnswersShard};
 ghost use Rattle.zarr_shard.specs.Steps.{OpensLine};
 

@@ -5,19 +5,19 @@ use Rattle.std.proofs.lemmas.Bool.{or_parts}
 use Rattle.std.specs.Int.NonZero.{non_zero_u64_get}
 use Rattle.zarr_model.specs.Prelude.{sizes, count, count_of, whole, contains, place, ends_within, Element, kind, fixed_size, fill_element, is_too_large, Grid, IsChunk, CoversShape, regular_grid, Options}
 use Rattle.zarr_model.proofs.ElementLaws.{same_is}
-use Rattle.zarrs_data_type_elements.specs.FillValue.{fill_bytes}
+use Rattle.zarrs_data_type_bytes.specs.FillValue.{fill_bytes}
 use Rattle.zarr_model.proofs.RegionLaws.{contains-tuple_at, place-tuple_at}
 use Rattle.zarr_model.proofs.RegionLaws.{sizes_whole}
-use Rattle.zarrs_codec_bytes.specs.Picking.{size_in}
+use Rattle.zarrs_codec_slices.specs.Picking.{size_in}
 use Rattle.zarr_basics_grids.specs.GridForms.{ChunkGrid, regular, boundaries, grid_of}
 use Rattle.zarr_basics_grids.proofs.RegularFacts.{sizes_are}
 use Rattle.zarr_array_parts.specs.ChunkLevels.{chunk_shape}
 use Rattle.zarr_array_parts.specs.Parts.{documented}
 use Rattle.zarr_array_parts.proofs.ServedLaws.{described_covers, chunk_counts, counts_of}
 use Rattle.zarr_array_parts.proofs.LimitLaws.{not_above}
-use Rattle.zarr_shard_parts.specs.Document.{lengths_of, is_regular, index_size}
-use Rattle.zarr_shard_parts.specs.Sharding.{are_inner_lengths}
-use Rattle.zarr_shard_parts.proofs.LengthLaws.{inner_rank}
+use Rattle.zarr_shard_open.specs.Document.{lengths_of, is_regular, index_size}
+use Rattle.zarr_shard_open.specs.Sharding.{are_inner_lengths}
+use Rattle.zarr_shard_open.proofs.LengthLaws.{inner_rank}
 use Rattle.zarr_shard_codec.specs.Fill.{denotes}
 use Rattle.zarr_shard_codec.specs.Shard.{shard_list}
 use Rattle.zarr_shard_codec.specs.ShardCodec.{inner_of, inner_grid, inner_dims, own_level, own_array, own_list, shard_meaning}

@@ -7,7 +7,7 @@ use Rattle.zarr_model.specs.Prelude.{whole, contains, ends_within, regular_grid,
 use Rattle.zarr_model.specs.Region.{is_in}
 use Rattle.zarr_model.specs.Grid.{box_of_axes, regular_axes}
 use Rattle.zarr_model.proofs.RegionLaws.{first_is}
-use Rattle.zarr_shard_parts.specs.Sharding.{are_inner_lengths}
+use Rattle.zarr_shard_open.specs.Sharding.{are_inner_lengths}
 
 -- a part of a length that is cut into equal ones ends within it
 part_within : (c n p : ℕ) → 0 < p → n % p ≡ 0 → c < (n + (p - 1)) / p → c * p + p ≤ n

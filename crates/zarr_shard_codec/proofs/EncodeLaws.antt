@@ -5,7 +5,7 @@ use Rattle.std.proofs.lemmas.Grind.{flat_map-append}
 use Rattle.std.proofs.lemmas.List.{length-append, append-nil, drop_at, take_at}
 use Rattle.std.specs.List.{AllByRecursion}
 use Rattle.zarr_model.specs.Prelude.{Region, count, count_of, sizes, whole, tuples, ends_within, Element, null, Kind, kind, Options, ArrayBytes, meaning}
-use Rattle.zarrs_codec_bytes.specs.Picking.{picked}
+use Rattle.zarrs_codec_slices.specs.Picking.{picked}
 use Rattle.zarrs_codec_error.specs.declared.error.CodecError.{CodecError}
 use Rattle.zarrs_codec_error.specs.declared.error.CodecError.TheVariants as errors
 use Rattle.zarrs_codec_array_bytes.specs.declared.array_bytes.ArrayBytes as code

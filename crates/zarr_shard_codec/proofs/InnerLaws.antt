@@ -2,7 +2,7 @@
 use Rattle.std.proofs.Common.{◌≡◌, ℕ, Bool, true, false, List, [], length, replicate, if◌then◌else◌, Option, Some, None, IsSome, option_map, unwrap_or, Result, Ok, Err, IfOk, IfErr, refl, sym, ap, ◌∙◌, subst, inl, inr, ⊎_elim}
 use Rattle.zarr_model.specs.Prelude.{Region, count, count_of, Element, IsChunk, kind, Options, box_content, ArrayBytes, meaning}
 use Rattle.zarr_model.proofs.BytesLaws.{length-meaning}
-use Rattle.zarrs_codec_bytes.specs.Overlap.{Copied}
+use Rattle.zarrs_codec_slices.specs.Overlap.{Copied}
 use Rattle.zarrs_codec_error.specs.declared.error.CodecError.{CodecError}
 use Rattle.zarrs_codec_array_bytes.specs.declared.array_bytes.ArrayBytes as code
 use Rattle.zarrs_codec_array_bytes.specs.Raw.{raw_of}

@@ -6,14 +6,14 @@ use Rattle.zarr_model.specs.Prelude.{Element}
 use Rattle.zarr_model.proofs.ElementLaws.{is_same}
 use Rattle.zarr_model.proofs.FailureLaws.{bytes_eq-refl}
 use Rattle.zarrs_metadata_parts.specs.MetadataV3.{Extension}
-use Rattle.zarrs_data_type_elements.specs.FillValue.{fill_bytes}
-use Rattle.zarrs_data_type_elements.specs.declared.fill_value.FillValue.{FillValue}
+use Rattle.zarrs_data_type_bytes.specs.FillValue.{fill_bytes}
+use Rattle.zarrs_data_type_bytes.specs.declared.fill_value.FillValue.{FillValue}
 use Rattle.zarrs_data_type_names.specs.DataType.{type_of, same_type}
 use Rattle.zarrs_data_type_names.specs.declared.data_type.DataType.{DataType}
 use Rattle.zarrs_data_type_names.proofs.SameTypeLaws.{same_types}
 use Rattle.zarrs_codec_traits.specs.Errors.{unserved_at}
 use Rattle.zarrs_codec_traits.specs.Views.{lengths, level_of}
-use Rattle.zarr_shard_parts.proofs.ChunkLaws.{IsMadeFor}
+use Rattle.zarr_shard_open.proofs.ChunkLaws.{IsMadeFor}
 use Rattle.zarr_shard_codec.specs.Fill.{denotes}
 use Rattle.zarr_shard_codec.specs.Serving.{is_own_chunk, unserved_unless, shard_unserved}
 use Rattle.zarr_shard_codec.specs.ShardCodec.{inner_of, codec_form}

@@ -7,12 +7,12 @@ use Rattle.zarr_model.specs.Command.{bytes_refusal}
 use Rattle.zarr_model.proofs.BytesLaws.{refusal-meaning, length-meaning}
 use Rattle.zarr_model.proofs.FailureLaws.{same_bytes}
 use Rattle.zarr_model.proofs.RegionLaws.{sizes_whole}
-use Rattle.zarrs_data_type_elements.specs.FillValue.{fill_bytes}
-use Rattle.zarrs_data_type_elements.specs.declared.fill_value.FillValue.{FillValue}
+use Rattle.zarrs_data_type_bytes.specs.FillValue.{fill_bytes}
+use Rattle.zarrs_data_type_bytes.specs.declared.fill_value.FillValue.{FillValue}
 use Rattle.zarrs_data_type_names.specs.DataType.{type_of, same_type}
 use Rattle.zarrs_data_type_names.specs.declared.data_type.DataType.{DataType}
 use Rattle.zarrs_data_type_names.proofs.SameTypeLaws.{equal_types}
-use Rattle.zarrs_codec_bytes.specs.Picking.{size_in}
+use Rattle.zarrs_codec_slices.specs.Picking.{size_in}
 use Rattle.zarrs_codec_error.specs.declared.error.CodecError.{CodecError}
 use Rattle.zarrs_codec_error.specs.declared.error.CodecError.TheVariants as errors
 use Rattle.zarrs_codec_array_bytes.specs.declared.array_bytes.ArrayBytes as code

@@ -7,7 +7,7 @@ use Rattle.std.specs.List.{list_all}
 use Rattle.zarr_model.specs.Prelude.{Region, count, whole, contains, tuples, place, tuple_at, Element, null, Array, elements_in, Grid, IsChunk, CoversShape, chunks, Content, Layout, box_content, stored_array}
 use Rattle.zarr_model.proofs.RegionLaws.{length-tuples, place_below, tuple_at-place, place-tuple_at, contains-tuple_at, get_or-tuples}
 use Rattle.zarr_model.proofs.StoreLaws.{stored-at}
-use Rattle.zarrs_codec_bytes.specs.Overlap.{Copied}
+use Rattle.zarrs_codec_slices.specs.Overlap.{Copied}
 use Rattle.zarrs_codec_traits.specs.Words.{select}
 use Rattle.zarr_array_elements.proofs.ReadLaws.{HasRead, read-start, read-step}
 use Rattle.zarr_array_elements.proofs.DecodeLaws.{each-step}

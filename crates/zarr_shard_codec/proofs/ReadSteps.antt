@@ -9,7 +9,7 @@ use Rattle.zarrs_storage.specs.Parts.{held_bytes}
 use Rattle.zarrs_codec_error.specs.declared.error.CodecError.{CodecError}
 use Rattle.zarrs_codec_array_bytes.specs.Raw.{raw_of}
 use Rattle.zarrs_codec_array_bytes.specs.declared.array_bytes.ArrayBytes as code
-use Rattle.zarrs_codec_bytes.specs.Picking.{size_in}
+use Rattle.zarrs_codec_slices.specs.Picking.{size_in}
 use Rattle.zarrs_codec_held.specs.Held.{value_part}
 use Rattle.zarrs_codec_partial_bytes.specs.Stored.{taken_of}
 use Rattle.zarrs_codec_traits.specs.Words.{list_at, at_box, Gives, select}

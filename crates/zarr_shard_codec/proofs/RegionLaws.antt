@@ -12,7 +12,7 @@ use Rattle.zarr_model.proofs.RegionLaws.{length-tuples, get_or-tuples, contains-
 use Rattle.zarr_model.proofs.ArrayLaws.{inside_shape}
 use Rattle.zarr_model.proofs.SessionLaws.{share_tuple-from}
 use Rattle.zarr_model.proofs.FailureLaws.{meeting_is}
-use Rattle.zarrs_codec_bytes.specs.Overlap.{Copied}
+use Rattle.zarrs_codec_slices.specs.Overlap.{Copied}
 use Rattle.zarrs_codec_error.specs.declared.error.CodecError.{CodecError}
 use Rattle.zarrs_codec_traits.specs.Words.{select}
 use Rattle.zarr_array_elements.specs.BoxElements.{list_held}

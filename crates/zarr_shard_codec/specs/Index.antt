@@ -1,7 +1,7 @@
 -- The index at the end of a shard: a place for each inner chunk.
 use Rattle.std.specs.Prelude.{ℕ, ◌+◌, ◌-◌, ◌*◌, ◌^◌, Bool, true, false, ◌==◌, ◌&&◌, nat_le, if◌then◌else◌, List, ◌++◌, length, take, drop, Option, Some, None, flat_map}
 use Rattle.zarr_model.specs.Codec.{number_of_bytes, low_bytes}
-use Rattle.zarr_shard_parts.specs.Document.{index_size}
+use Rattle.zarr_shard_open.specs.Document.{index_size}
 use Rattle.zarr_shard_codec.specs.Crc32c.{crc32c_bytes, crc32c_codec}
 
 -- where an inner chunk lies in the value, if it is there

@@ -16,7 +16,7 @@ use Rattle.zarr_codecs_array_to_bytes.specs.Views.{plain_of}
 use Rattle.zarr_chain.specs.Chain.{bottom_level}
 use Rattle.zarr_chain.specs.Values.{byte_codecs, said_at, bytes_says}
 use Rattle.zarr_array_parts.specs.Codecs.{list_says, bytes_meaning, bytes_says as codec_says}
-use Rattle.zarr_shard_parts.specs.Document.{index_size}
+use Rattle.zarr_shard_open.specs.Document.{index_size}
 use Rattle.zarr_shard_codec.specs.Crc32cCodec.{number_no_fault}
 use Rattle.zarr_shard_codec.specs.Index.{Pair, pair_at, part_of}
 use Rattle.zarr_shard_codec.specs.Finding.{says_index, index_found}

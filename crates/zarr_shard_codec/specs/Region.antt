@@ -4,7 +4,7 @@ use Rattle.std.specs.Prelude.{◌≡◌, ℕ, ◌+◌, Bool, true, not, nat_le, 
 use Rattle.std.specs.List.{list_all, sum_by}
 use Rattle.zarr_model.specs.Prelude.{Region, count, count_of, whole, place, ends_within, Element, elements_in, Grid, chunks_meeting, Layout, Options, stored_array}
 use Rattle.zarrs_codec_traits.specs.Words.{select}
-use Rattle.zarr_shard_parts.specs.Document.{index_size}
+use Rattle.zarr_shard_open.specs.Document.{index_size}
 use Rattle.zarr_shard_codec.specs.Index.{Pair, index_part, is_absent, pair_at}
 use Rattle.zarr_shard_codec.specs.Finding.{index_found}
 use Rattle.zarr_shard_codec.specs.Shard.{inner_layout, inner_pairs, inner_content, index_of, shard_list}

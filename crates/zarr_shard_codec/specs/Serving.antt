@@ -4,8 +4,8 @@ use Rattle.std.specs.Prelude.{◌≡◌, ℕ, ◌&&◌, Bool, true, false, List,
 use Rattle.std.proofs.Common.{ap}
 use Rattle.std.proofs.lemmas.Bool.{and_parts, and_from}
 use Rattle.zarr_model.specs.Prelude.{DataType, Level}
-use Rattle.zarrs_data_type_elements.specs.FillValue.{fill_bytes}
-use Rattle.zarrs_data_type_elements.specs.declared.codec_support.CodecName.TheVariants as names
+use Rattle.zarrs_data_type_bytes.specs.FillValue.{fill_bytes}
+use Rattle.zarrs_data_type_bytes.specs.declared.codec_support.CodecName.TheVariants as names
 use Rattle.zarrs_data_type_names.specs.DataType.{same_type}
 use Rattle.zarrs_codec_traits.specs.Errors.{Unserved, unsupported, unserved_at}
 use Rattle.zarrs_codec_traits.specs.Words.{taken}

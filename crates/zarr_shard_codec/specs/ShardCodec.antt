@@ -8,8 +8,8 @@ use Rattle.zarr_chain.specs.declared.levels.ChunkLevels.{ChunkLevels}
 use Rattle.zarr_array_parts.specs.ChunkLevels.{shape_level, ServesShape}
 use Rattle.zarr_array_parts.specs.Codecs.{list_says, bytes_meaning, bytes_says}
 use Rattle.zarr_array_parts.specs.Parts.{described}
-use Rattle.zarr_shard_parts.specs.Document.{ShardForm}
-use Rattle.zarr_shard_parts.specs.Views.{shard_form}
+use Rattle.zarr_shard_open.specs.Document.{ShardForm}
+use Rattle.zarr_shard_open.specs.Views.{shard_form}
 use Rattle.zarr_shard_codec.specs.Shard.{Form, shard_list, decode_shard}
 use Rattle.zarr_shard_codec.specs.declared.shard_codec.ShardCodec.{ShardCodec}
 

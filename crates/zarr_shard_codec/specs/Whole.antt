@@ -1,7 +1,7 @@
 -- All inner chunks of a chunk, put together.
 use Rattle.std.specs.Prelude.{◌≡◌, ◌<◌, ℕ, List, length, Option, Some, None, IsSome}
 use Rattle.zarr_model.specs.Prelude.{Region, count, count_of, kind, Element, Options}
-use Rattle.zarrs_codec_bytes.specs.Overlap.{Copied}
+use Rattle.zarrs_codec_slices.specs.Overlap.{Copied}
 use Rattle.zarrs_codec_error.specs.declared.error.CodecError.{CodecError}
 use Rattle.zarr_array_elements.specs.BoxElements.{kind_held, box_held, list_held, HoldsShort}
 use Rattle.zarr_array_elements.specs.declared.box_elements.BoxElements.{BoxElements}

@@ -7,10 +7,9 @@ ghost use Rattle.zarr_shard_codec.specs.Crc32c.{crc32c_bytes, ends_in_crc32c};
 use crate::checksum::crc32c;
 use serde_json::Map;
 use std::alloc::{AllocError, Global};
-use zarrs_codec_error::{CodecError, InvalidBytesLengthError};
-use zarrs_codec_options::{
-    BytesRepresentation, CodecMetadataOptions, CodecOptions, PartialDecoderCapability,
-    PartialEncoderCapability, RecommendedConcurrency,
+use zarrs_codec_error::{
+    BytesRepresentation, CodecError, CodecMetadataOptions, CodecOptions, InvalidBytesLengthError,
+    PartialDecoderCapability, PartialEncoderCapability, RecommendedConcurrency,
 };
 use zarrs_codec_traits::{BytesToBytesCodecTraits, CodecTraits};
 use zarrs_metadata_parts::Configuration;

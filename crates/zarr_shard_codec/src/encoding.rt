@@ -17,8 +17,7 @@ use crate::shard_codec::ShardCodec;
 use crate::writing::{finish_index, push_pair};
 use std::alloc::Global;
 use zarrs_codec_array_bytes::ArrayBytes;
-use zarrs_codec_error::CodecError;
-use zarrs_codec_options::CodecOptions;
+use zarrs_codec_error::{CodecError, CodecOptions};
 
 // The elements of the inner chunk of a number, out of those of the chunk.
 fn part_at(

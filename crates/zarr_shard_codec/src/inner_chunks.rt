@@ -7,7 +7,7 @@ ghost use Rattle.zarrs_codec_array_bytes.specs.Raw.{raw_of};
 ghost use Rattle.zarrs_codec_error.specs.declared.error.CodecError.TheVariants as errors;
 ghost use Rattle.zarrs_codec_traits.specs.Words.{list_at, IsFit};
 ghost use Rattle.zarr_chain.specs.Chain.{first_level, HasFill};
-ghost use Rattle.zarrs_codec_bytes.specs.Overlap.{Copied};
+ghost use Rattle.zarrs_codec_slices.specs.Overlap.{Copied};
 ghost use Rattle.zarr_array_elements.specs.BoxElements.{kind_held, box_held, list_held};
 ghost use Rattle.zarr_array_elements.specs.Elements.{list_in};
 ghost use Rattle.zarr_shard_codec.specs.Whole.{HoldsOver};

@@ -15,8 +15,7 @@ use crate::inner_chunks::InnerChunks;
 use crate::pair::Pair;
 use std::alloc::Global;
 use zarrs_codec_array_bytes::ArrayBytes;
-use zarrs_codec_error::CodecError;
-use zarrs_codec_options::CodecOptions;
+use zarrs_codec_error::{CodecError, CodecOptions};
 use zarrs_storage::{ByteRange, Store, StoreKey};
 
 impl InnerChunks<'_> {

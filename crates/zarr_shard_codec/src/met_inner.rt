@@ -3,7 +3,7 @@
 ghost use Rattle.std.specs.Prelude.{◌≡◌, ◌<◌, ◌^◌, true, false, IsSome, IfOk, IfErr, OnOk, MatchResult};
 ghost use Rattle.zarr_model.specs.Prelude.{count, count_of, whole, contains, tuples, tuple_at, place, IsChunk, ends_within, chunks_meeting, has_long_element};
 ghost use Rattle.zarrs_array_subset.specs.ArraySubset.{region as region_of};
-ghost use Rattle.zarrs_codec_bytes.specs.Overlap.{Copied};
+ghost use Rattle.zarrs_codec_slices.specs.Overlap.{Copied};
 ghost use Rattle.zarrs_codec_array_bytes.specs.Raw.{raw_of};
 ghost use Rattle.zarrs_codec_traits.specs.Views.{options_of};
 ghost use Rattle.zarrs_codec_traits.specs.Words.{list_at};
@@ -22,8 +22,7 @@ use zarr_array_elements::BoxElements;
 use zarrs_array_subset::{ArrayIndicesTinyVec, ArraySubset, push_tuple, ravel_indices};
 use zarrs_chunk_grid_traits::ChunkGridTraits;
 use zarrs_codec_array_bytes::ArrayBytes;
-use zarrs_codec_error::CodecError;
-use zarrs_codec_options::CodecOptions;
+use zarrs_codec_error::{CodecError, CodecOptions};
 use zarrs_storage::{Store, StoreKey};
 
 /// The inner chunks that a region of a chunk meets, by their numbers in row-major order.

@@ -23,8 +23,7 @@ use std::alloc::{AllocError, Global};
 use zarr_array_elements::BoxElements;
 use zarrs_array_subset::ArraySubset;
 use zarrs_codec_array_bytes::ArrayBytes;
-use zarrs_codec_error::CodecError;
-use zarrs_codec_options::CodecOptions;
+use zarrs_codec_error::{CodecError, CodecOptions};
 use zarrs_storage::{ByteRange, Store, StoreKey};
 
 /// Of a value that decodes, the elements of a region are its part of what the value decodes to.

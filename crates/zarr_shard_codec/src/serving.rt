@@ -1,8 +1,8 @@
 //! What a codec of shards serves: chunks of the shape, the data type and the fill value that it was made for.
 
 ghost use Rattle.std.specs.Prelude.{◌≡◌, bytes_eq, Some, None, MatchResult, option_map};
-ghost use Rattle.zarrs_data_type_elements.specs.FillValue.{fill_bytes};
-ghost use Rattle.zarrs_data_type_elements.specs.declared.codec_support.CodecName.TheVariants as names;
+ghost use Rattle.zarrs_data_type_bytes.specs.FillValue.{fill_bytes};
+ghost use Rattle.zarrs_data_type_bytes.specs.declared.codec_support.CodecName.TheVariants as names;
 ghost use Rattle.zarrs_data_type_names.specs.DataType.{type_of};
 ghost use Rattle.zarrs_codec_traits.specs.Errors.{unsupported, unserved_error, unserved_at};
 ghost use Rattle.zarrs_codec_traits.specs.Views.{lengths, level_of};
@@ -11,7 +11,7 @@ ghost use Rattle.zarr_shard_codec.specs.Serving.{is_own_chunk, is_own, shard_uns
 use crate::shard_codec::ShardCodec;
 use std::num::NonZeroU64;
 use zarrs_codec_error::CodecError;
-use zarrs_data_type_elements::{CodecName, DataTypeCodecError, FillValue};
+use zarrs_data_type_bytes::{CodecName, DataTypeCodecError, FillValue};
 use zarrs_data_type_names::DataType;
 
 // Whether a shape has these lengths.

@@ -2,19 +2,19 @@
 
 ghost use Rattle.std.specs.Prelude.{◌≡◌, ◌<◌, true, IfOk};
 ghost use Rattle.zarr_model.specs.Prelude.{count_of, kind_of, fill_element};
-ghost use Rattle.zarrs_data_type_elements.specs.FillValue.{fill_bytes};
+ghost use Rattle.zarrs_data_type_bytes.specs.FillValue.{fill_bytes};
 ghost use Rattle.zarr_basics_grids.specs.Lengths.{nonzeros};
 ghost use Rattle.zarr_array_parts.specs.Parts.{documented};
-ghost use Rattle.zarr_shard_parts.specs.Document.{lengths_of};
+ghost use Rattle.zarr_shard_open.specs.Document.{lengths_of};
 ghost use Rattle.zarr_shard_codec.specs.Fill.{denotes};
 
 use std::alloc::{AllocError, Global};
 use zarr_array_parts::ArrayParts;
 use zarr_chain::ChunkLevels;
-use zarr_shard_parts::Shard;
+use zarr_shard_open::Shard;
 use zarrs_array_subset::{ChunkShape, shape_product, unravel_index};
 use zarrs_chunk_grid_traits::ChunkGridTraits;
-use zarrs_data_type_elements::FillValue;
+use zarrs_data_type_bytes::FillValue;
 use zarrs_metadata_parts::Configuration;
 
 /// The codec `sharding_indexed` of chunks of one shape, data type and fill value: a value holds inner chunks, one after

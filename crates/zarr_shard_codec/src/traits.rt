@@ -7,15 +7,14 @@ use std::alloc::{AllocError, Global};
 use std::num::NonZeroU64;
 use zarrs_array_subset::{ArraySubset, ChunkShape};
 use zarrs_codec_array_bytes::ArrayBytes;
-use zarrs_codec_error::CodecError;
-use zarrs_codec_options::{
-    BytesRepresentation, CodecMetadataOptions, CodecOptions, PartialDecoderCapability,
+use zarrs_codec_error::{
+    BytesRepresentation, CodecError, CodecMetadataOptions, CodecOptions, PartialDecoderCapability,
     PartialEncoderCapability, RecommendedConcurrency,
 };
 use zarrs_codec_traits::{
     ArrayCodecTraits, ArrayToBytesCodecTraits, CodecTraits, extracted, only_part, same_shape,
 };
-use zarrs_data_type_elements::FillValue;
+use zarrs_data_type_bytes::FillValue;
 use zarrs_data_type_names::DataType;
 use zarrs_metadata_parts::Configuration;
 use zarrs_plugin::{ExtensionName, ZarrVersion};
@@ -105,7 +104,7 @@ impl ArrayCodecTraits for ShardCodec {
 impl ArrayToBytesCodecTraits for ShardCodec {
     ghost use Rattle.std.specs.Prelude.{◌≡◌, List, None, IfOk};
     ghost use Rattle.zarr_model.specs.Prelude.{kind_of, count_of, Element, Options, decode_chain};
-    ghost use Rattle.zarrs_data_type_elements.specs.FillValue.{fill_bytes};
+    ghost use Rattle.zarrs_data_type_bytes.specs.FillValue.{fill_bytes};
     ghost use Rattle.zarrs_data_type_names.specs.DataType.{type_of};
     ghost use Rattle.zarrs_codec_array_bytes.specs.Raw.{raw_of};
     ghost use Rattle.zarrs_codec_array_bytes.specs.Refusals.{validity, then_answer, Answers};
@@ -114,7 +113,7 @@ impl ArrayToBytesCodecTraits for ShardCodec {
     ghost use Rattle.zarrs_codec_traits.specs.Words.{list_at, IsFit};
     ghost use Rattle.zarr_shard_codec.specs.Encoding.{IsEncoded};
     ghost use Rattle.zarr_shard_codec.specs.Serving.{shard_unserved};
-    ghost use Rattle.zarrs_codec_options.specs.declared.bytes_representation.BytesRepresentation.TheVariants.{UnboundedSize};
+    ghost use Rattle.zarrs_codec_error.specs.declared.bytes_representation.BytesRepresentation.TheVariants.{UnboundedSize};
     ghost use Rattle.zarrs_codec_traits.proofs.TakenLaws.{nothing_asked};
     ghost use Rattle.zarr_shard_codec.specs.NoFault.{shard_no_fault};
     ghost use Rattle.zarr_shard_codec.specs.ShardCodec.{inner_of, form_of, shard_meaning};

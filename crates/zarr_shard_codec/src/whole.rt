@@ -20,8 +20,7 @@ use std::alloc::Global;
 use zarr_array_elements::BoxElements;
 use zarrs_array_subset::ArraySubset;
 use zarrs_codec_array_bytes::ArrayBytes;
-use zarrs_codec_error::CodecError;
-use zarrs_codec_options::CodecOptions;
+use zarrs_codec_error::{CodecError, CodecOptions};
 
 impl InnerChunks<'_> {
     // Puts the elements of the inner chunk of a number where it lies, or those of a blank one where it is not there.

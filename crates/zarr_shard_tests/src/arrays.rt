@@ -9,7 +9,7 @@ use zarr_shard::ShardArray;
 use zarrs_array_subset::ArraySubset;
 use zarrs_codec_array_bytes::ArrayBytes;
 use zarrs_codec_array_bytes::array_bytes::bytes_in;
-use zarrs_codec_options::CodecOptions;
+use zarrs_codec_error::CodecOptions;
 use zarrs_metadata::ArrayMetadataV3;
 use zarrs_storage::{MemoryStore, Store};
 

@@ -3,7 +3,7 @@
 use std::alloc::Global;
 use std::process::Abort;
 use zarr_shard_codec::Crc32cCodec;
-use zarrs_codec_options::{BytesRepresentation, CodecOptions};
+use zarrs_codec_error::{BytesRepresentation, CodecOptions};
 use zarrs_codec_traits::BytesToBytesCodecTraits;
 
 #[test]

@@ -4,9 +4,9 @@ use std::alloc::Global;
 use std::num::NonZeroU64;
 use std::process::Abort;
 use zarr_array_parts::{OpenError, Registries, builtin_registries};
-use zarr_shard_parts::Shard;
+use zarr_shard_open::Shard;
 use zarrs_chunk_grid_traits::ChunkGridTraits;
-use zarrs_data_type_elements::FillValue;
+use zarrs_data_type_bytes::FillValue;
 use zarrs_data_type_names::DataType;
 use zarrs_metadata_parts::MetadataV3;
 

@@ -12,9 +12,9 @@ use zarr_array_parts::builtin_registries;
 use zarr_shard_codec::ShardCodec;
 use zarrs_codec_array_bytes::ArrayBytes;
 use zarrs_codec_array_bytes::array_bytes::bytes_in;
-use zarrs_codec_options::CodecOptions;
+use zarrs_codec_error::CodecOptions;
 use zarrs_codec_traits::ArrayToBytesCodecTraits;
-use zarrs_data_type_elements::FillValue;
+use zarrs_data_type_bytes::FillValue;
 use zarrs_data_type_names::DataType;
 use zarrs_metadata_parts::MetadataV3;
 

@@ -4,7 +4,7 @@ use Rattle.serde_json.specs.Read.{read}
 use Rattle.zarrs_metadata_values.specs.Reading.{from_json}
 use Rattle.zarrs_metadata_values.specs.declared.error.MetadataError.{MetadataError}
 use Rattle.zarrs_metadata_values.specs.declared.error.MetadataError.TheVariants as Read
-use Rattle.zarrs_metadata_v2_nodes.specs.ArrayMetadataV2.{ArrayV2, array_v2_of}
+use Rattle.zarrs_metadata_v2.specs.ArrayMetadataV2.{ArrayV2, array_v2_of}
 use Rattle.zarrs_metadata.specs.ArrayMetadata.{ArrayFields, array_seen, array_data}
 use Rattle.zarrs_metadata.specs.declared.v3.array.ArrayMetadataV3.{ArrayMetadataV3}
 use Rattle.zarr_array.specs.parts.basics.Registries.{KnownNames, builtin_names}

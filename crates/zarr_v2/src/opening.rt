@@ -7,7 +7,7 @@ ghost use Rattle.zarr_array.specs.OpenArray.{documented};
 ghost use Rattle.zarr_array.specs.parts.basics.Registries.{names_of, builtin_names};
 ghost use Rattle.zarr_array.specs.parts.Opening.{document_of};
 ghost use Rattle.zarrs_metadata.specs.ArrayMetadata.{array_seen};
-ghost use Rattle.zarrs_metadata_v2_nodes.specs.ArrayMetadataV2.{array_v2_seen};
+ghost use Rattle.zarrs_metadata_v2.specs.ArrayMetadataV2.{array_v2_seen};
 ghost use Rattle.zarr_v2_translate.specs.Translate.{translated};
 ghost use Rattle.zarr_v2.specs.Opening.{translated_text, answer_of, open_document_v2, unread_by, untranslated_by, unopened_by, TranslatesText, OpensV2, OpensAsItsText, IsOnlyLarge, MeansAsV2};
 

@@ -7,9 +7,9 @@ use Rattle.std.proofs.lemmas.List.{length-map}
 use Rattle.zarr_model.specs.Prelude.{v2_keys, Element, Options, layout, Span, sizes, kind_of, decode_fixed, decode_levels, ByteOrder, regular_grid, IsChunk}
 use Rattle.zarr_model.proofs.GridLaws.{IsChunkShape, regular_grid-covers}
 use Rattle.zarrs_metadata_parts.specs.Names.{separator_code}
-use Rattle.zarrs_metadata_v2_nodes.specs.ArrayMetadataV2.{ArrayV2}
-use Rattle.zarrs_metadata_v2_nodes.specs.declared.array.order.ArrayMetadataV2Order.{ArrayMetadataV2Order}
-use Rattle.zarrs_metadata_v2_nodes.specs.declared.array.order.ArrayMetadataV2Order.TheVariants.{C, F}
+use Rattle.zarrs_metadata_v2.specs.ArrayMetadataV2.{ArrayV2}
+use Rattle.zarrs_metadata_v2.specs.declared.array.order.ArrayMetadataV2Order.{ArrayMetadataV2Order}
+use Rattle.zarrs_metadata_v2.specs.declared.array.order.ArrayMetadataV2Order.TheVariants.{C, F}
 use Rattle.zarr_codecs.specs.BytesCodec.{stored_order}
 use Rattle.zarr_basics.specs.kinds.array_to_array.ArrayToArray.{array_codec_of}
 use Rattle.zarr_basics_grids.specs.Configurations.{are_chunk_lengths}

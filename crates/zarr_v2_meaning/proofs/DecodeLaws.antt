@@ -7,7 +7,7 @@ use Rattle.std.proofs.lemmas.List.{append-nil, take_all, get_or-map, length-map}
 use Rattle.zarr_model.specs.Prelude.{whole, count, count_of, tuples, place, tuple_at, Element, of_bytes, null, pieces, ByteOrder, little, big, from_order, Level, fixed, component_size, decode_fixed, decode_levels, transpose_codec, permuted}
 use Rattle.zarr_model.proofs.RegionLaws.{count_whole, length-tuples, get_or-tuples, place-tuple_at, contains-tuple_at}
 use Rattle.zarr_model.proofs.BytesLaws.{length-pieces}
-use Rattle.zarrs_metadata_v2_nodes.specs.declared.array.order.ArrayMetadataV2Order.TheVariants.{C, F}
+use Rattle.zarrs_metadata_v2.specs.declared.array.order.ArrayMetadataV2Order.TheVariants.{C, F}
 use Rattle.zarr_v2_meaning.specs.ChunksV2.{column_place, bytes_from, element_at, decode_v2}
 use Rattle.zarr_v2_translate.specs.Translate.{reversed_order}
 use Rattle.zarr_v2_meaning.proofs.ReversedLaws.{place_reversed, column_below, permuted_reversed, permuted_rank, count_reversed, rank_of}

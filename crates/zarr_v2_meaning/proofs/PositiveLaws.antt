@@ -7,8 +7,8 @@ use Rattle.serde_json.specs.Data.{Data, null, boolean, number, string, array, ob
 use Rattle.serde_json.specs.Find.{get_member}
 use Rattle.zarrs_metadata_values.specs.Reading.{◌>>=◌, each, whole_number, whole_numbers, is_number, from_json}
 use Rattle.zarrs_metadata_values.proofs.EachLemmas.{bind_some}
-use Rattle.zarrs_metadata_v2.specs.DataTypeV2.{data_type_v2_of}
-use Rattle.zarrs_metadata_v2_nodes.specs.ArrayMetadataV2.{ArrayV2, HasChunks, order_of, positive_number, positive_numbers, read_under, text_under, required_v2, optional_v2, with_optional_fields_v2, array_v2_members, array_v2_of}
+use Rattle.zarrs_metadata_parts.specs.DataTypeV2.{data_type_v2_of}
+use Rattle.zarrs_metadata_v2.specs.ArrayMetadataV2.{ArrayV2, HasChunks, order_of, positive_number, positive_numbers, read_under, text_under, required_v2, optional_v2, with_optional_fields_v2, array_v2_members, array_v2_of}
 use Rattle.zarr_v2_meaning.proofs.ReadLaws.{is_of_text}
 
 positive_one : (d : Data) (n : ℕ) → positive_number d ≡ Some n → nat_le 1 n ≡ true

@@ -7,9 +7,9 @@ use Rattle.serde_json.specs.Written.{has_float}
 use Rattle.zarrs_metadata_values.specs.Reading.{◌>>=◌, is_number, whole_numbers, object_or_empty, or_invalid, from_json}
 use Rattle.zarrs_metadata_values.specs.declared.error.MetadataError.TheVariants.{FloatNumber}
 use Rattle.zarrs_metadata_values.proofs.EachLemmas.{bind_some}
-use Rattle.zarrs_metadata_v2.specs.DataTypeV2.{data_type_v2_of}
-use Rattle.zarrs_metadata_v2_nodes.specs.CodecsV2.{compressor_of, filters_of}
-use Rattle.zarrs_metadata_v2_nodes.specs.ArrayMetadataV2.{ArrayV2, OptionalV2, order_of, dimension_separator_of, positive_numbers, read_under, text_under, required_v2, optional_v2, with_optional_fields_v2, array_v2_members, array_v2_of}
+use Rattle.zarrs_metadata_parts.specs.DataTypeV2.{data_type_v2_of}
+use Rattle.zarrs_metadata_v2.specs.CodecsV2.{compressor_of, filters_of}
+use Rattle.zarrs_metadata_v2.specs.ArrayMetadataV2.{ArrayV2, OptionalV2, order_of, dimension_separator_of, positive_numbers, read_under, text_under, required_v2, optional_v2, with_optional_fields_v2, array_v2_members, array_v2_of}
 use Rattle.zarr_v2_meaning.proofs.MemberLaws.{AllMembers, all_found}
 
 -- where they stand in its value

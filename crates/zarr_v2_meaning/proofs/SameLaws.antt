@@ -6,7 +6,7 @@ use Rattle.std.proofs.lemmas.Bool.{eq-eqb}
 use Rattle.zarr_model.specs.Prelude.{v2_keys, KeyEncoding, DataType, layout}
 use Rattle.zarrs_metadata_parts.specs.Names.{separator_code}
 use Rattle.zarrs_metadata.specs.ArrayMetadata.{ArrayFields}
-use Rattle.zarrs_metadata_v2_nodes.specs.ArrayMetadataV2.{ArrayV2, HasChunks}
+use Rattle.zarrs_metadata_v2.specs.ArrayMetadataV2.{ArrayV2, HasChunks}
 use Rattle.zarr_basics_grids.specs.Configurations.{are_chunk_lengths}
 use Rattle.zarr_basics_grids.specs.GridForms.{ChunkGrid, regular, grid_of}
 use Rattle.zarr_basics.specs.Registries.{builtin_names}

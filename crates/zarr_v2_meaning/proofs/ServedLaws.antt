@@ -4,9 +4,9 @@ use Rattle.std.specs.Prelude.{◌==◌}
 use Rattle.zarr_model.specs.Element.{DataType}
 use Rattle.zarr_model.specs.declared.endianness.Endianness.{Endianness}
 use Rattle.zarr_model.specs.declared.endianness.Endianness.TheVariants.{Little, Big}
-use Rattle.zarrs_metadata_v2.specs.DataTypeV2.{DataTypeV2, simple, structured}
-use Rattle.zarrs_metadata_v2_nodes.specs.declared.array.order.ArrayMetadataV2Order.{ArrayMetadataV2Order}
-use Rattle.zarrs_metadata_v2_nodes.specs.declared.array.order.ArrayMetadataV2Order.TheVariants.{C, F}
+use Rattle.zarrs_metadata_parts.specs.DataTypeV2.{DataTypeV2, simple, structured}
+use Rattle.zarrs_metadata_v2.specs.declared.array.order.ArrayMetadataV2Order.{ArrayMetadataV2Order}
+use Rattle.zarrs_metadata_v2.specs.declared.array.order.ArrayMetadataV2Order.TheVariants.{C, F}
 use Rattle.zarr_codecs_array_to_bytes.specs.Plain.{plain_bytes}
 use Rattle.zarr_array_parts.specs.Opening.{OpenRefusal, expect_chain, expect_bytes, bottom_type}
 use Rattle.zarr_array_parts.specs.Opening as opening

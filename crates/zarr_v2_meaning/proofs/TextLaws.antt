@@ -7,7 +7,7 @@ use Rattle.serde_json.proofs.Nesting.{depth-read}
 use Rattle.zarrs_metadata_values.specs.Reading.{from_json}
 use Rattle.zarrs_metadata.specs.ArrayMetadata.{ArrayFields, array_data}
 use Rattle.zarrs_metadata.specs.AnyArray.{AnyArray, array_3, any_array_of}
-use Rattle.zarrs_metadata_v2_nodes.specs.ArrayMetadataV2.{ArrayV2, array_v2_of}
+use Rattle.zarrs_metadata_v2.specs.ArrayMetadataV2.{ArrayV2, array_v2_of}
 use Rattle.zarr_basics.specs.Registries.{KnownNames}
 use Rattle.zarr_array_parts.specs.Opening.{open_answer, fields_if, document_read, document_of, open_document}
 use Rattle.zarr_array_parts.specs.Opening as opening

@@ -4,7 +4,7 @@ use Rattle.std.specs.Prelude.{◌==◌}
 use Rattle.std.proofs.lemmas.Bool.{eqb-true}
 use Rattle.serde_json.specs.Data.{Data}
 use Rattle.zarrs_metadata.specs.ArrayMetadata.{ArrayFields}
-use Rattle.zarrs_metadata_v2_nodes.specs.ArrayMetadataV2.{ArrayV2}
+use Rattle.zarrs_metadata_v2.specs.ArrayMetadataV2.{ArrayV2}
 use Rattle.zarr_v2_translate.specs.declared.error.V2Error.TheVariants.{RankMismatch, UnsupportedCodec}
 use Rattle.zarr_v2_translate.specs.declared.element_type.StoredType.{StoredType}
 use Rattle.zarr_v2_translate.specs.ElementType.{element_of}

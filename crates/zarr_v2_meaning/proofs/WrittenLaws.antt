@@ -11,9 +11,9 @@ use Rattle.zarrs_metadata_parts.specs.Names.{separator_text}
 use Rattle.zarrs_metadata.specs.ArrayMetadata.{ArrayFields, array_data, normal_array, required_data, parts_data, optional_data}
 use Rattle.zarrs_metadata.specs.AnyArray.{array_3, array_3_or, only_array_v2, any_array_of}
 use Rattle.zarrs_metadata.proofs.ArrayBack.{array_reads_back}
-use Rattle.zarrs_metadata_v2_nodes.specs.ArrayMetadataV2.{ArrayV2}
-use Rattle.zarrs_metadata_v2_nodes.specs.declared.array.order.ArrayMetadataV2Order.{ArrayMetadataV2Order}
-use Rattle.zarrs_metadata_v2_nodes.specs.declared.array.order.ArrayMetadataV2Order.TheVariants.{C, F}
+use Rattle.zarrs_metadata_v2.specs.ArrayMetadataV2.{ArrayV2}
+use Rattle.zarrs_metadata_v2.specs.declared.array.order.ArrayMetadataV2Order.{ArrayMetadataV2Order}
+use Rattle.zarrs_metadata_v2.specs.declared.array.order.ArrayMetadataV2Order.TheVariants.{C, F}
 use Rattle.zarrs_data_type.specs.FillMetadata.{fill_of}
 use Rattle.zarr_v2_translate.specs.declared.element_type.ElementType.{ElementType}
 use Rattle.zarr_v2_translate.specs.declared.element_type.ElementType.TheVariants.{Bool as BoolType, Int8, Int16, Int32, Int64, UInt8, UInt16, UInt32, UInt64}

@@ -1,7 +1,7 @@
 -- What the chunks of version 2 have to do with the codecs of version 3.
 use Rattle.std.specs.Prelude.{◌≡◌, ◌↔◌, ℕ, ◌<◌, List, [], ◌∷◌, length}
 use Rattle.zarr_model.specs.Prelude.{sizes, Element, fixed, Array, ByteOrder, Level, decode_fixed, component_size, decode_levels, transpose_codec, Content, Layout, IsChunk, Means}
-use Rattle.zarrs_metadata_v2_nodes.specs.declared.array.order.ArrayMetadataV2Order.TheVariants.{C, F}
+use Rattle.zarrs_metadata_v2.specs.declared.array.order.ArrayMetadataV2Order.TheVariants.{C, F}
 use Rattle.zarr_v2_translate.specs.Translate.{reversed_order}
 use Rattle.zarr_v2_meaning.specs.ChunksV2.{decode_v2}
 

@@ -1,8 +1,8 @@
 -- How an array of version 2 lies in a store.
 use Rattle.std.specs.Prelude.{ℕ, ◌+◌, ◌*◌, ◌==◌, if◌then◌else◌, List, [], ◌∷◌, length, take, drop, map, reverse, Option, Some, None}
 use Rattle.zarr_model.specs.Prelude.{whole, count_of, tuples, place, Element, of_bytes, ByteOrder, little, big, Layout, regular_grid, v2_key}
-use Rattle.zarrs_metadata_v2_nodes.specs.declared.array.order.ArrayMetadataV2Order.{ArrayMetadataV2Order}
-use Rattle.zarrs_metadata_v2_nodes.specs.declared.array.order.ArrayMetadataV2Order.TheVariants.{C, F}
+use Rattle.zarrs_metadata_v2.specs.declared.array.order.ArrayMetadataV2Order.{ArrayMetadataV2Order}
+use Rattle.zarrs_metadata_v2.specs.declared.array.order.ArrayMetadataV2Order.TheVariants.{C, F}
 
 -- the number of a tuple in a shape whose first dimension runs fastest
 abbrev pub column_place : List ℕ → List ℕ → ℕ

@@ -8,9 +8,9 @@ use Rattle.zarr_model.specs.declared.endianness.Endianness.{Endianness}
 use Rattle.zarrs_metadata_parts.specs.Names.{separator_code}
 use Rattle.zarrs_metadata_values.specs.Reading.{from_json}
 use Rattle.zarrs_metadata.specs.ArrayMetadata.{ArrayFields, array_data}
-use Rattle.zarrs_metadata_v2_nodes.specs.ArrayMetadataV2.{ArrayV2, HasChunks, array_v2_of}
-use Rattle.zarrs_metadata_v2_nodes.specs.declared.array.order.ArrayMetadataV2Order.{ArrayMetadataV2Order}
-use Rattle.zarrs_metadata_v2_nodes.specs.declared.array.order.ArrayMetadataV2Order.TheVariants.{C, F}
+use Rattle.zarrs_metadata_v2.specs.ArrayMetadataV2.{ArrayV2, HasChunks, array_v2_of}
+use Rattle.zarrs_metadata_v2.specs.declared.array.order.ArrayMetadataV2Order.{ArrayMetadataV2Order}
+use Rattle.zarrs_metadata_v2.specs.declared.array.order.ArrayMetadataV2Order.TheVariants.{C, F}
 use Rattle.zarrs_data_type.specs.FillMetadata.{fill_of}
 use Rattle.zarr_codecs.specs.BytesCodec.{stored_order}
 use Rattle.zarr_codecs_array_to_bytes.specs.Plain.{plain_bytes}

@@ -1,7 +1,7 @@
 -- The data types of version 2 arrays that are translated.
 use Rattle.std.specs.Prelude.{ℕ, ◌==◌, Bool, true, false, if◌then◌else◌, List, [], ◌∷◌, Option, Some, None, codes}
 use Rattle.zarr_model.specs.Element as model
-use Rattle.zarrs_metadata_v2.specs.DataTypeV2.{DataTypeV2, simple, structured}
+use Rattle.zarrs_metadata_parts.specs.DataTypeV2.{DataTypeV2, simple, structured}
 use Rattle.zarr_model.specs.declared.endianness.Endianness.{Endianness}
 use Rattle.zarr_model.specs.declared.endianness.Endianness.TheVariants.{Little, Big}
 use Rattle.zarr_v2_translate.specs.declared.element_type.ElementType.{ElementType}

@@ -2,16 +2,16 @@
 use Rattle.std.specs.Prelude.{◌≡◌, ℕ, zero, suc, ◌==◌, ◌||◌, Bool, true, false, if◌then◌else◌, is_some, List, [], ◌∷◌, length, Option, Some, None, Result, Ok, Err, codes}
 use Rattle.serde_json.specs.Data.{unsigned, Data, null, boolean, number, string, no_members, member}
 use Rattle.zarrs_metadata_values.specs.Writing.{numbers_data}
-use Rattle.zarrs_metadata_v2.specs.MetadataV2.{CodecV2}
+use Rattle.zarrs_metadata_parts.specs.MetadataV2.{CodecV2}
 use Rattle.zarrs_metadata_parts.specs.MetadataV3.{Extension}
 use Rattle.zarrs_metadata_parts.specs.Names.{separator_text}
 use Rattle.zarrs_metadata_parts.specs.declared.array.chunk_key_separator.ChunkKeySeparator.{ChunkKeySeparator}
 use Rattle.zarr_model.specs.declared.endianness.Endianness.{Endianness}
 use Rattle.zarr_model.specs.declared.endianness.Endianness.TheVariants.{Little, Big}
 use Rattle.zarrs_metadata.specs.ArrayMetadata.{ArrayFields}
-use Rattle.zarrs_metadata_v2_nodes.specs.ArrayMetadataV2.{ArrayV2}
-use Rattle.zarrs_metadata_v2_nodes.specs.declared.array.order.ArrayMetadataV2Order.{ArrayMetadataV2Order}
-use Rattle.zarrs_metadata_v2_nodes.specs.declared.array.order.ArrayMetadataV2Order.TheVariants.{C, F}
+use Rattle.zarrs_metadata_v2.specs.ArrayMetadataV2.{ArrayV2}
+use Rattle.zarrs_metadata_v2.specs.declared.array.order.ArrayMetadataV2Order.{ArrayMetadataV2Order}
+use Rattle.zarrs_metadata_v2.specs.declared.array.order.ArrayMetadataV2Order.TheVariants.{C, F}
 use Rattle.zarrs_data_type.specs.FillMetadata.{fill_of}
 use Rattle.zarr_v2_translate.specs.declared.error.V2Error.{V2Error}
 use Rattle.zarr_v2_translate.specs.declared.error.V2Error.TheVariants.{RankMismatch, UnsupportedDataType, UnsupportedFillValue, UnsupportedCodec, OutOfMemory}

@@ -1,13 +1,12 @@
 //! The data types of version 2 arrays that are translated.
 
 ghost use Rattle.std.specs.Prelude.{◌≡◌};
-ghost use Rattle.zarrs_metadata_v2.specs.DataTypeV2.{data_type_v2_seen};
+ghost use Rattle.zarrs_metadata_parts.specs.DataTypeV2.{data_type_v2_seen};
 ghost use Rattle.zarrs_data_type_names.specs.DataType.{type_of};
 ghost use Rattle.zarr_v2_translate.specs.ElementType.{element_type, type_text, lettered, numbered, marked, ordered, element_of_text, element_of};
 
 use zarrs_data_type::DataType;
-use zarrs_metadata_parts::Endianness;
-use zarrs_metadata_v2::DataTypeMetadataV2;
+use zarrs_metadata_parts::{DataTypeMetadataV2, Endianness};
 
 /// A type of elements that both versions have.
 #[derive(Clone, Copy, Debug, PartialEq, Eq)]

@@ -16,7 +16,7 @@ use std::alloc::{AllocError, Global};
 use std::num::NonZeroU64;
 use zarrs_data_type::{DataTypeTraits, FillMetadataFault};
 use zarrs_metadata_parts::{ChunkKeySeparator, Configuration, Endianness, MetadataV3};
-use zarrs_metadata_v2_nodes::ArrayMetadataV2Order;
+use zarrs_metadata_v2::ArrayMetadataV2Order;
 use zarrs_metadata_values::FillValueMetadataV3;
 use zarrs_metadata_values::writing::numbers_value;
 

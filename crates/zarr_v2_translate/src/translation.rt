@@ -3,7 +3,7 @@
 ghost use Rattle.std.specs.Prelude.{◌≡◌, ◌≤◌, IfOk, IfErr, Ok, MatchResult};
 ghost use Rattle.zarrs_metadata.specs.ArrayMetadata.{array_seen};
 ghost use Rattle.zarrs_metadata_values.specs.FillValueMetadata.{fill_view};
-ghost use Rattle.zarrs_metadata_v2_nodes.specs.ArrayMetadataV2.{array_v2_seen};
+ghost use Rattle.zarrs_metadata_v2.specs.ArrayMetadataV2.{array_v2_seen};
 ghost use Rattle.zarr_v2_translate.specs.Translate.{translated, fields_v2, has_codec, IsTold};
 
 use crate::element_type::{StoredType, element_of};
@@ -11,7 +11,7 @@ use crate::error::V2Error;
 use crate::parts::{codecs_of, fill_of, grid_of, keys_of, named};
 use std::alloc::{AllocError, Global};
 use zarrs_metadata::ArrayMetadataV3;
-use zarrs_metadata_v2_nodes::ArrayMetadataV2;
+use zarrs_metadata_v2::ArrayMetadataV2;
 use zarrs_metadata_values::FillValueMetadataV3;
 use zarrs_metadata_values::json::copy_members;
 

@@ -2,7 +2,7 @@
 //! and of handles on values.
 //!
 //! All of it comes from the crates `zarrs_codec_array_bytes`, `zarrs_codec_array_bytes_update`, `zarrs_codec_view`,
-//! `zarrs_codec_options`, `zarrs_codec_error`, `zarrs_codec_traits` and `zarrs_codec_partial_traits`, and is passed on
+//! `zarrs_codec_error`, `zarrs_codec_error`, `zarrs_codec_traits` and `zarrs_codec_partial_traits`, and is passed on
 //! here.
 #![tactic(auto)]
 
@@ -10,22 +10,20 @@ pub use zarrs_codec_array_bytes::{
     ArrayBytes, ArrayBytesOffsets, ArrayBytesOptional, ArrayBytesRaw, ArrayBytesVariableLength,
 };
 pub use zarrs_codec_array_bytes_update::update_array_bytes;
-pub use zarrs_codec_bytes::laws::{
-    equality_is_equivalence, equality_of_valid, extract_after_update, test_is_equality,
-};
 pub use zarrs_codec_error::{
     ArrayBytesError, ArrayBytesFixedDisjointViewCreateError, ArrayBytesRawOffsetsCreateError,
-    ArrayBytesRawOffsetsOutOfBoundsError, CodecError, ExpectedFixedLengthBytesError,
-    ExpectedOptionalBytesError, ExpectedVariableLengthBytesError, InvalidArrayShapeError,
-    InvalidBytesLengthError, InvalidNumberOfElementsError, SubsetOutOfBoundsError,
-};
-pub use zarrs_codec_options::{
-    BytesRepresentation, CodecMetadataOptions, CodecOptions, CodecSpecificOptions,
-    PartialDecoderCapability, PartialEncoderCapability, RecommendedConcurrency,
+    ArrayBytesRawOffsetsOutOfBoundsError, BytesRepresentation, CodecError, CodecMetadataOptions,
+    CodecOptions, CodecSpecificOptions, ExpectedFixedLengthBytesError, ExpectedOptionalBytesError,
+    ExpectedVariableLengthBytesError, InvalidArrayShapeError, InvalidBytesLengthError,
+    InvalidNumberOfElementsError, PartialDecoderCapability, PartialEncoderCapability,
+    RecommendedConcurrency, SubsetOutOfBoundsError,
 };
 pub use zarrs_codec_partial_traits::{
     ArrayPartialDecoderTraits, ArrayPartialEncoderTraits, BytesPartialDecoderTraits,
     BytesPartialEncoderTraits,
+};
+pub use zarrs_codec_slices::laws::{
+    equality_is_equivalence, equality_of_valid, extract_after_update, test_is_equality,
 };
 pub use zarrs_codec_traits::{
     ArrayCodecTraits, ArrayToArrayCodecTraits, ArrayToBytesCodecTraits, BytesToBytesCodecTraits,

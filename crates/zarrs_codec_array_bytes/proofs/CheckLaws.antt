@@ -6,8 +6,8 @@ use Rattle.zarr_model.proofs.RefusalLaws.{not_refused}
 use Rattle.zarr_model.specs.Element.{fixed}
 use Rattle.zarrs_codec_array_bytes.specs.Refusals.{lengths_refusal, fine, sized_answer}
 use Rattle.zarrs_codec_array_bytes.specs.Levels.{is_fixed}
-use Rattle.zarrs_codec_bytes.specs.Picking.{AllBelow, gathered}
-use Rattle.zarrs_codec_bytes.proofs.ShortLaws.{gathered_short}
+use Rattle.zarrs_codec_slices.specs.Picking.{AllBelow, gathered}
+use Rattle.zarrs_codec_slices.proofs.ShortLaws.{gathered_short}
 
 -- where two steps refuse nothing, neither does
 pub first_none : (a b : Option Refusal) → or_then a b ≡ None → (a ≡ None) × (b ≡ None)

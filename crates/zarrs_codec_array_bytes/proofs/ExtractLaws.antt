@@ -7,8 +7,8 @@ use Rattle.zarr_model.proofs.BytesLaws.{when_some, mask_length, refusal-meaning}
 use Rattle.zarr_model.proofs.RefusalLaws.{kept, offsets_long}
 use Rattle.zarrs_codec_error.specs.declared.error.CodecError.{CodecError}
 use Rattle.zarrs_codec_error.specs.declared.error.CodecError.TheVariants as codec
-use Rattle.zarrs_codec_bytes.specs.Picking.{size_in}
-use Rattle.zarrs_codec_bytes.proofs.MaskLaws.{masked_parts}
+use Rattle.zarrs_codec_slices.specs.Picking.{size_in}
+use Rattle.zarrs_codec_slices.proofs.MaskLaws.{masked_parts}
 use Rattle.zarrs_codec_array_bytes.specs.Refusals.{fine, told_by, first_answer, sized_answer, kind_refusal, lengths_refusal, lengths_answer, extract_answer, validity}
 use Rattle.zarrs_codec_array_bytes.proofs.CheckLaws.{sized_fine}
 use Rattle.zarrs_codec_array_bytes.proofs.ToldLaws.{says_some}

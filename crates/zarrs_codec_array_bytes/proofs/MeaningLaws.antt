@@ -8,11 +8,11 @@ use Rattle.zarr_model.specs.ArrayBytes.{ArrayBytes, meaning}
 use Rattle.zarr_model.specs.Command.{has_long_element}
 use Rattle.zarr_model.specs.Command as model
 use Rattle.zarrs_codec_error.specs.declared.error.CodecError.{CodecError}
-use Rattle.zarrs_codec_bytes.specs.Picking.{AllBelow, gathered, picked, size_in}
-use Rattle.zarrs_codec_bytes.proofs.GatherLaws.{extract_means}
-use Rattle.zarrs_codec_bytes.specs.Filling.{filled_with, innermost_fill}
-use Rattle.zarrs_codec_bytes.proofs.FilledLaws.{filled_means, filled_short}
-use Rattle.zarrs_codec_bytes.proofs.RowLaws.{indices_below}
+use Rattle.zarrs_codec_slices.specs.Picking.{AllBelow, gathered, picked, size_in}
+use Rattle.zarrs_codec_slices.proofs.GatherLaws.{extract_means}
+use Rattle.zarrs_codec_slices.specs.Filling.{filled_with, innermost_fill}
+use Rattle.zarrs_codec_slices.proofs.FilledLaws.{filled_means, filled_short}
+use Rattle.zarrs_codec_slices.proofs.RowLaws.{indices_below}
 use Rattle.zarrs_codec_array_bytes.specs.Selection.{linear}
 use Rattle.zarrs_codec_array_bytes.specs.Refusals.{Told, fine, Answers, first_answer, lengths_refusal, extract_answer}
 use Rattle.zarrs_codec_array_bytes.proofs.CheckLaws.{still_short, below_twice, sized_fine}

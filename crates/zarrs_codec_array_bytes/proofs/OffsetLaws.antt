@@ -1,7 +1,7 @@
 -- Offsets of variable-length elements.
 use Rattle.std.proofs.Common.{◌≡◌, ℕ, suc, ◌-◌, ◌<◌, ◌≤◌, Bool, true, false, nat_le, List, [], ◌∷◌, length, get_or, None, arith, ap, sym, refl, subst}
 use Rattle.std.proofs.lemmas.Bool.{and_parts, and_from, le-leb, leb-true}
-use Rattle.zarrs_codec_bytes.specs.Picking.{stay_within, are_within}
+use Rattle.zarrs_codec_slices.specs.Picking.{stay_within, are_within}
 use Rattle.zarrs_codec_array_bytes.specs.Offsets.{rises_from, never_falls, offsets_error, last_of}
 
 pub some_offset : (numbers : List ℕ) → offsets_error numbers ≡ None → 0 < length numbers

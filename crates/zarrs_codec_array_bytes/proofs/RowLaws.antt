@@ -4,7 +4,7 @@ use Rattle.std.specs.List.{AllByRecursion}
 use Rattle.zarr_model.specs.Region.{Region, count, count_of, whole, contains, place, tuples}
 use Rattle.zarr_model.specs.ArrayBytes.{ArrayBytes}
 use Rattle.zarr_model.proofs.RegionLaws.{length-tuples, count_whole}
-use Rattle.zarrs_codec_bytes.specs.Picking.{gathered}
+use Rattle.zarrs_codec_slices.specs.Picking.{gathered}
 use Rattle.zarrs_codec_array_bytes.specs.Selection.{linear}
 use Rattle.zarrs_codec_array_bytes.specs.Refusals.{lengths_refusal}
 

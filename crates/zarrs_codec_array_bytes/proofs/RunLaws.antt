@@ -5,7 +5,7 @@ use Rattle.std.proofs.lemmas.List.Folds.{flat_map-map}
 use Rattle.zarr_model.specs.Region.{Span}
 use Rattle.zarrs_chunk_grid_indexer.specs.Runs.{joined, span_of}
 use Rattle.zarrs_chunk_grid_indexer.specs.Bytes.{AllWithin}
-use Rattle.zarrs_codec_bytes.specs.PickedRuns.{run_numbers, AreRunsBelow}
+use Rattle.zarrs_codec_slices.specs.PickedRuns.{run_numbers, AreRunsBelow}
 
 pub runs_listed : (runs : List (ℕ × ℕ)) (pieces : List Span) (numbers : List ℕ) → map span_of runs ≡ pieces → joined pieces ≡ numbers → run_numbers runs ≡ numbers
 runs_listed runs pieces numbers is listed =

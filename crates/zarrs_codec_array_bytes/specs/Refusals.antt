@@ -5,7 +5,7 @@ use Rattle.zarr_model.specs.ArrayBytes.{ArrayBytes, fixed_bytes, variable_bytes,
 use Rattle.zarr_model.specs.Command as model
 use Rattle.zarrs_array_subset.specs.declared.error.IndexerError.{IndexerError}
 use Rattle.zarrs_array_subset.specs.declared.error.IndexerError.TheVariants as indexer
-use Rattle.zarrs_codec_bytes.specs.Picking.{size_in}
+use Rattle.zarrs_codec_slices.specs.Picking.{size_in}
 use Rattle.zarrs_codec_array_bytes.specs.Levels.{inner_length}
 use Rattle.zarrs_codec_error.specs.declared.error.CodecError.{CodecError}
 use Rattle.zarrs_codec_error.specs.declared.error.CodecError.TheVariants as codec

@@ -8,10 +8,10 @@ use Rattle.zarr_model.specs.ArrayBytes.{ArrayBytes, fixed_bytes, variable_bytes,
 use Rattle.zarr_model.specs.Command.{has_long_element}
 use Rattle.zarrs_codec_error.specs.declared.error.CodecError.{CodecError}
 use Rattle.zarrs_codec_error.specs.declared.error.CodecError.TheVariants as codec
-use Rattle.zarrs_codec_bytes.specs.Picking.{AllBelow, gathered, replaced, size_in}
-use Rattle.zarrs_codec_bytes.specs.PickedRuns.{run_numbers, AreRunsOf}
-use Rattle.zarrs_codec_bytes.proofs.GatherLaws.{update_means}
-use Rattle.zarrs_codec_bytes.proofs.ReplaceLaws.{picks_below}
+use Rattle.zarrs_codec_slices.specs.Picking.{AllBelow, gathered, replaced, size_in}
+use Rattle.zarrs_codec_slices.specs.PickedRuns.{run_numbers, AreRunsOf}
+use Rattle.zarrs_codec_slices.proofs.GatherLaws.{update_means}
+use Rattle.zarrs_codec_slices.proofs.ReplaceLaws.{picks_below}
 use Rattle.zarrs_codec_array_bytes.specs.Selection.{linear}
 use Rattle.zarrs_codec_array_bytes.specs.Refusals.{Told, fine, told_by, then_answer, Answers, lengths_refusal, lengths_answer}
 use Rattle.zarrs_codec_array_bytes.proofs.CheckLaws.{still_short, sized_fine}

@@ -1,8 +1,8 @@
 //! Elements picked out of two array bytes.
 
 ghost use Rattle.std.specs.Prelude.{◌≡◌, true, None, IfOk, IfErr};
-ghost use Rattle.zarrs_codec_bytes.specs.Picking.{gathered};
-ghost use Rattle.zarrs_codec_bytes.specs.PickedRuns.{run_numbers, AreRunsOf};
+ghost use Rattle.zarrs_codec_slices.specs.Picking.{gathered};
+ghost use Rattle.zarrs_codec_slices.specs.PickedRuns.{run_numbers, AreRunsOf};
 ghost use Rattle.zarrs_codec_array_bytes.specs.Raw.{raw_of};
 ghost use Rattle.zarrs_codec_array_bytes.specs.Refusals.{lengths_refusal};
 ghost use Rattle.zarrs_codec_array_bytes_update.specs.Pairs.{are_alike};
@@ -13,9 +13,9 @@ use std::borrow::CowSlice;
 use zarrs_codec_array_bytes::array_bytes::bytes_in;
 use zarrs_codec_array_bytes::array_bytes::gather::optional_of;
 use zarrs_codec_array_bytes::{ArrayBytes, ArrayBytesVariableLength};
-use zarrs_codec_bytes::piece_runs::gather_piece_runs;
-use zarrs_codec_bytes::value_runs::gather_value_runs;
 use zarrs_codec_error::CodecError;
+use zarrs_codec_slices::piece_runs::gather_piece_runs;
+use zarrs_codec_slices::value_runs::gather_value_runs;
 
 /// The elements of runs: those below the count of the old ones, the others of the new ones. Both are of one kind, level
 /// by level.

@@ -3,7 +3,7 @@
 ghost use Rattle.std.specs.Prelude.{◌≡◌, ◌*◌, ◌<◌, ◌^◌, true, None, length, map, IfOk, IfErr};
 ghost use Rattle.std.specs.List.{AllByRecursion};
 ghost use Rattle.zarr_model.specs.Region.{count, contains, place, tuples};
-ghost use Rattle.zarrs_codec_bytes.specs.Picking.{gathered};
+ghost use Rattle.zarrs_codec_slices.specs.Picking.{gathered};
 ghost use Rattle.zarrs_codec_array_bytes.specs.Raw.{raw_of};
 ghost use Rattle.zarrs_codec_array_bytes.specs.Rows.{outer_box, inner_box, element_bytes};
 ghost use Rattle.zarrs_codec_array_bytes.specs.Refusals.{lengths_refusal, holds_fixed};
@@ -17,8 +17,8 @@ use zarrs_codec_array_bytes::ArrayBytes;
 use zarrs_codec_array_bytes::array_bytes::bytes_in;
 use zarrs_codec_array_bytes::array_bytes::gather::optional_of;
 use zarrs_codec_array_bytes::array_bytes::rows::Rows;
-use zarrs_codec_bytes::rows::update_rows;
 use zarrs_codec_error::CodecError;
+use zarrs_codec_slices::rows::update_rows;
 
 /// The elements of the array, with those of a box in it replaced.
 ///

@@ -5,7 +5,7 @@ ghost use Rattle.zarr_model.specs.Region.{count, count_of, whole, tuples};
 ghost use Rattle.zarr_model.specs.Element.{Element, Kind, null, fixed_size};
 ghost use Rattle.zarr_model.specs.ArrayBytes.{meaning};
 ghost use Rattle.zarr_model.specs.Command.{has_long_element};
-ghost use Rattle.zarrs_codec_bytes.specs.Picking.{gathered, replaced, size_in};
+ghost use Rattle.zarrs_codec_slices.specs.Picking.{gathered, replaced, size_in};
 ghost use Rattle.zarr_model.specs.DataTypeSize.{size_seen};
 ghost use Rattle.zarrs_codec_array_bytes.specs.Raw.{raw_of};
 ghost use Rattle.zarrs_codec_array_bytes.specs.Selection.{linear};
@@ -26,8 +26,8 @@ use zarrs_codec_array_bytes::array_bytes::checks::{expect_fit, expect_lengths, i
 use zarrs_codec_array_bytes::array_bytes::extract::linear_runs;
 use zarrs_codec_array_bytes::array_bytes::rows::Rows;
 use zarrs_codec_array_bytes::array_bytes::step::size_bytes;
-use zarrs_codec_bytes::pick_runs::replaced_runs;
 use zarrs_codec_error::CodecError;
+use zarrs_codec_slices::pick_runs::replaced_runs;
 
 // Whether both are as long as so many elements are, the old bytes first.
 #[tactic(auto, using(crate::proofs::UpdateLaws::then_first))]

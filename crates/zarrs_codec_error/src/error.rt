@@ -7,7 +7,7 @@ use crate::array_bytes_error::{
 };
 use thiserror::Error;
 use zarrs_array_subset::{ArraySubsetError, IncompatibleDimensionalityError, IndexerError};
-use zarrs_data_type_elements::{DataTypeCodecError, DataTypeFillValueError};
+use zarrs_data_type_bytes::{DataTypeCodecError, DataTypeFillValueError};
 use zarrs_storage::{InvalidByteRangeError, StorageError};
 
 /// Why a codec, or a handle of what it decodes, refuses a call.

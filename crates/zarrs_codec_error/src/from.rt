@@ -13,7 +13,7 @@ use crate::array_bytes_error::{
 use crate::error::CodecError;
 use std::alloc::{AllocError, AllocFailed};
 use zarrs_array_subset::{ArraySubsetError, IncompatibleDimensionalityError, IndexerError};
-use zarrs_data_type_elements::{
+use zarrs_data_type_bytes::{
     BytesCodecEndiannessMissingError, DataTypeCodecError, DataTypeFillValueError,
 };
 use zarrs_storage::{ByteRangeFault, InvalidByteRangeError, StorageError};

@@ -7,7 +7,7 @@ use Rattle.zarr_model.specs.Element.{Element, null, Kind, DataType, fill_element
 use Rattle.zarr_model.specs.ArrayBytes.{ArrayBytes, meaning}
 use Rattle.zarr_model.specs.Codec.{Level, ArrayCodec}
 use Rattle.zarr_model.proofs.Choices.{some_now}
-use Rattle.zarrs_codec_bytes.specs.Picking.{picked}
+use Rattle.zarrs_codec_slices.specs.Picking.{picked}
 use Rattle.zarrs_codec_error.specs.declared.error.CodecError.{CodecError}
 use Rattle.zarrs_codec_error.specs.declared.error.CodecError.TheVariants as codec
 use Rattle.zarrs_codec_array_bytes.specs.declared.array_bytes.ArrayBytes as code

@@ -5,9 +5,9 @@ use Rattle.zarr_model.specs.Element.{DataType, fill_element, fixed_size, kind_of
 use Rattle.zarr_model.specs.ArrayBytes.{meaning}
 use Rattle.zarr_model.specs.Codec.{Level}
 use Rattle.zarr_model.proofs.RegionLaws.{sizes_whole}
-use Rattle.zarrs_codec_bytes.specs.Filling.{has_size, innermost_fill}
-use Rattle.zarrs_codec_bytes.specs.Picking.{size_in}
-use Rattle.zarrs_codec_bytes.proofs.FilledLaws.{element_fits}
+use Rattle.zarrs_codec_slices.specs.Filling.{has_size, innermost_fill}
+use Rattle.zarrs_codec_slices.specs.Picking.{size_in}
+use Rattle.zarrs_codec_slices.proofs.FilledLaws.{element_fits}
 use Rattle.zarrs_codec_error.specs.declared.error.CodecError.{CodecError}
 use Rattle.zarrs_codec_error.specs.declared.error.CodecError.TheVariants as codec
 use Rattle.zarrs_codec_array_bytes.specs.declared.array_bytes.ArrayBytes as code

@@ -8,7 +8,7 @@ use Rattle.zarr_model.specs.Command as model
 use Rattle.zarr_model.specs.Command.{bytes_refusal}
 use Rattle.zarr_model.proofs.BytesLaws.{refusal-meaning}
 use Rattle.zarr_model.proofs.Choices.{some_given}
-use Rattle.zarrs_codec_bytes.specs.Picking.{size_in}
+use Rattle.zarrs_codec_slices.specs.Picking.{size_in}
 use Rattle.zarrs_codec_error.specs.declared.error.CodecError.{CodecError}
 use Rattle.zarrs_codec_error.specs.declared.error.CodecError.TheVariants as codec
 use Rattle.zarrs_codec_array_bytes.specs.declared.array_bytes.ArrayBytes as code

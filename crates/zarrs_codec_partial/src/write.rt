@@ -6,7 +6,7 @@ ghost use Rattle.zarr_model.specs.Region.{whole, count_of};
 ghost use Rattle.zarr_model.specs.Element.{kind_of};
 ghost use Rattle.zarr_model.specs.Command.{has_long_element};
 ghost use Rattle.zarrs_array_subset.specs.ArraySubset.{region as box_of};
-ghost use Rattle.zarrs_data_type_elements.specs.FillValue.{fill_bytes};
+ghost use Rattle.zarrs_data_type_bytes.specs.FillValue.{fill_bytes};
 ghost use Rattle.zarrs_codec_error.specs.declared.error.CodecError.TheVariants as codec;
 ghost use Rattle.zarrs_codec_array_bytes.specs.Raw.{raw_of};
 ghost use Rattle.zarrs_codec_traits.specs.Errors.{unserved_at, IsNoFault};
@@ -24,14 +24,13 @@ use zarrs_array_subset::ArraySubset;
 use zarrs_chunk_grid_indexer::Indexer;
 use zarrs_codec_array_bytes::ArrayBytes;
 use zarrs_codec_array_bytes_update::update_array_bytes;
-use zarrs_codec_error::CodecError;
-use zarrs_codec_options::CodecOptions;
+use zarrs_codec_error::{CodecError, CodecOptions};
 use zarrs_codec_partial_elements::boxes::covers;
 use zarrs_codec_partial_elements::fill::expect_denoted;
 use zarrs_codec_partial_elements::write::{expect_given, is_dropped};
 use zarrs_codec_partial_traits::{ArrayPartialDecoderTraits, ArrayPartialEncoderTraits};
 use zarrs_codec_traits::ArrayToArrayCodecTraits;
-use zarrs_data_type_elements::{FillValue, are_bytes};
+use zarrs_data_type_bytes::{FillValue, are_bytes};
 use zarrs_data_type_names::type_size;
 
 // The numbers in a fill value are bytes, by a test.

@@ -7,8 +7,7 @@ ghost use Rattle.zarrs_codec_held.specs.Reads.{IsRangeErrorOf};
 ghost use Rattle.zarrs_codec_held.specs.Interval.{shifted};
 
 use std::alloc::Global;
-use zarrs_codec_error::CodecError;
-use zarrs_codec_options::CodecOptions;
+use zarrs_codec_error::{CodecError, CodecOptions};
 use zarrs_codec_partial_traits::BytesPartialDecoderTraits;
 use zarrs_storage::{ByteRange, InvalidByteRangeError, StorageError};
 

@@ -14,9 +14,8 @@ ghost use Rattle.zarrs_codec_held.specs.Writes.{Writes, ToldAfter, Unasked};
 ghost use Rattle.zarrs_codec_held.specs.Through.{through, through_says, decoded};
 
 use std::alloc::{AllocError, Global};
-use zarrs_codec_error::CodecError;
+use zarrs_codec_error::{BytesRepresentation, CodecError, CodecOptions};
 use zarrs_codec_held::parts_in_memory;
-use zarrs_codec_options::{BytesRepresentation, CodecOptions};
 use zarrs_codec_partial_traits::{BytesPartialDecoderTraits, BytesPartialEncoderTraits};
 use zarrs_codec_traits::BytesToBytesCodecTraits;
 use zarrs_storage::{ByteRange, OffsetBytes, StorageError, put_parts};

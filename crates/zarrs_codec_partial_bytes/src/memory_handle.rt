@@ -4,9 +4,8 @@ ghost use Rattle.std.specs.Prelude.{◌≡◌, option_map};
 ghost use Rattle.zarrs_storage.specs.Store.{value_bytes};
 
 use std::alloc::Global;
-use zarrs_codec_error::CodecError;
+use zarrs_codec_error::{CodecError, CodecOptions};
 use zarrs_codec_held::parts_in_memory;
-use zarrs_codec_options::CodecOptions;
 use zarrs_codec_partial_traits::{BytesPartialDecoderTraits, BytesPartialEncoderTraits};
 use zarrs_storage::{ByteRange, OffsetBytes, StorageError, put_parts};
 

@@ -4,8 +4,7 @@ ghost use Rattle.std.specs.Prelude.{◌≡◌};
 
 use crate::storage_partial_decoder::StoragePartialDecoder;
 use std::alloc::Global;
-use zarrs_codec_error::CodecError;
-use zarrs_codec_options::CodecOptions;
+use zarrs_codec_error::{CodecError, CodecOptions};
 use zarrs_codec_partial_traits::{BytesPartialDecoderTraits, BytesPartialEncoderTraits};
 use zarrs_storage::{ByteRange, OffsetBytes, StorageError, Store, StoreKey};
 

@@ -2,7 +2,7 @@
 use Rattle.std.proofs.Common.{◌≡◌, ℕ, zero, suc, ◌-◌, ◌<◌, ◌==◌, Bool, true, false, is_some, List, [], ◌∷◌, length, take, slice_index, Option, Some, None, IsSome, option_map, refl, sym, ap, ◌∙◌, arith}
 use Rattle.std.proofs.lemmas.Bool.Decides.{nat_tests}
 use Rattle.zarr_model.specs.Element.{Element, some, Kind, optional, fill_element, optional_fill}
-use Rattle.zarrs_data_type_elements.specs.Pieces.{ends_in_zero}
+use Rattle.zarrs_data_type_bytes.specs.Pieces.{ends_in_zero}
 
 pub no_bytes : (kind : Kind) (fill : List ℕ) → length fill ≡ 0 → false ≡ is_some (fill_element (optional kind) fill)
 no_bytes kind [] none = refl

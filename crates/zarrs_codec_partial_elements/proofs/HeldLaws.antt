@@ -4,11 +4,11 @@ use Rattle.std.proofs.Math.Path.{fun_ext}
 use Rattle.std.proofs.lemmas.Bool.{le-leb}
 use Rattle.zarr_model.specs.Region.{Region, count, count_of, ends_within, tuples}
 use Rattle.zarr_model.proofs.RegionLaws.{length-tuples}
-use Rattle.zarrs_codec_bytes.specs.Picking.{picked}
+use Rattle.zarrs_codec_slices.specs.Picking.{picked}
 use Rattle.zarrs_codec_array_bytes.specs.Selection.{linear}
 use Rattle.zarr_model.specs.Element.{Element, null, kind_of, fill_element}
-use Rattle.zarrs_codec_bytes.specs.Filling.{has_size, filled_with}
-use Rattle.zarrs_codec_bytes.proofs.FilledLaws.{filled_valid}
+use Rattle.zarrs_codec_slices.specs.Filling.{has_size, filled_with}
+use Rattle.zarrs_codec_slices.proofs.FilledLaws.{filled_valid}
 use Rattle.zarr_model.specs.ArrayBytes.{ArrayBytes, meaning}
 use Rattle.zarr_model.specs.Codec.{Level, Options}
 use Rattle.zarr_model.specs.Command.{has_long_element}

@@ -14,8 +14,8 @@ use Rattle.zarr_model.specs.Command.{Refusal, bytes_refusal}
 use Rattle.zarr_model.proofs.ElementLaws.{each_same, all_same}
 use Rattle.zarr_model.proofs.Choices.{some_now, none_some, always_ok}
 use Rattle.zarrs_storage.specs.declared.byte_range.ByteRange.{ByteRange}
-use Rattle.zarrs_codec_bytes.specs.Picking.{size_in, replaced}
-use Rattle.zarrs_codec_bytes.proofs.MaskLaws.{masked_parts}
+use Rattle.zarrs_codec_slices.specs.Picking.{size_in, replaced}
+use Rattle.zarrs_codec_slices.proofs.MaskLaws.{masked_parts}
 use Rattle.zarrs_codec_error.specs.declared.error.CodecError.{CodecError}
 use Rattle.zarrs_codec_error.specs.declared.error.CodecError.TheVariants as codec
 use Rattle.zarrs_codec_array_bytes.specs.Levels.{inner_length}

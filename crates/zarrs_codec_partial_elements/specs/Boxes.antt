@@ -5,7 +5,7 @@ use Rattle.zarr_model.specs.Element.{Element, fill_element, kind_of}
 use Rattle.zarr_model.specs.ArrayBytes.{meaning}
 use Rattle.zarr_model.specs.Codec.{Level}
 use Rattle.zarr_model.specs.Command.{has_long_element}
-use Rattle.zarrs_codec_bytes.specs.Filling.{innermost_fill}
+use Rattle.zarrs_codec_slices.specs.Filling.{innermost_fill}
 use Rattle.zarrs_codec_array_bytes.specs.declared.array_bytes.ArrayBytes as code
 use Rattle.zarrs_codec_array_bytes.specs.Raw.{raw_of}
 use Rattle.zarrs_codec_error.specs.declared.error.CodecError.{CodecError}

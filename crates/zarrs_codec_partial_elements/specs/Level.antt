@@ -4,9 +4,9 @@ use Rattle.zarr_model.specs.Region.{Region}
 use Rattle.zarr_model.specs.Element.{Element, DataType, kind_of}
 use Rattle.zarr_model.specs.Codec.{Level, Options}
 use Rattle.zarrs_storage.specs.declared.byte_range.ByteRange.{ByteRange}
-use Rattle.zarrs_data_type_elements.specs.FillValue.{fill_bytes}
+use Rattle.zarrs_data_type_bytes.specs.FillValue.{fill_bytes}
 use Rattle.zarrs_codec_error.specs.declared.error.CodecError.{CodecError}
-use Rattle.zarrs_codec_bytes.specs.Filling.{has_size}
+use Rattle.zarrs_codec_slices.specs.Filling.{has_size}
 use Rattle.zarrs_codec_array_bytes.specs.Refusals.{Told, fine, told_by, other_fill}
 use Rattle.zarrs_codec_traits.specs.Errors.{Unserved, unserved_at}
 use Rattle.zarrs_codec_traits.specs.Parts.{AreParts, lengths_answer}

@@ -5,7 +5,7 @@ use Rattle.zarr_model.specs.Region.{Region}
 use Rattle.zarr_model.specs.Element.{Element, Kind, same_element, fill_element, kind_of}
 use Rattle.zarr_model.specs.ArrayBytes.{ArrayBytes}
 use Rattle.zarr_model.specs.Codec.{Options}
-use Rattle.zarrs_codec_bytes.specs.Picking.{replaced}
+use Rattle.zarrs_codec_slices.specs.Picking.{replaced}
 use Rattle.zarrs_codec_array_bytes.specs.Refusals.{Told, fine, told_by, other_fill, validity, then_answer, first_answer}
 use Rattle.zarrs_codec_error.specs.declared.error.CodecError.{CodecError}
 use Rattle.zarrs_codec_held.specs.Writes.{UnlessFault, CountsIf, MayCountIf}

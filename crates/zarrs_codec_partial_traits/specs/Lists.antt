@@ -7,8 +7,8 @@ use Rattle.zarr_model.specs.Shown.{Shown}
 use Rattle.zarr_model.specs.Prelude.{Rose}
 use Rattle.zarrs_storage.specs.declared.store.StorageError.{StorageError}
 use Rattle.zarr_model.specs.Cost.{counted}
-use Rattle.zarrs_codec_bytes.specs.Filling.{innermost_fill}
-use Rattle.zarrs_codec_bytes.specs.Picking.{size_in}
+use Rattle.zarrs_codec_slices.specs.Filling.{innermost_fill}
+use Rattle.zarrs_codec_slices.specs.Picking.{size_in}
 use Rattle.zarrs_codec_error.specs.declared.error.CodecError.{CodecError}
 use Rattle.zarrs_codec_error.specs.declared.error.CodecError.TheVariants as codec
 use Rattle.zarrs_codec_array_bytes.specs.Refusals.{told_by, other_fill}

@@ -16,8 +16,7 @@ use crate::array_partial_decoder::ArrayPartialDecoderTraits;
 use std::alloc::Global;
 use zarrs_chunk_grid_indexer::Indexer;
 use zarrs_codec_array_bytes::ArrayBytes;
-use zarrs_codec_error::CodecError;
-use zarrs_codec_options::CodecOptions;
+use zarrs_codec_error::{CodecError, CodecOptions};
 
 /// A handle on the elements that one value decodes to, which are read and written.
 pub trait ArrayPartialEncoderTraits: ArrayPartialDecoderTraits {

@@ -14,8 +14,7 @@ ghost use Rattle.zarrs_codec_held.specs.Held.{Seen, IsSound};
 ghost use Rattle.zarrs_codec_held.specs.Reads.{Looks, Reads, GivesParts, IsReadError, IsPartError, RefusesFirst};
 
 use std::alloc::Global;
-use zarrs_codec_error::CodecError;
-use zarrs_codec_options::CodecOptions;
+use zarrs_codec_error::{CodecError, CodecOptions};
 use zarrs_codec_traits::only_part;
 use zarrs_storage::{ByteRange, StorageError};
 

@@ -11,8 +11,7 @@ ghost use Rattle.zarrs_codec_held.specs.Writes.{Writes, ToldAfter, Edits, Unaske
 
 use crate::bytes_partial_decoder::BytesPartialDecoderTraits;
 use std::alloc::Global;
-use zarrs_codec_error::CodecError;
-use zarrs_codec_options::CodecOptions;
+use zarrs_codec_error::{CodecError, CodecOptions};
 use zarrs_storage::OffsetBytes;
 
 /// A handle on one value that is bytes, which is read and written.

@@ -6,9 +6,8 @@ ghost use Rattle.std.specs.Cow.{cow_slice_items};
 use crate::bytes_partial_decoder::BytesPartialDecoderTraits;
 use std::alloc::Global;
 use std::borrow::CowSlice;
-use zarrs_codec_error::CodecError;
+use zarrs_codec_error::{CodecError, CodecOptions};
 use zarrs_codec_held::parts_in_memory;
-use zarrs_codec_options::CodecOptions;
 use zarrs_storage::{ByteRange, StorageError};
 
 impl BytesPartialDecoderTraits for Vec<u8> {

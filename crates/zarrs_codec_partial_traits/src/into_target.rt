@@ -18,8 +18,7 @@ use crate::array_partial_decoder::ArrayPartialDecoderTraits;
 use std::alloc::Global;
 use zarrs_chunk_grid_indexer::Indexer;
 use zarrs_codec_array_bytes::ArrayBytes;
-use zarrs_codec_error::CodecError;
-use zarrs_codec_options::CodecOptions;
+use zarrs_codec_error::{CodecError, CodecOptions};
 use zarrs_codec_traits::{expect_number, put_fixed, put_optional};
 use zarrs_codec_view::ArrayBytesFixedDisjointView;
 

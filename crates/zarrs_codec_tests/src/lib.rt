@@ -1,14 +1,28 @@
-//! Worked examples of stores and byte ranges, of options of codecs, of the texts of their errors, and of views.
+//! Worked examples of byte ranges, options, errors, array bytes, views and handles.
 #![tactic(auto)]
 
 #[cfg(test)]
+mod array_bytes;
+#[cfg(test)]
+mod bytes;
+#[cfg(test)]
+mod checksums;
+#[cfg(test)]
+mod element_parts;
+#[cfg(test)]
+mod elements;
+#[cfg(test)]
 mod errors;
+#[cfg(test)]
+mod handle_stores;
 #[cfg(test)]
 mod options;
 #[cfg(test)]
 mod parts;
 #[cfg(test)]
 mod ranges;
+#[cfg(test)]
+mod reading;
 #[cfg(test)]
 mod stores;
 #[cfg(test)]

@@ -4,7 +4,7 @@ use crate::texts::is_text;
 use serde_json::{Map, Value};
 use std::alloc::{AllocError, Global};
 use std::process::Abort;
-use zarrs_codec_options::{BytesRepresentation, CodecSpecificOptions};
+use zarrs_codec_error::{BytesRepresentation, CodecSpecificOptions};
 use zarrs_metadata_values::Configuration;
 
 // A configuration with a level.

@@ -14,7 +14,7 @@ use zarrs_codec_view::{
     ArrayBytesDecodeIntoTarget, ArrayBytesFixedDisjointView, copy_fill_value_into,
     decode_into_array_bytes_target,
 };
-use zarrs_data_type_elements::FillValue;
+use zarrs_data_type_bytes::FillValue;
 use zarrs_data_type_names::DataType;
 
 fn region(rt: &impl Abort, alloc: Global, ranges: &[Range<u64>]) -> ArraySubset {

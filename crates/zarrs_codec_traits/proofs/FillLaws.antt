@@ -3,8 +3,8 @@ use Rattle.std.proofs.Common.{◌≡◌, ◌⊎◌, ℕ, zero, suc, ◌<◌, Boo
 use Rattle.std.specs.List.{AllByRecursion}
 use Rattle.zarr_model.specs.Element.{Element, of_bytes, null, some, Kind, fixed, variable, optional, fill_element, optional_fill}
 use Rattle.zarr_model.proofs.ListLaws.{bytes-take}
-use Rattle.zarrs_codec_bytes.specs.Filling.{has_size}
-use Rattle.zarrs_codec_bytes.proofs.FilledLaws.{element_fits}
+use Rattle.zarrs_codec_slices.specs.Filling.{has_size}
+use Rattle.zarrs_codec_slices.proofs.FilledLaws.{element_fits}
 use Rattle.zarrs_codec_error.specs.declared.error.CodecError.{CodecError}
 use Rattle.zarrs_codec_error.specs.declared.error.CodecError.TheVariants as codec
 use Rattle.zarrs_codec_array_bytes.specs.Refusals.{fill_answer, told_by}

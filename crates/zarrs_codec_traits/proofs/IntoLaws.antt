@@ -3,7 +3,7 @@ use Rattle.std.proofs.Common.{◌≡◌, ℕ, ◌*◌, ◌==◌, List, [], ◌�
 use Rattle.zarr_model.specs.Prelude.{Element, of_bytes, Kind, fixed, variable, optional, pieces, meaning}
 use Rattle.zarr_model.specs.ArrayBytes.{ArrayBytes, fixed_bytes, variable_bytes, optional_bytes}
 use Rattle.zarr_model.proofs.BytesLaws.{when_some, mask_length}
-use Rattle.zarrs_codec_bytes.proofs.MaskLaws.{IsMasked, masked_parts}
+use Rattle.zarrs_codec_slices.proofs.MaskLaws.{IsMasked, masked_parts}
 use Rattle.zarrs_codec_array_bytes.specs.Refusals.{Told, then_answer, told, Answers}
 use Rattle.zarrs_codec_error.specs.declared.error.CodecError.{CodecError}
 use Rattle.zarrs_codec_view.specs.declared.array_bytes_fixed_disjoint_view.ArrayBytesFixedDisjointView.{ArrayBytesFixedDisjointView}

@@ -9,7 +9,7 @@ use Rattle.zarr_model.specs.ArrayBytes.{ArrayBytes, meaning}
 use Rattle.zarr_model.specs.Codec.{Level}
 use Rattle.zarr_model.proofs.RegionLaws.{length-tuples, place_below, place-tuple_at, contains-tuple_at, get_or-tuples, sizes_whole, count_within}
 use Rattle.zarr_model.proofs.ArrayLaws.{inside_shape}
-use Rattle.zarrs_codec_bytes.specs.Picking.{size_in, picked}
+use Rattle.zarrs_codec_slices.specs.Picking.{size_in, picked}
 use Rattle.zarrs_codec_array_bytes.specs.Selection.{linear}
 use Rattle.zarrs_codec_traits.specs.Words.{select, IsFit, at_box, list_at}
 

@@ -7,7 +7,7 @@ use Rattle.zarr_model.specs.ArrayBytes.{ArrayBytes, meaning}
 use Rattle.zarr_model.proofs.RegionLaws.{length-tuples}
 use Rattle.zarrs_codec_error.specs.declared.error.CodecError.{CodecError}
 use Rattle.zarrs_codec_error.specs.declared.error.CodecError.TheVariants as codec
-use Rattle.zarrs_codec_bytes.specs.Picking.{picked}
+use Rattle.zarrs_codec_slices.specs.Picking.{picked}
 use Rattle.zarrs_codec_array_bytes.specs.Selection.{linear}
 use Rattle.zarrs_codec_array_bytes.specs.Refusals.{Answers, extract_answer}
 use Rattle.zarrs_codec_array_bytes.proofs.ExtractLaws.{extract_told}

@@ -2,7 +2,7 @@
 use Rattle.std.specs.Prelude.{ℕ, List, Option, Some}
 use Rattle.serde_json.specs.Data.{Members}
 use Rattle.zarrs_metadata_parts.specs.MetadataV3.{Extension, extension_seen}
-use Rattle.zarrs_metadata_v2.specs.MetadataV2.{CodecV2, codec_v2_seen}
+use Rattle.zarrs_metadata_parts.specs.MetadataV2.{CodecV2, codec_v2_seen}
 use Rattle.zarrs_codec_traits.specs.declared.codec_metadata.CodecMetadata.{CodecMetadata}
 use Rattle.zarrs_codec_traits.specs.declared.codec_metadata.CodecMetadata.TheVariants as code
 

@@ -4,8 +4,8 @@ use Rattle.zarr_model.specs.Element.{DataType}
 use Rattle.zarr_model.specs.Codec.{Level}
 use Rattle.zarr_model.specs.Command.{expected_fixed_length_bytes, invalid_variable_sized_array_offsets}
 use Rattle.zarrs_storage.specs.declared.store.StorageError.{StorageError}
-use Rattle.zarrs_data_type_elements.specs.declared.codec_support.CodecName.{CodecName}
-use Rattle.zarrs_data_type_elements.specs.declared.codec_support.DataTypeCodecError.TheVariants as fault
+use Rattle.zarrs_data_type_bytes.specs.declared.codec_support.CodecName.{CodecName}
+use Rattle.zarrs_data_type_bytes.specs.declared.codec_support.DataTypeCodecError.TheVariants as fault
 use Rattle.zarrs_codec_array_bytes.specs.Refusals.{Told, told_by, fine, refused, other_fill}
 use Rattle.zarrs_codec_error.specs.declared.error.CodecError.{CodecError}
 use Rattle.zarrs_codec_error.specs.declared.error.CodecError.TheVariants as codec

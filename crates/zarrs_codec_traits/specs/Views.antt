@@ -4,12 +4,12 @@ use Rattle.std.specs.Int.NonZero.{non_zero_u64_get}
 use Rattle.std.specs.declared.num.NonZeroU64.{NonZeroU64}
 use Rattle.zarr_model.specs.Element.{null, fill_element, kind_of}
 use Rattle.zarr_model.specs.Codec.{Level, Options}
-use Rattle.zarrs_data_type_elements.specs.FillValue.{fill_bytes}
-use Rattle.zarrs_data_type_elements.specs.declared.fill_value.FillValue.{FillValue}
+use Rattle.zarrs_data_type_bytes.specs.FillValue.{fill_bytes}
+use Rattle.zarrs_data_type_bytes.specs.declared.fill_value.FillValue.{FillValue}
 use Rattle.zarrs_data_type_names.specs.DataType.{type_of}
 use Rattle.zarrs_data_type_names.specs.declared.data_type.DataType.{DataType}
 use Rattle.zarrs_storage.specs.declared.byte_range.ByteRange.{ByteRange}
-use Rattle.zarrs_codec_options.specs.declared.options.CodecOptions.{CodecOptions}
+use Rattle.zarrs_codec_error.specs.declared.options.CodecOptions.{CodecOptions}
 
 -- the lengths of a chunk
 abbrev pub lengths : List NonZeroU64 → List ℕ

@@ -5,7 +5,7 @@ use Rattle.zarr_model.specs.Region.{Region, whole, tuples, place, sizes, count_o
 use Rattle.zarr_model.specs.Element.{Element, of_bytes, null, some, DataType, kind_of, fixed_size}
 use Rattle.zarr_model.specs.ArrayBytes.{ArrayBytes, meaning}
 use Rattle.zarr_model.specs.Codec.{Level}
-use Rattle.zarrs_codec_bytes.specs.Picking.{size_in}
+use Rattle.zarrs_codec_slices.specs.Picking.{size_in}
 
 -- the list that array bytes mean at a level, if they are valid
 abbrev pub list_at : Level → ArrayBytes → Option (List Element)

@@ -4,16 +4,15 @@ ghost use Rattle.std.specs.Prelude.{◌≡◌, ℕ, List, Option, Some, Ok, Matc
 ghost use Rattle.zarr_model.specs.Codec.{Options};
 ghost use Rattle.zarrs_codec_error.specs.declared.error.CodecError.{CodecError};
 ghost use Rattle.zarrs_codec_error.specs.declared.error.CodecError.TheVariants as codec;
-ghost use Rattle.zarrs_codec_options.specs.declared.bytes_representation.BytesRepresentation.{BytesRepresentation};
-ghost use Rattle.zarrs_codec_options.specs.declared.recommended_concurrency.RecommendedConcurrency.{RecommendedConcurrency};
+ghost use Rattle.zarrs_codec_error.specs.declared.bytes_representation.BytesRepresentation.{BytesRepresentation};
+ghost use Rattle.zarrs_codec_error.specs.declared.recommended_concurrency.RecommendedConcurrency.{RecommendedConcurrency};
 ghost use Rattle.zarrs_codec_traits.specs.Errors.{IsNoFault, IsDecodeError};
 ghost use Rattle.zarrs_codec_traits.specs.Views.{options_of};
 
 use crate::codec_traits::CodecTraits;
 use std::alloc::Global;
-use zarrs_codec_error::CodecError;
-use zarrs_codec_options::{
-    BytesRepresentation, CodecOptions, CodecSpecificOptions, RecommendedConcurrency,
+use zarrs_codec_error::{
+    BytesRepresentation, CodecError, CodecOptions, CodecSpecificOptions, RecommendedConcurrency,
 };
 
 /// A codec that turns bytes into bytes.

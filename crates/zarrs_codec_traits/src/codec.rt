@@ -14,7 +14,7 @@ use crate::bytes_to_bytes::BytesToBytesCodecTraits;
 use crate::codec_metadata::CodecMetadata;
 use crate::making::unsupported_codec;
 use std::alloc::{AllocError, Global};
-use zarrs_codec_options::CodecMetadataOptions;
+use zarrs_codec_error::CodecMetadataOptions;
 use zarrs_metadata_parts::Configuration;
 use zarrs_plugin::{PluginCreateError, Registry, ZarrVersion};
 

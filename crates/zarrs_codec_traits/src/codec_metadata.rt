@@ -3,8 +3,7 @@
 ghost use Rattle.std.specs.Prelude.{◌≡◌, option_map};
 ghost use Rattle.zarrs_metadata_values.specs.Configuration.{configuration_seen};
 
-use zarrs_metadata_parts::{Configuration, MetadataV3};
-use zarrs_metadata_v2::MetadataV2;
+use zarrs_metadata_parts::{Configuration, MetadataV2, MetadataV3};
 
 /// The metadata of a codec.
 #[derive(Clone, Copy)]

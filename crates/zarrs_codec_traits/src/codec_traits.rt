@@ -5,18 +5,18 @@ ghost use Rattle.serde_json.specs.Data.{Members};
 ghost use Rattle.zarr_model.specs.Codec.{Level};
 ghost use Rattle.zarr_model.specs.Element as Model;
 ghost use Rattle.zarrs_metadata_values.specs.Configuration.{configuration_seen};
-ghost use Rattle.zarrs_metadata_v2.specs.MetadataV2.{CodecV2, codec_v2_seen};
+ghost use Rattle.zarrs_metadata_parts.specs.MetadataV2.{CodecV2, codec_v2_seen};
 ghost use Rattle.zarrs_metadata_parts.specs.MetadataV3.{Extension, extension_seen};
 ghost use Rattle.zarrs_plugin.specs.Making.{Unmade, Makes};
 ghost use Rattle.zarrs_plugin.specs.declared.error.PluginKind.TheVariants as kinds;
 ghost use Rattle.zarrs_plugin.specs.declared.zarr_version.ZarrVersion.{ZarrVersion};
 ghost use Rattle.zarrs_plugin.specs.declared.zarr_version.ZarrVersion.TheVariants as version;
 ghost use Rattle.zarrs_data_type_names.specs.DataType.{type_of};
-ghost use Rattle.zarrs_codec_options.specs.Options.{default_metadata_options};
-ghost use Rattle.zarrs_codec_options.specs.declared.options.CodecMetadataOptions.{CodecMetadataOptions};
-ghost use Rattle.zarrs_codec_options.specs.declared.capability.PartialDecoderCapability.{PartialDecoderCapability};
-ghost use Rattle.zarrs_codec_options.specs.declared.capability.PartialEncoderCapability.{PartialEncoderCapability};
-ghost use Rattle.zarrs_codec_options.specs.declared.recommended_concurrency.RecommendedConcurrency.{RecommendedConcurrency};
+ghost use Rattle.zarrs_codec_error.specs.Options.{default_metadata_options};
+ghost use Rattle.zarrs_codec_error.specs.declared.options.CodecMetadataOptions.{CodecMetadataOptions};
+ghost use Rattle.zarrs_codec_error.specs.declared.capability.PartialDecoderCapability.{PartialDecoderCapability};
+ghost use Rattle.zarrs_codec_error.specs.declared.capability.PartialEncoderCapability.{PartialEncoderCapability};
+ghost use Rattle.zarrs_codec_error.specs.declared.recommended_concurrency.RecommendedConcurrency.{RecommendedConcurrency};
 ghost use Rattle.zarrs_codec_traits.specs.Errors.{Unserved, unserved_at, Serves};
 ghost use Rattle.zarrs_codec_traits.specs.Views.{lengths};
 ghost use Rattle.zarrs_codec_traits.specs.Words.{IsFit, taken};
@@ -24,14 +24,12 @@ ghost use Rattle.zarrs_codec_traits.specs.Words.{IsFit, taken};
 use std::alloc::{AllocError, Global};
 use std::num::NonZeroU64;
 use zarrs_array_subset::ChunkShape;
-use zarrs_codec_error::CodecError;
-use zarrs_codec_options::{
-    CodecMetadataOptions, PartialDecoderCapability, PartialEncoderCapability,
+use zarrs_codec_error::{
+    CodecError, CodecMetadataOptions, PartialDecoderCapability, PartialEncoderCapability,
     RecommendedConcurrency,
 };
 use zarrs_data_type_names::DataType;
-use zarrs_metadata_parts::{Configuration, MetadataV3};
-use zarrs_metadata_v2::MetadataV2;
+use zarrs_metadata_parts::{Configuration, MetadataV2, MetadataV3};
 use zarrs_plugin::{ExtensionName, PluginCreateError, ZarrVersion};
 
 /// What a codec tells of itself.

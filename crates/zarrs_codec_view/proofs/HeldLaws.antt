@@ -10,11 +10,11 @@ use Rattle.zarr_model.proofs.ArrayLaws.{elements_in-written, inside_shape}
 use Rattle.zarr_model.proofs.BytesLaws.{when_some, mask_length}
 use Rattle.zarrs_array_subset.specs.ArraySubset.{region}
 use Rattle.zarrs_codec_array_bytes.specs.Refusals.{fine, then_answer}
-use Rattle.zarrs_codec_bytes.specs.Elements.{fixed_elements}
-use Rattle.zarrs_codec_bytes.specs.Overlap.{Copied}
-use Rattle.zarrs_codec_bytes.proofs.FixedLaws.{elements_are, length-elements}
-use Rattle.zarrs_codec_bytes.proofs.MaskLaws.{IsMasked, masked_parts}
-use Rattle.zarrs_codec_bytes.proofs.LeafLaws.{fixed_long}
+use Rattle.zarrs_codec_slices.specs.Elements.{fixed_elements}
+use Rattle.zarrs_codec_slices.specs.Overlap.{Copied}
+use Rattle.zarrs_codec_slices.proofs.FixedLaws.{elements_are, length-elements}
+use Rattle.zarrs_codec_slices.proofs.MaskLaws.{IsMasked, masked_parts}
+use Rattle.zarrs_codec_slices.proofs.LeafLaws.{fixed_long}
 use Rattle.zarrs_codec_view.specs.declared.array_bytes_fixed_disjoint_view.ArrayBytesFixedDisjointView.{ArrayBytesFixedDisjointView}
 use Rattle.zarrs_codec_view.specs.declared.part.Part.{Part}
 use Rattle.zarrs_codec_view.specs.Held.{box_elements, box_bytes, held_by, HasElements, IsTargetOf, HaveBytes}

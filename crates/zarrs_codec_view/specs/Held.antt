@@ -2,7 +2,7 @@
 use Rattle.std.specs.Prelude.{◌≡◌, ℕ, List, [], ◌∷◌, length, get_or, flat_map}
 use Rattle.zarr_model.specs.Prelude.{Element, null, Kind, fixed, optional, count, sizes, linear_index, Array, elements_in, bytes_of, mask_over}
 use Rattle.zarrs_array_subset.specs.ArraySubset.{region}
-use Rattle.zarrs_codec_bytes.specs.Elements.{fixed_elements}
+use Rattle.zarrs_codec_slices.specs.Elements.{fixed_elements}
 use Rattle.zarrs_codec_view.specs.declared.array_bytes_fixed_disjoint_view.ArrayBytesFixedDisjointView.{ArrayBytesFixedDisjointView}
 
 -- the array whose elements a view's bytes are, one after another in row-major order; null past them

@@ -4,8 +4,8 @@ use Rattle.zarr_model.specs.Prelude.{Element, Kind, Region, count, count_of, con
 use Rattle.zarr_model.specs.ArrayBytes.{ArrayBytes}
 use Rattle.zarrs_array_subset.specs.ArraySubset.{region}
 use Rattle.zarrs_codec_array_bytes.specs.Refusals.{fine}
-use Rattle.zarrs_codec_bytes.specs.Elements.{fixed_elements}
-use Rattle.zarrs_codec_bytes.specs.Overlap.{Copied}
+use Rattle.zarrs_codec_slices.specs.Elements.{fixed_elements}
+use Rattle.zarrs_codec_slices.specs.Overlap.{Copied}
 use Rattle.zarrs_codec_view.specs.Held.{array_of, box_elements, held_by, IsTargetOf, HaveBytes}
 use Rattle.zarrs_codec_view.specs.Targets.{IsWritten, ArePut, target_answer}
 use Rattle.zarrs_codec_view.specs.declared.array_bytes_fixed_disjoint_view.ArrayBytesFixedDisjointView.{ArrayBytesFixedDisjointView}

@@ -6,8 +6,8 @@ use Rattle.zarr_model.specs.ArrayBytes.{ArrayBytes, fixed_bytes, variable_bytes,
 use Rattle.zarrs_array_subset.specs.ArraySubset.{region}
 use Rattle.zarr_model.specs.Command as model
 use Rattle.zarrs_codec_array_bytes.specs.Refusals.{Told, fine, refused, wrong_length, then_answer}
-use Rattle.zarrs_codec_bytes.specs.Elements.{fixed_elements}
-use Rattle.zarrs_codec_bytes.specs.Overlap.{Copied}
+use Rattle.zarrs_codec_slices.specs.Elements.{fixed_elements}
+use Rattle.zarrs_codec_slices.specs.Overlap.{Copied}
 use Rattle.zarrs_codec_view.specs.declared.array_bytes_fixed_disjoint_view.ArrayBytesFixedDisjointView.{ArrayBytesFixedDisjointView}
 
 -- array bytes have so many masks and then elements of one size, tested from the outermost level on

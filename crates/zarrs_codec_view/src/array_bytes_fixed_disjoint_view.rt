@@ -5,9 +5,9 @@ ghost use Rattle.zarr_model.specs.Region.{count, whole, sizes};
 ghost use Rattle.zarr_model.specs.Prelude.{of_bytes};
 ghost use Rattle.zarrs_array_subset.specs.ArraySubset.{region};
 ghost use Rattle.zarrs_chunk_grid_iterators.specs.Runs.{run_size};
-ghost use Rattle.zarrs_codec_bytes.specs.Elements.{fixed_elements};
-ghost use Rattle.zarrs_codec_bytes.specs.Filled.{Filled};
-ghost use Rattle.zarrs_codec_bytes.specs.Overlap.{Copied};
+ghost use Rattle.zarrs_codec_slices.specs.Elements.{fixed_elements};
+ghost use Rattle.zarrs_codec_slices.specs.Filled.{Filled};
+ghost use Rattle.zarrs_codec_slices.specs.Overlap.{Copied};
 ghost use Rattle.zarrs_codec_view.specs.Answers.{Answers, create_answer, part_answer, write_answer};
 
 use crate::part::{Part, copy_into, elements_in, expect_len, fill_into, inner_part, part_of};

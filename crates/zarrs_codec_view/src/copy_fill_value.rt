@@ -3,8 +3,8 @@
 ghost use Rattle.std.specs.Prelude.{◌≡◌, ◌+◌, ◌*◌, ◌<◌, ◌^◌, [], IfOk, IfErr};
 ghost use Rattle.zarr_model.specs.Region.{count};
 ghost use Rattle.zarrs_array_subset.specs.ArraySubset.{region};
-ghost use Rattle.zarrs_data_type_elements.specs.FillValue.{fill_bytes};
-ghost use Rattle.zarrs_codec_bytes.specs.Filling.{has_size, filled_with};
+ghost use Rattle.zarrs_data_type_bytes.specs.FillValue.{fill_bytes};
+ghost use Rattle.zarrs_codec_slices.specs.Filling.{has_size, filled_with};
 ghost use Rattle.zarrs_codec_array_bytes.specs.Steps.{kind_seen, bytes_seen};
 ghost use Rattle.zarrs_codec_array_bytes.specs.Refusals.{Answers, fill_answer, then_answer};
 ghost use Rattle.zarrs_codec_view.specs.TargetViews.{inner_view, mask_views};
@@ -17,7 +17,7 @@ use crate::decode_into_target::{
 use std::alloc::Global;
 use zarrs_codec_array_bytes::ArrayBytes;
 use zarrs_codec_error::CodecError;
-use zarrs_data_type_elements::FillValue;
+use zarrs_data_type_bytes::FillValue;
 use zarrs_data_type_names::DataType;
 
 // Fills elements of one size.

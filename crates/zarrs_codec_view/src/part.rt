@@ -6,19 +6,19 @@ ghost use Rattle.zarr_model.specs.Region.{count, count_of, whole, ends_within, s
 ghost use Rattle.zarr_model.specs.Prelude.{of_bytes};
 ghost use Rattle.zarrs_array_subset.specs.ArraySubset.{region};
 ghost use Rattle.zarrs_chunk_grid_iterators.specs.Runs.{run_size};
-ghost use Rattle.zarrs_codec_bytes.specs.Elements.{fixed_elements};
-ghost use Rattle.zarrs_codec_bytes.specs.Filled.{Filled};
-ghost use Rattle.zarrs_codec_bytes.specs.Overlap.{Copied};
+ghost use Rattle.zarrs_codec_slices.specs.Elements.{fixed_elements};
+ghost use Rattle.zarrs_codec_slices.specs.Filled.{Filled};
+ghost use Rattle.zarrs_codec_slices.specs.Overlap.{Copied};
 ghost use Rattle.zarrs_codec_view.specs.Answers.{Answers, create_answer, length_answer, part_answer};
 
 use std::alloc::{AllocError, Global};
 use zarrs_array_subset::{ArraySubset, shape_product};
 use zarrs_chunk_grid_iterators::ContiguousLinearisedIndices;
-use zarrs_codec_bytes::fill_box::fill_elements;
-use zarrs_codec_bytes::overlap::copy_elements;
 use zarrs_codec_error::{
     ArrayBytesFixedDisjointViewCreateError, InvalidBytesLengthError, SubsetOutOfBoundsError,
 };
+use zarrs_codec_slices::fill_box::fill_elements;
+use zarrs_codec_slices::overlap::copy_elements;
 
 /// A box of an array of elements of one size, with what it needs to be written without memory.
 #[derive(Drop)]

@@ -9,8 +9,8 @@ use Rattle.zarr_model.specs.Codec.{low_bytes, number_of_bytes}
 use Rattle.zarrs_metadata_values.specs.FillValueMetadata.{fill_view, bytes_in}
 use Rattle.zarrs_metadata_values.specs.Writing.{numbers_data}
 use Rattle.zarrs_metadata_values.specs.declared.fill_value.FillValueMetadataV3.{FillValueMetadataV3}
-use Rattle.zarrs_data_type_elements.specs.FillValue.{fill_bytes, bool_byte}
-use Rattle.zarrs_data_type_elements.specs.declared.fill_value.FillValue.{FillValue}
+use Rattle.zarrs_data_type_bytes.specs.FillValue.{fill_bytes, bool_byte}
+use Rattle.zarrs_data_type_bytes.specs.declared.fill_value.FillValue.{FillValue}
 use Rattle.zarrs_data_type.specs.declared.fill_metadata.FillMetadataFault.{FillMetadataFault}
 use Rattle.zarrs_data_type.specs.declared.fill_metadata.FillMetadataFault.TheVariants.{Metadata, OutOfMemory}
 use Rattle.zarrs_data_type.specs.declared.metadata_of_fill.FillFault.{FillFault}

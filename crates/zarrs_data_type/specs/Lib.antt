@@ -1,9 +1,9 @@
-pub use Rattle.zarrs_data_type_elements.specs.FillValue
-pub use Rattle.zarrs_data_type_elements.specs.Pieces
-pub use Rattle.zarrs_data_type_elements.specs.ByteOrder
-pub use Rattle.zarrs_data_type_elements.specs.BytesSupport
-pub use Rattle.zarrs_data_type_elements.specs.Rounding
-pub use Rattle.zarrs_data_type_elements.specs.CodecSupport
+pub use Rattle.zarrs_data_type_bytes.specs.FillValue
+pub use Rattle.zarrs_data_type_bytes.specs.Pieces
+pub use Rattle.zarrs_data_type_bytes.specs.ByteOrder
+pub use Rattle.zarrs_data_type_bytes.specs.BytesSupport
+pub use Rattle.zarrs_data_type_bytes.specs.Rounding
+pub use Rattle.zarrs_data_type_bytes.specs.CodecSupport
 pub use Rattle.zarrs_data_type_names.specs.DataType
 pub use Rattle.zarrs_data_type_names.specs.Kinds
 pub use Rattle.zarrs_data_type_names.specs.Making

@@ -11,7 +11,7 @@ ghost use Rattle.zarrs_data_type.specs.FillMetadata.{only_item, fill_of, Fills, 
 
 use std::alloc::{AllocError, AllocFailed, Global};
 use thiserror::Error;
-use zarrs_data_type_elements::FillValue;
+use zarrs_data_type_bytes::FillValue;
 use zarrs_data_type_names::DataType;
 use zarrs_metadata_values::FillValueMetadataV3;
 

@@ -9,7 +9,7 @@ ghost use Rattle.zarrs_data_type_names.specs.DataType.{type_of};
 ghost use Rattle.zarrs_data_type.specs.FillMetadata.{fill_of, fill_metadata_of};
 ghost use Rattle.zarrs_data_type_names.specs.declared.data_type.DataType.{DataType};
 
-pub use zarrs_data_type_elements::laws::{order_decodes, order_undone, rounding_settles};
+pub use zarrs_data_type_bytes::laws::{order_decodes, order_undone, rounding_settles};
 pub use zarrs_data_type_names::laws::{named_types, same_types};
 
 /// A fill value that a document gives denotes an element of the data type.

@@ -2,7 +2,7 @@
 //!
 //! See <https://zarr-specs.readthedocs.io/en/latest/v3/core/index.html#data-types>. Data types themselves come from the
 //! crate `zarrs_data_type_names`, and fill values, byte order, rounding and what codecs ask of a data type from
-//! `zarrs_data_type_elements`; what users name of them is passed on here.
+//! `zarrs_data_type_bytes`; what users name of them is passed on here.
 #![tactic(auto)]
 
 mod data_type_traits;
@@ -15,7 +15,7 @@ pub use data_type_traits::{DataTypeTraits, DataTypeTraitsV2, DataTypeTraitsV3};
 pub use fill_metadata::{DataTypeFillValueMetadataError, FillMetadataFault};
 pub use metadata_of_fill::FillFault;
 pub use optional::OptionalDataType;
-pub use zarrs_data_type_elements::{
+pub use zarrs_data_type_bytes::{
     BitroundDataTypeTraits, BitroundElementType, BitroundSupport, BytesCodecEndiannessMissingError,
     BytesCodecFault, BytesDataTypeTraits, BytesSupport, CodecName, DataTypeCodecError,
     DataTypeFillValueError, FillValue, FixedScaleOffsetDataTypeTraits, FixedScaleOffsetElementType,

@@ -12,7 +12,7 @@ ghost use Rattle.zarrs_data_type.specs.FillMetadata.{signed_number, fill_metadat
 
 use std::alloc::{AllocError, AllocFailed, Global};
 use thiserror::Error;
-use zarrs_data_type_elements::DataTypeFillValueError;
+use zarrs_data_type_bytes::DataTypeFillValueError;
 use zarrs_data_type_names::DataType;
 use zarrs_metadata_parts::FillValueMetadata;
 

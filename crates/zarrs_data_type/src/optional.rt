@@ -4,8 +4,8 @@ ghost use Rattle.std.specs.Prelude.{◌≡◌, ◌-◌, IfOk, Some, is_some, len
 ghost use Rattle.zarrs_plugin.specs.declared.zarr_version.ZarrVersion.{ZarrVersion};
 ghost use Rattle.zarrs_metadata_values.specs.Configuration.{configuration_seen};
 ghost use Rattle.zarrs_metadata_values.specs.FillValueMetadata.{fill_view};
-ghost use Rattle.zarrs_data_type_elements.specs.FillValue.{fill_bytes};
-ghost use Rattle.zarrs_data_type_elements.specs.Pieces.{ends_in_zero};
+ghost use Rattle.zarrs_data_type_bytes.specs.FillValue.{fill_bytes};
+ghost use Rattle.zarrs_data_type_bytes.specs.Pieces.{ends_in_zero};
 ghost use Rattle.zarrs_data_type_names.specs.DataType.{type_of, size_of};
 ghost use Rattle.zarrs_data_type_names.specs.Naming.{type_name, type_configuration};
 ghost use Rattle.zarr_model.specs.DataTypeSize.{size_seen};
@@ -17,7 +17,7 @@ use crate::fill_metadata::{FillMetadataFault, fill_from_metadata, optional_fill}
 use crate::metadata_of_fill::{FillFault, optional_metadata};
 use std::alloc::{AllocError, Global};
 use zarr_model::DataTypeSize;
-use zarrs_data_type_elements::FillValue;
+use zarrs_data_type_bytes::FillValue;
 use zarrs_data_type_names::{DataType, optional_members, type_size};
 use zarrs_metadata_parts::{Configuration, FillValueMetadata};
 use zarrs_plugin::{ExtensionName, ZarrVersion};

@@ -1,13 +1,13 @@
 //! Optional types, as borrows of the type inside.
 
 ghost use Rattle.std.specs.Prelude.{◌≡◌, ◌-◌, length, take, option_map};
-ghost use Rattle.zarrs_data_type_elements.specs.FillValue.{fill_bytes};
-ghost use Rattle.zarrs_data_type_elements.specs.Pieces.{ends_in_zero};
+ghost use Rattle.zarrs_data_type_bytes.specs.FillValue.{fill_bytes};
+ghost use Rattle.zarrs_data_type_bytes.specs.Pieces.{ends_in_zero};
 ghost use Rattle.zarrs_data_type_names.specs.DataType.{type_of, inner_of};
 ghost use Rattle.zarrs_data_type_names.specs.OptionalRef.{inner_ref_type};
 
 use crate::data_type::DataType;
-use zarrs_data_type_elements::FillValue;
+use zarrs_data_type_bytes::FillValue;
 
 /// An optional type, as a borrow of the type inside.
 #[derive(Clone, Copy)]

@@ -10,10 +10,10 @@ use Rattle.zarrs_metadata.specs.ArrayMetadata.{is_array, array_members, array_of
 use Rattle.zarrs_metadata.specs.GroupMetadata.{GroupFields, group_members, group_of, group_data}
 use Rattle.zarrs_metadata.proofs.GroupBack.{group_format, group_reads_back}
 use Rattle.zarrs_metadata.proofs.ArrayBack.{array_reads_back, group_is_no_array}
-use Rattle.zarrs_metadata_v2_nodes.specs.ArrayMetadataV2.{ArrayV2, array_v2_members, array_v2_of, array_v2_data, required_data_v2, optional_data_v2}
-use Rattle.zarrs_metadata_v2_nodes.specs.GroupMetadataV2.{with_format_v2, group_v2_data}
-use Rattle.zarrs_metadata_v2_nodes.proofs.ArrayBack.{array_v2_reads_back}
-use Rattle.zarrs_metadata_v2_nodes.proofs.GroupBack.{group_v2_reads_back}
+use Rattle.zarrs_metadata_v2.specs.ArrayMetadataV2.{ArrayV2, array_v2_members, array_v2_of, array_v2_data, required_data_v2, optional_data_v2}
+use Rattle.zarrs_metadata_v2.specs.GroupMetadataV2.{with_format_v2, group_v2_data}
+use Rattle.zarrs_metadata_v2.proofs.ArrayBack.{array_v2_reads_back}
+use Rattle.zarrs_metadata_v2.proofs.GroupBack.{group_v2_reads_back}
 use Rattle.zarrs_metadata.specs.AnyArray.{AnyArray, array_3, array_2, any_array_of, any_array_data, normal_any_array, HasAnyChunks}
 use Rattle.zarrs_metadata.specs.AnyGroup.{AnyGroup, group_3, group_2, any_group_of, any_group_data, normal_any_group}
 use Rattle.zarrs_metadata.specs.AnyNode.{AnyNode, any_array, any_group, any_node_of, any_node_data, normal_any_node, StaysItsKind}

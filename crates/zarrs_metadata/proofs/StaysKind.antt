@@ -15,9 +15,9 @@ use Rattle.zarrs_metadata_values.proofs.PutLemmas.{same_key}
 use Rattle.zarrs_metadata_values.proofs.RisingLemmas.{gone_later}
 use Rattle.zarrs_metadata.specs.ArrayMetadata.{ArrayFields, array_of}
 use Rattle.zarrs_metadata.specs.GroupMetadata.{GroupFields, group_of}
-use Rattle.zarrs_metadata_v2_nodes.specs.ArrayMetadataV2.{ArrayV2, order_of, positive_number, positive_numbers, required_v2, optional_v2, with_optional_fields_v2, array_v2_members, array_v2_of, read_under, text_under, HasChunks}
-use Rattle.zarrs_metadata_v2.specs.DataTypeV2.{data_type_v2_of}
-use Rattle.zarrs_metadata_v2_nodes.specs.GroupMetadataV2.{group_v2_of, group_v2_members, group_v2_data}
+use Rattle.zarrs_metadata_v2.specs.ArrayMetadataV2.{ArrayV2, order_of, positive_number, positive_numbers, required_v2, optional_v2, with_optional_fields_v2, array_v2_members, array_v2_of, read_under, text_under, HasChunks}
+use Rattle.zarrs_metadata_parts.specs.DataTypeV2.{data_type_v2_of}
+use Rattle.zarrs_metadata_v2.specs.GroupMetadataV2.{group_v2_of, group_v2_members, group_v2_data}
 use Rattle.zarrs_metadata.specs.AnyArray.{array_3, array_2, array_3_or, only_array_v2}
 use Rattle.zarrs_metadata.specs.AnyGroup.{group_3, group_2, group_3_or, only_group_v2}
 use Rattle.zarrs_metadata.specs.AnyNode.{AnyNode, any_array, any_group, any_node_of, any_array_or, only_group, StaysItsKind}

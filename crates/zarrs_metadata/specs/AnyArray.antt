@@ -3,7 +3,7 @@ use Rattle.std.specs.Prelude.{Option, Some, None}
 use Rattle.serde_json.specs.Data.{Data}
 use Rattle.zarrs_metadata_values.specs.Reading.{◌>>=◌}
 use Rattle.zarrs_metadata.specs.ArrayMetadata.{ArrayFields, array_seen, array_of, array_data, normal_array}
-use Rattle.zarrs_metadata_v2_nodes.specs.ArrayMetadataV2.{ArrayV2, array_v2_seen, array_v2_of, array_v2_data, normal_array_v2, HasChunks}
+use Rattle.zarrs_metadata_v2.specs.ArrayMetadataV2.{ArrayV2, array_v2_seen, array_v2_of, array_v2_data, normal_array_v2, HasChunks}
 use Rattle.zarrs_metadata.specs.declared.array.ArrayMetadata.{ArrayMetadata}
 use Rattle.zarrs_metadata.specs.declared.array.ArrayMetadata.TheVariants.{V3, V2}
 

@@ -3,7 +3,7 @@ use Rattle.std.specs.Prelude.{Option, Some, None}
 use Rattle.serde_json.specs.Data.{Data, Members}
 use Rattle.zarrs_metadata_values.specs.Reading.{◌>>=◌}
 use Rattle.zarrs_metadata.specs.GroupMetadata.{GroupFields, group_seen, group_of, group_data, normal_group}
-use Rattle.zarrs_metadata_v2_nodes.specs.GroupMetadataV2.{group_v2_seen, group_v2_of, group_v2_data, normal_group_v2}
+use Rattle.zarrs_metadata_v2.specs.GroupMetadataV2.{group_v2_seen, group_v2_of, group_v2_data, normal_group_v2}
 use Rattle.zarrs_metadata.specs.declared.group.GroupMetadata.{GroupMetadata}
 use Rattle.zarrs_metadata.specs.declared.group.GroupMetadata.TheVariants.{V3, V2}
 

@@ -13,11 +13,11 @@ pub use Rattle.zarrs_metadata_parts.specs.Names
 pub mod GroupMetadata
 pub mod ArrayMetadata
 pub mod Node
-pub use Rattle.zarrs_metadata_v2_nodes.specs.EndiannessV2
-pub use Rattle.zarrs_metadata_v2_nodes.specs.CodecsV2
-pub use Rattle.zarrs_metadata_v2_nodes.specs.ArrayMetadataV2
-pub use Rattle.zarrs_metadata_v2_nodes.specs.GroupMetadataV2
-pub use Rattle.zarrs_metadata_v2_nodes.specs.NodeV2
+pub use Rattle.zarrs_metadata_v2.specs.EndiannessV2
+pub use Rattle.zarrs_metadata_v2.specs.CodecsV2
+pub use Rattle.zarrs_metadata_v2.specs.ArrayMetadataV2
+pub use Rattle.zarrs_metadata_v2.specs.GroupMetadataV2
+pub use Rattle.zarrs_metadata_v2.specs.NodeV2
 pub mod AnyArray
 pub mod AnyGroup
 pub mod AnyNode

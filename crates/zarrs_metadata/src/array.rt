@@ -10,8 +10,8 @@ ghost use Rattle.zarrs_metadata.specs.AnyArray.{any_array_seen, only_array_v2, a
 use crate::v3::array::ArrayMetadataV3;
 use serde_json::Value;
 use std::alloc::{AllocError, Global};
-use zarrs_metadata_v2_nodes::ArrayMetadataV2;
-use zarrs_metadata_v2_nodes::reading::read_array_v2;
+use zarrs_metadata_v2::ArrayMetadataV2;
+use zarrs_metadata_v2::reading::read_array_v2;
 use zarrs_metadata_values::MetadataError;
 use zarrs_metadata_values::reading::read_value;
 

@@ -10,8 +10,8 @@ ghost use Rattle.zarrs_metadata.specs.AnyGroup.{any_group_seen, only_group_v2, a
 use crate::v3::group::GroupMetadataV3;
 use serde_json::Value;
 use std::alloc::{AllocError, Global};
-use zarrs_metadata_v2_nodes::GroupMetadataV2;
-use zarrs_metadata_v2_nodes::reading::read_group_v2;
+use zarrs_metadata_v2::GroupMetadataV2;
+use zarrs_metadata_v2::reading::read_group_v2;
 use zarrs_metadata_values::MetadataError;
 use zarrs_metadata_values::reading::read_value;
 

@@ -1,3 +1,5 @@
+pub mod ReadBackV2
+pub mod RisingLemmasV2
 pub use Rattle.zarrs_metadata_values.proofs.EachLemmas
 pub use Rattle.zarrs_metadata_values.proofs.PutLemmas
 pub mod ExtensionLemmas

@@ -1,2 +1,5 @@
-pub mod ReadBack
-pub mod RisingLemmas
+pub mod TypeLemmas
+pub mod ArrayBack
+pub mod GroupBack
+pub mod Stays
+pub mod Twice

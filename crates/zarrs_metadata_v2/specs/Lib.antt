@@ -1,2 +1,12 @@
-pub mod MetadataV2
-pub mod DataTypeV2
+pub use Rattle.zarrs_metadata_parts.specs.Reading
+pub use Rattle.zarrs_metadata_parts.specs.Writing
+pub use Rattle.zarrs_metadata_parts.specs.Rising
+pub use Rattle.zarrs_metadata_parts.specs.FillValueMetadata
+pub use Rattle.zarrs_metadata_parts.specs.MetadataV2
+pub use Rattle.zarrs_metadata_parts.specs.DataTypeV2
+pub use Rattle.zarrs_metadata_parts.specs.Names
+pub mod EndiannessV2
+pub mod CodecsV2
+pub mod ArrayMetadataV2
+pub mod GroupMetadataV2
+pub mod NodeV2

@@ -2,14 +2,14 @@
 
 ghost use Rattle.std.specs.Prelude.{◌≡◌, ◌<◌, ◌+◌, ◌^◌, ◌/◌, length, bytes_eq};
 ghost use Rattle.std.specs.List.{list_all, range_with_len};
-ghost use Rattle.zarrs_codec_bytes.specs.Picking.{piece_of};
-ghost use Rattle.zarrs_codec_bytes.specs.Same.{same_shape, same_at, same_under, same_optional, same_array_bytes};
+ghost use Rattle.zarrs_codec_slices.specs.Picking.{piece_of};
+ghost use Rattle.zarrs_codec_slices.specs.Same.{same_shape, same_at, same_under, same_optional, same_array_bytes};
 ghost use Rattle.zarrs_codec_array_bytes.specs.Raw.{raw_of, data_of, mask_of, variable_of, numbers_of};
 
 use super::{
     ArrayBytes, ArrayBytesOffsets, ArrayBytesOptional, ArrayBytesVariableLength, bytes_in,
 };
-use zarrs_codec_bytes::values::value_at;
+use zarrs_codec_slices::values::value_at;
 
 fn same_bytes(a: &[u8], b: &[u8]) -> bool
     ensures { result ≡ bytes_eq a.now b.now }
@@ -47,7 +47,7 @@ fn have_same_shape(a: &ArrayBytes<'_>, b: &ArrayBytes<'_>) -> bool
 }
 
 // The bytes of an element of fixed size.
-#[tactic(auto, using(zarrs_codec_bytes::proofs::SameLaws::row_within))]
+#[tactic(auto, using(zarrs_codec_slices::proofs::SameLaws::row_within))]
 fn piece(bytes: &[u8], count: usize, place: usize) -> &[u8]
     requires { place < count }
     ensures { result.now ≡ piece_of (length bytes.now / count) bytes.now place }
@@ -191,7 +191,7 @@ fn are_same(a: &ArrayBytes<'_>, b: &ArrayBytes<'_>) -> bool
 impl PartialEq for ArrayBytesOffsets<'_> {
     ghost use Rattle.std.specs.Cmp.{on_per};
     ghost use Rattle.std.specs.Ordering.{on};
-    ghost use Rattle.zarrs_codec_bytes.proofs.EqualityLaws.{bytes_per};
+    ghost use Rattle.zarrs_codec_slices.proofs.EqualityLaws.{bytes_per};
 
     ghost eq = { on numbers_of bytes_eq };
 
@@ -206,7 +206,7 @@ impl PartialEq for ArrayBytesOffsets<'_> {
 impl PartialEq for ArrayBytesVariableLength<'_> {
     ghost use Rattle.std.specs.Cmp.{on_per};
     ghost use Rattle.std.specs.Ordering.{on};
-    ghost use Rattle.zarrs_codec_bytes.proofs.EqualityLaws.{same_per};
+    ghost use Rattle.zarrs_codec_slices.proofs.EqualityLaws.{same_per};
 
     ghost eq = { on variable_of same_array_bytes };
 
@@ -221,7 +221,7 @@ impl PartialEq for ArrayBytesVariableLength<'_> {
 impl PartialEq for ArrayBytesOptional<'_> {
     ghost use Rattle.std.specs.Cmp.{on_per};
     ghost use Rattle.std.specs.Ordering.{on};
-    ghost use Rattle.zarrs_codec_bytes.proofs.EqualityLaws.{same_per};
+    ghost use Rattle.zarrs_codec_slices.proofs.EqualityLaws.{same_per};
     ghost use Rattle.zarrs_codec_array_bytes.specs.Raw.{optional_of};
 
     ghost eq = { on optional_of same_array_bytes };
@@ -237,7 +237,7 @@ impl PartialEq for ArrayBytesOptional<'_> {
 impl PartialEq for ArrayBytes<'_> {
     ghost use Rattle.std.specs.Cmp.{on_per};
     ghost use Rattle.std.specs.Ordering.{on};
-    ghost use Rattle.zarrs_codec_bytes.proofs.EqualityLaws.{same_per};
+    ghost use Rattle.zarrs_codec_slices.proofs.EqualityLaws.{same_per};
 
     ghost eq = { on raw_of same_array_bytes };
 

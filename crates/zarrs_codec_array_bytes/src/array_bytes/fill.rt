@@ -6,9 +6,9 @@ ghost use Rattle.std.specs.Prelude.{◌≡◌, ◌∷◌, [], ◌*◌, ◌+◌, 
 ghost use Rattle.zarr_model.specs.Element.{Element, Kind, fill_element};
 ghost use Rattle.zarr_model.specs.ArrayBytes.{ends_from, fixed_bytes, variable_bytes, optional_bytes, meaning};
 ghost use Rattle.zarr_model.specs.Command.{has_long_element};
-ghost use Rattle.zarrs_data_type_elements.specs.Pieces.{repeated};
-ghost use Rattle.zarrs_data_type_elements.specs.FillValue.{fill_bytes};
-ghost use Rattle.zarrs_codec_bytes.specs.Filling.{has_size, filled_with, innermost_fill, AreFill};
+ghost use Rattle.zarrs_data_type_bytes.specs.Pieces.{repeated};
+ghost use Rattle.zarrs_data_type_bytes.specs.FillValue.{fill_bytes};
+ghost use Rattle.zarrs_codec_slices.specs.Filling.{has_size, filled_with, innermost_fill, AreFill};
 ghost use Rattle.zarrs_codec_array_bytes.specs.Steps.{kind_seen, bytes_seen};
 ghost use Rattle.zarrs_codec_array_bytes.specs.Raw.{raw_of};
 ghost use Rattle.zarrs_codec_array_bytes.specs.Refusals.{Answers, fine, fill_answer};
@@ -18,10 +18,10 @@ use super::step::{Step, element_size, step_of};
 use super::{ArrayBytes, ArrayBytesVariableLength, bytes_in};
 use std::alloc::Global;
 use std::borrow::CowSlice;
-use zarrs_codec_bytes::fill::filled;
-use zarrs_codec_bytes::values::{are_values, repeated_values};
 use zarrs_codec_error::{CodecError, DataTypeFillValueError};
-use zarrs_data_type_elements::{FillValue, ends_in_zero, repeats};
+use zarrs_codec_slices::fill::filled;
+use zarrs_codec_slices::values::{are_values, repeated_values};
+use zarrs_data_type_bytes::{FillValue, ends_in_zero, repeats};
 use zarrs_data_type_names::DataType;
 
 // The fill value inside one that is not null: all bytes but the last, and none where there are none.

@@ -2,8 +2,8 @@
 
 ghost use Rattle.std.specs.Prelude.{◌≡◌, None, IfOk, IfErr};
 ghost use Rattle.zarr_model.specs.ArrayBytes.{optional_bytes};
-ghost use Rattle.zarrs_codec_bytes.specs.Picking.{AllBelow, gathered};
-ghost use Rattle.zarrs_codec_bytes.specs.PickedRuns.{run_numbers, AreRunsBelow};
+ghost use Rattle.zarrs_codec_slices.specs.Picking.{AllBelow, gathered};
+ghost use Rattle.zarrs_codec_slices.specs.PickedRuns.{run_numbers, AreRunsBelow};
 ghost use Rattle.zarrs_codec_array_bytes.specs.Raw.{raw_of};
 ghost use Rattle.zarrs_codec_array_bytes.specs.Refusals.{lengths_refusal};
 ghost use Rattle.zarrs_codec_error.specs.declared.error.CodecError.TheVariants as codec;
@@ -11,11 +11,11 @@ ghost use Rattle.zarrs_codec_error.specs.declared.error.CodecError.TheVariants a
 use super::{ArrayBytes, ArrayBytesOptional, ArrayBytesVariableLength, bytes_in};
 use std::alloc::Global;
 use std::borrow::CowSlice;
-use zarrs_codec_bytes::piece_runs::gather_piece_runs;
-use zarrs_codec_bytes::pieces::gather_pieces;
-use zarrs_codec_bytes::value_runs::gather_value_runs;
-use zarrs_codec_bytes::values::gather_values;
 use zarrs_codec_error::CodecError;
+use zarrs_codec_slices::piece_runs::gather_piece_runs;
+use zarrs_codec_slices::pieces::gather_pieces;
+use zarrs_codec_slices::value_runs::gather_value_runs;
+use zarrs_codec_slices::values::gather_values;
 
 /// Optional elements over owned data, under an owned mask.
 ///
@@ -77,7 +77,7 @@ pub fn select(
 ///
 /// # Errors
 /// [`CodecError::OutOfMemory`] where memory runs out.
-#[tactic(auto, using(crate::proofs::CheckLaws::fixed_long, crate::proofs::CheckLaws::variable_long, crate::proofs::CheckLaws::mask_long, crate::proofs::CheckLaws::inner_long, zarrs_codec_bytes::proofs::PieceRunLaws::runs_of_either))]
+#[tactic(auto, using(crate::proofs::CheckLaws::fixed_long, crate::proofs::CheckLaws::variable_long, crate::proofs::CheckLaws::mask_long, crate::proofs::CheckLaws::inner_long, zarrs_codec_slices::proofs::PieceRunLaws::runs_of_either))]
 pub fn select_runs(
     alloc: Global,
     runs: &[(u64, u64)],

@@ -4,7 +4,7 @@ ghost use Rattle.std.specs.Prelude.{◌≡◌, ◌*◌, ◌<◌, ◌^◌, true, 
 ghost use Rattle.std.specs.List.{AllByRecursion};
 ghost use Rattle.zarr_model.specs.Region.{count, whole, contains, place, tuples};
 ghost use Rattle.zarrs_array_subset.specs.ArraySubset.{region};
-ghost use Rattle.zarrs_codec_bytes.specs.Picking.{gathered};
+ghost use Rattle.zarrs_codec_slices.specs.Picking.{gathered};
 ghost use Rattle.zarrs_codec_array_bytes.specs.Raw.{raw_of};
 ghost use Rattle.zarrs_codec_array_bytes.specs.Refusals.{lengths_refusal, holds_fixed};
 ghost use Rattle.zarrs_codec_error.specs.declared.error.CodecError.TheVariants as codec;
@@ -15,8 +15,8 @@ use std::alloc::{AllocError, Global};
 use std::borrow::CowSlice;
 use zarrs_array_subset::ArraySubset;
 use zarrs_chunk_grid_indexer::Indexer;
-use zarrs_codec_bytes::rows::extract_rows;
 use zarrs_codec_error::CodecError;
+use zarrs_codec_slices::rows::extract_rows;
 
 /// A box in an array, whose elements can be copied run by run.
 #[derive(Drop)]

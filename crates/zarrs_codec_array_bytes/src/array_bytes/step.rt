@@ -1,7 +1,7 @@
 //! What the elements of a data type are, level by level.
 
 ghost use Rattle.std.specs.Prelude.{◌≡◌, ◌<◌};
-ghost use Rattle.zarrs_codec_bytes.specs.Picking.{size_in};
+ghost use Rattle.zarrs_codec_slices.specs.Picking.{size_in};
 ghost use Rattle.zarrs_codec_array_bytes.specs.Steps.{kind_seen, bytes_seen, step_kind, depth, IfInner};
 ghost use Rattle.zarr_model.specs.DataTypeSize.{size_seen};
 

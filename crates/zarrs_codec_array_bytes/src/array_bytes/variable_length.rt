@@ -2,7 +2,7 @@
 
 ghost use Rattle.std.specs.Prelude.{◌≡◌, ◌<◌, ◌≤◌, true, length, is_ok, nat_le, IfOk, IfErr, IsTrue};
 ghost use Rattle.std.specs.Cow.{cow_slice_items};
-ghost use Rattle.zarrs_codec_bytes.specs.Picking.{are_within};
+ghost use Rattle.zarrs_codec_slices.specs.Picking.{are_within};
 ghost use Rattle.zarrs_codec_array_bytes.specs.Offsets.{last_of};
 
 use super::{ArrayBytesOffsets, ArrayBytesRaw, bytes_in};

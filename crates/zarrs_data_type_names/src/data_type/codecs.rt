@@ -1,18 +1,18 @@
 //! What codecs ask of a data type.
 
-ghost use Rattle.zarrs_data_type_elements.specs.CodecSupport.{Supports, bytes_table, bitround_table, rounds_as, fixedscaleoffset_table, scales_as, packbits_table, packs_as, pcodec_table, compresses_as, zfp_table, encodes_as};
-ghost use Rattle.zarrs_data_type_elements.specs.declared.codec_support.CodecName.TheVariants as codec;
+ghost use Rattle.zarrs_data_type_bytes.specs.CodecSupport.{Supports, bytes_table, bitround_table, rounds_as, fixedscaleoffset_table, scales_as, packbits_table, packs_as, pcodec_table, compresses_as, zfp_table, encodes_as};
+ghost use Rattle.zarrs_data_type_bytes.specs.declared.codec_support.CodecName.TheVariants as codec;
 ghost use Rattle.zarrs_data_type_names.specs.DataType.{type_of};
 
 use crate::data_type::DataType;
-use zarrs_data_type_elements::{
+use zarrs_data_type_bytes::{
     BitroundElementType, BitroundSupport, BytesSupport, CodecName, DataTypeCodecError,
     FixedScaleOffsetElementType, FixedScaleOffsetSupport, PackBitsSupport, PcodecElementType,
     PcodecSupport, ZfpEncoding, ZfpSupport,
 };
 
 impl DataType {
-    ghost use Rattle.zarrs_data_type_elements.specs.BytesSupport.{component_of};
+    ghost use Rattle.zarrs_data_type_bytes.specs.BytesSupport.{component_of};
 
     /// What the codec `bytes` asks of the type: the size of its components.
     ///

@@ -1,8 +1,8 @@
 use Rattle.std.proofs.Common.{rules, [], length, replicate, ap, ◌+◌, ◌∙◌}
 use Rattle.std.specs.List.{range_with_len}
-use Rattle.zarrs_codec_bytes.specs.Picking.{replaced}
-use Rattle.zarrs_codec_bytes.specs.PickedRuns.{run_numbers}
-use Rattle.zarrs_codec_bytes.proofs.PickRunLaws.{numbers_below}
+use Rattle.zarrs_codec_slices.specs.Picking.{replaced}
+use Rattle.zarrs_codec_slices.specs.PickedRuns.{run_numbers}
+use Rattle.zarrs_codec_slices.proofs.PickRunLaws.{numbers_below}
 use Rattle.zarrs_codec_array_bytes.specs.Raw.{raw_of}
 use Rattle.zarrs_codec_array_bytes.specs.Steps.{kind_seen}
 use Rattle.zarr_array_elements.specs.Grown.{grown_bytes}

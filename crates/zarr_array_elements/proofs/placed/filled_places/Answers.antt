@@ -2,7 +2,7 @@ use Rattle.std.proofs.Common.{IsSome, subst, sym}
 use Rattle.std.proofs.lemmas.Result.{IfOk-weaker}
 use Rattle.zarr_model.specs.Element.{fill_element}
 use Rattle.zarr_model.specs.ArrayBytes.{meaning}
-use Rattle.zarrs_data_type_elements.specs.FillValue.{fill_bytes}
+use Rattle.zarrs_data_type_bytes.specs.FillValue.{fill_bytes}
 use Rattle.zarrs_codec_array_bytes.specs.Raw.{raw_of}
 use Rattle.zarrs_codec_array_bytes.specs.Steps.{kind_seen}
 use Rattle.zarr_array_elements.proofs.PlacedLaws.{fixed_means, filled_some}

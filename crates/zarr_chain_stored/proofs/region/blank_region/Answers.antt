@@ -3,7 +3,7 @@ use Rattle.zarr_model.specs.Codec.{Level}
 use Rattle.zarr_model.specs.Element.{DataType, kind_of}
 use Rattle.zarr_model.specs.Region.{count}
 use Rattle.zarrs_array_subset.specs.ArraySubset.{region as box_of}
-use Rattle.zarrs_codec_bytes.specs.Filling.{filled_with}
+use Rattle.zarrs_codec_slices.specs.Filling.{filled_with}
 use Rattle.zarrs_codec_error.specs.declared.error.CodecError.TheVariants as codec
 use Rattle.zarrs_codec_array_bytes.specs.Raw.{raw_of}
 use Rattle.zarrs_codec_traits.specs.Words.{list_at, at_box}

@@ -2,7 +2,7 @@ use Rattle.std.proofs.Common.{◌+◌, ◌<◌, ◌^◌, arith}
 use Rattle.zarr_model.specs.Region.{count}
 use Rattle.zarr_model.proofs.ElementLaws.{denoted}
 use Rattle.zarrs_array_subset.specs.ArraySubset.{region as box_of}
-use Rattle.zarrs_data_type_elements.specs.FillValue.{fill_bytes}
+use Rattle.zarrs_data_type_bytes.specs.FillValue.{fill_bytes}
 use Rattle.zarrs_codec_traits.specs.Views.{level_of}
 use Rattle.zarrs_codec_traits.specs.Words.{at_box}
 use Rattle.zarrs_codec_traits.proofs.SelectLaws.{box-fits}

@@ -1,6 +1,6 @@
 use Rattle.std.proofs.Common.{ℕ, ◌+◌, ◌-◌, ◌*◌, ◌++◌, length, take, drop, get_or, flat_map, arith, sym, ◌∙◌, eqb-true}
 use Rattle.std.specs.List.{range_with_len}
-use Rattle.zarrs_codec_bytes.specs.Picking.{piece_of}
+use Rattle.zarrs_codec_slices.specs.Picking.{piece_of}
 use Rattle.zarr_codecs_axes.specs.Moved.{strided}
 use Rattle.zarr_codecs_axes.proofs.LoopLaws.{next_part, no_part}
 use Rattle.zarr_codecs_axes.proofs.PieceSteps.{run_pieces, part_pieces}

@@ -1,6 +1,6 @@
 use Rattle.std.proofs.Common.{◌≡◌, ◌+◌, ◌-◌, ◌*◌, ◌++◌, length, flat_map}
 use Rattle.std.specs.List.{range_with_len}
-use Rattle.zarrs_codec_bytes.specs.Picking.{piece_of}
+use Rattle.zarrs_codec_slices.specs.Picking.{piece_of}
 use Rattle.zarr_codecs_axes.specs.Moved.{strided}
 use Rattle.zarr_codecs_axes.proofs.pieces.+push_pieces.Given as goal
 

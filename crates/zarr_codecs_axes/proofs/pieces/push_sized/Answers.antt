@@ -1,6 +1,6 @@
 use Rattle.std.proofs.Common.{◌≡◌, ◌+◌, ◌-◌, ◌*◌, ◌++◌, length, take, drop, arith, ap, ◌∙◌}
-use Rattle.zarrs_codec_bytes.specs.Picking.{piece_of}
-use Rattle.zarrs_codec_bytes.proofs.PieceLaws.{piece_ends}
+use Rattle.zarrs_codec_slices.specs.Picking.{piece_of}
+use Rattle.zarrs_codec_slices.proofs.PieceLaws.{piece_ends}
 use Rattle.zarr_codecs_axes.proofs.LoopLaws.{next_part, run_below}
 use Rattle.zarr_codecs_axes.proofs.pieces.push_sized.Goals as goal
 

@@ -1,6 +1,6 @@
 use Rattle.std.proofs.Common.{◌≡◌, ◌+◌, ◌-◌, ◌*◌, ◌++◌, flat_map}
 use Rattle.std.specs.List.{range_with_len}
-use Rattle.zarrs_codec_bytes.specs.Picking.{piece_of}
+use Rattle.zarrs_codec_slices.specs.Picking.{piece_of}
 use Rattle.zarr_codecs_axes.proofs.pieces.push_sized.Given as goal
 
 abbrev pub invariant-loop-i : goal.invariant-loop-i

@@ -1,6 +1,6 @@
 use Rattle.std.proofs.Common.{◌≡◌, ℕ, ◌<◌, ◌-◌, ◌*◌, ◌^◌, List, length, take, drop, None, IfOk, sym, subst, subst₂}
 use Rattle.zarr_model.specs.Region.{count_of}
-use Rattle.zarrs_codec_bytes.specs.Picking.{gathered}
+use Rattle.zarrs_codec_slices.specs.Picking.{gathered}
 use Rattle.zarrs_codec_array_bytes.specs.Raw.{raw_of}
 use Rattle.zarrs_codec_array_bytes.specs.Refusals.{lengths_refusal}
 use Rattle.zarr_codecs_axes.proofs.LoopLaws.{positive_parts}

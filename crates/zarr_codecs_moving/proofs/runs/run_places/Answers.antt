@@ -1,5 +1,5 @@
 use Rattle.std.proofs.Common.{◌*◌, sym, ◌∙◌, subst}
-use Rattle.zarrs_codec_bytes.specs.Picking.{AllBelow}
+use Rattle.zarrs_codec_slices.specs.Picking.{AllBelow}
 use Rattle.zarr_codecs_axes.proofs.RunLaws.{runs_below}
 use Rattle.zarr_codecs_moving.proofs.SplitLaws.{runs_low}
 use Rattle.zarr_codecs_moving.proofs.runs.run_places.Goals as goal

@@ -1,5 +1,5 @@
 use Rattle.std.proofs.Common.{◌≡◌, length, rules}
-use Rattle.zarrs_data_type_elements.specs.FillValue.{fill_bytes}
+use Rattle.zarrs_data_type_bytes.specs.FillValue.{fill_bytes}
 use Rattle.zarr_codecs_numbers.specs.Numbers.{raised}
 use Rattle.zarr_codecs_offset.proofs.FillLaws.{raised_fill}
 use Rattle.zarr_codecs_offset.proofs.fill.shifted_fill.Goals as goal

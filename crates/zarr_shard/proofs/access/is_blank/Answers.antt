@@ -1,7 +1,7 @@
 use Rattle.std.proofs.Common.{◌≡◌, Some, subst}
 use Rattle.zarr_model.specs.Prelude.{count_of, kind_of, fill_element}
 use Rattle.zarr_model.proofs.BytesLaws.{length-meaning}
-use Rattle.zarrs_data_type_elements.specs.FillValue.{fill_bytes}
+use Rattle.zarrs_data_type_bytes.specs.FillValue.{fill_bytes}
 use Rattle.zarrs_codec_array_bytes.specs.Raw.{raw_of}
 use Rattle.zarr_array_parts.specs.Parts.{documented}
 use Rattle.zarr_array_parts.specs.declared.parts.ArrayParts.{ArrayParts}

@@ -6,7 +6,7 @@ use Rattle.zarr_cli_parts.specs.Lines.{first_line, document_line}
 use Rattle.zarr_cli_parts.specs.Answers.{AnswersLines, outside}
 use Rattle.zarr_cli_parts.specs.Seen.{seen}
 use Rattle.zarr_cli_parts.specs.Status.{settings_view}
-use Rattle.zarr_shard_parts.specs.Opening.{open_builtin_sharded, opened}
+use Rattle.zarr_shard_open.specs.Opening.{open_builtin_sharded, opened}
 use Rattle.zarr_shard.specs.Costs.{shard_costs}
 use Rattle.zarr_shard.specs.Says.{answer_says}
 use Rattle.zarr_shard.specs.ShardArray.{documented, described}

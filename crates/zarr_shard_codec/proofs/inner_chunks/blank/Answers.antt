@@ -1,6 +1,6 @@
 use Rattle.std.proofs.Common.{IsSome, refl, sym, ap₂, ◌∙◌, subst}
 use Rattle.zarr_model.specs.Prelude.{kind_of, fill_element}
-use Rattle.zarrs_data_type_elements.specs.FillValue.{fill_bytes}
+use Rattle.zarrs_data_type_bytes.specs.FillValue.{fill_bytes}
 use Rattle.zarrs_data_type_names.specs.DataType.{type_of}
 use Rattle.zarrs_codec_traits.proofs.FillLaws.{denoted_err}
 use Rattle.zarr_shard_codec.proofs.inner_chunks.blank.Goals as goal

@@ -1,7 +1,7 @@
 use Rattle.std.proofs.Common.{◌≡◌, ◌+◌, ◌*◌, ◌^◌, ◌<◌, length, IsSome, sym, ap, ◌∙◌, subst, subst₂}
 use Rattle.zarr_model.specs.Prelude.{count, count_of, fixed_size, meaning}
 use Rattle.zarrs_array_subset.specs.ArraySubset.{region}
-use Rattle.zarrs_codec_bytes.specs.Picking.{size_in}
+use Rattle.zarrs_codec_slices.specs.Picking.{size_in}
 use Rattle.zarrs_codec_array_bytes.specs.Raw.{raw_of}
 use Rattle.zarr_shard_codec.specs.ShardCodec.{inner_dims}
 use Rattle.zarr_shard_codec.proofs.CodecFacts.{box_rank, box_count, dims_fit}

@@ -1,7 +1,7 @@
 use Rattle.std.proofs.Common.{◌∙◌, sym}
 use Rattle.zarr_model.specs.Element.{kind_of}
 use Rattle.zarr_model.proofs.BytesLaws.{length-meaning}
-use Rattle.zarrs_data_type_elements.specs.FillValue.{fill_bytes}
+use Rattle.zarrs_data_type_bytes.specs.FillValue.{fill_bytes}
 use Rattle.zarrs_data_type_names.specs.DataType.{type_of}
 use Rattle.zarrs_codec_array_bytes.specs.Raw.{raw_of}
 use Rattle.zarrs_codec_traits.specs.Views.{options_of}

@@ -1,4 +1,4 @@
-use Rattle.zarrs_data_type_elements.specs.FillValue.{fill_bytes}
+use Rattle.zarrs_data_type_bytes.specs.FillValue.{fill_bytes}
 use Rattle.zarrs_codec_array_bytes.specs.Steps.{kind_seen}
 use Rattle.zarrs_codec_traits.proofs.FillLaws.{denoted_err}
 use Rattle.zarrs_codec_traits.proofs.fill.expect_size.Goals as goal

@@ -1,5 +1,5 @@
 use Rattle.std.proofs.Common.{arith}
-use Rattle.zarrs_data_type_elements.proofs.NumberLaws.{room_for_byte, few_left}
+use Rattle.zarrs_data_type_bytes.proofs.NumberLaws.{room_for_byte, few_left}
 use Rattle.zarrs_data_type.proofs.metadata_of_fill.+read_number.Goals as goal
 
 pub overflow_mul-result : goal.overflow_mul-result

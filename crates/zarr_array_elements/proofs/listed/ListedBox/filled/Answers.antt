@@ -1,5 +1,5 @@
 use Rattle.zarr_model.specs.Element.{fill_element}
-use Rattle.zarrs_data_type_elements.specs.FillValue.{fill_bytes}
+use Rattle.zarrs_data_type_bytes.specs.FillValue.{fill_bytes}
 use Rattle.zarrs_codec_array_bytes.specs.Raw.{raw_of}
 use Rattle.zarrs_codec_array_bytes.specs.Steps.{kind_seen}
 use Rattle.zarr_array_elements.proofs.PutLaws.{blank_some}

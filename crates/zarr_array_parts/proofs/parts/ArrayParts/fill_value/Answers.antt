@@ -1,5 +1,5 @@
 use Rattle.zarr_model.specs.Prelude.{kind}
-use Rattle.zarrs_data_type_elements.specs.FillValue.{fill_bytes}
+use Rattle.zarrs_data_type_bytes.specs.FillValue.{fill_bytes}
 use Rattle.zarr_array_parts.specs.Parts.{described}
 use Rattle.zarr_array_parts.proofs.SizeLaws.{short_fill}
 use Rattle.zarr_array_parts.proofs.ChainLaws.{fill_short}

@@ -1,6 +1,6 @@
 use Rattle.std.proofs.Common.{ap, ◌∙◌}
 use Rattle.zarrs_codec_traits.specs.Views.{lengths, level_of}
-use Rattle.zarrs_data_type_elements.specs.FillValue.{fill_bytes}
+use Rattle.zarrs_data_type_bytes.specs.FillValue.{fill_bytes}
 use Rattle.zarr_array_parts.specs.Chain.{chain_form}
 use Rattle.zarr_array_parts.proofs.ChainLaws.{shape_ranked, shape_fits, serves_shape}
 use Rattle.zarr_array_parts.proofs.ServingLaws.{not_built}

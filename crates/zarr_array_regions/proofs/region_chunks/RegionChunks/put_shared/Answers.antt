@@ -1,7 +1,7 @@
 use Rattle.std.proofs.Common.{◌+◌, ◌*◌, ◌^◌, ◌<◌, length, sym, ap, ◌∙◌, subst, subst₂}
 use Rattle.zarr_model.specs.Prelude.{count, fixed_size}
 use Rattle.zarrs_array_subset.specs.ArraySubset.{region}
-use Rattle.zarrs_codec_bytes.specs.Picking.{size_in}
+use Rattle.zarrs_codec_slices.specs.Picking.{size_in}
 use Rattle.zarrs_codec_array_bytes.specs.Raw.{raw_of}
 use Rattle.zarr_chain_stored.specs.Regions.{GivesRegion}
 use Rattle.zarr_array_elements.specs.BoxElements.{kind_held, box_held, list_held}

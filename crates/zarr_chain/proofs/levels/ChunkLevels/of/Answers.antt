@@ -1,6 +1,6 @@
 use Rattle.zarr_model.specs.Element.{fill_element, kind_of}
 use Rattle.zarr_model.proofs.ElementLaws.{denoted}
-use Rattle.zarrs_data_type_elements.specs.FillValue.{fill_bytes}
+use Rattle.zarrs_data_type_bytes.specs.FillValue.{fill_bytes}
 use Rattle.zarrs_data_type_names.specs.DataType.{type_of}
 use Rattle.zarrs_codec_traits.proofs.FillLaws.{element_bytes}
 use Rattle.zarr_chain.proofs.BuildLaws.{ready_as}

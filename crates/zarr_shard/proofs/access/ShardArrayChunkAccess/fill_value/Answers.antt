@@ -1,7 +1,7 @@
 use Rattle.std.proofs.Common.{◌≡◌, false, ℕ, List, subst}
 use Rattle.zarr_model.specs.Prelude.{kind, IsChunk, has_long_element}
-use Rattle.zarrs_data_type_elements.specs.FillValue.{fill_bytes}
-use Rattle.zarrs_codec_bytes.specs.Filling.{filled_with}
+use Rattle.zarrs_data_type_bytes.specs.FillValue.{fill_bytes}
+use Rattle.zarrs_codec_slices.specs.Filling.{filled_with}
 use Rattle.zarr_array_parts.specs.Parts.{described}
 use Rattle.zarr_array_parts.specs.declared.parts.ArrayParts.{ArrayParts}
 use Rattle.zarr_shard_codec.specs.Placing.{indices_at}

@@ -2,9 +2,9 @@ use Rattle.std.proofs.Common.{◌≡◌, ◌+◌, ◌*◌, ◌^◌, ◌<◌, Som
 use Rattle.zarr_model.specs.Prelude.{count, count_of, kind_of, fixed_size, fill_element, has_long_element}
 use Rattle.zarr_model.proofs.RegionLaws.{sizes_whole}
 use Rattle.zarrs_array_subset.specs.ArraySubset.{region}
-use Rattle.zarrs_data_type_elements.specs.FillValue.{fill_bytes}
-use Rattle.zarrs_codec_bytes.specs.Filling.{filled_with}
-use Rattle.zarrs_codec_bytes.specs.Picking.{size_in}
+use Rattle.zarrs_data_type_bytes.specs.FillValue.{fill_bytes}
+use Rattle.zarrs_codec_slices.specs.Filling.{filled_with}
+use Rattle.zarrs_codec_slices.specs.Picking.{size_in}
 use Rattle.zarrs_codec_array_bytes.specs.Raw.{raw_of}
 use Rattle.zarrs_codec_traits.specs.Views.{options_of}
 use Rattle.zarr_array_elements.specs.BoxElements.{kind_held, box_held, list_held}

@@ -1,9 +1,9 @@
 use Rattle.std.proofs.Common.{◌*◌, ◌^◌, ◌<◌, ap, ◌∙◌, sym, subst}
 use Rattle.zarr_model.specs.Prelude.{count, kind_of, fixed_size, has_long_element}
 use Rattle.zarrs_array_subset.specs.ArraySubset.{region as region_of}
-use Rattle.zarrs_data_type_elements.specs.FillValue.{fill_bytes}
-use Rattle.zarrs_codec_bytes.specs.Filling.{filled_with}
-use Rattle.zarrs_codec_bytes.specs.Picking.{size_in}
+use Rattle.zarrs_data_type_bytes.specs.FillValue.{fill_bytes}
+use Rattle.zarrs_codec_slices.specs.Filling.{filled_with}
+use Rattle.zarrs_codec_slices.specs.Picking.{size_in}
 use Rattle.zarr_shard_codec.specs.Placing.{indices_at}
 use Rattle.zarr_shard_codec.proofs.CodecFacts.{is_inner, has_inner}
 use Rattle.zarr_shard_codec.proofs.ReadSteps.{region_few, region_room}

@@ -2,13 +2,13 @@ use Rattle.std.proofs.Common.{◌<◌, ◌∙◌, sym, ap, ap₂, subst}
 use Rattle.zarr_model.specs.Prelude.{count_of, kind_of, fill_element}
 use Rattle.zarrs_plugin.specs.Registry.{registry_of}
 use Rattle.zarrs_metadata_parts.specs.MetadataV3.{extension_seen}
-use Rattle.zarrs_data_type_elements.specs.FillValue.{fill_bytes}
+use Rattle.zarrs_data_type_bytes.specs.FillValue.{fill_bytes}
 use Rattle.zarrs_data_type_names.specs.DataType.{type_of}
 use Rattle.zarrs_codec_traits.specs.Views.{lengths}
 use Rattle.zarrs_codec_traits.proofs.CountLaws.{lengths_some}
-use Rattle.zarr_shard_parts.specs.Views.{shard_form}
-use Rattle.zarr_shard_parts.specs.declared.shard.Shard.{Shard}
-use Rattle.zarr_shard_parts.proofs.ChunkLaws.{IsMadeFor, made_for}
+use Rattle.zarr_shard_open.specs.Views.{shard_form}
+use Rattle.zarr_shard_open.specs.declared.shard.Shard.{Shard}
+use Rattle.zarr_shard_open.proofs.ChunkLaws.{IsMadeFor, made_for}
 use Rattle.zarr_shard_codec.proofs.MakingLaws.{made_served}
 use Rattle.zarr_shard_codec.proofs.shard_codec.ShardCodec.for_chunk.Goals as goal
 

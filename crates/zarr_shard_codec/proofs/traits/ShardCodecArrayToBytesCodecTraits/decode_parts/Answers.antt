@@ -1,6 +1,6 @@
 use Rattle.std.proofs.Common.{rules, ◌≡◌, ◌∙◌, ap, sym, subst, ℕ, List, IfErr}
 use Rattle.zarrs_codec_error.specs.declared.error.CodecError.TheVariants as errors
-use Rattle.zarrs_data_type_elements.specs.FillValue.{fill_bytes}
+use Rattle.zarrs_data_type_bytes.specs.FillValue.{fill_bytes}
 use Rattle.zarrs_codec_array_bytes.specs.Raw.{raw_of}
 use Rattle.zarrs_codec_traits.specs.Errors.{unserved_at, IsDecodeError, IsNoFault}
 use Rattle.zarrs_codec_traits.specs.Views.{level_of, options_of}

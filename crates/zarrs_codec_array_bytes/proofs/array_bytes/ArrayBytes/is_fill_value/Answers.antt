@@ -1,6 +1,6 @@
 use Rattle.std.proofs.Common.{ap, ◌∙◌}
 use Rattle.zarr_model.specs.Element.{fill_element}
-use Rattle.zarrs_codec_bytes.proofs.AreFillLaws.{fill_means}
+use Rattle.zarrs_codec_slices.proofs.AreFillLaws.{fill_means}
 use Rattle.zarrs_codec_array_bytes.specs.Raw.{raw_of}
 use Rattle.zarrs_codec_array_bytes.proofs.array_bytes.ArrayBytes.is_fill_value.Goals as goal
 

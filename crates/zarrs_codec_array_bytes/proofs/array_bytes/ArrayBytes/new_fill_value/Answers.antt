@@ -1,6 +1,6 @@
 use Rattle.std.proofs.Common.{ap, ◌∙◌, ◌^◌, ◌<◌, length, sym, subst}
 use Rattle.zarr_model.specs.Element.{fill_element}
-use Rattle.zarrs_codec_bytes.specs.Filling.{innermost_fill}
+use Rattle.zarrs_codec_slices.specs.Filling.{innermost_fill}
 use Rattle.zarrs_codec_array_bytes.specs.Steps.{kind_seen}
 use Rattle.zarrs_codec_array_bytes.specs.Raw.{raw_of}
 use Rattle.zarrs_codec_array_bytes.proofs.MeaningLaws.{filled_answer, short_answer}

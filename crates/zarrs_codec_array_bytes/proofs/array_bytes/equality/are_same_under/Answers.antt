@@ -1,7 +1,7 @@
 use Rattle.std.proofs.Common.{sym, ◌∙◌}
 use Rattle.zarrs_codec_array_bytes.specs.Raw.{raw_of}
-use Rattle.zarrs_codec_bytes.specs.Same.{same_under}
-use Rattle.zarrs_codec_bytes.proofs.SameLaws.{all_more, all_stop}
+use Rattle.zarrs_codec_slices.specs.Same.{same_under}
+use Rattle.zarrs_codec_slices.proofs.SameLaws.{all_more, all_stop}
 use Rattle.zarrs_codec_array_bytes.proofs.array_bytes.equality.are_same_under.Goals as goal
 
 pub returns-then-not-same : goal.returns-then-not-same

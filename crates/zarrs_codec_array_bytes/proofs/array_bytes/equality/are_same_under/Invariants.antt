@@ -1,7 +1,7 @@
 use Rattle.std.proofs.Common.{◌≡◌, ◌-◌, length}
 use Rattle.std.specs.List.{list_all, range_with_len}
 use Rattle.zarrs_codec_array_bytes.specs.Raw.{raw_of}
-use Rattle.zarrs_codec_bytes.specs.Same.{same_under}
+use Rattle.zarrs_codec_slices.specs.Same.{same_under}
 use Rattle.zarrs_codec_array_bytes.proofs.array_bytes.equality.are_same_under.Given as goal
 
 abbrev pub invariant-loop-place : goal.invariant-loop-place

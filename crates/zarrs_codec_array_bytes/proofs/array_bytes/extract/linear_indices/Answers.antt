@@ -1,6 +1,6 @@
 use Rattle.std.proofs.Common.{ℕ, length, get_or, ◌<◌, sym, subst, ap, ◌∙◌, ◌++◌}
 use Rattle.zarr_model.specs.Region.{count_of}
-use Rattle.zarrs_codec_bytes.proofs.RowLaws.{indices_below}
+use Rattle.zarrs_codec_slices.proofs.RowLaws.{indices_below}
 use Rattle.zarrs_codec_array_bytes.specs.Selection.{linear}
 use Rattle.zarrs_codec_array_bytes.proofs.array_bytes.extract.linear_indices.Goals as goal
 

@@ -3,7 +3,7 @@ use Rattle.std.proofs.lemmas.Bool.{ltb-true}
 use Rattle.zarr_model.specs.Element.{kind_of, fill_element}
 use Rattle.zarr_model.proofs.ElementLaws.{denoted}
 use Rattle.zarrs_array_subset.specs.ArraySubset.{region as box_of}
-use Rattle.zarrs_data_type_elements.specs.FillValue.{fill_bytes}
+use Rattle.zarrs_data_type_bytes.specs.FillValue.{fill_bytes}
 use Rattle.zarrs_data_type_names.specs.DataType.{type_of}
 use Rattle.zarrs_codec_partial.specs.Above.{codec_seen, level_below}
 use Rattle.zarrs_codec_partial.proofs.FillLaws.{all_few, all_within, all_addressed, all_filled, all_short, all_failed}

@@ -1,0 +1,74 @@
+//! What a row of texts tries.
+
+use crate::{document, extension, field, fill, group, version_2};
+use std::alloc::{AllocError, Global};
+
+/// How the texts of a row are read and written.
+#[derive(Clone, Copy)]
+pub enum TextKind {
+    /// How a document is read and written.
+    Document,
+    /// How each line is read and written as the document of a group.
+    Group,
+    /// The same as an extension, an additional field and a fill value.
+    Extension,
+    Field,
+    Fill,
+    /// The same as a codec and a data type of version 2.
+    CodecV2,
+    DataTypeV2,
+}
+
+impl TextKind {
+    /// The kind that a word names.
+    pub fn of_word(word: &str) -> Option<TextKind> {
+        match word {
+            "group" => Some(TextKind::Group),
+            "extension" => Some(TextKind::Extension),
+            "field" => Some(TextKind::Field),
+            "fill" => Some(TextKind::Fill),
+            "codec_v2" => Some(TextKind::CodecV2),
+            "data_type_v2" => Some(TextKind::DataTypeV2),
+            "document" => Some(TextKind::Document),
+            _ => None,
+        }
+    }
+
+    // What a text is by this kind.
+    fn line_of(self, alloc: Global, text: &str) -> Result<String, AllocError> {
+        match self {
+            TextKind::Document => document::line_of(alloc, text),
+            TextKind::Group => group::line_of(alloc, text),
+            TextKind::Extension => extension::line_of(alloc, text),
+            TextKind::Field => field::line_of(alloc, text),
+            TextKind::Fill => fill::line_of(alloc, text),
+            TextKind::CodecV2 => version_2::codec_line(alloc, text),
+            TextKind::DataTypeV2 => version_2::data_type_line(alloc, text),
+        }
+    }
+
+    fn try_line(self, alloc: Global, text: &str, out: &mut Vec<u8>) -> Result<(), AllocError> {
+        let line = self.line_of(alloc, text)?;
+        out.extend_from_slice(line.as_bytes())?;
+        out.push(b'\n')?;
+        Ok(())
+    }
+
+    // Tries each line of a text.
+    fn try_each(self, alloc: Global, text: &str, out: &mut Vec<u8>) -> Result<(), AllocError> {
+        for line in text.split_terminator('\n') {
+            let name = format!(in alloc; "> {line}\n")?;
+            out.extend_from_slice(name.as_bytes())?;
+            self.try_line(alloc, line, out)?;
+        }
+        Ok(())
+    }
+
+    /// Tries a text, and appends what comes of it.
+    pub fn try_text(self, alloc: Global, text: &str, out: &mut Vec<u8>) -> Result<(), AllocError> {
+        match self {
+            TextKind::Document => self.try_line(alloc, text, out),
+            _ => self.try_each(alloc, text, out),
+        }
+    }
+}

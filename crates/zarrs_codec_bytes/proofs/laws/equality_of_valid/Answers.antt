@@ -1,5 +1,0 @@
-use Rattle.zarrs_codec_bytes.proofs.ValidLaws.{valid_same}
-use Rattle.zarrs_codec_bytes.proofs.laws.equality_of_valid.Goals as goal
-
-pub returns : goal.returns
-returns c = valid_same

@@ -1,5 +1,0 @@
-use Rattle.zarrs_codec_bytes.proofs.SeenLaws.{optional_test}
-use Rattle.zarrs_codec_bytes.proofs.laws.test_is_equality.Goals as goal
-
-pub returns : goal.returns
-returns c = optional_test

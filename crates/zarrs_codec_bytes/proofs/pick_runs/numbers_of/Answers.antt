@@ -1,5 +1,0 @@
-use Rattle.zarrs_codec_bytes.proofs.PickRunLaws.{numbers_step}
-use Rattle.zarrs_codec_bytes.proofs.pick_runs.numbers_of.Goals as goal
-
-pub loop-run-preserved : goal.loop-run-preserved
-loop-run-preserved c = numbers_step c.args.runs.now c.loop-run.run-index c.loop-run.numbers.items _ _ c.loop-run-test.true c.in_ok-push_numbers.ensures c.loop-run.invariant

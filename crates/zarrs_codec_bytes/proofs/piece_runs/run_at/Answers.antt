@@ -1,5 +1,0 @@
-use Rattle.zarrs_codec_bytes.proofs.PieceRunLaws.{run_pieces}
-use Rattle.zarrs_codec_bytes.proofs.piece_runs.run_at.Goals as goal
-
-pub returns : goal.returns
-returns c = run_pieces c.args.size c.args.bytes.now c.args.start c.args.len

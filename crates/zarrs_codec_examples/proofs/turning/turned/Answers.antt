@@ -1,0 +1,18 @@
+use Rattle.std.proofs.Common.{◌≡◌, true, sym, subst}
+use Rattle.zarr_model.specs.Region.{Region, ends_within}
+use Rattle.zarrs_array_subset.specs.ArraySubset.{region as box_of}
+use Rattle.zarrs_codec_array_bytes.specs.Raw.{raw_of}
+use Rattle.zarrs_codec_array_bytes.specs.Steps.{kind_seen}
+use Rattle.zarrs_codec_traits.specs.Views.{lengths}
+use Rattle.zarrs_codec_partial_traits.proofs.BoxLaws.{whole_inside}
+use Rattle.zarrs_codec_examples.proofs.MirrorLaws.{all_turned}
+use Rattle.zarrs_codec_examples.proofs.turning.turned.Goals as goal
+
+pub turned_region-requires-clause-inside : goal.turned_region-requires-clause-inside
+turned_region-requires-clause-inside c =
+    let shape = lengths c.args.shape.now in
+    subst (λ (box : Region). ends_within box shape ≡ true) (sym c.in-Ok.ensures) (whole_inside shape)
+
+pub returns-in-Ok-clause-value : goal.returns-in-Ok-clause-value
+returns-in-Ok-clause-value c =
+    all_turned raw_of (kind_seen c.args.data_type.now) (lengths c.args.shape.now) (box_of c.in-Ok.all) (raw_of c.args.bytes.now) c.turned_region.result c.in-Ok.ensures c.turned_region.ensures.value

@@ -1,4 +1,0 @@
-pub mod Options
-pub mod CodecSpecificOptions
-pub mod RecommendedConcurrency
-pub mod BytesRepresentation

@@ -1,6 +1,0 @@
-use Rattle.std.proofs.Common.{◌≡◌, ◌*◌, length, take}
-use Rattle.zarrs_data_type_elements.specs.Pieces.{repeated}
-use Rattle.zarrs_data_type_elements.proofs.fill_value.all_pieces.Given as goal
-
-abbrev pub invariant-loop-k : goal.invariant-loop-k
-invariant-loop-k l = take (l.k * length l.fill) l.bytes ≡ repeated l.k l.fill

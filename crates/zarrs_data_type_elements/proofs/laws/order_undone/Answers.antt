@@ -1,5 +1,0 @@
-use Rattle.zarrs_data_type_elements.proofs.OrderLaws.{undone}
-use Rattle.zarrs_data_type_elements.proofs.laws.order_undone.Goals as goal
-
-pub returns : goal.returns
-returns c = λ n order bytes there e. undone n order bytes there e

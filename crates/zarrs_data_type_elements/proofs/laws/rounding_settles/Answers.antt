@@ -1,5 +1,0 @@
-use Rattle.zarrs_data_type_elements.proofs.RoundLaws.{settled}
-use Rattle.zarrs_data_type_elements.proofs.laws.rounding_settles.Goals as goal
-
-pub returns : goal.returns
-returns c = λ keep size bytes keeps some few all. settled keep size bytes keeps few all

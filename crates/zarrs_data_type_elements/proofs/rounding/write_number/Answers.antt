@@ -1,5 +1,0 @@
-use Rattle.zarrs_data_type_elements.proofs.NumberLaws.{next_byte}
-use Rattle.zarrs_data_type_elements.proofs.rounding.write_number.Goals as goal
-
-pub loop-byte-preserved : goal.loop-byte-preserved
-loop-byte-preserved c = next_byte c.args.number c.loop-byte.rest c.loop-byte.byte-index c.loop-byte.byte-items c.args.bytes.now c.loop-byte.invariant.0 c.loop-byte.invariant.1 c.loop-byte-test.true

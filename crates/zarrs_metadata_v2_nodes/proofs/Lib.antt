@@ -1,5 +1,0 @@
-pub mod TypeLemmas
-pub mod ArrayBack
-pub mod GroupBack
-pub mod Stays
-pub mod Twice
