@@ -5,8 +5,8 @@
 use std::io;
 use std::process::ExitCode;
 use std::rt::Env;
-use zarr_cli_parts::Status;
-use zarr_cli_parts::args::words;
+use zarr_cli::Status;
+use zarr_cli::args::words;
 use zarr_v2::run_v2_program;
 use zarrs_storage::{MemoryStore, ReadSource, WriteSink};
 

@@ -6,8 +6,8 @@ use std::io;
 use std::process::ExitCode;
 use std::rt::Env;
 use zarr_cli::Status;
+use zarr_cli::args::words;
 use zarr_cli::program::run_program;
-use zarr_cli_parts::args::words;
 use zarrs_storage::{MemoryStore, ReadSource, WriteSink};
 
 fn run<R: Env + AllocGlobal + Input + Print>(rt: &R) -> u8 {

@@ -1,6 +1,8 @@
 -- What commands that ran did to a store.
 use Rattle.std.specs.Prelude.{◌≡◌, ◌≤◌, List}
-use Rattle.zarr_model.specs.Prelude.{Options, Shown, Command, Description, Answer, all_puts, counted, KeepsDamage, SeesNoDamage, ErasesKeys, ServesWhole, RefusesRight, AreRefused, IsUntouched, RanOver}
+use Rattle.zarr_model.specs.Prelude.{Options, Shown, Command, Description, Answer, all_puts, counted, KeepsDamage}
+use Rattle.zarr_model.specs.Prelude.{SeesNoDamage, ErasesKeys, ServesWhole, RefusesRight, AreRefused, IsUntouched}
+use Rattle.zarr_model.specs.Prelude.{RanOver}
 use Rattle.zarr_array.specs.Stored.{StoresForAll}
 
 -- some commands ran over a store and were answered so

@@ -1,22 +1,30 @@
 -- Commands that ran: a refused one, and a read; and one that wanted memory at once.
-use Rattle.std.proofs.Common.{◌≡◌, ℕ, zero, suc, ◌+◌, ◌-◌, ◌^◌, ◌<◌, ◌≤◌, ◌&&◌, Bool, true, false, if◌then◌else◌, List, [], ◌∷◌, length, slice_get, Contains, Some, None, IsSome, is_some, refl, sym, ap, ◌∙◌, subst, arith, ◌⊎◌, inl, inr}
+use Rattle.std.proofs.Common.{◌≡◌, ℕ, zero, suc, ◌+◌, ◌-◌, ◌^◌, ◌<◌, ◌≤◌, ◌&&◌, Bool, true, false, if◌then◌else◌, List}
+use Rattle.std.proofs.Common.{[], ◌∷◌, length, slice_get, Contains, Some, None, IsSome, is_some, refl, sym, ap, ◌∙◌}
+use Rattle.std.proofs.Common.{subst, arith, ◌⊎◌, inl, inr}
 use Rattle.std.specs.List.{list_any}
 use Rattle.std.proofs.lemmas.Bool.{true≢false, or_from}
-use Rattle.zarr_model.specs.Prelude.{Region, Element, ArrayBytes, Array, elements_in, chunks_meeting, CoversShape, Options, Content, HasMet, chunk_content, passes_over, Shown, Command, read, write, erase, Refusal, Description, kind, layout, refusal, elements, answered, answered_refused, Matches, after, present_in, present_under, chunks_under, command_chunks, puts_chunks, calls_of, is_among, changes_chunk, counted, erases_chunk, IsDamageSeen, SeesNoDamage, KeepsDamage, IsSound, reply_of, array_of}
+use Rattle.zarr_model.specs.Prelude.{Region, Element, ArrayBytes, Array, elements_in, chunks_meeting, CoversShape}
+use Rattle.zarr_model.specs.Prelude.{Options, Content, HasMet, chunk_content, passes_over, Shown, Command, read, write}
+use Rattle.zarr_model.specs.Prelude.{erase, Refusal, Description, kind, layout, refusal, elements, answered}
+use Rattle.zarr_model.specs.Prelude.{answered_refused, Matches, after, present_in, present_under, chunks_under}
+use Rattle.zarr_model.specs.Prelude.{command_chunks, puts_chunks, calls_of, is_among, changes_chunk, counted}
+use Rattle.zarr_model.specs.Prelude.{erases_chunk, IsDamageSeen, SeesNoDamage, KeepsDamage, IsSound, reply_of, array_of}
 use Rattle.zarr_model.proofs.FailureLaws.{cut_short-start}
 use Rattle.zarr_model.proofs.StepLaws.{LeavesKeys-same, refused-serves, read-serves, KeepsDamage-read}
 use Rattle.zarr_model.proofs.FailureLaws.{meeting_is}
 use Rattle.zarr_model.proofs.SeenLaws.{SeesNoDamage-read}
 use Rattle.zarr_model.proofs.RanLaws.{RanOver-unchanged, changes-stay}
 use Rattle.zarr_model.proofs.MetLaws.{met-has}
-use Rattle.zarr_array_regions.specs.declared.error.SessionErrorKind.TheVariants.{OutOfMemory}
+use Rattle.zarr_array.specs.declared.command_error.SessionErrorKind.TheVariants.{OutOfMemory}
 use Rattle.zarr_array.proofs.HasRun.{HasRun}
 use Rattle.zarr_array.proofs.StoredLaws.{stores-none}
 use Rattle.zarr_array.specs.Session.{FailsAt}
 use Rattle.zarr_array.proofs.DecodedLaws.{decoded-start}
 
 -- a refused command has no chunks: it asks for none, erases none and sees no damage
-module _ (description : Description) (command : Command) (why : Refusal) (refused : refusal description command ≡ Some why) where
+module _ (description : Description) (command : Command) (why : Refusal) (refused : refusal description command ≡
+    Some why) where
   pub no_chunks : command_chunks description command ≡ []
   no_chunks = ap (λ w. chunks_under description w command) refused
 
@@ -43,19 +51,23 @@ module _ (description : Description) (command : Command) (why : Refusal) (refuse
       by_command (write region value) e = ap (λ chunks. is_among chunks chunk) e
       by_command (erase other) e = ap (λ chunks. is_among chunks chunk) e
 
-  pub KeepsDamage-refused : (options : Options) (old new : Content) → ((key : List ℕ) → new key ≡ old key) → KeepsDamage description options (command ∷ []) old new
+  pub KeepsDamage-refused : (options : Options) (old new : Content) → ((key : List ℕ) → new key ≡ old key) →
+      KeepsDamage description options (command ∷ []) old new
   KeepsDamage-refused options old new same = record {
-    each = λ chunk is_chunk. inr (same (description.key chunk), or_from (erases_chunk description chunk command) false (erases_none chunk) refl);
+    each = λ chunk is_chunk. inr
+        (same (description.key chunk), or_from (erases_chunk description chunk command) false (erases_none chunk) refl);
     stands = λ chunk is_chunk damaged none. same (description.key chunk);
   }
 
-  pub SeesNoDamage-refused : (options : Options) (store : Content) → SeesNoDamage description options (command ∷ []) store
+  pub SeesNoDamage-refused : (options : Options) (store : Content) →
+      SeesNoDamage description options (command ∷ []) store
   SeesNoDamage-refused options store = record { no_key = unmet }
     where
       unmet : (key : List ℕ) → IsDamageSeen description options (command ∷ []) store key → ⊥
       unmet key (zero, other, is, asks, chunk, met, its_key, none, damaged, _) =
           let same : command ≡ other = cc in
-          let found : Contains [] chunk = subst (λ chunks. Contains chunks chunk) no_chunks (subst (λ c. Contains (command_chunks description c) chunk) (sym same) met) in
+          let found : Contains [] chunk = subst (λ chunks. Contains chunks chunk) no_chunks
+          (subst (λ c. Contains (command_chunks description c) chunk) (sym same) met) in
           let below : found.0 < 0 = found.1 in
           absurd (omega (arith, below))
       unmet key (suc m, other, is, _, _, _, _, _, _, _) = cc
@@ -70,38 +82,48 @@ module _ (description : Description) (command : Command) (why : Refusal) (refuse
     puts = let none = no_calls puts_chunks in omega (arith, few, none);
     damage = KeepsDamage-refused options store.content store.content (λ key. refl);
     undamaged = SeesNoDamage-refused options store.content;
-    erased = λ none array chunk is_chunk. sym (ap (λ w. present_under description options w command (after description command array) (present_in description store.content) chunk) refused);
+    erased = λ none array chunk is_chunk. sym (ap (λ w. present_under description options w command
+        (after description command array) (present_in description store.content) chunk) refused);
     stored = stores-none description options (command ∷ []) store.content store.content changes_none;
     over = RanOver-unchanged description options command store.content store.content (answered_refused why)
         (λ array. ap (λ w. array_of description w command array) refused) (λ key. refl)
         (KeepsDamage-refused options store.content store.content (λ key. refl))
-        (λ unmet array meant. subst (λ w. Matches (kind description) (answered_refused why) (reply_of w command array)) (sym refused) refl);
+        (λ unmet array meant.
+        subst (λ w. Matches (kind description) (answered_refused why) (reply_of w command array)) (sym refused) refl);
     later = omega arith;
   }
 
--- an accepted read ran, if it left the content, its chunks decoded or were passed over, and its bytes are the region of each array that has the chunks met
-pub read-ran : (description : Description) (options : Options) → IsSound (layout description options) → (region : Region) (old new : Shown) (value : ArrayBytes) →
+-- an accepted read ran, if it left the content, its chunks decoded or were passed over, and its bytes are the region of
+-- each array that has the chunks met
+pub read-ran : (description : Description) (options : Options) → IsSound (layout description options) →
+    (region : Region) (old new : Shown) (value : ArrayBytes) →
     refusal description (read region) ≡ None → ((key : List ℕ) → new.content key ≡ old.content key) →
     ((place : ℕ) (chunk : List ℕ) → slice_get (chunks_meeting description.grid region) place ≡ Some chunk →
-    IsSome (chunk_content (layout description options) old.content chunk) ⊎ (passes_over description options old.content (read region) chunk ≡ true)) →
-    ((array : Array Element) → HasMet description options region old.content array → Matches (kind description) (answered value) (elements (elements_in region array))) →
+    IsSome (chunk_content (layout description options) old.content chunk) ⊎
+    (passes_over description options old.content (read region) chunk ≡ true)) →
+    ((array : Array Element) → HasMet description options region old.content array →
+    Matches (kind description) (answered value) (elements (elements_in region array))) →
     new.puts ≡ old.puts → old.puts ≤ 2 ^ 64 - 1 → old.faults ≤ new.faults →
     HasRun description options (read region ∷ []) old new (answered value ∷ [])
 read-ran description options sound region old new value accepted same decode right unput few later = record {
   serves = read-serves description options region old.content new.content (answered value) accepted same
-      (λ array meant. right array (λ place chunk e. meant.each_chunk chunk (meeting_is description.grid region place chunk e).0));
+      (λ array meant.
+      right array (λ place chunk e. meant.each_chunk chunk (meeting_is description.grid region place chunk e).0));
   refusals = ap (λ w. w ∷ []) (sym accepted);
   refused = λ all. absurd (true≢false (sym all ∙ ap (λ w. is_some w && true) accepted));
   puts = omega (arith, unput, few);
   damage = KeepsDamage-read description options region old.content new.content same;
   erased = λ none array chunk is_chunk. ap is_some (same (description.key chunk))
-      ∙ sym (ap (λ w. present_under description options w (read region) (after description (read region) array) (present_in description old.content) chunk) accepted);
-  undamaged = SeesNoDamage-read description options region old.content (λ place chunk e. decode place chunk (ap (λ chunks. slice_get chunks place) (sym listed) ∙ e));
+      ∙ sym (ap (λ w. present_under description options w (read region) (after description (read region) array)
+      (present_in description old.content) chunk) accepted);
+  undamaged = SeesNoDamage-read description options region old.content
+      (λ place chunk e. decode place chunk (ap (λ chunks. slice_get chunks place) (sym listed) ∙ e));
   stored = stores-none description options (read region ∷ []) old.content new.content (λ chunk. refl);
   over = RanOver-unchanged description options (read region) old.content new.content (answered value)
       (λ array. ap (λ w. array_of description w (read region) array) accepted) same
       (KeepsDamage-read description options region old.content new.content same)
-      (λ unmet array meant. subst (λ w. Matches (kind description) (answered value) (reply_of w (read region) array)) (sym accepted)
+      (λ unmet array meant.
+      subst (λ w. Matches (kind description) (answered value) (reply_of w (read region) array)) (sym accepted)
       (right array (met-has description options sound region old.content array accepted unmet meant)));
   later = later;
 }
@@ -110,7 +132,8 @@ read-ran description options sound region old new value accepted same decode rig
     listed = ap (λ w. chunks_under description w (read region)) accepted
 
 -- memory ran out before the first chunk of a command
-pub command-starved : (description : Description) → CoversShape description.shape description.grid → (options : Options) → IsSound (layout description options) → (command : Command) (store : Shown) → store.puts ≤ 2 ^ 64 - 1 →
+pub command-starved : (description : Description) → CoversShape description.shape description.grid → (options :
+    Options) → IsSound (layout description options) → (command : Command) (store : Shown) → store.puts ≤ 2 ^ 64 - 1 →
     FailsAt description options (command ∷ []) store store (Some (0, 0)) OutOfMemory
 command-starved description covers options sound command store few = record {
   place = (command, refl, omega arith);
@@ -118,13 +141,15 @@ command-starved description covers options sound command store few = record {
   keys = LeavesKeys-same description options (command ∷ []) store.content store.content (λ key. refl);
   stored = λ chunk is_chunk. inl refl;
   damage = λ chunk is_chunk damaged none. refl;
-  left = changes-stay description options covers sound command 0 false store.content store.content (omega arith) (record {
-    decoded = λ place chunk h e. absurd (omega (arith, h));
-    holds = λ array place chunk is_fill h e had. absurd (omega (arith, h));
-    others = λ key apart. refl;
-  });
+  left =
+      changes-stay description options covers sound command 0 false store.content store.content (omega arith) (record {
+        decoded = λ place chunk h e. absurd (omega (arith, h));
+        holds = λ array place chunk is_fill h e had. absurd (omega (arith, h));
+        others = λ key apart. refl;
+      });
   decoded = decoded-start description options command store.content;
-  cause = λ honest array meant. (command, refl, cut_short-start description covers options command false array store.content meant);
+  cause = λ honest array meant.
+      (command, refl, cut_short-start description covers options command false array store.content meant);
 }
   where
     none : (n : ℕ) (b : Bool) → n ≤ 2 ^ 64 - 1 → n ≡ counted n (0 + (if b then 0 else 0))

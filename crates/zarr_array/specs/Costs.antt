@@ -1,10 +1,11 @@
 -- What commands cost a store by what fetching a chunk costs.
 use Rattle.std.specs.Prelude.{◌≡◌, ◌||◌, Bool, true, List, is_some, IfErr, OnOk}
 use Rattle.std.specs.List.{list_all}
-use Rattle.zarr_model.specs.Prelude.{Options, Content, Shown, Command, read, write, erase, Description, refusal, command_chunks, all_asks, AsksUpTo, counted, TakesNeeded}
-use Rattle.zarr_array_regions.specs.Access.{Cost, PartCost, Costs, by_chunk, by_part}
-use Rattle.zarr_array_regions.specs.Pays.{Pays, cost_of, costs_of}
-use Rattle.zarr_array.specs.Command.{is_read}
+use Rattle.zarr_model.specs.Prelude.{Options, Content, Shown, Command, read, write, erase, Description, refusal}
+use Rattle.zarr_model.specs.Prelude.{command_chunks, all_asks, AsksUpTo, counted, TakesNeeded}
+use Rattle.zarr_array.specs.Access.{Cost, PartCost, Costs, by_chunk, by_part}
+use Rattle.zarr_array.specs.Pays.{Pays, cost_of, costs_of}
+use Rattle.zarr_array_boxes.specs.Command.{is_read}
 use Rattle.zarr_array.specs.Ended.{Ended}
 
 -- one call fetched each chunk, by which exactly the bytes needed were taken where that is told

@@ -1,7 +1,8 @@
 -- What a run that ended at a place had met before it.
 use Rattle.std.specs.Prelude.{◌≡◌, ◌<◌, ◌⊎◌, ℕ, true, false, List, take, slice_get, Option, Some, None, IsSome}
 use Rattle.std.specs.List.{list_any}
-use Rattle.zarr_model.specs.Prelude.{Options, Content, chunk_content, Command, Description, layout, command_chunks, erases_chunk, passes_over, SeesNoDamage}
+use Rattle.zarr_model.specs.Prelude.{Options, Content, chunk_content, Command, Description, layout, command_chunks}
+use Rattle.zarr_model.specs.Prelude.{erases_chunk, passes_over, SeesNoDamage}
 
 -- before chunk k of command m no damage was seen: not by the commands before it, and of its chunks
 -- before k each value decodes or may be passed over, if no accepted command before erases the chunk

@@ -1,10 +1,10 @@
 -- How commands ended: their answers, or the error with its place.
 use Rattle.std.specs.Prelude.{List, [], ◌∷◌, map, Vec, Some, Result, Ok, Err}
 use Rattle.zarr_model.specs.Prelude.{Answer}
-use Rattle.zarr_array.specs.Command.{answer_of}
-use Rattle.zarr_array.specs.declared.command.Reply.{Reply}
+use Rattle.zarr_array_boxes.specs.Command.{answer_of}
+use Rattle.zarr_array_boxes.specs.declared.command.Reply.{Reply}
 use Rattle.zarr_array.specs.declared.error.SessionError.{SessionError}
-use Rattle.zarr_array_regions.specs.declared.error.CommandError.{CommandError}
+use Rattle.zarr_array.specs.declared.command_error.CommandError.{CommandError}
 
 abbrev pub Ended : Type 0
 Ended = Result (List Answer) SessionError

@@ -1,10 +1,13 @@
 -- What running commands over a store owes.
 use Rattle.std.specs.Prelude.{◌≡◌, ◌≤◌, List, IfOk, IfErr, OnOk}
-use Rattle.zarr_model.specs.Prelude.{Options, Shown, IsHonest, Command, Description, layout, all_asks, all_puts, AsksUpTo, counted, Rose, SeesNoDamage, ErasesKeys, KeepsDamage, LeavesKeys, ServesArray, RefusesRight, AreRefused, IsUntouched, MeetsNoDamage, RanOver, AnswersUndamaged}
+use Rattle.zarr_model.specs.Prelude.{Options, Shown, IsHonest, Command, Description, layout, all_asks, all_puts}
+use Rattle.zarr_model.specs.Prelude.{AsksUpTo, counted, Rose, SeesNoDamage, ErasesKeys, KeepsDamage, LeavesKeys}
+use Rattle.zarr_model.specs.Prelude.{ServesArray, RefusesRight, AreRefused, IsUntouched, MeetsNoDamage, RanOver}
+use Rattle.zarr_model.specs.Prelude.{AnswersUndamaged}
 use Rattle.zarr_array.specs.Session.{FailsAt}
 use Rattle.zarr_array.specs.Stored.{StoresForAll}
 use Rattle.zarr_array.specs.Ended.{Ended}
-use Rattle.zarr_array_regions.specs.declared.error.SessionErrorKind.TheVariants.{OutOfMemory}
+use Rattle.zarr_array.specs.declared.command_error.SessionErrorKind.TheVariants.{OutOfMemory}
 
 -- what running commands over a store owes, however it ends, but for its reading calls
 pub record RunsOn (array : Description) (options : Options) (commands : List Command)

@@ -1,13 +1,16 @@
--- When a session ends with an error, and what it then leaves.
+-- When a session over an array ends with an error, and what it then leaves in the store.
 use Rattle.std.specs.Prelude.{◌≡◌, ℕ, Bool, true, false, List, slice_get, Option, Some, None, IsErrAnd}
-use Rattle.zarr_model.specs.Prelude.{Options, Content, Shown, Command, Description, command_chunks, IsPlace, begun, AsksUpTo, PutsUpTo, LeavesKeys, passes_over, IsUndecoded, IsStopped, IsStarved, IsLeftBut}
-use Rattle.zarr_array_regions.specs.parts.Opening.{OpenRefusal}
-use Rattle.zarr_array_regions.specs.parts.OpenError.{open_refusal_of}
+use Rattle.zarr_model.specs.Prelude.{Options, Content, Shown, Command, Description, command_chunks, IsPlace, begun}
+use Rattle.zarr_model.specs.Prelude.{AsksUpTo, PutsUpTo, LeavesKeys, passes_over, IsUndecoded, IsStopped, IsStarved}
+use Rattle.zarr_model.specs.Prelude.{IsLeftBut}
+use Rattle.zarr_array_open.specs.Opening.{OpenRefusal}
+use Rattle.zarr_array_open.specs.OpenError.{open_refusal_of}
 use Rattle.zarr_array.specs.Ended.{Ended}
 use Rattle.zarr_array.specs.Decoded.{AreDecoded}
 use Rattle.zarr_array.specs.Stored.{StaysOrDecodes, DamageStands}
-use Rattle.zarr_array_regions.specs.declared.error.SessionErrorKind.{SessionErrorKind}
-use Rattle.zarr_array_regions.specs.declared.error.SessionErrorKind.TheVariants.{NotOpened, ChunkDecode, Store, OutOfMemory}
+use Rattle.zarr_array.specs.declared.command_error.SessionErrorKind.{SessionErrorKind}
+use Rattle.zarr_array.specs.declared.command_error.SessionErrorKind.TheVariants.{NotOpened, ChunkDecode, Store}
+use Rattle.zarr_array.specs.declared.command_error.SessionErrorKind.TheVariants.{OutOfMemory}
 
 -- the command at a place may not pass over the value of the next chunk there
 abbrev pub IsNoticed : Description → Options → List Command → Content → Option (ℕ × ℕ) → Type 0

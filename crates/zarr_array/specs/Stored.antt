@@ -1,7 +1,8 @@
 -- What commands leave: what decodes under all options, and what stands.
 use Rattle.std.specs.Prelude.{◌≡◌, ◌⊎◌, ℕ, true, false, List, None, IsSome}
 use Rattle.std.specs.List.{list_any}
-use Rattle.zarr_model.specs.Prelude.{Element, Array, IsChunk, Options, Content, WhollyMeans, chunk_content, ChunkHas, Command, Description, layout, array_after, changes_chunk, erases_chunk}
+use Rattle.zarr_model.specs.Prelude.{Element, Array, IsChunk, Options, Content, WhollyMeans, chunk_content, ChunkHas}
+use Rattle.zarr_model.specs.Prelude.{Command, Description, layout, array_after, changes_chunk, erases_chunk}
 
 -- a chunk's key is absent, or has a value that decodes under all options
 abbrev pub DecodesForAll : Description → Content → List ℕ → Type 0

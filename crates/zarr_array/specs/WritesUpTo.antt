@@ -1,8 +1,10 @@
 -- What a write that ended at one of its chunks did.
 use Rattle.std.specs.Prelude.{ℕ}
-use Rattle.zarr_model.specs.Prelude.{Region, ArrayBytes, written, written_elements, chunks_meeting, Options, Shown, Description, ChangedFirst}
-use Rattle.zarr_array_regions.specs.declared.error.SessionErrorKind.{SessionErrorKind}
-use Rattle.zarr_array_regions.specs.declared.error.SessionErrorKind.TheVariants.{NotOpened, ChunkDecode, Store, OutOfMemory}
+use Rattle.zarr_model.specs.Prelude.{Region, ArrayBytes, written, written_elements, chunks_meeting, Options, Shown}
+use Rattle.zarr_model.specs.Prelude.{Description, ChangedFirst}
+use Rattle.zarr_array.specs.declared.command_error.SessionErrorKind.{SessionErrorKind}
+use Rattle.zarr_array.specs.declared.command_error.SessionErrorKind.TheVariants.{NotOpened, ChunkDecode, Store}
+use Rattle.zarr_array.specs.declared.command_error.SessionErrorKind.TheVariants.{OutOfMemory}
 
 -- the first k chunks of a region were changed
 abbrev pub ChangedUpTo : Description → Options → Region → ArrayBytes → ℕ → Shown → Shown → Type 0

@@ -1,29 +1,26 @@
 //! Single commands on an opened array.
 
-ghost use Rattle.std.specs.Prelude.{◌≡◌, ℕ, List, [], ◌∷◌, Some, None, IfOk, IfErr, IsOk};
-ghost use Rattle.zarrs_codec_array_bytes.specs.Raw.{raw_of};
-ghost use Rattle.zarr_model.specs.Prelude.{read, write, erase, AreRefused};
-ghost use Rattle.zarrs_array_subset.specs.ArraySubset.{region as region_of_subset};
-ghost use Rattle.zarrs_codec_traits.specs.Views.{options_of};
-ghost use Rattle.zarr_array_regions.specs.Told.{TellsWhy};
-ghost use Rattle.zarr_array.specs.Command.{IsReadReply, IsShortReply};
+ghost use Rattle.std.specs.Prelude.{[], ◌∷◌, Some, None, IfErr};
+ghost use Rattle.zarrs_codec_traits.specs.Prelude.{raw_of, region as region_of_subset, options_of};
+ghost use Rattle.zarr_model.specs.Prelude.{read, write, erase};
+ghost use Rattle.zarr_array.specs.Told.{TellsWhy};
 ghost use Rattle.zarr_array.specs.Ended.{ended_one};
-ghost use Rattle.zarr_array.specs.WritesUpTo.{WritesUpTo};
+ghost use Rattle.zarr_array.specs.Answers.{AnswersRefused, AnswersRead, IsAlone, StopsWrite};
 ghost use Rattle.zarr_array.specs.Runs.{Runs};
 ghost use Rattle.zarr_array.specs.Taken.{TakesAlone};
 
-use crate::command::Reply;
 use crate::commands::{run_erase, run_read, run_write};
 use crate::error::{SessionError, SessionErrorKind};
 use crate::open::OpenArray;
 use std::alloc::Global;
+use zarr_array_boxes::Reply;
 use zarrs_array_subset::ArraySubset;
 use zarrs_codec_array_bytes::ArrayBytes;
 use zarrs_codec_error::CodecOptions;
 use zarrs_storage::Store;
 
 impl OpenArray {
-    ghost use Rattle.zarr_array.specs.OpenArray.{documented, described};
+    ghost use Rattle.zarr_array.specs.OpenArray.{documented, described_array};
 
     /// Reads a region of the array: its elements in row-major order, or why it is refused.
     ///
@@ -41,23 +38,17 @@ impl OpenArray {
         store: &mut S,
         options: &CodecOptions,
     ) -> Result<Reply, SessionError>
-        ensures runs { Runs (described self.now) (options_of options.now)
+        ensures runs { Runs (described_array self.now) (options_of options.now)
             (read (region_of_subset region.now) ∷ [])
             (S.shown store.old) (S.shown store.new) (ended_one result) }
         ensures taken { TakesAlone (documented self.now) (options_of options.now)
             (read (region_of_subset region.now) ∷ [])
             (S.shown store.old) (S.shown store.new) (ended_one result) }
-        // A refusal is an answer, and an error is at this command.
-        ensures answered { AreRefused (described self.now)
-            (read (region_of_subset region.now) ∷ []) → IsOk result }
-        ensures begun { IfErr result (λ error. (k : ℕ) × (error.at ≡ Some (0, k))) }
-        ensures same { (key : List ℕ) →
-            (S.shown store.new).content key ≡ (S.shown store.old).content key }
+        // A refusal is an answer, and no reply has an element of 2^32 bytes or more.
+        ensures read { AnswersRead (described_array self.now) (region_of_subset region.now)
+            (S.shown store.old) (S.shown store.new) result }
+        ensures begun { IfErr result IsAlone }
         ensures kept { S.kept store.old store.new }
-        // A reply that is no refusal has the region's elements, and none of them has 2^32 bytes or more.
-        ensures valid { IfOk result
-            (IsReadReply (described self.now) (region_of_subset region.now)) }
-        ensures short { IfOk result IsShortReply }
         ensures told { IfErr result (λ error. TellsWhy (Some (region_of_subset region.now))
             (documented self.now) (options_of options.now) (S.shown store.new) error.kind) }
     {
@@ -84,20 +75,17 @@ impl OpenArray {
         store: &mut S,
         options: &CodecOptions,
     ) -> Result<Reply, SessionError>
-        ensures runs { Runs (described self.now) (options_of options.now)
+        ensures runs { Runs (described_array self.now) (options_of options.now)
             (write (region_of_subset region.now) (raw_of bytes.now) ∷ [])
             (S.shown store.old) (S.shown store.new) (ended_one result) }
         ensures taken { TakesAlone (documented self.now) (options_of options.now)
             (write (region_of_subset region.now) (raw_of bytes.now) ∷ [])
             (S.shown store.old) (S.shown store.new) (ended_one result) }
-        // A refusal is an answer, and an error is at this command.
-        ensures answered { AreRefused (described self.now)
-            (write (region_of_subset region.now) (raw_of bytes.now) ∷ []) → IsOk result }
+        ensures answered { AnswersRefused (described_array self.now)
+            (write (region_of_subset region.now) (raw_of bytes.now) ∷ []) result }
         // An error that is not the store's leaves the chunks before it changed, and all other keys as they were.
-        ensures begun { IfErr result (λ error. (k : ℕ) × (error.at ≡ Some (0, k))
-            × WritesUpTo (described self.now) (options_of options.now)
-            (region_of_subset region.now) (raw_of bytes.now) k
-            (S.shown store.old) (S.shown store.new) error.kind) }
+        ensures begun { IfErr result (StopsWrite (described_array self.now) (options_of options.now)
+            (region_of_subset region.now) (raw_of bytes.now) (S.shown store.old) (S.shown store.new)) }
         ensures told { IfErr result (λ error. TellsWhy None (documented self.now)
             (options_of options.now) (S.shown store.new) error.kind) }
     {
@@ -118,16 +106,15 @@ impl OpenArray {
         store: &mut S,
         options: &CodecOptions,
     ) -> Result<Reply, SessionError>
-        ensures runs { Runs (described self.now) (options_of options.now)
+        ensures runs { Runs (described_array self.now) (options_of options.now)
             (erase chunk.now ∷ [])
             (S.shown store.old) (S.shown store.new) (ended_one result) }
         ensures taken { TakesAlone (documented self.now) (options_of options.now)
             (erase chunk.now ∷ [])
             (S.shown store.old) (S.shown store.new) (ended_one result) }
-        // A refusal is an answer, and an error is at this command.
-        ensures answered { AreRefused (described self.now)
-            (erase chunk.now ∷ []) → IsOk result }
-        ensures begun { IfErr result (λ error. (k : ℕ) × (error.at ≡ Some (0, k))) }
+        ensures answered { AnswersRefused (described_array self.now)
+            (erase chunk.now ∷ []) result }
+        ensures begun { IfErr result IsAlone }
         ensures told { IfErr result (λ error. TellsWhy None (documented self.now)
             (options_of options.now) (S.shown store.new) error.kind) }
     {

@@ -1,24 +1,22 @@
 //! Commands over a store on any array that gives access to its chunks.
 
-ghost use Rattle.std.specs.Prelude.{IfOk, IfErr, ◌≡◌, ℕ, List, [], ◌∷◌, map, Some, None, IsOk};
-ghost use Rattle.zarrs_codec_array_bytes.specs.Raw.{raw_of};
-ghost use Rattle.zarr_model.specs.Prelude.{read, write, erase, AreRefused};
-ghost use Rattle.zarrs_array_subset.specs.ArraySubset.{region};
-ghost use Rattle.zarrs_storage.specs.Store.{SameContent};
-ghost use Rattle.zarr_array.specs.Command.{command_of, region_read, region_at, AreReads, IsReadReply, IsShortReply};
-ghost use Rattle.zarrs_codec_traits.specs.Views.{options_of};
-ghost use Rattle.zarr_array_regions.specs.Access.{described};
-ghost use Rattle.zarr_array_regions.specs.Tells.{TellsOfSome};
+ghost use Rattle.std.specs.Prelude.{IfErr, ◌≡◌, [], ◌∷◌, map, Some, None};
+ghost use Rattle.zarrs_codec_traits.specs.Prelude.{raw_of, region, SameContent, options_of};
+ghost use Rattle.zarr_model.specs.Prelude.{read, write, erase};
+ghost use Rattle.zarr_array_boxes.specs.Command.{command_of, region_read, region_at, AreReads};
+ghost use Rattle.zarr_array.specs.Access.{described};
+ghost use Rattle.zarr_array.specs.Tells.{TellsOfSome};
 ghost use Rattle.zarr_array.specs.Costs.{CostsOn};
 ghost use Rattle.zarr_array.specs.Ended.{ended, ended_step};
 ghost use Rattle.zarr_array.specs.WritesUpTo.{WritesUpTo};
+ghost use Rattle.zarr_array.specs.Answers.{AnswersRefused, AnswersRead};
 ghost use Rattle.zarr_array.specs.Runs.{RunsOn};
 
-use crate::command::{Command, Reply};
 use crate::error::{SessionError, SessionErrorKind};
 use crate::refusal::{erase_refusal, region_refusal, write_refusal};
+use crate::{ChunkAccess, CommandError, read_elements, write_elements};
 use std::alloc::Global;
-use zarr_array_regions::{ChunkAccess, CommandError, read_elements, write_elements};
+use zarr_array_boxes::{Command, Reply};
 use zarrs_array_subset::ArraySubset;
 use zarrs_codec_array_bytes::ArrayBytes;
 use zarrs_codec_error::CodecOptions;
@@ -41,12 +39,9 @@ pub fn run_read<C: ChunkAccess, S: Store>(
     ensures costs { CostsOn (C.seen array.now).costs (described (C.seen array.now))
         (options_of options.now) (read (region subset.now) ∷ []) (S.shown store.old)
         (S.shown store.new) (ended_step result) }
-    ensures answered { AreRefused (described (C.seen array.now))
-        (read (region subset.now) ∷ []) → IsOk result }
-    ensures same { SameContent (S.shown store.old) (S.shown store.new) }
+    ensures read { AnswersRead (described (C.seen array.now)) (region subset.now)
+        (S.shown store.old) (S.shown store.new) result }
     ensures kept { S.kept store.old store.new }
-    ensures valid { IfOk result (IsReadReply (described (C.seen array.now)) (region subset.now)) }
-    ensures short { IfOk result IsShortReply }
     ensures told { IfErr result (λ error. TellsOfSome (Some (region subset.now))
         (described (C.seen array.now)) (C.seen array.now).says (options_of options.now)
         (S.shown store.new) error.kind) }
@@ -76,8 +71,8 @@ pub fn run_write<C: ChunkAccess, S: Store>(
     ensures costs { CostsOn (C.seen array.now).costs (described (C.seen array.now))
         (options_of options.now) (write (region subset.now) (raw_of bytes.now) ∷ [])
         (S.shown store.old) (S.shown store.new) (ended_step result) }
-    ensures answered { AreRefused (described (C.seen array.now))
-        (write (region subset.now) (raw_of bytes.now) ∷ []) → IsOk result }
+    ensures answered { AnswersRefused (described (C.seen array.now))
+        (write (region subset.now) (raw_of bytes.now) ∷ []) result }
     ensures first { IfErr result (λ error. WritesUpTo (described (C.seen array.now))
         (options_of options.now) (region subset.now) (raw_of bytes.now) error.chunks_done
         (S.shown store.old) (S.shown store.new) error.kind) }
@@ -109,8 +104,8 @@ pub fn run_erase<C: ChunkAccess, S: Store>(
     ensures costs { CostsOn (C.seen array.now).costs (described (C.seen array.now))
         (options_of options.now) (erase chunk_indices.now ∷ []) (S.shown store.old)
         (S.shown store.new) (ended_step result) }
-    ensures answered { AreRefused (described (C.seen array.now))
-        (erase chunk_indices.now ∷ []) → IsOk result }
+    ensures answered { AnswersRefused (described (C.seen array.now))
+        (erase chunk_indices.now ∷ []) result }
     ensures unasked { (S.shown store.new).asks ≡ (S.shown store.old).asks }
     ensures untaken { (S.shown store.new).taken ≡ (S.shown store.old).taken }
     ensures told { IfErr result (λ error. TellsOfSome None
@@ -145,8 +140,8 @@ fn run_command<C: ChunkAccess, S: Store>(
     ensures costs { CostsOn (C.seen array.now).costs (described (C.seen array.now))
         (options_of options.now) (command_of command.now ∷ []) (S.shown store.old)
         (S.shown store.new) (ended_step result) }
-    ensures answered { AreRefused (described (C.seen array.now))
-        (command_of command.now ∷ []) → IsOk result }
+    ensures answered { AnswersRefused (described (C.seen array.now))
+        (command_of command.now ∷ []) result }
     ensures same { AreReads (command_of command.now ∷ [])
         → SameContent (S.shown store.old) (S.shown store.new) }
     ensures kept { AreReads (command_of command.now ∷ []) → S.kept store.old store.new }

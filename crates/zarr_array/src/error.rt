@@ -2,9 +2,9 @@
 
 ghost use Rattle.std.specs.Prelude.{◌≡◌, None};
 
+use crate::CommandError;
+pub use crate::SessionErrorKind;
 use thiserror::Error;
-use zarr_array_regions::CommandError;
-pub use zarr_array_regions::SessionErrorKind;
 
 /// An error of a session.
 #[derive(Debug, Drop, Error)]

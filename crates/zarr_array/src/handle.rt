@@ -1,19 +1,16 @@
 //! A handle on one chunk of an array.
 
 ghost use Rattle.std.specs.Prelude.{◌≡◌, IfOk};
-ghost use Rattle.zarr_model.specs.Prelude.{IsChunk};
-ghost use Rattle.zarrs_array_subset.specs.ArraySubset.{region as box_of};
-ghost use Rattle.zarrs_codec_array_bytes.specs.Raw.{raw_of};
-ghost use Rattle.zarrs_codec_traits.specs.Views.{options_of};
-ghost use Rattle.zarr_array_regions.specs.stored.Handle.{HasParts, KeepsHandle, ReadsHandle, ErasesKey};
-ghost use Rattle.zarr_array_regions.specs.stored.Seen.{CanRead, ReadsPart, CanWrite, WritesRegion};
-ghost use Rattle.zarr_array.specs.OpenArray.{described};
+ghost use Rattle.zarrs_codec_traits.specs.Prelude.{IsChunk, region as box_of, raw_of, options_of};
+ghost use Rattle.zarr_chunks.specs.Handle.{HasParts, KeepsHandle, ReadsHandle, ErasesKey};
+ghost use Rattle.zarr_chunks.specs.Seen.{CanRead, ReadsPart, CanWrite, WritesRegion};
+ghost use Rattle.zarr_array.specs.OpenArray.{described_array};
 
 use crate::open::OpenArray;
+use crate::{BasicArrayToArray, BasicBytesToBytes, BasicChain};
 use std::alloc::{AllocError, Global};
-use zarr_array_regions::{BasicArrayToArray, BasicBytesToBytes, BasicChain};
-use zarr_chain::ChunkLevels;
-use zarr_codecs_array_to_bytes::BasicArrayToBytes;
+use zarr_codec_chain::ChunkLevels;
+use zarr_codecs::BasicArrayToBytes;
 use zarrs_array_subset::ArraySubset;
 use zarrs_codec_array_bytes::ArrayBytes;
 use zarrs_codec_error::{CodecError, CodecOptions};
@@ -22,13 +19,7 @@ use zarrs_storage::{Store, StoreKey};
 /// The codecs of an array over the chunk under one key of a store.
 #[derive(Drop)]
 pub struct ChainHandle<'s, S> {
-    held: zarr_array_regions::ChainHandle<
-        's,
-        S,
-        BasicArrayToArray,
-        BasicArrayToBytes,
-        BasicBytesToBytes,
-    >,
+    held: zarr_chunks::ChainHandle<'s, S, BasicArrayToArray, BasicArrayToBytes, BasicBytesToBytes>,
 }
 
 impl<'s, S: Store> ChainHandle<'s, S> {
@@ -46,7 +37,7 @@ impl<'s, S: Store> ChainHandle<'s, S> {
         store: &'s mut S,
         key: StoreKey,
     ) -> Result<ChainHandle<'s, S>, AllocError>
-        requires { IsChunk (described array.now).grid chunk.now }
+        requires { IsChunk (described_array array.now).grid chunk.now }
         ensures same_reference { IfOk result
             (λ handle. handle.held.storage.ghost_name ≡ store.entry.ghost_name) }
         ensures value { IfOk result (λ handle. handle.held.storage.now ≡ store.old) }
@@ -70,7 +61,7 @@ impl<'s, S: Store> ChainHandle<'s, S> {
         ensures parts { HasParts result.held chain levels key }
     {
         ChainHandle {
-            held: zarr_array_regions::ChainHandle::from_parts(chain, levels, store, key),
+            held: zarr_chunks::ChainHandle::from_parts(chain, levels, store, key),
         }
     }
 

@@ -3,26 +3,24 @@
 //! See <https://zarr-specs.readthedocs.io/en/latest/v3/core/index.html#array-metadata>.
 
 ghost use Rattle.std.specs.Prelude.{◌≡◌, ◌<◌, ℕ, length, Some, IfOk};
-ghost use Rattle.zarr_model.specs.Prelude.{fixed, kind_of, fill_element, sizes, IsChunk};
+ghost use Rattle.zarrs_codec_traits.specs.Prelude.{fixed, kind_of, fill_element, sizes, IsChunk};
+ghost use Rattle.zarrs_codec_traits.specs.Prelude.{lengths, fill_bytes, type_of};
 ghost use Rattle.zarrs_metadata.specs.ArrayMetadata.{array_seen};
-ghost use Rattle.zarrs_chunk_grid_traits.specs.ChunkGridErrors.{Answers};
-ghost use Rattle.zarrs_chunk_grid_traits.specs.ChunkGrid.{in_chunk};
-ghost use Rattle.zarrs_codec_traits.specs.Views.{lengths};
-ghost use Rattle.zarrs_data_type.specs.FillValue.{fill_bytes};
-ghost use Rattle.zarrs_data_type.specs.DataType.{type_of};
-ghost use Rattle.zarr_array_regions.specs.parts.basics.BasicGrid.{basic_form, basic_grid, basic_shape};
-ghost use Rattle.zarr_array_regions.specs.parts.basics.Registries.{names_of};
-ghost use Rattle.zarr_array_regions.specs.parts.Opening.{document_of, open_document};
-ghost use Rattle.zarr_array_regions.specs.parts.Parts.{Opens};
-ghost use Rattle.zarr_array_regions.specs.parts.Chain.{chain_form};
-ghost use Rattle.zarr_array_regions.specs.parts.ChunkLevels.{ServesShape, chunk_shape};
-ghost use Rattle.zarr_array_regions.specs.parts.Sizes.{have_chunks};
+ghost use Rattle.zarrs_chunk_grid.specs.ChunkGridErrors.{AnswersGrid};
+ghost use Rattle.zarrs_chunk_grid.specs.ChunkGrid.{in_chunk};
+ghost use Rattle.zarr_basics.specs.BasicGrid.{basic_form, basic_grid, basic_shape};
+ghost use Rattle.zarr_basics.specs.Registries.{names_of};
+ghost use Rattle.zarr_array_open.specs.Opening.{document_of, open_document};
+ghost use Rattle.zarr_array_open.specs.Parts.{Opens};
+ghost use Rattle.zarr_array_open.specs.Chain.{chain_form};
+ghost use Rattle.zarr_array_open.specs.ChunkLevels.{ServesShape, chunk_shape};
+ghost use Rattle.zarr_array_open.specs.Sizes.{have_chunks};
 
+use crate::{ArrayParts, BasicChain, BasicGrid, ChunkAccess, OpenError, Registries};
 use std::alloc::{AllocError, Global};
-use zarr_array_regions::{ArrayParts, BasicChain, BasicGrid, ChunkAccess, OpenError, Registries};
-use zarr_chain::ChunkLevels;
+use zarr_codec_chain::ChunkLevels;
 use zarrs_array_subset::ChunkShape;
-use zarrs_chunk_grid_traits::{ChunkGridError, ChunkGridTraits};
+use zarrs_chunk_grid::{ChunkGridError, ChunkGridTraits};
 use zarrs_data_type::{DataType, FillValue};
 use zarrs_metadata::ArrayMetadataV3;
 use zarrs_storage::StoreKey;
@@ -34,7 +32,7 @@ pub struct OpenArray {
 }
 
 impl OpenArray {
-    ghost use Rattle.zarr_array.specs.OpenArray.{documented, described, OpensAs};
+    ghost use Rattle.zarr_array.specs.OpenArray.{documented, described_array, OpensArrayAs};
 
     /// Opens the array that a document describes, by the names of some registries.
     ///
@@ -47,7 +45,7 @@ impl OpenArray {
     /// # Errors
     /// The first of [`OpenError`] that applies, or `OutOfMemory`.
     pub fn open(alloc: Global, text: &str, registries: &Registries) -> Result<OpenArray, OpenError>
-        ensures { OpensAs result (open_document (names_of registries.now) text.now) }
+        ensures { OpensArrayAs result (open_document (names_of registries.now) text.now) }
     {
         let parts = ArrayParts::open(alloc, text, registries)?;
         Ok(OpenArray { parts })
@@ -79,7 +77,7 @@ impl OpenArray {
 
     /// Whether the array has a chunk: no length of its shape is 0.
     pub fn has_chunks(&self) -> bool
-        ensures { result ≡ have_chunks (described self.now).grid.grid_shape }
+        ensures { result ≡ have_chunks (described_array self.now).grid.grid_shape }
     {
         self.parts.has_chunks()
     }
@@ -113,9 +111,9 @@ impl OpenArray {
         chunk: &[u64],
     ) -> Result<ChunkLevels, AllocError>
         requires chain { chain_form chain.now ≡ chain_form self.now.parts.chain }
-        requires chunk { IsChunk (described self.now).grid chunk.now }
+        requires chunk { IsChunk (described_array self.now).grid chunk.now }
         ensures { IfOk result (ServesShape self.now.parts
-            (chunk_shape (described self.now) chunk.now) chain.now) }
+            (chunk_shape (described_array self.now) chunk.now) chain.now) }
     {
         self.parts.levels(alloc, chain, chunk)
     }
@@ -146,7 +144,7 @@ impl OpenArray {
     /// The grid of chunks.
     pub fn grid(&self) -> &BasicGrid
         ensures form { basic_form result.now ≡ (documented self.now).grid }
-        ensures grid { basic_grid result.now ≡ (described self.now).grid }
+        ensures grid { basic_grid result.now ≡ (described_array self.now).grid }
         ensures shape { basic_shape result.now ≡ (documented self.now).shape }
     {
         self.parts.grid()
@@ -161,9 +159,9 @@ impl OpenArray {
         alloc: Global,
         chunk: &[u64],
     ) -> Result<Option<ChunkShape>, ChunkGridError>
-        ensures { Answers (λ v. lengths v.items) result (length chunk.now)
+        ensures { AnswersGrid (λ v. lengths v.items) result (length chunk.now)
             (length (documented self.now).shape)
-            (in_chunk sizes (described self.now).grid chunk.now) }
+            (in_chunk sizes (described_array self.now).grid chunk.now) }
     {
         self.parts.grid().chunk_shape(alloc, chunk)
     }
@@ -173,7 +171,7 @@ impl OpenArray {
     /// # Errors
     /// [`AllocError`] where memory runs out.
     pub fn chunk_key(&self, alloc: Global, chunk: &[u64]) -> Result<StoreKey, AllocError>
-        ensures { IfOk result (λ key. key ≡ (described self.now).key chunk.now) }
+        ensures { IfOk result (λ key. key ≡ (described_array self.now).key chunk.now) }
     {
         self.parts.chunk_key(alloc, chunk)
     }

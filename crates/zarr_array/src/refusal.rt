@@ -1,67 +1,19 @@
-//! Why a command is refused.
+//! Whether a command is refused, and why.
 
 ghost use Rattle.std.specs.Prelude.{◌≡◌, ℕ, Option, Some, option_map};
 ghost use Rattle.zarr_model.specs.Command as Model;
-ghost use Rattle.zarr_model.specs.Prelude.{write, erase, region_refusal, refusal, refusal_name, is_too_large, fixed_size, kind, count};
-ghost use Rattle.zarrs_array_subset.specs.ArraySubset.{region};
-ghost use Rattle.zarrs_codec_array_bytes.specs.Raw.{raw_of};
-ghost use Rattle.zarrs_codec_array_bytes.specs.Refusals.{told_by, sized_answer};
-ghost use Rattle.zarr_array_regions.specs.Access.{described};
-ghost use Rattle.zarr_array.specs.Command.{refusal_of};
+ghost use Rattle.zarr_model.specs.Prelude.{write, erase, region_refusal, refusal, is_too_large, fixed_size, kind, count};
+ghost use Rattle.zarrs_codec_traits.specs.Prelude.{region, raw_of, told_by, sized_answer};
+ghost use Rattle.zarr_array.specs.Access.{described};
+ghost use Rattle.zarr_array_boxes.specs.Command.{refusal_of};
 
-use zarr_array_regions::ChunkAccess;
+use crate::ChunkAccess;
+use zarr_array_boxes::Refusal;
 use zarrs_array_subset::ArraySubset;
-use zarrs_chunk_grid_traits::ChunkGridTraits;
+use zarrs_chunk_grid::ChunkGridTraits;
 use zarrs_codec_array_bytes::ArrayBytes;
 use zarrs_codec_array_bytes::array_bytes::long::has_long_element;
 use zarrs_codec_error::CodecError;
-
-/// Why a command is refused, in the order in which it is tested. A refused command changes nothing and asks the store
-/// for nothing.
-#[derive(Clone, Copy, Debug, PartialEq, Eq)]
-pub enum Refusal {
-    /// The region, or the index of the chunk, has another rank than the array.
-    IncompatibleDimensionality,
-    /// The region ends past the array's shape in some dimension, or no chunk has this index.
-    SubsetOutOfBounds,
-    /// The region has as many elements as the greatest number, or more, or their bytes are more than it.
-    RegionTooLarge,
-    /// Elements of one size are to be written, and the bytes are of another kind.
-    ExpectedFixedLengthBytes,
-    /// Texts or byte strings are to be written, and the bytes are of another kind.
-    ExpectedVariableLengthBytes,
-    /// Optional elements are to be written, and the bytes are of another kind.
-    ExpectedOptionalBytes,
-    /// A mask has not a byte for each element of the region, or one that is neither 0 nor 1.
-    InvalidMask,
-    /// The bytes of elements of one size are not those of as many elements as the region has.
-    UnexpectedChunkDecodedSize,
-    /// The offsets are not those of as many elements as the region has: they do not begin at 0, fall, or do not end where
-    /// the bytes end.
-    InvalidVariableSizedArrayOffsets,
-    /// An element, under a null or not, has so many bytes that their number can't be stored: 2^32 or more.
-    ElementTooLong,
-}
-
-impl Refusal {
-    /// The name of the refusal.
-    pub fn name(&self) -> &'static str
-        ensures { result.now ≡ refusal_name (refusal_of self.now) }
-    {
-        match self {
-            Refusal::IncompatibleDimensionality => "IncompatibleDimensionality",
-            Refusal::SubsetOutOfBounds => "SubsetOutOfBounds",
-            Refusal::RegionTooLarge => "RegionTooLarge",
-            Refusal::ExpectedFixedLengthBytes => "ExpectedFixedLengthBytes",
-            Refusal::ExpectedVariableLengthBytes => "ExpectedVariableLengthBytes",
-            Refusal::ExpectedOptionalBytes => "ExpectedOptionalBytes",
-            Refusal::InvalidMask => "InvalidMask",
-            Refusal::UnexpectedChunkDecodedSize => "UnexpectedChunkDecodedSize",
-            Refusal::InvalidVariableSizedArrayOffsets => "InvalidVariableSizedArrayOffsets",
-            Refusal::ElementTooLong => "ElementTooLong",
-        }
-    }
-}
 
 // Why bytes are refused, by what is told of them.
 #[tactic(auto, using(crate::proofs::RefusalLaws::of_told))]

@@ -1,29 +1,29 @@
 //! Sessions: a list of commands over a store.
 
 ghost use Rattle.std.specs.Prelude.{IfErr, ◌≡◌, map};
-ghost use Rattle.zarr_array_regions.specs.parts.Document.{ArrayDocument, describe};
-ghost use Rattle.zarr_array_regions.specs.parts.Opening.{OpenRefusal, opened, not_opened, open_document};
-ghost use Rattle.zarr_array_regions.specs.parts.basics.Registries.{names_of};
+ghost use Rattle.zarr_array_open.specs.Document.{ArrayDocument, describe};
+ghost use Rattle.zarr_array_open.specs.Opening.{OpenRefusal, opened, not_opened, open_document};
+ghost use Rattle.zarr_basics.specs.Registries.{names_of};
 ghost use Rattle.zarr_array.specs.OpenError.{ended_by};
-ghost use Rattle.zarr_array.specs.Command.{command_of, region_at, AreReads};
+ghost use Rattle.zarr_array_boxes.specs.Command.{command_of, region_at, AreReads};
 ghost use Rattle.zarrs_codec_traits.specs.Views.{options_of};
 ghost use Rattle.zarr_array.specs.Session.{EndsUnopened};
-ghost use Rattle.zarr_array_regions.specs.Told.{TellsWhy};
+ghost use Rattle.zarr_array.specs.Told.{TellsWhy};
 ghost use Rattle.zarr_array.specs.Ended.{ended};
 ghost use Rattle.zarr_array.specs.Runs.{Runs};
 ghost use Rattle.zarr_array.specs.Taken.{TakesAlone};
 
-use crate::command::{Command, Reply};
 use crate::commands::run_commands;
 use crate::error::{SessionError, SessionErrorKind};
 use crate::open::OpenArray;
+use crate::{OpenError, Registries};
 use std::alloc::Global;
-use zarr_array_regions::{OpenError, Registries};
+use zarr_array_boxes::{Command, Reply};
 use zarrs_codec_error::CodecOptions;
 use zarrs_storage::Store;
 
 impl OpenArray {
-    ghost use Rattle.zarr_array.specs.OpenArray.{documented, described};
+    ghost use Rattle.zarr_array.specs.OpenArray.{documented, described_array};
 
     /// Runs commands over a store. The replies are those of one plain array that the store means.
     ///
@@ -42,7 +42,7 @@ impl OpenArray {
         store: &mut S,
         options: &CodecOptions,
     ) -> Result<Vec<Reply>, SessionError>
-        ensures runs { Runs (described self.now) (options_of options.now)
+        ensures runs { Runs (described_array self.now) (options_of options.now)
             (map command_of commands.now) (S.shown store.old) (S.shown store.new) (ended result) }
         // Where the codec `bytes` stands alone and presence before each is known, exactly the bytes that are needed are
         // taken.

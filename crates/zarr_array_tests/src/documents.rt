@@ -1,7 +1,7 @@
 //! Documents of version 2 and the texts of those that they are translated to.
 
 use std::alloc::{AllocError, Global};
-use zarr_v2_translate::translate;
+use zarr_v2::translate;
 use zarrs_metadata_v2::ArrayMetadataV2;
 
 // The translation of a document as a text, or the name of the refusal.

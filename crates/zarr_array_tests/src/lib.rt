@@ -1,10 +1,17 @@
-//! Worked examples of arrays, documents of version 2, slices and single lines, and of runs that no row shows.
+//! Tests of arrays, of sharded arrays and their codec, of documents of version 2, of slices and single lines, and of runs
+//! that no row shows.
 #![tactic(auto)]
 
 #[cfg(test)]
+mod arrays;
+#[cfg(test)]
 mod calls;
 #[cfg(test)]
+mod checksum;
+#[cfg(test)]
 mod documents;
+#[cfg(test)]
+mod example;
 #[cfg(test)]
 mod handles;
 #[cfg(test)]
@@ -22,10 +29,18 @@ mod opened;
 #[cfg(test)]
 mod ref_sessions;
 #[cfg(test)]
+mod regions;
+#[cfg(test)]
 mod registries;
 #[cfg(test)]
 mod runs;
 #[cfg(test)]
 mod sessions;
+#[cfg(test)]
+mod shard_calls;
+#[cfg(test)]
+mod sharded;
+#[cfg(test)]
+mod shards;
 #[cfg(test)]
 mod slices;

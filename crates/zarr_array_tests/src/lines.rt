@@ -3,7 +3,7 @@
 use std::alloc::Global;
 use std::process::Abort;
 use zarr_array::{Command, DataType, Reply};
-use zarr_cli_parts::{command_line, key_line, reply_line};
+use zarr_cli::{command_line, key_line, reply_line};
 
 // Whether a line is one of this key and value.
 fn is_entry(rt: &impl Abort, alloc: Global, line: &str, key: &str, value: &[u8]) -> bool {

@@ -6,8 +6,7 @@ use zarr_array::{
     ArrayBytes, ArraySubset, CodecOptions, Command, MemoryStore, OpenError, Reply,
     SessionErrorKind, Store, builtin_registries,
 };
-use zarr_refs::{RefSessionError, run_ref_session};
-use zarr_refs_store::{RefStore, Reference};
+use zarr_refs::{RefSessionError, RefStore, Reference, run_ref_session};
 use zarrs_codec_array_bytes::array_bytes::bytes_in;
 use zarrs_storage::StoreKey;
 

@@ -2,7 +2,7 @@
 
 use std::alloc::Global;
 use std::process::Abort;
-use zarr_refs_store::{RefError, RefStore, Reference};
+use zarr_refs::{RefError, RefStore, Reference};
 use zarrs_storage::{ByteRange, FailingStore, MemoryStore, StorageError, Store, StoreKey};
 
 fn key_of(rt: &impl Abort, alloc: Global, key: &str) -> StoreKey {

@@ -29,12 +29,16 @@ chunk_rank : (counts chunk : List ℕ) → contains (whole counts) chunk ≡ tru
 chunk_rank [] [] h = refl
 chunk_rank [] (index ∷ chunk) h = cc
 chunk_rank (n ∷ counts) [] h = cc
-chunk_rank (n ∷ counts) (index ∷ chunk) h = ap suc (chunk_rank counts chunk (and_parts (is_in index (record { start = 0; size = n })) (contains (whole counts) chunk) h).1)
+chunk_rank (n ∷ counts) (index ∷ chunk) h = ap suc (chunk_rank counts chunk
+    (and_parts (is_in index (record { start = 0; size = n })) (contains (whole counts) chunk) h).1)
 
-pub keys_differ : (keys : ChunkKeyEncoding) (grid : Grid) (chunk other : List ℕ) → IsCountable grid.grid_shape → IsChunk grid chunk → IsChunk grid other →
+pub keys_differ : (keys : ChunkKeyEncoding) (grid : Grid) (chunk other : List ℕ) → IsCountable grid.grid_shape →
+    IsChunk grid chunk → IsChunk grid other →
     chunk_key (keys_of keys) chunk ≡ chunk_key (keys_of keys) other → chunk ≡ other
 keys_differ (Default separator) grid chunk other small h k e =
-    default_keys-apart (separator_code separator) (no_digit separator) chunk other (chunk_indices grid.grid_shape chunk small h) (chunk_indices grid.grid_shape other small k) e
+    default_keys-apart (separator_code separator) (no_digit separator) chunk other
+    (chunk_indices grid.grid_shape chunk small h) (chunk_indices grid.grid_shape other small k) e
 keys_differ (V2 separator) grid chunk other small h k e =
-    v2_keys-apart (separator_code separator) (no_digit separator) chunk other (chunk_rank grid.grid_shape chunk h ∙ sym (chunk_rank grid.grid_shape other k))
+    v2_keys-apart (separator_code separator) (no_digit separator) chunk other
+    (chunk_rank grid.grid_shape chunk h ∙ sym (chunk_rank grid.grid_shape other k))
     (chunk_indices grid.grid_shape chunk small h) (chunk_indices grid.grid_shape other small k) e

@@ -1,7 +1,9 @@
 -- The built-in names of data types.
 use Rattle.std.specs.Prelude.{List, [], ◌∷◌, codes}
-use Rattle.zarrs_data_type_names.specs.declared.data_type.kind.DataTypeKind as kinds
-use Rattle.zarrs_data_type_names.specs.declared.data_type.kind.DataTypeKind.TheVariants.{Bool, Int8, Int16, Int32, Int64, UInt8, UInt16, UInt32, UInt64, RawBits, String, Bytes, Optional}
+use Rattle.zarrs_data_type.specs.declared.data_type.kind.DataTypeKind as kinds
+use Rattle.zarrs_data_type.specs.declared.data_type.kind.DataTypeKind.TheVariants.{Bool, Int8, Int16, Int32, Int64}
+use Rattle.zarrs_data_type.specs.declared.data_type.kind.DataTypeKind.TheVariants.{UInt8, UInt16, UInt32, UInt64}
+use Rattle.zarrs_data_type.specs.declared.data_type.kind.DataTypeKind.TheVariants.{RawBits, String, Bytes, Optional}
 use Rattle.zarrs_plugin.specs.NamePattern.{Pattern, exact, letter_digits}
 
 -- 114 is the letter r

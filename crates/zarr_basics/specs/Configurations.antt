@@ -2,9 +2,10 @@
 use Rattle.std.specs.Prelude.{ℕ, if◌then◌else◌, List, codes, bytes_eq, Option, Some, None}
 use Rattle.serde_json.specs.Data.{Members}
 use Rattle.serde_json.specs.Find.{as_str}
-use Rattle.zarrs_metadata_parts.specs.Configuration.{is_none_or_empty}
-use Rattle.zarrs_metadata_parts.specs.Reading.{◌>>=◌}
-pub use Rattle.zarr_basics_grids.specs.Configurations.{are_chunk_lengths, if_chunk_lengths, chunk_shape_in, chunk_shape_members}
+use Rattle.zarrs_metadata_values.specs.Configuration.{is_none_or_empty}
+use Rattle.zarrs_metadata_values.specs.Reading.{◌>>=◌}
+pub use Rattle.zarr_basics.specs.GridConfigurations.{are_chunk_lengths, if_chunk_lengths, chunk_shape_in}
+pub use Rattle.zarr_basics.specs.GridConfigurations.{chunk_shape_members}
 use Rattle.zarrs_metadata_values.specs.Configuration.{only_member}
 
 -- a separator by its text

@@ -1,11 +1,19 @@
-pub use Rattle.zarr_codecs_kinds.specs as kinds
-pub use Rattle.zarr_basics_grids.specs.RegularGrid
-pub use Rattle.zarr_basics_grids.specs.GridForms
-pub use Rattle.zarr_basics_grids.specs.GridOf
-pub use Rattle.zarr_basics_grids.specs.BasicGrid
-pub use Rattle.zarr_basics_grids.specs.Limits
-pub use Rattle.zarr_basics_grids.specs.Axes
-pub use Rattle.zarr_basics_grids.specs.BoundaryGrid
+pub use Rattle.zarr_codecs.specs as kinds
+pub mod Lengths
+pub mod GridForms
+pub mod Limits
+pub mod LimitTests
+pub mod Largest
+pub mod Axes
+pub mod BoundaryGrid
+pub mod BoundaryConfigurations
+pub mod BoundaryMaking
+pub mod RegularGrid
+pub mod RegularEnds
+pub mod GridOf
+pub mod BasicGrid
+pub mod GridConfigurations
+pub mod GridMaking
 pub mod Keys
 pub mod Configurations
 pub mod Making

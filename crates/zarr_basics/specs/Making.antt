@@ -5,7 +5,7 @@ use Rattle.zarr_model.specs.Prelude.{KeyEncoding, default_keys, v2_keys}
 use Rattle.zarrs_plugin.specs.Making.{Makes}
 use Rattle.zarrs_plugin.specs.declared.error.PluginCreateError.{PluginCreateError}
 use Rattle.zarrs_plugin.specs.declared.error.PluginKind.TheVariants as kinds
-pub use Rattle.zarr_basics_grids.specs.Making.{grid_form, over_shape, regular_created}
+pub use Rattle.zarr_basics.specs.GridMaking.{grid_form, over_shape, regular_created}
 use Rattle.zarrs_metadata_parts.specs.Making.{or_config}
 use Rattle.zarr_basics.specs.Configurations.{separator_in}
 use Rattle.zarr_basics.specs.declared.registries.ChunkKeyKind.{ChunkKeyKind}

@@ -2,14 +2,15 @@
 use Rattle.std.specs.Prelude.{[], ◌∷◌, codes}
 use Rattle.zarrs_plugin.specs.NamePattern.{exact}
 use Rattle.zarrs_plugin.specs.Registry.{Names, registry_of}
-use Rattle.zarrs_data_type_names.specs.declared.data_type.kind.DataTypeKind.{DataTypeKind}
+use Rattle.zarrs_data_type.specs.declared.data_type.kind.DataTypeKind.{DataTypeKind}
 use Rattle.zarr_basics.specs.BuiltinTypes.{builtin_data_types}
-use Rattle.zarr_basics_grids.specs.declared.grid_kind.GridKind.{GridKind}
-use Rattle.zarr_basics_grids.specs.declared.grid_kind.GridKind.TheVariants.{Regular, Boundary}
+use Rattle.zarr_basics.specs.declared.grid_kind.GridKind.{GridKind}
+use Rattle.zarr_basics.specs.declared.grid_kind.GridKind.TheVariants.{Regular, Boundary}
 use Rattle.zarr_basics.specs.declared.registries.ChunkKeyKind.{ChunkKeyKind}
 use Rattle.zarr_basics.specs.declared.registries.ChunkKeyKind.TheVariants.{Default, V2}
-use Rattle.zarr_codecs_kinds.specs.declared.codec_kind.CodecKind.{CodecKind}
-use Rattle.zarr_codecs_kinds.specs.declared.codec_kind.CodecKind.TheVariants.{Bytes, VlenUtf8, VlenBytes, Optional, Offset, Transpose, Sha256}
+use Rattle.zarr_codecs.specs.declared.codec_kind.CodecKind.{CodecKind}
+use Rattle.zarr_codecs.specs.declared.codec_kind.CodecKind.TheVariants.{Bytes, VlenUtf8, VlenBytes, Optional, Offset}
+use Rattle.zarr_codecs.specs.declared.codec_kind.CodecKind.TheVariants.{Transpose, Sha256}
 use Rattle.zarr_basics.specs.declared.registries.Registries.{Registries}
 
 -- for each kind of extension, what its names denote

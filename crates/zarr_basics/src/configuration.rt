@@ -4,7 +4,7 @@
 ghost use Rattle.std.specs.Prelude.{◌≡◌};
 ghost use Rattle.zarrs_metadata_parts.specs.MetadataV3.{extension_seen};
 ghost use Rattle.zarrs_metadata_parts.specs.Names.{separator_code};
-ghost use Rattle.zarrs_metadata_parts.specs.Reading.{Reads};
+ghost use Rattle.zarrs_metadata_values.specs.Reading.{Reads};
 ghost use Rattle.zarr_basics.specs.Configurations.{separator_named, given_separator, separator_in};
 
 use zarrs_metadata_parts::json::read_text;

@@ -6,10 +6,10 @@ ghost use Rattle.zarrs_plugin.specs.Registry.{builtin_of};
 ghost use Rattle.zarr_basics.specs.BuiltinTypes.{builtin_data_types};
 ghost use Rattle.zarr_basics.specs.Registries.{names_of, builtin_names};
 
+use crate::GridKind;
 use std::alloc::{AllocError, Global};
-use zarr_basics_grids::GridKind;
-use zarr_codecs_kinds::CodecKind;
-use zarrs_data_type_names::DataTypeKind;
+use zarr_codecs::CodecKind;
+use zarrs_data_type::DataTypeKind;
 use zarrs_plugin::{NamePattern, Registry};
 
 /// The kinds of chunk key encodings.

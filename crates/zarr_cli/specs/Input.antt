@@ -1,35 +1,35 @@
--- The input: a document, key lines and command lines.
-use Rattle.std.specs.Prelude.{◌≡◌, ℕ, ◌+◌, ◌<◌, ◌≤◌, ◌⊎◌, List, length, IsUtf8, Option}
-use Rattle.zarr_model.specs.Prelude.{Command, kind}
-use Rattle.zarr_cli_runs.specs.lines.Text.{line_command, good_lines}
-use Rattle.zarr_cli_runs.specs.array.parts.Document.{ArrayDocument, describe}
-use Rattle.zarr_cli_runs.specs.array.parts.Opening.{OpenRefusal, opened, not_opened, open_builtin}
-pub use Rattle.zarr_cli_parts.specs.Input.{input_limit, IsNotUtf8}
-pub use Rattle.zarr_cli_parts.specs.Lines.{first_line, document_line, lines_after_document, IsKeyOf, input_entries, IsLineKey, store_after_keys, with_entries}
-use Rattle.zarr_cli_parts.specs.Words.{IsReading}
+-- The input of a program: its bytes, and why its lines were not read.
+use Rattle.std.specs.Prelude.{◌≡◌, ℕ, ◌<◌, ◌≤◌, nat_lt, if◌then◌else◌, List, IsUtf8, length, Option, Some, None}
+use Rattle.std.specs.Str.{IsValidUpTo}
+use Rattle.std.specs.Str.Lossy.{utf8_valid_len}
+use Rattle.zarr_model.specs.Prelude.{Told, Rose}
+use Rattle.zarr_cli_runs.specs.lines.Text.{input_lines, line_at}
+use Rattle.zarr_cli_runs.specs.Ending.{Ending, too_long, bad_input}
+use Rattle.zarr_cli.specs.declared.lines.InputFault.{InputFault}
+use Rattle.zarr_cli.specs.declared.lines.InputFault.TheVariants.{Read, TooLong, NotUtf8, OutOfMemory}
 
--- the grammar of command lines under a document
-abbrev pub command_grammar : ArrayDocument → List ℕ → Option Command
-command_grammar document = line_command (kind (describe document))
+-- the greatest number of bytes that an input may have
+abbrev pub input_limit : ℕ
+input_limit = 67108864
 
--- A line of the input has the first byte that is no UTF-8; or the input is UTF-8, its first line
--- opens, and this is the first line after it out of form.
-abbrev pub IsBadLine : List ℕ → ℕ → Type 0
-IsBadLine input line =
-    IsNotUtf8 input line
-    ⊎ (IsUtf8 input × (document : ArrayDocument)
-    × (open_builtin (document_line input) ≡ opened document)
-    × (good_lines (command_grammar document) (lines_after_document input) < length
-    (lines_after_document input))
-    × (line ≡ good_lines (command_grammar document) (lines_after_document input) + 2))
+-- a line of some bytes has the first byte that is no UTF-8
+abbrev pub IsNotUtf8 : List ℕ → ℕ → Type 0
+IsNotUtf8 bytes line = (n : ℕ) × IsValidUpTo bytes n × (line ≡ line_at bytes n)
 
--- the causes of an early end that lie in the input, each where none before it holds
-abbrev pub HasLongInput : List (List ℕ) → List ℕ → Type 0
-HasLongInput words input = IsReading words × (input_limit < length input)
+-- the lines were not read: the source failed, it had too many bytes left, they are no UTF-8, from
+-- this line on, or memory ran out
+abbrev pub IsInputFault : Told → Told → InputFault → Type 0
+IsInputFault before now Read = Rose before.faults now.faults
+IsInputFault before now TooLong = (input : List ℕ) → before.left ≡ Some input →
+    input_limit < length input
+IsInputFault before now (NotUtf8 line) = (input : List ℕ) → before.left ≡ Some input →
+    (length input ≤ input_limit) × IsNotUtf8 input line
+IsInputFault before now OutOfMemory = Unit {0}
 
-abbrev pub HasBadLine : List (List ℕ) → List ℕ → ℕ → Type 0
-HasBadLine words input line = IsReading words × (length input ≤ input_limit) × IsBadLine input line
-
-abbrev pub HasRefusedDocument : List (List ℕ) → List ℕ → OpenRefusal → Type 0
-HasRefusedDocument words input why = IsReading words × (length input ≤ input_limit) × IsUtf8 input
-    × (open_builtin (document_line input) ≡ not_opened why)
+-- what an input says, by what its lines say: it may have so many bytes, and has to be UTF-8; else an
+-- ending stops it
+abbrev pub text_says : {V : Type 0} → (Ending → V) → (List (List ℕ) → V) → List ℕ → V
+text_says stops says input = if nat_lt input_limit (length input) then stops too_long
+    else if nat_lt (utf8_valid_len input) (length input)
+    then stops (bad_input (line_at input (utf8_valid_len input)))
+    else says (input_lines input)

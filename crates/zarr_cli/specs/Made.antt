@@ -1,12 +1,12 @@
 -- A run that is made from a number: what it prints, what it leaves, and what it owes.
 use Rattle.std.specs.Prelude.{◌≡◌, true, ℕ, ◌+◌, List, []}
 use Rattle.zarr_model.specs.Prelude.{Options, Content, Rose, all_asks, all_puts, counted, IsDamageSeen, SeesNoDamage}
-use Rattle.zarr_cli_runs.specs.making.Commands.{made_commands}
+use Rattle.zarr_cli_runs.specs.MadeCommands.{made_commands}
 use Rattle.zarr_cli_runs.specs.Between.{LeavesBetween}
 use Rattle.zarr_cli_runs.specs.Commands.{IsChangedKey, EndsAtDamage}
 use Rattle.zarr_cli_runs.specs.Ending.{Ending, IsOrMemory, IsGiven, IsGivenFront, IsWritten, IsBeforeStore}
 use Rattle.zarr_cli_runs.specs.Ending as end
-use Rattle.zarr_cli_parts.specs.Seen.{Seen}
+use Rattle.zarr_cli.specs.Seen.{ProgramSeen}
 use Rattle.zarr_cli_runs.specs.Made.{made_array, SumsUp}
 
 -- the made commands went through, and wrote what passes the test: all of their text, or a front
@@ -15,7 +15,7 @@ WentMade number options old new wrote = (output : List ℕ)
     × SumsUp made_array options (made_commands number) old new output × wrote output
 
 -- what a run that is made from a number owes
-pub record AnswersMade (number : ℕ) (options : Options) (before now : Seen)
+pub record AnswersMade (number : ℕ) (options : Options) (before now : ProgramSeen)
     (ending : Ending) : Type 0 where
   -- done: the sink has the summary of the replies of one plain array, and of the final keys
   pub done : ending ≡ end.done → WentMade number options before.store.content now.store.content

@@ -1,21 +1,20 @@
 //! The program: words, a document, key lines and commands in, the replies of one array and its final keys out.
 
 ghost use Rattle.std.specs.Prelude.{◌≡◌, ◌≤◌, List, ℕ, [], length, map, string_bytes, IsUtf8, Some};
-ghost use Rattle.zarr_model.specs.Prelude.{Options, Told};
-ghost use Rattle.zarrs_codec_traits.specs.Views.{options_of};
+ghost use Rattle.zarrs_codec_traits.specs.Prelude.{Options, Told, options_of};
 ghost use Rattle.zarr_cli_runs.specs.Status.{ending_of};
-ghost use Rattle.zarr_cli_parts.specs.Words.{Settings, ReadsBy, MakesFrom, MakesNothing, settings_of};
-ghost use Rattle.zarr_cli_parts.specs.Status.{words_of, settings_view};
-ghost use Rattle.zarr_cli.specs.Input.{input_limit};
+ghost use Rattle.zarr_cli.specs.Words.{Settings, ReadsBy, MakesFrom, MakesNothing, settings_of};
+ghost use Rattle.zarr_cli.specs.Status.{words_of, settings_view};
+ghost use Rattle.zarr_cli.specs.ProgramInput.{input_limit};
 ghost use Rattle.zarr_cli_runs.specs.lines.Text.{input_lines};
-ghost use Rattle.zarr_cli_parts.specs.Seen.{seen};
-ghost use Rattle.zarr_cli.specs.Answers.{Answers, Ends};
+ghost use Rattle.zarr_cli.specs.Seen.{seen};
+ghost use Rattle.zarr_cli.specs.ProgramAnswers.{AnswersWords, Ends};
 ghost use Rattle.zarr_cli.specs.Made.{AnswersMade};
 
+use crate::lines::{fault_status, first_line};
+use crate::write::{end_with, write_output};
+use crate::{Status, Words, read_lines, read_words, run_lines};
 use std::alloc::Global;
-use zarr_cli_parts::lines::{fault_status, first_line};
-use zarr_cli_parts::write::{end_with, write_output};
-use zarr_cli_parts::{Status, Words, read_lines, read_words, run_lines};
 use zarr_cli_runs::OpenError;
 use zarr_cli_runs::made::run_made;
 use zarr_cli_runs::opening::open_line;
@@ -32,7 +31,7 @@ fn run_document<W: Sink, S: Store>(
     ensures told { (known : List (List ℕ)) → ReadsBy known (settings_view words.now) →
         (input : List ℕ) → length input ≤ input_limit → IsUtf8 input →
         map string_bytes lines.now ≡ input_lines input →
-        (before now : Told) → now.left ≡ Some [] → Answers known input
+        (before now : Told) → now.left ≡ Some [] → AnswersWords known input
         (seen before (W.shown sink.old) (S.shown store.old))
         (seen now (W.shown sink.new) (S.shown store.new)) (ending_of result) }
     ensures ends { (known : List (List ℕ)) → ReadsBy known (settings_view words.now) →
@@ -55,7 +54,7 @@ fn run_input<R: Source, W: Sink, S: Store>(
     store: &mut S,
 ) -> Status
     ensures told { (known : List (List ℕ)) → ReadsBy known (settings_view words.now) →
-        (input : List ℕ) → (R.shown source.old).left ≡ Some input → Answers known input
+        (input : List ℕ) → (R.shown source.old).left ≡ Some input → AnswersWords known input
         (seen (R.shown source.old) (W.shown sink.old) (S.shown store.old))
         (seen (R.shown source.new) (W.shown sink.new) (S.shown store.new)) (ending_of result) }
     ensures ends { (known : List (List ℕ)) → ReadsBy known (settings_view words.now) → Ends known
@@ -108,7 +107,7 @@ pub fn run_program<R: Source, W: Sink, S: Store>(
     // Over a source that tells its bytes: each answer with its cause, and what it leaves.
     ensures told { MakesNothing (words_of words.now) →
         (input : List ℕ) → (R.shown source.old).left ≡ Some input →
-        Answers (words_of words.now) input
+        AnswersWords (words_of words.now) input
         (seen (R.shown source.old) (W.shown sink.old) (S.shown store.old))
         (seen (R.shown source.new) (W.shown sink.new) (S.shown store.new)) (ending_of result) }
     // Over any source, where the run is made from a number: its summary, and each other answer with its cause.

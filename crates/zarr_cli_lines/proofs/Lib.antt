@@ -1,7 +1,11 @@
-pub use Rattle.zarr_array.proofs.DocumentLaws
-pub use Rattle.zarr_array.proofs.Documents
-pub use Rattle.zarr_array.proofs.KeysApart
-pub use Rattle.zarr_array.proofs.StoredLaws
+pub mod ElementSplits
+pub mod FixedLemmas
+pub mod TextLemmas
+pub mod PutLaws
+pub mod ListLaws
+pub mod PlaceLaws
+pub mod CountLaws
+pub mod ElementLaws
 pub mod TextLaws
 pub mod SplitLemmas
 pub mod LineLemmas

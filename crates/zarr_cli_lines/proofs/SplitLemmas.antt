@@ -9,7 +9,8 @@ pub split_nonempty : (separator : ℕ) (text : List ℕ) → 0 < length (split_a
 split_nonempty separator text = omega (arith, length-slice_split (λ b. b == separator) text)
 
 -- after two parts and a separator there is a third one
-pub more_than_two : (separator : ℕ) (first second rest : List ℕ) → two_of (first ∷ second ∷ split_at separator rest) ≡ None
+pub more_than_two : (separator : ℕ) (first second rest : List ℕ) →
+    two_of (first ∷ second ∷ split_at separator rest) ≡ None
 more_than_two separator first second rest = go (split_at separator rest) (split_nonempty separator rest)
   where
     go : (parts : List (List ℕ)) → 0 < length parts → two_of (first ∷ second ∷ parts) ≡ None

@@ -1,3 +1,8 @@
-pub use Rattle.zarr_array.specs as array
+pub use Rattle.zarr_array_boxes.specs as boxes
+pub mod ElementText
+pub mod Fixed
+pub mod Growing
+pub mod Put
+pub mod Place
 pub mod Text
 pub mod Parts

@@ -5,8 +5,8 @@ use Rattle.std.specs.Borrow.{Bor}
 use Rattle.std.specs.declared.ops.Range.{Range}
 use Rattle.zarr_model.specs.Prelude.{Span, Kind, Command, Matches}
 use Rattle.zarr_model.specs.Command as Model
-use Rattle.zarr_array.specs.declared.command.Reply.{Reply}
-use Rattle.zarr_array.specs.Command.{answer_of}
+use Rattle.zarr_array_boxes.specs.declared.command.Reply.{Reply}
+use Rattle.zarr_array_boxes.specs.Command.{answer_of}
 use Rattle.zarr_cli_lines.specs.Text.{good_lines, line_of, reply_text, replies_text}
 use Rattle.zarr_cli_lines.specs.declared.entry.Entry.{Entry}
 use Rattle.zarr_cli_lines.specs.declared.parse.LineError.{LineError}

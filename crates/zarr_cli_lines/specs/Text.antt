@@ -1,28 +1,31 @@
 -- The program's lines: the grammar of its input, and the text of its replies.
-use Rattle.std.specs.Prelude.{ℕ, ◌+◌, ◌-◌, ◌==◌, if◌then◌else◌, List, [], ◌∷◌, ◌++◌, length, map, flat_map, take, drop, codes, bytes_eq, count_by, Option, Some, None, is_some, option_map, option_and_then}
+use Rattle.std.specs.Prelude.{ℕ, ◌+◌, ◌-◌, ◌==◌, if◌then◌else◌, List, [], ◌∷◌, ◌++◌, length, map, flat_map, take, drop}
+use Rattle.std.specs.Prelude.{codes, bytes_eq, count_by, Option, Some, None, is_some, option_map, option_and_then}
 use Rattle.std.specs.List.{prefix_len}
 use Rattle.zarrs_plugin.specs.Number.{number_of}
-pub use Rattle.zarr_cli_elements.specs.Text.{split_at, words_left, all_some, hex_of, element_of, hex_text, element_text, elements_text}
-use Rattle.zarr_model.specs.Prelude.{Region, Span, Element, Kind, array_bytes, is_store_key, Command, read, write, erase, Reply, elements, done, refused, refusal_name}
+pub use Rattle.zarr_cli_lines.specs.ElementText.{split_at, words_left, all_some, hex_of, element_of, hex_text}
+pub use Rattle.zarr_cli_lines.specs.ElementText.{element_text, elements_text}
+use Rattle.zarr_model.specs.Prelude.{Region, Span, Element, Kind, array_bytes, is_store_key, Command, read, write}
+use Rattle.zarr_model.specs.Prelude.{erase, Reply, elements, done, refused, refusal_name}
 
 -- the span of `a..b`, which is empty at a where b is below a; the text is split at its dots
 abbrev pub span_between : ℕ → Option ℕ → Option Span
 span_between from None = None
 span_between from (Some to) = Some (record { start = from; size = to - from })
 
-abbrev pub span_of : List (List ℕ) → Option Span
-span_of (from ∷ [] ∷ to ∷ []) = option_and_then (λ number. span_between number (number_of to))
+abbrev pub span_in_words : List (List ℕ) → Option Span
+span_in_words (from ∷ [] ∷ to ∷ []) = option_and_then (λ number. span_between number (number_of to))
     (number_of from)
-span_of _ = None
+span_in_words _ = None
 
 -- a box: `.` at rank 0, else ranges joined by commas
 abbrev pub box_of : List ℕ → Option Region
 box_of line = if bytes_eq line (codes ".") then Some []
-    else all_some (map (λ range. span_of (split_at 46 range)) (split_at 44 line))
+    else all_some (map (λ range. span_in_words (split_at 46 range)) (split_at 44 line))
 
 -- the indices of a chunk: `.` at rank 0, else numbers joined by commas
-abbrev pub indices_of : List ℕ → Option (List ℕ)
-indices_of line = if bytes_eq line (codes ".") then Some []
+abbrev pub indices_in_line : List ℕ → Option (List ℕ)
+indices_in_line line = if bytes_eq line (codes ".") then Some []
     else all_some (map number_of (split_at 44 line))
 
 -- the write command of a region and some elements, if all are there
@@ -38,7 +41,7 @@ command_of_words kind (word ∷ []) = None
 command_of_words kind (word ∷ box ∷ []) =
     if bytes_eq word (codes "read") then option_map read (box_of box)
     else if bytes_eq word (codes "write") then write_of kind (box_of box) (Some [])
-    else if bytes_eq word (codes "erase") then option_map erase (indices_of box)
+    else if bytes_eq word (codes "erase") then option_map erase (indices_in_line box)
     else None
 command_of_words kind (word ∷ box ∷ first ∷ rest) =
     if bytes_eq word (codes "write") then write_of kind (box_of box)
@@ -49,14 +52,14 @@ abbrev pub line_command : Kind → List ℕ → Option Command
 line_command kind line = command_of_words kind (split_at 32 line)
 
 -- a key with its value, if the key is a store key
-abbrev pub entry_of : List ℕ → Option (List ℕ) → Option (List ℕ × List ℕ)
-entry_of key None = None
-entry_of key (Some value) = if is_store_key key then Some (key, value) else None
+abbrev pub key_entry_of : List ℕ → Option (List ℕ) → Option (List ℕ × List ℕ)
+key_entry_of key None = None
+key_entry_of key (Some value) = if is_store_key key then Some (key, value) else None
 
 -- a key line: `key`, a key, and its value in hexadecimal
 abbrev pub entry_of_words : List (List ℕ) → Option (List ℕ × List ℕ)
 entry_of_words (word ∷ key ∷ value ∷ []) = if bytes_eq word (codes "key")
-    then entry_of key (hex_of value) else None
+    then key_entry_of key (hex_of value) else None
 entry_of_words _ = None
 
 abbrev pub entry_of_line : List ℕ → Option (List ℕ × List ℕ)

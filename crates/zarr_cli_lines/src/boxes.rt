@@ -3,19 +3,19 @@
 ghost use Rattle.std.specs.Prelude.{◌≡◌, map, IfOk, option_map};
 ghost use Rattle.zarrs_array_subset.specs.Boxes.{region_of_ranges};
 ghost use Rattle.zarrs_array_subset.specs.ArraySubset.{region};
-ghost use Rattle.zarr_cli_lines.specs.Text.{split_at, all_some, span_of, box_of};
+ghost use Rattle.zarr_cli_lines.specs.Text.{split_at, all_some, span_in_words, box_of};
 ghost use Rattle.zarr_cli_lines.specs.Parts.{span_of_range};
 
+use crate::element_parts::cut;
 use crate::parts::three_parts;
 use std::alloc::{AllocError, Global};
 use std::ops::Range;
-use zarr_cli_elements::parts::cut;
 use zarrs_array_subset::ArraySubset;
 use zarrs_plugin::parse_number;
 
 // A range `a..b`. One whose end is below its start stands for no index.
 fn parse_range(text: &str) -> Option<Range<u64>>
-    ensures { option_map span_of_range result ≡ span_of (split_at 46 text.now) }
+    ensures { option_map span_of_range result ≡ span_in_words (split_at 46 text.now) }
 {
     let (from, between, to) = three_parts(text, '.')?;
     if !between.is_empty() {
@@ -29,7 +29,7 @@ fn parse_range(text: &str) -> Option<Range<u64>>
 // Ranges joined by commas.
 fn parse_ranges(alloc: Global, text: &str) -> Result<Option<Vec<Range<u64>>>, AllocError>
     ensures { IfOk result (λ ranges. option_map (λ v. region_of_ranges v.items) ranges
-        ≡ all_some (map (λ range. span_of (split_at 46 range)) (split_at 44 text.now))) }
+        ≡ all_some (map (λ range. span_in_words (split_at 46 range)) (split_at 44 text.now))) }
 {
     let mut ranges = Vec::new(alloc);
     let mut left = Some(text);

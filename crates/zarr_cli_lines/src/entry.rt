@@ -4,9 +4,9 @@ ghost use Rattle.std.specs.Prelude.{◌≡◌, ◌++◌, IfOk, OnOk, option_map}
 ghost use Rattle.zarr_cli_lines.specs.Text.{hex_of, entry_of_line, entry_text, line_of};
 ghost use Rattle.zarr_cli_lines.specs.Parts.{entry_view};
 
+use crate::digits::{parse_hex, push_hex};
 use crate::parts::three_parts;
 use std::alloc::{AllocError, Global};
-use zarr_cli_elements::digits::{parse_hex, push_hex};
 use zarrs_storage::StoreKey;
 
 /// A key of a store, and the value to be put under it.

@@ -1,11 +1,11 @@
 //! The indices of a chunk: `.` at rank 0, else numbers joined by commas.
 
 ghost use Rattle.std.specs.Prelude.{◌≡◌, map, IfOk, option_map};
-ghost use Rattle.zarr_cli_lines.specs.Text.{split_at, all_some, indices_of};
+ghost use Rattle.zarr_cli_lines.specs.Text.{split_at, all_some, indices_in_line};
 ghost use Rattle.zarrs_plugin.specs.Number.{number_of};
 
+use crate::element_parts::cut;
 use std::alloc::{AllocError, Global};
-use zarr_cli_elements::parts::cut;
 use zarrs_array_subset::ArrayIndices;
 use zarrs_plugin::parse_number;
 
@@ -29,7 +29,7 @@ fn parse_numbers(alloc: Global, text: &str) -> Result<Option<Vec<u64>>, AllocErr
 
 /// The indices of a chunk. An error comes only for want of memory.
 pub(crate) fn parse_indices(alloc: Global, text: &str) -> Result<Option<ArrayIndices>, AllocError>
-    ensures { IfOk result (λ indices. option_map (λ v. v.items) indices ≡ indices_of text.now) }
+    ensures { IfOk result (λ indices. option_map (λ v. v.items) indices ≡ indices_in_line text.now) }
 {
     if text == "." {
         return Ok(Some(Vec::new(alloc)));

@@ -3,19 +3,19 @@
 ghost use Rattle.std.specs.Prelude.{◌≡◌, ◌<◌, ℕ, map, length, string_bytes, Some, is_some, IfOk, IfErr, option_map};
 ghost use Rattle.std.specs.List.{prefix_len};
 ghost use Rattle.zarrs_codec_array_bytes.specs.Steps.{kind_seen};
-ghost use Rattle.zarr_array.specs.Command.{command_of};
+ghost use Rattle.zarr_array_boxes.specs.Command.{command_of};
 ghost use Rattle.zarr_cli_lines.specs.Text.{words_left, first_entries, line_command, commands_of, all_some, box_of, element_of, write_of};
 ghost use Rattle.zarr_cli_lines.specs.Parts.{entry_view, IsLineFault};
 
 use crate::boxes::parse_box;
+use crate::element_parts::cut;
 use crate::entry::{Entry, parse_key_line};
 use crate::indices::parse_indices;
+use crate::parse_elements;
 use std::alloc::{AllocError, AllocFailed, Global};
 use thiserror::Error;
-use zarr_array::Command;
-use zarr_cli_elements::parse_elements;
-use zarr_cli_elements::parts::cut;
-use zarrs_data_type_names::DataType;
+use zarr_array_boxes::Command;
+use zarrs_data_type::DataType;
 
 /// The key lines and the commands of an input.
 #[derive(Drop)]

@@ -4,7 +4,7 @@ ghost use Rattle.std.specs.Prelude.{◌≡◌, ◌<◌, option_map};
 ghost use Rattle.zarr_cli_lines.specs.Text.{split_at};
 ghost use Rattle.zarr_cli_lines.specs.Parts.{three_of, two_of};
 
-use zarr_cli_elements::parts::cut;
+use crate::element_parts::cut;
 
 /// The two parts of a text, if it has exactly one `separator`.
 #[tactic(auto, using(crate::proofs::SplitLemmas::more_than_two))]

@@ -3,15 +3,15 @@
 ghost use Rattle.std.specs.Prelude.{◌≡◌, ◌<◌, ◌++◌, ℕ, codes, OnOk};
 ghost use Rattle.zarr_model.specs.Prelude.{fixed, refusal_name, Matches};
 ghost use Rattle.zarr_model.specs.Command as Model;
-ghost use Rattle.zarr_array.specs.Command.{answer_of, refusal_of};
+ghost use Rattle.zarr_array_boxes.specs.Command.{answer_of, refusal_of};
 ghost use Rattle.zarrs_codec_array_bytes.specs.Steps.{kind_seen};
 ghost use Rattle.zarr_cli_lines.specs.Text.{reply_text};
 ghost use Rattle.zarr_cli_lines.specs.Parts.{AppendsReply};
 
+use crate::push_elements;
 use std::alloc::AllocError;
-use zarr_array::{Refusal, Reply};
-use zarr_cli_elements::push_elements;
-use zarrs_data_type_names::DataType;
+use zarr_array_boxes::{Refusal, Reply};
+use zarrs_data_type::DataType;
 
 fn push_refused(text: &mut Vec<u8>, refusal: Refusal) -> Result<(), AllocError>
     ensures { OnOk result (text.new.items ≡ text.old.items

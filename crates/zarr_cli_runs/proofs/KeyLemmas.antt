@@ -1,19 +1,21 @@
 -- The lines of the final keys.
-use Rattle.std.proofs.Common.{◌≡◌, ℕ, suc, ◌+◌, ◌-◌, ◌^◌, ◌<◌, ◌≤◌, false, true, List, [], ◌∷◌, ◌++◌, length, map, Contains, Option, Some, None, IsSome, unwrap_or, Result, Ok, Err, IfErr, OnOk, refl, sym, ap, ◌∙◌, subst, arith, append-nil}
+use Rattle.std.proofs.Common.{◌≡◌, ℕ, suc, ◌+◌, ◌-◌, ◌^◌, ◌<◌, ◌≤◌, false, true, List, [], ◌∷◌, ◌++◌, length, map}
+use Rattle.std.proofs.Common.{Contains, Option, Some, None, IsSome, unwrap_or, Result, Ok, Err, IfErr, OnOk, refl, sym}
+use Rattle.std.proofs.Common.{ap, ◌∙◌, subst, arith, append-nil}
 use Rattle.std.specs.Ordering.{nat_cmp}
 use Rattle.std.specs.Cmp.Lexicographic.{slice_cmp}
 use Rattle.std.specs.List.Sorted.{IsStrictlySortedBy}
 use Rattle.std.proofs.lemmas.List.{length-map}
-use Rattle.zarr_model.specs.Prelude.{Content, Shown, Rose, counted}
-use Rattle.zarrs_storage.specs.Store.{ListsKeys, IsFault, IsPlain}
+use Rattle.zarrs_codec_traits.specs.Prelude.{Content, Shown, Rose, counted, ListsKeys, IsFault, IsPlain}
 use Rattle.zarrs_storage.specs.declared.store.StorageError.{StorageError}
 use Rattle.zarrs_storage.specs.declared.store.StorageError.TheVariants.{Failed}
 use Rattle.zarrs_storage.specs.declared.store.StorageError.TheVariants as Storage
 use Rattle.zarrs_storage.proofs.ListLemmas.{AreEntriesOf, is_sorted-entries, find-listed}
-use Rattle.zarr_cli_made.specs.lines.Text.{entries_text}
+use Rattle.zarr_cli_lines.specs.Text.{entries_text}
 use Rattle.zarr_cli_runs.specs.Keys.{ListsStore, Dumps, IsDumpFault, entries_at, storage_status}
 use Rattle.zarr_cli_runs.specs.declared.status.Status.{Status}
-use Rattle.zarr_cli_runs.specs.declared.status.Status.TheVariants.{Done, BadWords, BadInput, Document, Chunk, Store, Read, Write, TooLong, OutOfMemory}
+use Rattle.zarr_cli_runs.specs.declared.status.Status.TheVariants.{Done, BadWords, BadInput, Document, Chunk, Store}
+use Rattle.zarr_cli_runs.specs.declared.status.Status.TheVariants.{Read, Write, TooLong, OutOfMemory}
 
 -- the keys of the entries at some keys are these
 keys_at : (store : Content) (keys : List (List ℕ)) → map (λ entry. entry.0) (entries_at store keys) ≡ keys
@@ -25,18 +27,23 @@ pub some_value : (value : Option (List ℕ)) → IsSome value → value ≡ Some
 some_value None is = absurd (cc)
 some_value (Some bytes) is = refl
 
-are_entries : (store : Content) (keys : List (List ℕ)) → ((key : List ℕ) → Contains keys key → IsSome (store key)) → AreEntriesOf store (entries_at store keys)
+are_entries : (store : Content) (keys : List (List ℕ)) → ((key : List ℕ) → Contains keys key → IsSome (store key)) →
+    AreEntriesOf store (entries_at store keys)
 are_entries store [] held = tt
 are_entries store (key ∷ keys) held = (
   some_value (store key) (held key (0, omega arith, refl)),
-  are_entries store keys (λ other here. held other (suc here.0, (let below : here.0 < length keys = here.1 in omega arith), here.2)),
+  are_entries store keys
+      (λ other here. held other (suc here.0, (let below : here.0 < length keys = here.1 in omega arith), here.2)),
 )
 
 -- all keys with their values are a listing of the store
-pub lists_store : (store : Content) (keys : List (List ℕ)) → ListsKeys store keys → ListsStore store (entries_at store keys)
+pub lists_store : (store : Content) (keys : List (List ℕ)) → ListsKeys store keys →
+    ListsStore store (entries_at store keys)
 lists_store store keys lists = record {
-  in_order = is_sorted-entries (entries_at store keys) (subst (IsStrictlySortedBy (slice_cmp nat_cmp)) (sym (keys_at store keys)) lists.in_order);
-  held = find-listed store (entries_at store keys) (subst (ListsKeys store) (sym (keys_at store keys)) lists) (are_entries store keys (λ key here. (lists.held key).0 here));
+  in_order = is_sorted-entries (entries_at store keys)
+      (subst (IsStrictlySortedBy (slice_cmp nat_cmp)) (sym (keys_at store keys)) lists.in_order);
+  held = find-listed store (entries_at store keys) (subst (ListsKeys store) (sym (keys_at store keys)) lists)
+      (are_entries store keys (λ key here. (lists.held key).0 here));
 }
 
 -- a count that fits stays by nothing more, and counts add up
@@ -47,35 +54,58 @@ pub counted_more : (n mid now a b : ℕ) → mid ≡ counted n a → now ≡ cou
 counted_more n mid now a b first second = omega (arith, first, second)
 
 -- the list of keys and their lines are a dump
-dumped : (before mid now : Shown) (keys : List (List ℕ)) (text new_text : List ℕ) → ListsKeys before.content keys → mid.content ≡ before.content → now.content ≡ mid.content → now.puts ≡ before.puts →
-    mid.asks ≡ counted before.asks 1 → now.asks ≡ counted mid.asks (length keys) → new_text ≡ text ++ entries_text (entries_at mid.content keys) → Dumps true before now text new_text
+dumped : (before mid now : Shown) (keys : List (List ℕ)) (text new_text : List ℕ) → ListsKeys before.content keys →
+    mid.content ≡ before.content → now.content ≡ mid.content → now.puts ≡ before.puts →
+    mid.asks ≡ counted before.asks 1 → now.asks ≡ counted mid.asks (length keys) →
+    new_text ≡ text ++ entries_text (entries_at mid.content keys) → Dumps true before now text new_text
 dumped before mid now keys text new_text lists same kept unput first second lines =
-    let here : ListsStore now.content (entries_at before.content keys) = subst (λ content. ListsStore content (entries_at before.content keys)) (sym (kept ∙ same)) (lists_store before.content keys lists) in
-    let many : length (entries_at before.content keys) ≡ length keys = length-map keys (λ key. (key, unwrap_or (before.content key) [])) in
+    let here : ListsStore now.content (entries_at before.content keys) = subst (λ content.
+    ListsStore content (entries_at before.content keys)) (sym (kept ∙ same)) (lists_store before.content keys lists) in
+    let many : length (entries_at before.content keys) ≡ length keys =
+    length-map keys (λ key. (key, unwrap_or (before.content key) [])) in
     record {
-      text = (entries_text (entries_at before.content keys), (entries_at before.content keys, here, refl), lines ∙ ap (λ content. text ++ entries_text (entries_at content keys)) same);
+      text = (
+        entries_text (entries_at before.content keys),
+        (entries_at before.content keys, here, refl),
+        lines ∙ ap (λ content. text ++ entries_text (entries_at content keys)) same,
+      );
       same = kept ∙ same;
-      asks = (length (entries_at before.content keys) + 1, (entries_at before.content keys, here, refl), omega (arith, first, second, many));
+      asks = (
+        length (entries_at before.content keys) + 1,
+        (entries_at before.content keys, here, refl),
+        omega (arith, first, second, many),
+      );
       puts = unput;
     }
 
-pub store_dumped : {T : Type 0} (before mid now : Shown) (keys : List (List ℕ)) (text new_text : List ℕ) (result : Result T Status) → ListsKeys before.content keys → mid.content ≡ before.content → now.content ≡ mid.content → now.puts ≡ before.puts →
-    mid.asks ≡ counted before.asks 1 → OnOk result (now.asks ≡ counted mid.asks (length keys)) → OnOk result (new_text ≡ text ++ entries_text (entries_at mid.content keys)) →
+pub store_dumped :
+    {T : Type 0} (before mid now : Shown) (keys : List (List ℕ)) (text new_text : List ℕ) (result : Result T Status) →
+    ListsKeys before.content keys → mid.content ≡ before.content → now.content ≡ mid.content → now.puts ≡ before.puts →
+    mid.asks ≡ counted before.asks 1 → OnOk result (now.asks ≡ counted mid.asks (length keys)) →
+    OnOk result (new_text ≡ text ++ entries_text (entries_at mid.content keys)) →
     OnOk result (Dumps true before now text new_text)
-store_dumped before mid now keys text new_text (Ok value) lists same kept unput first second lines = dumped before mid now keys text new_text lists same kept unput first second lines
+store_dumped before mid now keys text new_text (Ok value) lists same kept unput first second lines =
+    dumped before mid now keys text new_text lists same kept unput first second lines
 store_dumped before mid now keys text new_text (Err status) lists same kept unput first second lines = tt
 
 -- no dump
 pub none_dumped : (store : Shown) (text : List ℕ) → store.asks ≤ 2 ^ 64 - 1 → Dumps false store store text text
-none_dumped store text fits = record { text = ([], refl, sym (append-nil text)); same = refl; asks = (0, refl, counted_none store.asks fits); puts = refl }
+none_dumped store text fits = record {
+  text = ([], refl, sym (append-nil text));
+  same = refl;
+  asks = (0, refl, counted_none store.asks fits);
+  puts = refl;
+}
 
 -- faults of a dump
-pub status_fault : (error : StorageError) (before now : Shown) → IsPlain error → (IsFault error → Rose before.faults now.faults) → IsDumpFault before now (storage_status error)
+pub status_fault : (error : StorageError) (before now : Shown) → IsPlain error →
+    (IsFault error → Rose before.faults now.faults) → IsDumpFault before now (storage_status error)
 status_fault Failed before now plain cause = cause tt
 status_fault (Storage.InvalidByteRange range) before now plain cause = absurd plain
 status_fault Storage.OutOfMemory before now plain cause = tt
 
-fault_earlier : (before mid now : Shown) (status : Status) → before.faults ≤ mid.faults → IsDumpFault mid now status → IsDumpFault before now status
+fault_earlier : (before mid now : Shown) (status : Status) → before.faults ≤ mid.faults → IsDumpFault mid now status →
+    IsDumpFault before now status
 fault_earlier before mid now Store later fault = omega (arith, later, fault)
 fault_earlier before mid now OutOfMemory later fault = tt
 fault_earlier before mid now Done later fault = fault
@@ -87,6 +117,7 @@ fault_earlier before mid now Read later fault = fault
 fault_earlier before mid now Write later fault = fault
 fault_earlier before mid now TooLong later fault = fault
 
-pub dump_fault-earlier : {T : Type 0} (before mid now : Shown) (result : Result T Status) → before.faults ≤ mid.faults → IfErr result (λ status. IsDumpFault mid now status) → IfErr result (λ status. IsDumpFault before now status)
+pub dump_fault-earlier : {T : Type 0} (before mid now : Shown) (result : Result T Status) → before.faults ≤ mid.faults →
+    IfErr result (λ status. IsDumpFault mid now status) → IfErr result (λ status. IsDumpFault before now status)
 dump_fault-earlier before mid now (Ok value) later fault = tt
 dump_fault-earlier before mid now (Err status) later fault = fault_earlier before mid now status later fault

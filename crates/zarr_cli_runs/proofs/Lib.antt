@@ -1,8 +1,14 @@
-pub use Rattle.zarr_cli_made.proofs.DescribedLaws
-pub use Rattle.zarr_cli_made.proofs.Documents
-pub use Rattle.zarr_cli_made.proofs.KeysApart
-pub use Rattle.zarr_cli_made.proofs.StoredLaws
-pub use Rattle.zarr_cli_made.proofs.TextLaws
+pub use Rattle.zarr_array.proofs.DocumentLaws as DocumentLawsBelow
+pub use Rattle.zarr_array.proofs.Documents
+pub use Rattle.zarr_basics.proofs.KeysApart
+pub use Rattle.zarr_array.proofs.StoredLaws
+pub use Rattle.zarr_cli_lines.proofs.TextLaws
+pub mod Examples
+pub mod DocumentLaws
+pub mod RowLemmas
+pub mod MadeCommandLemmas
+pub mod SummaryLaws
+pub mod MadeTextLemmas
 pub mod ChangeLaws
 pub mod BetweenLaws
 pub mod CommandLemmas

@@ -1,10 +1,11 @@
 -- What a run leaves, also where it ended early.
 use Rattle.std.specs.Prelude.{◌≡◌, ◌⊎◌, ℕ, Bool, true, false, List, length, Option}
-use Rattle.zarr_model.specs.Prelude.{Options, counted, IsHonest, with_keys, Command, Description, layout, Shown, Rose, SetsSome, EndsBetween}
-use Rattle.zarr_cli_made.specs.array.Session.{FailsBy}
-use Rattle.zarr_cli_made.specs.array.regions.declared.error.SessionErrorKind.{SessionErrorKind}
-use Rattle.zarr_cli_made.specs.array.regions.declared.error.SessionErrorKind.TheVariants.{NotOpened, ChunkDecode}
-use Rattle.zarr_cli_made.specs.array.regions.declared.error.SessionErrorKind.TheVariants as Kind
+use Rattle.zarr_model.specs.Prelude.{Options, counted, IsHonest, with_keys, Command, Description, layout, Shown, Rose}
+use Rattle.zarr_model.specs.Prelude.{SetsSome, EndsBetween}
+use Rattle.zarr_array.specs.Session.{FailsBy}
+use Rattle.zarr_array.specs.declared.command_error.SessionErrorKind.{SessionErrorKind}
+use Rattle.zarr_array.specs.declared.command_error.SessionErrorKind.TheVariants.{NotOpened, ChunkDecode}
+use Rattle.zarr_array.specs.declared.command_error.SessionErrorKind.TheVariants as Kind
 use Rattle.zarr_cli_runs.specs.Ending.{Ending, IsOrMemory, damaged_chunk, store_fault, out_of_memory}
 use Rattle.zarr_cli_runs.specs.Commands.{LeavesUndamaged}
 

@@ -2,20 +2,23 @@
 -- early.
 use Rattle.std.specs.Prelude.{◌≡◌, ℕ, Bool, List, [], map, Option, Ok, true}
 use Rattle.std.specs.List.{AllZip, list_any}
-use Rattle.zarr_model.specs.Prelude.{Element, Array, Options, Content, Means, WhollyMeans, Shown, Command, Description, kind, layout, replies, array_after, Matches, LeavesArray, SeesNoDamage, MeetsNoDamage, KeepsDamage, RefusesRight, all_puts, counted, Rose, IsDamageSeen, IsChunk, changes_chunk, undamaged, LeavesKeys}
-use Rattle.zarr_cli_made.specs.array.Command.{answer_of}
-use Rattle.zarr_cli_made.specs.array.Stored.{StoresForAll}
-use Rattle.zarr_cli_made.specs.array.parts.Document.{ArrayDocument}
-use Rattle.zarr_cli_made.specs.array.Taken.{TakesAlone}
-use Rattle.zarr_cli_made.specs.array.Costs.{CostsOn}
-use Rattle.zarr_cli_made.specs.array.regions.Access.{Costs}
-use Rattle.zarr_cli_made.specs.array.Session.{FailsBy}
-use Rattle.zarr_cli_made.specs.array.declared.command.Reply.{Reply}
+use Rattle.zarr_model.specs.Prelude.{Element, Array, Options, Content, Means, WhollyMeans, Shown, Command, Description}
+use Rattle.zarr_model.specs.Prelude.{kind, layout, replies, array_after, Matches, LeavesArray, SeesNoDamage}
+use Rattle.zarr_model.specs.Prelude.{MeetsNoDamage, KeepsDamage, RefusesRight, all_puts, counted, Rose, IsDamageSeen}
+use Rattle.zarr_model.specs.Prelude.{IsChunk, changes_chunk, undamaged, LeavesKeys}
+use Rattle.zarr_array.specs.boxes.Command.{answer_of}
+use Rattle.zarr_array.specs.Stored.{StoresForAll}
+use Rattle.zarr_cli_runs.specs.array.parts.Document.{ArrayDocument}
+use Rattle.zarr_array.specs.Taken.{TakesAlone}
+use Rattle.zarr_array.specs.Costs.{CostsOn}
+use Rattle.zarr_array.specs.Access.{Costs}
+use Rattle.zarr_array.specs.Session.{FailsBy}
+use Rattle.zarr_array.specs.boxes.declared.command.Reply.{Reply}
 use Rattle.zarr_cli_runs.specs.declared.status.Status.{Status}
 use Rattle.zarr_cli_runs.specs.declared.status.Status.TheVariants.{OutOfMemory, Document, Chunk, Store}
-use Rattle.zarr_cli_made.specs.array.regions.declared.error.SessionErrorKind.{SessionErrorKind}
-use Rattle.zarr_cli_made.specs.array.regions.declared.error.SessionErrorKind.TheVariants.{NotOpened, ChunkDecode}
-use Rattle.zarr_cli_made.specs.array.regions.declared.error.SessionErrorKind.TheVariants as Kind
+use Rattle.zarr_array.specs.declared.command_error.SessionErrorKind.{SessionErrorKind}
+use Rattle.zarr_array.specs.declared.command_error.SessionErrorKind.TheVariants.{NotOpened, ChunkDecode}
+use Rattle.zarr_array.specs.declared.command_error.SessionErrorKind.TheVariants as Kind
 
 -- a key is that of a chunk that an accepted command writes or erases
 abbrev pub IsChangedKey : Description → List Command → List ℕ → Type 0

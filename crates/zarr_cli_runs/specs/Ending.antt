@@ -1,8 +1,8 @@
 -- How the program ends, and what the sink is given then.
 use Rattle.std.specs.Prelude.{◌≡◌, ℕ, ◌⊎◌, List, [], ◌++◌, take, codes, decimal, Option, Some, None, option_map}
 use Rattle.zarr_model.specs.Prelude.{Given, Rose}
-use Rattle.zarr_cli_made.specs.lines.Text.{line_of}
-use Rattle.zarr_cli_made.specs.array.parts.Opening.{OpenRefusal, open_refusal_name}
+use Rattle.zarr_cli_lines.specs.Text.{line_of}
+use Rattle.zarr_cli_runs.specs.array.parts.Opening.{OpenRefusal, open_refusal_name}
 
 -- the endings
 pub data Ending : Type 0 where

@@ -1,6 +1,7 @@
 -- What an honest store has to do with damage.
 use Rattle.std.specs.Prelude.{List}
-use Rattle.zarr_model.specs.Prelude.{Element, Array, Options, Content, IsHonest, Means, Command, Description, layout, SeesNoDamage}
+use Rattle.zarr_model.specs.Prelude.{Element, Array, Options, Content, IsHonest, Means, Command, Description, layout}
+use Rattle.zarr_model.specs.Prelude.{SeesNoDamage}
 use Rattle.zarr_cli_runs.specs.Commands.{MeansUndamaged}
 
 -- commands over an honest store see no damage, and the array that it means is the one that it means

@@ -4,7 +4,7 @@ use Rattle.std.specs.Cmp.Lexicographic.{slice_cmp}
 use Rattle.std.specs.Ordering.{nat_cmp}
 use Rattle.std.specs.FinMap.{is_sorted, find}
 use Rattle.zarr_model.specs.Prelude.{Content, Shown, counted, Rose}
-use Rattle.zarr_cli_made.specs.lines.Text.{entries_text}
+use Rattle.zarr_cli_lines.specs.Text.{entries_text}
 use Rattle.zarrs_storage.specs.declared.store.StorageError.{StorageError}
 use Rattle.zarrs_storage.specs.declared.store.StorageError.TheVariants.{Failed}
 use Rattle.zarr_cli_runs.specs.declared.status.Status.{Status}

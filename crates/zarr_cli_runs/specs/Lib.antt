@@ -1,6 +1,10 @@
-pub use Rattle.zarr_cli_made.specs as making
-pub use Rattle.zarr_cli_made.specs.array
-pub use Rattle.zarr_cli_made.specs.lines
+pub use Rattle.zarr_cli_lines.specs as lines
+pub use Rattle.zarr_array.specs as array
+pub mod Generator
+pub mod MadeCommands
+pub mod Document
+pub mod Summary
+pub mod Tally
 pub mod Ending
 pub mod Status
 pub mod Opening

@@ -1,13 +1,14 @@
 -- A run that is made from a number: its array, its summary, and what it leaves.
 use Rattle.std.specs.Prelude.{◌≡◌, ℕ, ◌+◌, List, length, Option, Some, None}
 use Rattle.std.specs.List.{sum_by}
-use Rattle.zarr_model.specs.Prelude.{Element, Array, Options, Content, Command, Refusal, Description, refusal, replies, all_asks, all_puts, counted, LeavesArray, SeesNoDamage, Shown}
+use Rattle.zarr_model.specs.Prelude.{Element, Array, Options, Content, Command, Refusal, Description, refusal, replies}
+use Rattle.zarr_model.specs.Prelude.{all_asks, all_puts, counted, LeavesArray, SeesNoDamage, Shown}
 use Rattle.zarrs_storage.specs.Store.{ListsKeys}
-use Rattle.zarr_cli_made.specs.array.parts.Document.{describe}
-use Rattle.zarr_cli_made.specs.array.Stored.{StoresForAll}
+use Rattle.zarr_cli_runs.specs.array.parts.Document.{describe}
+use Rattle.zarr_array.specs.Stored.{StoresForAll}
 use Rattle.zarr_cli_runs.specs.Commands.{MeansUndamaged, LeavesUndamaged}
-use Rattle.zarr_cli_made.specs.Document.{made_document}
-use Rattle.zarr_cli_made.specs.Summary.{summary_lines, summary_text}
+use Rattle.zarr_cli_runs.specs.Document.{made_document}
+use Rattle.zarr_cli_runs.specs.Summary.{summary_lines, summary_text}
 
 -- the array that the commands are for
 unfoldable pub made_array : Description
@@ -29,7 +30,7 @@ IsSummary description commands array store output = (keys : List (List ℕ)) × 
     × (output ≡ summary_text (replies description commands array) (length keys))
 
 -- what a summary says over any store: its seven lines have these numbers
-pub record Counts (description : Description) (commands : List Command) (store : Content)
+pub record CountsAnswers (description : Description) (commands : List Command) (store : Content)
     (output : List ℕ) : Type 0 where
   pub ok : ℕ
   pub done : ℕ
@@ -51,7 +52,7 @@ pub record SumsUp (description : Description) (options : Options) (commands : Li
   pub summed : (array : Array Element) → MeansUndamaged description options commands old array →
       IsSummary description commands array new output
   -- whatever the store meant, its lines are those of a summary
-  pub numbers : Counts description commands new output
+  pub numbers : CountsAnswers description commands new output
   -- the store is left as that array's, without damage and with it, and what was stored decodes so
   -- under all options
   pub mended : LeavesUndamaged description options commands old new

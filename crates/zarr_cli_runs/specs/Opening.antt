@@ -1,9 +1,9 @@
 -- A first line opened by the built-in names.
 use Rattle.std.specs.Prelude.{◌≡◌, Option, Some, None, Result, Ok, Err}
-use Rattle.zarr_cli_made.specs.array.parts.Opening.{OpenRefusal, OpenAnswer, opened, not_opened}
-use Rattle.zarr_cli_made.specs.array.OpenArray.{documented}
-use Rattle.zarr_cli_made.specs.array.parts.OpenError.{open_refusal_of}
-use Rattle.zarr_cli_made.specs.array.declared.open.OpenArray.{OpenArray}
+use Rattle.zarr_cli_runs.specs.array.parts.Opening.{OpenRefusal, OpenAnswer, opened, not_opened}
+use Rattle.zarr_array.specs.OpenArray.{documented}
+use Rattle.zarr_cli_runs.specs.array.parts.OpenError.{open_refusal_of}
+use Rattle.zarr_array.specs.declared.open.OpenArray.{OpenArray}
 use Rattle.zarr_cli_runs.specs.declared.status.Status.{Status}
 use Rattle.zarr_cli_runs.specs.declared.status.Status.TheVariants.{Document, OutOfMemory}
 

@@ -1,10 +1,12 @@
 -- The ending that a status stands for.
 use Rattle.std.specs.Prelude.{Option, Some, None}
 use Rattle.zarr_cli_runs.specs.declared.status.Status.{Status}
-use Rattle.zarr_cli_runs.specs.declared.status.Status.TheVariants.{Done, BadWords, BadInput, Document, Chunk, Store, Read, Write, TooLong, OutOfMemory}
-use Rattle.zarr_cli_made.specs.array.parts.Opening.{OpenRefusal}
-use Rattle.zarr_cli_made.specs.array.parts.OpenError.{open_refusal_of}
-use Rattle.zarr_cli_runs.specs.Ending.{Ending, done, bad_words, bad_input, refused_document, damaged_chunk, store_fault, read_fault, write_fault, too_long, out_of_memory}
+use Rattle.zarr_cli_runs.specs.declared.status.Status.TheVariants.{Done, BadWords, BadInput, Document, Chunk, Store}
+use Rattle.zarr_cli_runs.specs.declared.status.Status.TheVariants.{Read, Write, TooLong, OutOfMemory}
+use Rattle.zarr_cli_runs.specs.array.parts.Opening.{OpenRefusal}
+use Rattle.zarr_cli_runs.specs.array.parts.OpenError.{open_refusal_of}
+use Rattle.zarr_cli_runs.specs.Ending.{Ending, done, bad_words, bad_input, refused_document, damaged_chunk, store_fault}
+use Rattle.zarr_cli_runs.specs.Ending.{read_fault, write_fault, too_long, out_of_memory}
 
 -- an ending by a refused document
 abbrev pub refused_by : Option OpenRefusal → Ending

@@ -1,22 +1,21 @@
 //! Commands run over a store, and the text of their replies.
 
 ghost use Rattle.std.specs.Prelude.{◌≡◌, ◌<◌, ◌≤◌, map, List, [], ℕ, IfOk, IfErr, OnOk, OnErr};
-ghost use Rattle.zarr_model.specs.Prelude.{fixed, Rose, SeesNoDamage, AreRefused, IsUntouched};
-ghost use Rattle.zarr_cli_made.specs.array.regions.Access.{described, is_once};
-ghost use Rattle.zarr_cli_made.specs.array.Command.{command_of, AreReads};
-ghost use Rattle.zarrs_codec_traits.specs.Views.{options_of};
-ghost use Rattle.zarrs_codec_array_bytes.specs.Steps.{kind_seen};
-ghost use Rattle.zarr_cli_made.specs.lines.Parts.{IsTextOf};
+ghost use Rattle.zarrs_codec_traits.specs.Prelude.{fixed, Rose, SeesNoDamage, AreRefused};
+ghost use Rattle.zarrs_codec_traits.specs.Prelude.{IsUntouched, options_of, kind_seen};
+ghost use Rattle.zarr_array.specs.Access.{described, is_once};
+ghost use Rattle.zarr_array.specs.boxes.Command.{command_of, AreReads};
+ghost use Rattle.zarr_cli_lines.specs.Parts.{IsTextOf};
 ghost use Rattle.zarr_cli_runs.specs.Between.{LeavesBetween};
 ghost use Rattle.zarr_cli_runs.specs.Status.{ending_of};
 ghost use Rattle.zarr_cli_runs.specs.Commands.{IsChangedKey, RepliedBy, CostsRun, IsRunFault, session_status};
 
 use crate::status::Status;
+use crate::{CodecOptions, Command, Reply, SessionErrorKind, push_reply};
 use std::alloc::{AllocError, Global};
 use zarr_array::ChunkAccess;
 use zarr_array::commands::run_commands;
-use zarr_cli_made::{CodecOptions, Command, Reply, SessionErrorKind, push_reply};
-use zarrs_data_type_names::DataType;
+use zarrs_data_type::DataType;
 use zarrs_storage::Store;
 
 /// The lines of replies, whose elements are of a data type.

@@ -1,14 +1,13 @@
 //! The keys of a store: their lines, and how many there are.
 
 ghost use Rattle.std.specs.Prelude.{◌≡◌, ◌++◌, ◌≤◌, ℕ, List, [], true, false, IsSome, IfOk, IfErr, OnOk, Contains, length, unwrap_or};
-ghost use Rattle.zarr_model.specs.Prelude.{counted, IsUntouched};
-ghost use Rattle.zarrs_storage.specs.Store.{ListsKeys};
-ghost use Rattle.zarr_cli_made.specs.lines.Text.{entry_text, entries_text, line_of};
+ghost use Rattle.zarrs_codec_traits.specs.Prelude.{counted, IsUntouched, ListsKeys};
+ghost use Rattle.zarr_cli_lines.specs.Text.{entry_text, entries_text, line_of};
 ghost use Rattle.zarr_cli_runs.specs.Keys.{Dumps, IsDumpFault, entries_at, storage_status};
 
+use crate::push_entry;
 use crate::status::Status;
 use std::alloc::Global;
-use zarr_cli_made::push_entry;
 use zarrs_storage::{StorageError, Store, StoreKey};
 
 /// The status of a call of the store that gave no answer.

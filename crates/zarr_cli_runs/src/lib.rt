@@ -3,14 +3,25 @@
 #![tactic(auto)]
 
 pub mod commands;
+pub mod document;
+mod elements;
+pub mod generator;
 pub mod keys;
 pub mod laws;
 pub mod made;
+pub mod making_commands;
 pub mod opening;
 pub mod status;
+pub mod summary;
+mod tally;
 
+pub use document::made_document;
+pub use generator::Generator;
+pub use making_commands::made_commands;
 pub use status::Status;
-pub use zarr_cli_made::{
-    CodecOptions, Command, Entry, LineError, OpenArray, OpenError, ParsedLines, Reply,
-    parse_command_line, parse_key_line, parse_lines, push_reply,
+pub use summary::push_summary;
+pub use zarr_array::{CodecOptions, OpenArray, OpenError, SessionErrorKind, builtin_registries};
+pub use zarr_cli_lines::{
+    Command, Entry, LineError, ParsedLines, Reply, parse_command_line, parse_key_line, parse_lines,
+    push_entry, push_reply,
 };

@@ -2,15 +2,14 @@
 
 ghost use Rattle.std.specs.Prelude.{◌≡◌, ◌<◌, map, List, [], ℕ, true, IfOk, IfErr, OnErr};
 ghost use Rattle.std.specs.List.{AllZip};
-ghost use Rattle.zarr_model.specs.Prelude.{Rose, SeesNoDamage, kind, fixed, Matches};
+ghost use Rattle.zarrs_codec_traits.specs.Prelude.{Rose, SeesNoDamage, kind, fixed, Matches};
+ghost use Rattle.zarrs_codec_traits.specs.Prelude.{options_of, kind_seen};
 ghost use Rattle.zarr_model.specs.Command as Model;
-ghost use Rattle.zarr_cli_made.specs.array.OpenArray.{described};
-ghost use Rattle.zarr_cli_made.specs.array.Command.{command_of, answer_of};
-ghost use Rattle.zarrs_codec_traits.specs.Views.{options_of};
-ghost use Rattle.zarrs_codec_array_bytes.specs.Steps.{kind_seen};
-ghost use Rattle.zarr_cli_made.specs.Commands.{made_commands};
-ghost use Rattle.zarr_cli_made.specs.Summary.{summary_text};
-ghost use Rattle.zarr_cli_made.specs.Tally.{summary_held};
+ghost use Rattle.zarr_array.specs.OpenArray.{described_array};
+ghost use Rattle.zarr_array.specs.boxes.Command.{command_of, answer_of};
+ghost use Rattle.zarr_cli_runs.specs.MadeCommands.{made_commands};
+ghost use Rattle.zarr_cli_runs.specs.Summary.{summary_text};
+ghost use Rattle.zarr_cli_runs.specs.Tally.{summary_held};
 ghost use Rattle.zarr_cli_runs.specs.Between.{LeavesBetween};
 ghost use Rattle.zarr_cli_runs.specs.Status.{ending_of};
 ghost use Rattle.zarr_cli_runs.specs.Commands.{IsChangedKey, IsRunFault};
@@ -20,11 +19,9 @@ use crate::commands::{replies_of, text_of_replies};
 use crate::keys::count_keys;
 use crate::opening::open_line;
 use crate::status::Status;
+use crate::{CodecOptions, Command, OpenArray, Reply, made_commands, made_document, push_summary};
 use std::alloc::{AllocError, Global};
-use zarr_cli_made::{
-    CodecOptions, Command, OpenArray, Reply, made_commands, made_document, push_summary,
-};
-use zarrs_data_type_names::DataType;
+use zarrs_data_type::DataType;
 use zarrs_storage::Store;
 
 // The size of an element of the array that the commands are for, in bytes.
@@ -32,8 +29,8 @@ const ELEMENT_SIZE: usize = 2;
 
 // The array that the commands are for.
 fn open_made(alloc: Global) -> Result<OpenArray, Status>
-    ensures array { IfOk result (λ array. described array ≡ made_array) }
-    ensures sized { IfOk result (λ array. kind (described array) ≡ fixed 2) }
+    ensures array { IfOk result (λ array. described_array array ≡ made_array) }
+    ensures sized { IfOk result (λ array. kind (described_array array) ≡ fixed 2) }
     ensures fault { IfErr result (λ status. status ≡ Status.OutOfMemory) }
 {
     open_line(alloc, made_document())
@@ -69,19 +66,19 @@ fn summary_of_commands<S: Store>(
     store: &mut S,
     options: &CodecOptions,
 ) -> Result<Vec<u8>, Status>
-    requires sized { kind (described array.now) ≡ fixed 2 }
-    ensures ran { IfOk result (λ text. SumsAll (described array.now) (options_of options.now)
+    requires sized { kind (described_array array.now) ≡ fixed 2 }
+    ensures ran { IfOk result (λ text. SumsAll (described_array array.now) (options_of options.now)
         (map command_of commands.now) (S.shown store.old) (S.shown store.new) text.items) }
     ensures unchanged { (key : List ℕ) →
-        ¬ IsChangedKey (described array.now) (map command_of commands.now) key →
+        ¬ IsChangedKey (described_array array.now) (map command_of commands.now) key →
         (S.shown store.new).content key ≡ (S.shown store.old).content key }
     ensures fault { IfErr result (λ status.
-        IsRunFault true (described array.now) (options_of options.now)
+        IsRunFault true (described_array array.now) (options_of options.now)
         (map command_of commands.now) (S.shown store.old) (S.shown store.new) status) }
-    ensures between { IfErr result (λ status. LeavesBetween true (described array.now)
+    ensures between { IfErr result (λ status. LeavesBetween true (described_array array.now)
         (options_of options.now) [] (map command_of commands.now) (S.shown store.old)
         (S.shown store.new) (ending_of status)) }
-    ensures complete { SeesNoDamage (described array.now) (options_of options.now)
+    ensures complete { SeesNoDamage (described_array array.now) (options_of options.now)
         (map command_of commands.now) (S.shown store.old).content →
         ¬ Rose (S.shown store.old).faults (S.shown store.new).faults →
         IfErr result (λ status. status ≡ Status.OutOfMemory) }
@@ -103,19 +100,19 @@ fn summary_from<S: Store>(
     store: &mut S,
     options: &CodecOptions,
 ) -> Result<Vec<u8>, Status>
-    requires sized { kind (described array.now) ≡ fixed 2 }
-    ensures ran { IfOk result (λ text. SumsAll (described array.now) (options_of options.now)
+    requires sized { kind (described_array array.now) ≡ fixed 2 }
+    ensures ran { IfOk result (λ text. SumsAll (described_array array.now) (options_of options.now)
         (made_commands number) (S.shown store.old) (S.shown store.new) text.items) }
     ensures unchanged { (key : List ℕ) →
-        ¬ IsChangedKey (described array.now) (made_commands number) key →
+        ¬ IsChangedKey (described_array array.now) (made_commands number) key →
         (S.shown store.new).content key ≡ (S.shown store.old).content key }
     ensures fault { IfErr result (λ status.
-        IsRunFault true (described array.now) (options_of options.now)
+        IsRunFault true (described_array array.now) (options_of options.now)
         (made_commands number) (S.shown store.old) (S.shown store.new) status) }
-    ensures between { IfErr result (λ status. LeavesBetween true (described array.now)
+    ensures between { IfErr result (λ status. LeavesBetween true (described_array array.now)
         (options_of options.now) [] (made_commands number) (S.shown store.old)
         (S.shown store.new) (ending_of status)) }
-    ensures complete { SeesNoDamage (described array.now) (options_of options.now)
+    ensures complete { SeesNoDamage (described_array array.now) (options_of options.now)
         (made_commands number) (S.shown store.old).content →
         ¬ Rose (S.shown store.old).faults (S.shown store.new).faults →
         IfErr result (λ status. status ≡ Status.OutOfMemory) }

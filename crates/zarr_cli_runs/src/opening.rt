@@ -1,11 +1,11 @@
 //! A first line opened as an array.
 
-ghost use Rattle.zarr_cli_made.specs.array.parts.Opening.{open_builtin};
+ghost use Rattle.zarr_cli_runs.specs.array.parts.Opening.{open_builtin};
 ghost use Rattle.zarr_cli_runs.specs.Opening.{OpensLine};
 
 use crate::status::Status;
+use crate::{OpenArray, OpenError, builtin_registries};
 use std::alloc::Global;
-use zarr_cli_made::{OpenArray, OpenError, builtin_registries};
 
 /// The array of a first line, by the built-in names.
 ///

@@ -4,8 +4,8 @@ ghost use Rattle.std.specs.Prelude.{◌≡◌};
 ghost use Rattle.zarr_cli_runs.specs.Ending.{ending_code};
 ghost use Rattle.zarr_cli_runs.specs.Status.{ending_of};
 
+use crate::OpenError;
 use std::alloc::AllocError;
-use zarr_cli_made::OpenError;
 use zarrs_storage::StoreKey;
 
 /// How the program ends.

@@ -1,8 +1,7 @@
-pub mod DigestLaws
-pub mod OrderLaws
-pub mod RangeLaws
-pub mod PieceLaws
-pub mod RowLaws
+pub mod SizeLaws
 pub mod PartLaws
-pub mod AskLaws
-pub mod FittedLaws
+pub mod OptionalLaws
+pub mod InnerLaws
+mod KindLaws
+mod KindInnerLaws
+mod ReadsBack

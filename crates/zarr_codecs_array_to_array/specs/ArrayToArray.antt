@@ -1,14 +1,13 @@
 -- Array-to-array codecs as plain data: what each means, serves and is written as.
 use Rattle.std.specs.Prelude.{ℕ, ℤ, ◌==◌, Bool, true, List, length, codes, Option, Some}
 use Rattle.serde_json.specs.Data.{Members}
-use Rattle.zarr_model.specs.Element.{DataType}
+use Rattle.zarrs_codec_traits.specs.Prelude.{DataType, Unserved}
 use Rattle.zarr_model.specs.Codec.{ArrayCodec, offset_codec, opposite, transpose_codec}
-use Rattle.zarrs_codec_traits.specs.Errors.{Unserved}
-use Rattle.zarr_codecs_numbers.specs.Numbers.{bytes_less}
-use Rattle.zarr_codecs_numbers.specs.Offset.{offset_unserved}
-use Rattle.zarr_codecs_offset.specs.Offset.{offset_members}
-use Rattle.zarr_codecs_moving.specs.Moving.{rank_unserved, shape_above_of}
-use Rattle.zarr_codecs_transpose.specs.Configuration.{order_members}
+use Rattle.zarr_codecs_elements.specs.Numbers.{bytes_less}
+use Rattle.zarr_codecs_elements.specs.Offset.{offset_unserved}
+use Rattle.zarr_codecs_array_to_array.specs.Offset.{offset_members}
+use Rattle.zarr_codecs_elements.specs.Moving.{rank_unserved, shape_above_of}
+use Rattle.zarr_codecs_array_to_array.specs.Configuration.{order_members}
 
 -- an offset that is added, or an order of dimensions
 pub data ArrayToArray : Type 0 where

@@ -1,31 +1,34 @@
 -- The laws of the codecs, by cases.
-use Rattle.std.specs.Prelude.{◌≡◌, ◌≤◌, ◌<◌, ◌^◌, ◌==◌, ℕ, Bool, true, List, length, replicate, Some, None, IsSome, refl}
+use Rattle.std.specs.Prelude.{◌≡◌, ◌≤◌, ◌<◌, ◌^◌, ◌==◌, ℕ, Bool, true, List, length, replicate, Some, None, IsSome}
+use Rattle.std.specs.Prelude.{refl}
 use Rattle.std.proofs.Common.{sym, ◌∙◌, eqb-true, eq-eqb}
 use Rattle.std.proofs.lemmas.Bool.{cond-true}
-use Rattle.zarr_model.specs.Region.{Region, count_of, ends_within}
-use Rattle.zarr_model.specs.Element.{Element, DataType, kind_of, fill_element}
+use Rattle.zarrs_codec_traits.specs.Prelude.{Region, count_of, ends_within, Element, DataType, kind_of, fill_element}
+use Rattle.zarrs_codec_traits.specs.Prelude.{innermost_fill, AreBytes, IsFit, taken}
 use Rattle.zarr_model.specs.Codec.{Level, KeepsCount, opposite}
 use Rattle.zarr_model.proofs.ChainLaws.{offset-keeps_count, transpose-keeps_count}
-use Rattle.zarrs_codec_slices.specs.Filling.{innermost_fill}
 use Rattle.zarrs_codec_traits.specs.Errors.{unsupported}
-use Rattle.zarrs_codec_traits.specs.Words.{AreBytes, IsFit, taken}
 use Rattle.zarrs_data_type_bytes.specs.declared.codec_support.CodecName.TheVariants as names
-use Rattle.zarr_codecs_numbers.proofs.LevelLaws.{offset_serves, below_fills, below_denotes, below_proper, below_short, same_count, between_shapes}
-use Rattle.zarr_codecs_axes.proofs.OrderLaws.{length-permuted}
-use Rattle.zarr_codecs_moving.proofs.LevelLaws.{rank_serves, fill_stays, count_kept, fit_kept, region_stays, above_below}
-use Rattle.zarr_codecs_offset.specs.OffsetOf.{offset_of}
-use Rattle.zarr_codecs_transpose.specs.OrderOf.{order_of}
-use Rattle.zarr_codecs_array_to_array.specs.ArrayToArray.{ArrayToArray, offset, transpose, array_codec_of, array_unserved_by, array_has_rank, type_below_by, fill_below_by, shape_above_by}
+use Rattle.zarr_codecs_elements.proofs.LevelLaws.{offset_serves, below_fills, below_denotes, below_proper, below_short}
+use Rattle.zarr_codecs_elements.proofs.LevelLaws.{same_count, between_shapes}
+use Rattle.zarr_codecs_elements.proofs.OrderLaws.{length-permuted}
+use Rattle.zarr_codecs_elements.proofs.MovedLevelLaws.{rank_serves, fill_stays, count_kept, fit_kept, region_stays}
+use Rattle.zarr_codecs_elements.proofs.MovedLevelLaws.{above_below}
+use Rattle.zarr_codecs_array_to_array.specs.OffsetOf.{offset_of}
+use Rattle.zarr_codecs_array_to_array.specs.OrderOf.{order_of}
+use Rattle.zarr_codecs_array_to_array.specs.ArrayToArray.{ArrayToArray, offset, transpose, array_codec_of}
+use Rattle.zarr_codecs_array_to_array.specs.ArrayToArray.{array_unserved_by, array_has_rank, type_below_by}
+use Rattle.zarr_codecs_array_to_array.specs.ArrayToArray.{fill_below_by, shape_above_by}
 use Rattle.zarr_codecs_array_to_array.specs.Views.{array_form}
 use Rattle.zarr_codecs_array_to_array.specs.declared.array_to_array.BasicArrayToArray.{BasicArrayToArray}
 use Rattle.zarr_codecs_array_to_array.specs.declared.array_to_array.BasicArrayToArray.TheVariants as arrays
 
 -- a codec serves a level where it serves its type and its shape has the codec's rank
-pub plain_serves : (codec : ArrayToArray) (shape : List ℕ) (type : DataType)
+pub plain_array_serves : (codec : ArrayToArray) (shape : List ℕ) (type : DataType)
     → array_unserved_by codec None (Some type) ≡ None → array_has_rank (length shape) codec ≡ true
     → array_unserved_by codec (Some shape) (Some type) ≡ None
-plain_serves (offset number) shape type served rank = served
-plain_serves (transpose order) shape type served rank = cond-true (length shape == length order)
+plain_array_serves (offset number) shape type served rank = served
+plain_array_serves (transpose order) shape type served rank = cond-true (length shape == length order)
     None (Some (unsupported names.Transpose))
     (eq-eqb (length shape) (length order) (sym (eqb-true (length order) (length shape) rank)))
 
@@ -55,12 +58,12 @@ rank_below (transpose order) level rank =
 abbrev pub below_of : BasicArrayToArray → Level → Level
 below_of c level = (array_codec_of (array_form c)).level_below level
 
-abbrev pub Serves : BasicArrayToArray → Level → Type 0
-Serves c level = array_unserved_by (array_form c) (Some level.shape) (Some level.data_type) ≡ None
+abbrev pub ServesLevel : BasicArrayToArray → Level → Type 0
+ServesLevel c level = array_unserved_by (array_form c) (Some level.shape) (Some level.data_type) ≡ None
 
 -- a level that is served is so by a call that takes only some of it
 pub served_parts : (c : BasicArrayToArray) (level : Level) (with_shape with_type : Bool)
-    → Serves c level → array_unserved_by (array_form c) (taken with_shape level.shape)
+    → ServesLevel c level → array_unserved_by (array_form c) (taken with_shape level.shape)
     (taken with_type level.data_type) ≡ None
 served_parts (arrays.Offset codec) level with_shape with_type served =
     offset_serves level.data_type with_type served
@@ -83,7 +86,7 @@ list_decodes (offset number) level below = refl
 list_decodes (transpose order) level below = refl
 
 -- the fill value below, its element, its bytes and its length
-pub fill_decodes : (c : BasicArrayToArray) (level : Level) → Serves c level → AreBytes level.fill
+pub fill_decodes : (c : BasicArrayToArray) (level : Level) → ServesLevel c level → AreBytes level.fill
     → (array_codec_of (array_form c)).decode_list level
     (replicate (count_of (below_of c level).shape) (below_of c level).fill)
     ≡ Some (replicate (count_of level.shape) level.fill)
@@ -92,7 +95,7 @@ fill_decodes (arrays.Offset codec) level served proper =
 fill_decodes (arrays.Transpose codec) level served proper =
     fill_stays (order_of codec) level codec.orders served
 
-pub fill_denotes : (c : BasicArrayToArray) (level : Level) (fill : List ℕ) → Serves c level
+pub fill_denotes : (c : BasicArrayToArray) (level : Level) (fill : List ℕ) → ServesLevel c level
     → fill_element (kind_of level.data_type) fill ≡ Some level.fill
     → fill_element (kind_of (below_of c level).data_type) (fill_below_by (array_form c) fill)
     ≡ Some (below_of c level).fill
@@ -100,14 +103,14 @@ fill_denotes (arrays.Offset codec) level fill served denotes =
     below_denotes (opposite (offset_of codec)) level.data_type fill level.fill served denotes
 fill_denotes (arrays.Transpose codec) level fill served denotes = denotes
 
-pub fill_proper : (c : BasicArrayToArray) (level : Level) (fill : List ℕ) → Serves c level
+pub fill_proper : (c : BasicArrayToArray) (level : Level) (fill : List ℕ) → ServesLevel c level
     → fill_element (kind_of level.data_type) fill ≡ Some level.fill → AreBytes level.fill
     → AreBytes (below_of c level).fill
 fill_proper (arrays.Offset codec) level fill served denotes proper =
     below_proper (opposite (offset_of codec)) level.data_type fill level.fill served denotes
 fill_proper (arrays.Transpose codec) level fill served denotes proper = proper
 
-pub fill_short : (c : BasicArrayToArray) (level : Level) (fill : List ℕ) → Serves c level
+pub fill_short : (c : BasicArrayToArray) (level : Level) (fill : List ℕ) → ServesLevel c level
     → length (innermost_fill (kind_of level.data_type) fill) < 2 ^ 32
     → length (innermost_fill (kind_of (below_of c level).data_type)
     (fill_below_by (array_form c) fill)) < 2 ^ 32
@@ -116,13 +119,13 @@ fill_short (arrays.Offset codec) level fill served short =
 fill_short (arrays.Transpose codec) level fill served short = short
 
 -- the level below has no more elements, and fits where the level does
-pub count_below : (c : BasicArrayToArray) (level : Level) → Serves c level
+pub count_below : (c : BasicArrayToArray) (level : Level) → ServesLevel c level
     → count_of (below_of c level).shape ≤ count_of level.shape
 count_below (arrays.Offset codec) level served = same_count level.shape
 count_below (arrays.Transpose codec) level served =
     count_kept (order_of codec) level.shape codec.orders served
 
-pub level_fits : (c : BasicArrayToArray) (level : Level) → Serves c level
+pub level_fits : (c : BasicArrayToArray) (level : Level) → ServesLevel c level
     → IsFit level.shape level.data_type
     → IsFit (below_of c level).shape (below_of c level).data_type
 level_fits (arrays.Offset codec) level served fits = fits
@@ -130,7 +133,7 @@ level_fits (arrays.Transpose codec) level served fits =
     fit_kept (order_of codec) level.shape level.data_type codec.orders served fits
 
 -- the box below lies within the shape below, and the shape above one below has it below
-pub box_inside : (c : BasicArrayToArray) (level : Level) (box : Region) → Serves c level
+pub box_inside : (c : BasicArrayToArray) (level : Level) (box : Region) → ServesLevel c level
     → ends_within box level.shape ≡ true
     → ends_within ((array_codec_of (array_form c)).box_below level.shape box)
     (below_of c level).shape ≡ true

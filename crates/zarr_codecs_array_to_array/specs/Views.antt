@@ -1,6 +1,6 @@
 -- The codecs of the code as plain data.
-use Rattle.zarr_codecs_offset.specs.OffsetOf.{offset_of}
-use Rattle.zarr_codecs_transpose.specs.OrderOf.{order_of}
+use Rattle.zarr_codecs_array_to_array.specs.OffsetOf.{offset_of}
+use Rattle.zarr_codecs_array_to_array.specs.OrderOf.{order_of}
 use Rattle.zarr_codecs_array_to_array.specs.ArrayToArray.{ArrayToArray, offset, transpose}
 use Rattle.zarr_codecs_array_to_array.specs.declared.array_to_array.BasicArrayToArray.{BasicArrayToArray}
 use Rattle.zarr_codecs_array_to_array.specs.declared.array_to_array.BasicArrayToArray.TheVariants as arrays

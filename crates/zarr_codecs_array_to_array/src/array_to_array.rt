@@ -3,10 +3,9 @@
 ghost use Rattle.std.specs.Prelude.{Some, true, false};
 ghost use Rattle.zarr_codecs_array_to_array.specs.Views.{array_form};
 
+use crate::{OffsetCodec, TransposeCodec};
 use std::alloc::{AllocError, Global};
 use std::num::NonZeroU64;
-use zarr_codecs_offset::OffsetCodec;
-use zarr_codecs_transpose::TransposeCodec;
 use zarrs_array_subset::{ArraySubset, ChunkShape};
 use zarrs_codec_array_bytes::ArrayBytes;
 use zarrs_codec_error::{
@@ -14,8 +13,8 @@ use zarrs_codec_error::{
     PartialEncoderCapability, RecommendedConcurrency,
 };
 use zarrs_codec_traits::{ArrayCodecTraits, ArrayToArrayCodecTraits, CodecTraits};
+use zarrs_data_type::DataType;
 use zarrs_data_type_bytes::FillValue;
-use zarrs_data_type_names::DataType;
 use zarrs_metadata_parts::Configuration;
 use zarrs_plugin::{ExtensionName, ZarrVersion};
 

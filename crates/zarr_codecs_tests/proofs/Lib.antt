@@ -1,1 +1,1 @@
-mod BottomLaws
+pub mod FewLaws

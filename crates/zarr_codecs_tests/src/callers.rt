@@ -1,11 +1,10 @@
 //! Callers of every chunk grid, from the trait's members alone, and of the grids of documents.
 
 ghost use Rattle.std.specs.Prelude.{◌≡◌, false, Some, IfOk, IfSome, IsTrue};
-ghost use Rattle.zarr_basics_grids.specs.BasicGrid.{basic_grid};
-ghost use Rattle.zarr_basics_grids.specs.Limits.{has_large_chunk};
-ghost use Rattle.zarrs_chunk_grid.specs.ArraySubset.{region};
+ghost use Rattle.zarr_basics.specs.BasicGrid.{basic_grid};
+ghost use Rattle.zarr_basics.specs.Limits.{has_large_chunk};
+ghost use Rattle.zarrs_codec_traits.specs.Prelude.{region, contains};
 ghost use Rattle.zarrs_chunk_grid.specs.ChunkGrid.{AllFit};
-ghost use Rattle.zarrs_chunk_grid.specs.Region.{contains};
 
 use std::alloc::Global;
 use zarr_basics::{BasicGrid, GridKind};

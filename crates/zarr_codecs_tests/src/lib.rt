@@ -1,31 +1,33 @@
-//! Worked examples of the codecs, chunk grids and keys of this project, of making them from metadata, and of a chunk under its
-//! key of a store.
+//! Tests of array bytes and views of them, of stores and of handles on bytes and on elements, of each call of a codec and of
+//! making codecs of metadata, of grids and keys; and the texts of errors.
 #![tactic(auto)]
 
 #[cfg(test)]
-mod boundaries;
+mod array_bytes;
+#[cfg(test)]
+mod array_to_array;
+#[cfg(test)]
+mod array_to_bytes;
 pub mod callers;
 #[cfg(test)]
-mod chain_texts;
+mod elements;
 #[cfg(test)]
-mod chunks;
-#[cfg(test)]
-mod coding;
-#[cfg(test)]
-mod grid_texts;
+mod errors;
 #[cfg(test)]
 mod grids;
 #[cfg(test)]
-mod keys;
+mod handles;
 #[cfg(test)]
-mod kinds;
+mod keys;
 #[cfg(test)]
 mod makers;
 #[cfg(test)]
 mod making;
 #[cfg(test)]
-mod ranges;
+mod options;
+#[cfg(test)]
+mod stores;
 #[cfg(test)]
 mod texts;
 #[cfg(test)]
-mod variable;
+mod views;

@@ -1,89 +1,109 @@
-//! What the kinds of extensions make, the metadata of grids, and the kinds of codecs by their names.
+//! What calls are given: shapes, regions, data types, elements, codecs, bytes and keys.
 
-use crate::grid_texts::metadata;
-use crate::texts::{cut, is_text};
-use std::alloc::{AllocError, Global};
+ghost use Rattle.std.specs.Prelude.{◌≡◌, ◌<◌, [], ◌∷◌, true};
+ghost use Rattle.zarrs_codec_traits.specs.Prelude.{ends_within, optional_type as option_of};
+ghost use Rattle.zarrs_codec_traits.specs.Prelude.{uint_type, region as box_of, lengths, type_of};
+ghost use Rattle.zarrs_codec_traits.specs.Prelude.{fill_bytes};
+
+use std::alloc::Global;
+use std::borrow::CowSlice;
+use std::num::NonZeroU64;
 use std::process::Abort;
-use std::test::Fail;
-use zarr_basics::{BasicGrid, Registries, RegularGrid, builtin_registries};
-use zarrs_chunk_grid::{ChunkGrid, ChunkGridTraits};
+use zarr_codecs::{BasicArrayToBytes, OptionalCodec};
+use zarr_codecs_to_bytes::BytesCodec;
+use zarrs_array_subset::{ArraySubset, ChunkShape};
+use zarrs_codec_array_bytes::{ArrayBytes, ArrayBytesOffsets};
+use zarrs_data_type::DataType;
+use zarrs_data_type_bytes::FillValue;
+use zarrs_storage::StoreKey;
 
-// The metadata of the grid that metadata makes over an array of shape [5, 4].
-fn told(alloc: Global, text: &str) -> Result<String, Fail> {
-    let (registries, metadata) = (builtin_registries(alloc)?, metadata(alloc, text)?);
-    let made = ChunkGrid::<BasicGrid>::from_metadata(alloc, &metadata, &[5, 4], &registries.grids);
-    match made {
-        Ok(grid) => {
-            let text = grid.metadata(alloc)?.to_display(alloc)?;
-            Ok(text)
-        }
-        Err(error) => {
-            let text = format!(in alloc; "{error}")?;
-            Ok(text)
-        }
-    }
+/// The shape of a line of so many elements.
+pub fn line(rt: &impl Abort, alloc: Global, number: u64) -> ChunkShape
+    requires { 0 < number }
+    ensures { lengths result.items ≡ number ∷ [] }
+{
+    let number = NonZeroU64::new(number).unwrap();
+    vec![in alloc; number].expect(rt, "memory")
 }
 
-fn tells(rt: &impl Abort, alloc: Global, text: &str, want: &str) -> Result<(), Fail> {
-    let text = told(alloc, text)?;
-    assert_eq!(rt; text.as_str(), want);
-    Ok(())
+/// The second of two elements.
+pub fn second(rt: &impl Abort, alloc: Global) -> ArraySubset
+    ensures inside { ends_within (box_of result) (2 ∷ []) ≡ true }
+    ensures one { box_of result ≡ record { start = 1; size = 1 } ∷ [] }
+{
+    ArraySubset::new_with_ranges(alloc, &[1..2]).expect(rt, "memory")
 }
 
-// The grid that metadata makes over an array of shape [5, 4], by its shape.
-fn created<G: ChunkGridTraits + Drop>(alloc: Global, text: &str) -> Result<String, Fail> {
-    let metadata = metadata(alloc, text)?;
-    let grid = G::create(alloc, &metadata, &[5, 4]).ok().ok_or("a grid")?;
-    let text = format!(in alloc; "{:?}", grid.grid_shape())?;
-    Ok(text)
+/// The shape of two rows and three columns.
+pub fn table(rt: &impl Abort, alloc: Global) -> ChunkShape
+    ensures { lengths result.items ≡ 2 ∷ 3 ∷ [] }
+{
+    let (rows, columns) = (NonZeroU64::new(2).unwrap(), NonZeroU64::new(3).unwrap());
+    vec![in alloc; rows, columns].expect(rt, "memory")
 }
 
-const CODECS: &str = r#"
-bytes -> Some(Bytes)
-vlen-utf8 -> Some(VlenUtf8)
-vlen-bytes -> Some(VlenBytes)
-zarr_basics.optional -> Some(Optional)
-zarr_basics.offset -> Some(Offset)
-transpose -> Some(Transpose)
-zarr_basics.sha256 -> Some(Sha256)
-vlen-utf16 -> None
-"#;
-
-// The kind of the codec that goes by a name.
-fn kind_text(alloc: Global, registries: &Registries, name: &str) -> Result<String, AllocError> {
-    let kind = registries.codecs.find(name);
-    format!(in alloc; "{kind:?}")
+/// The last two columns of them.
+pub fn columns(rt: &impl Abort, alloc: Global) -> ArraySubset
+    ensures { ends_within (box_of result) (2 ∷ 3 ∷ []) ≡ true }
+{
+    ArraySubset::new_with_ranges(alloc, &[0..2, 1..3]).expect(rt, "memory")
 }
 
-#[test]
-fn codecs_are_built_in(rt: HostRuntime) -> Result<(), Fail> {
-    let registries = builtin_registries(rt.alloc())?;
-    for row in CODECS.trim().lines() {
-        let (name, want) = cut(row);
-        is_text(&rt, kind_text(rt.alloc(), &registries, name), want);
-    }
-    Ok(())
+/// Optional numbers of a byte.
+pub fn optional_numbers(rt: &impl Abort, alloc: Global) -> DataType
+    ensures { type_of result ≡ option_of (uint_type 1) }
+{
+    DataType::Optional(Box::new(alloc, DataType::UInt8).expect(rt, "memory"))
 }
 
-#[test]
-fn grids(rt: HostRuntime) -> Result<(), Fail> {
-    let some = r#"{"name":"regular","configuration":{"chunk_shape":[2,4]}}"#;
-    assert_eq!(rt;
-        created::<RegularGrid>(rt.alloc(), some)?.as_str(),
-        "[3, 1]"
-    );
-    assert_eq!(rt; created::<BasicGrid>(rt.alloc(), some)?.as_str(), "[3, 1]");
-    tells(&rt, rt.alloc(), some, r#"regular {"chunk_shape":[2,4]}"#)?;
-    let bounds = r#"{"name":"zarr_basics.boundaries","configuration":{"lengths":[[2,4],[1,3]]}}"#;
-    assert_eq!(rt;
-        created::<BasicGrid>(rt.alloc(), bounds)?.as_str(),
-        "[2, 2]"
-    );
-    let told = r#"zarr_basics.boundaries {"lengths":[[2,4],[1,3]]}"#;
-    tells(&rt, rt.alloc(), bounds, told)?;
-    let none = r#"{"name":"regular","configuration":{"chunk_shape":[2,0]}}"#;
-    tells(&rt, rt.alloc(), none, "the configuration is not supported")?;
-    let other = "odd is no supported extension of the kind ChunkGrid";
-    tells(&rt, rt.alloc(), r#""odd""#, other)?;
-    Ok(())
+/// Optional elements of these.
+pub fn twice_optional(rt: &impl Abort, alloc: Global) -> DataType
+    ensures { type_of result ≡ option_of (option_of (uint_type 1)) }
+{
+    let inner = optional_numbers(rt, alloc);
+    DataType::Optional(Box::new(alloc, inner).expect(rt, "memory"))
+}
+
+/// The codec of optional numbers of a byte.
+pub fn optional(rt: &impl Abort, alloc: Global) -> OptionalCodec {
+    let inner = BasicArrayToBytes::Bytes(BytesCodec::new(None));
+    OptionalCodec::new(Box::new(alloc, inner).expect(rt, "memory"))
+}
+
+/// The codec of optional elements of these.
+pub fn over_optional(rt: &impl Abort, alloc: Global) -> BasicArrayToBytes {
+    let inner = BasicArrayToBytes::Optional(optional(rt, alloc));
+    let inner = Box::new(alloc, inner).expect(rt, "memory");
+    BasicArrayToBytes::Optional(OptionalCodec::new(inner))
+}
+
+/// Elements of one size.
+pub fn numbers(bytes: &'static [u8]) -> ArrayBytes<'static> {
+    ArrayBytes::new_flen(CowSlice::Borrowed(bytes))
+}
+
+/// Texts between offsets.
+pub fn texts<'a>(rt: &impl Abort, bytes: &'a [u8], offsets: &'a [usize]) -> ArrayBytes<'a> {
+    let offsets = ArrayBytesOffsets::new(CowSlice::Borrowed(offsets)).expect(rt, "offsets");
+    ArrayBytes::new_vlen(CowSlice::Borrowed(bytes), offsets).expect(rt, "texts")
+}
+
+/// These bytes, owned.
+pub fn owned(rt: &impl Abort, alloc: Global, bytes: &[u8]) -> Vec<u8>
+    ensures { result.items ≡ bytes.now }
+{
+    bytes.to_vec(alloc).expect(rt, "memory")
+}
+
+/// The fill value of these bytes.
+pub fn fill(rt: &impl Abort, alloc: Global, bytes: &[u8]) -> FillValue
+    ensures { fill_bytes result ≡ bytes.now }
+{
+    FillValue::new(owned(rt, alloc, bytes))
+}
+
+/// The key with this text.
+pub fn key(rt: &impl Abort, alloc: Global, text: &str) -> StoreKey {
+    let text = String::from_str(alloc, text).expect(rt, "memory");
+    StoreKey::new(text).ok().expect(rt, "a key")
 }

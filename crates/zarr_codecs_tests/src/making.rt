@@ -1,13 +1,14 @@
 //! Codecs made of metadata of either version, and the metadata that they have.
 
-use crate::texts::{cut, error_text, is_text, written};
+use crate::texts::{cut, is_text};
 use std::alloc::{AllocError, Global};
 use std::process::Abort;
-use zarr_codecs_kinds::{BasicCodec, CodecKind};
+use zarr_basics::{Registries, builtin_registries};
+use zarr_codecs::BasicCodec;
 use zarrs_codec_error::CodecMetadataOptions;
 use zarrs_codec_traits::CodecMetadata;
 use zarrs_metadata_parts::{MetadataV2, MetadataV3};
-use zarrs_plugin::{NamePattern, Registry, ZarrVersion};
+use zarrs_plugin::ZarrVersion;
 
 const VERSION_3: &str = r#"
 "bytes" -> bytes {}
@@ -41,10 +42,12 @@ const VERSION_3: &str = r#"
 {"name":"transpose","configuration":{"axes":[0]}} -> Config
 {"name":"transpose","configuration":{}} -> Config
 "transpose" -> Config
+"vlen-bytes" -> vlen-bytes {}
 "zstd" -> Unsupported(PluginUnsupportedError { name: "zstd", kind: Codec })
 "vlen-utf8" -> vlen-utf8 {}
 {"name":"vlen-bytes","configuration":{}} -> vlen-bytes {}
 {"name":"vlen-utf8","configuration":{"a":1}} -> Config
+{"name":"zarr_basics.optional","configuration":{"inner":"bytes"}} -> zarr_basics.optional {"inner":{"name":"bytes"}}
 {"name":"zarr_basics.optional","configuration":{"inner":"vlen-utf8"}} -> zarr_basics.optional {"inner":{"name":"vlen-utf8"}}
 {"name":"zarr_basics.optional","configuration":{"inner":{"name":"zarr_basics.optional","configuration":{"inner":{"name":"bytes","configuration":{"endian":"big"}}}}}} -> zarr_basics.optional {"inner":{"configuration":{"inner":{"configuration":{"endian":"big"},"name":"bytes"}},"name":"zarr_basics.optional"}}
 {"name":"zarr_basics.optional","configuration":{"inner":"zstd"}} -> Unsupported(PluginUnsupportedError { name: "zstd", kind: Codec })
@@ -71,29 +74,8 @@ const VERSION_2: &str = r#"
 {"id":"blosc"} -> Unsupported(PluginUnsupportedError { name: "blosc", kind: Codec })
 "#;
 
-const KINDS: [(&str, CodecKind); 7] = [
-    ("bytes", CodecKind::Bytes),
-    ("vlen-utf8", CodecKind::VlenUtf8),
-    ("vlen-bytes", CodecKind::VlenBytes),
-    ("zarr_basics.optional", CodecKind::Optional),
-    ("zarr_basics.offset", CodecKind::Offset),
-    ("transpose", CodecKind::Transpose),
-    ("zarr_basics.sha256", CodecKind::Sha256),
-];
-
-fn codecs(rt: &impl Abort, alloc: Global) -> Registry<CodecKind> {
-    let mut entries = Vec::new(alloc);
-    for (name, kind) in KINDS {
-        let name = String::from_str(alloc, name).expect(rt, "memory");
-        entries
-            .push((NamePattern::Exact(name), kind))
-            .expect(rt, "memory");
-    }
-    Registry::with_builtin(alloc, entries)
-}
-
-// The name and the configuration that a codec has in a version.
-fn told(
+// The metadata that a codec has in a version.
+fn written(
     rt: &impl Abort,
     alloc: Global,
     codec: &BasicCodec,
@@ -102,43 +84,51 @@ fn told(
     let options = CodecMetadataOptions::default();
     let name = codec.name(alloc, version).expect(rt, "memory");
     let configuration = codec.configuration(alloc, version, &options);
-    written(alloc, name, configuration.expect(rt, "memory"))
-}
-
-fn made(
-    rt: &impl Abort,
-    alloc: Global,
-    metadata: CodecMetadata<'_>,
-    version: ZarrVersion,
-) -> Result<String, AllocError> {
-    match BasicCodec::from_metadata(alloc, metadata, &codecs(rt, alloc)) {
-        Ok(codec) => told(rt, alloc, &codec, version),
-        Err(error) => error_text(alloc, error),
+    match (name, configuration.expect(rt, "memory")) {
+        (Some(name), Some(configuration)) => {
+            MetadataV3::new_with_configuration(name, configuration).to_display(alloc)
+        }
+        _ => String::from_str(alloc, "no name"),
     }
 }
 
-fn made_3(rt: &impl Abort, alloc: Global, text: &str) -> Result<String, AllocError> {
-    let metadata = MetadataV3::try_from_text(alloc, text).expect(rt, text);
-    made(rt, alloc, CodecMetadata::V3(&metadata), ZarrVersion::V3)
-}
-
-fn made_2(rt: &impl Abort, alloc: Global, text: &str) -> Result<String, AllocError> {
-    let metadata = MetadataV2::try_from_text(alloc, text).expect(rt, text);
-    made(rt, alloc, CodecMetadata::V2(&metadata), ZarrVersion::V2)
+// The metadata that the codec which metadata denotes has in both versions, or why there is none.
+fn is_made(
+    rt: &impl Abort,
+    alloc: Global,
+    registries: &Registries,
+    metadata: CodecMetadata<'_>,
+    want: &str,
+) {
+    match BasicCodec::from_metadata(alloc, metadata, &registries.codecs) {
+        Ok(codec) => {
+            is_text(rt, written(rt, alloc, &codec, ZarrVersion::V3), want);
+            is_text(rt, written(rt, alloc, &codec, ZarrVersion::V2), want);
+        }
+        Err(error) => is_text(rt, format!(in alloc; "{error:?}"), want),
+    }
 }
 
 #[test]
 fn codecs_are_made_of_version_3(rt: HostRuntime) {
+    let (alloc, registries) = (rt.alloc(), builtin_registries(rt.alloc()));
+    let registries = registries.expect(&rt, "memory");
     for row in VERSION_3.trim().lines() {
         let (text, want) = cut(row);
-        is_text(&rt, made_3(&rt, rt.alloc(), text), want);
+        let metadata = MetadataV3::try_from_text(alloc, text).expect(&rt, text);
+        let metadata = CodecMetadata::V3(&metadata);
+        is_made(&rt, alloc, &registries, metadata, want);
     }
 }
 
 #[test]
 fn codecs_are_made_of_version_2(rt: HostRuntime) {
+    let (alloc, registries) = (rt.alloc(), builtin_registries(rt.alloc()));
+    let registries = registries.expect(&rt, "memory");
     for row in VERSION_2.trim().lines() {
         let (text, want) = cut(row);
-        is_text(&rt, made_2(&rt, rt.alloc(), text), want);
+        let metadata = MetadataV2::try_from_text(alloc, text).expect(&rt, text);
+        let metadata = CodecMetadata::V2(&metadata);
+        is_made(&rt, alloc, &registries, metadata, want);
     }
 }

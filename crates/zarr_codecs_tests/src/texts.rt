@@ -1,14 +1,12 @@
-//! Rows of text, and texts that are made.
+//! Rows of text, and the texts of what is made.
 
 use std::alloc::{AllocError, Global};
 use std::fmt::Debug;
 use std::process::Abort;
 use zarrs_codec_array_bytes::ArrayBytes;
 use zarrs_codec_array_bytes::array_bytes::bytes_in;
-use zarrs_codec_error::CodecError;
-use zarrs_metadata_parts::{Configuration, MetadataV3};
 
-// A row's first part, and what is behind its arrow.
+/// A row's first part, and what is behind its arrow.
 pub fn cut(row: &str) -> (&str, &str) {
     match row.split_once(" -> ") {
         Some((first, rest)) => (first.trim(), rest.trim()),
@@ -16,7 +14,7 @@ pub fn cut(row: &str) -> (&str, &str) {
     }
 }
 
-// The text was made, and is this.
+/// The text was made, and is this.
 pub fn is_text<E: Drop>(rt: &impl Abort, text: Result<String, E>, want: &str) {
     match text {
         Ok(text) => assert_eq!(rt; text.as_str(), want),
@@ -24,13 +22,21 @@ pub fn is_text<E: Drop>(rt: &impl Abort, text: Result<String, E>, want: &str) {
     }
 }
 
-// How an error is written.
-pub fn error_text<E: Debug + Drop>(alloc: Global, error: E) -> Result<String, AllocError> {
-    format!(in alloc; "{error:?}")
+/// The value was made, or refused, and is written so.
+pub fn gives<T: Debug + Drop, E: Debug + Drop>(
+    rt: &impl Abort,
+    alloc: Global,
+    made: Result<T, E>,
+    want: &str,
+) {
+    match made {
+        Ok(value) => is_text(rt, format!(in alloc; "{value:?}"), want),
+        Err(error) => is_text(rt, format!(in alloc; "{error:?}"), want),
+    }
 }
 
-// The bytes of elements with what stands before them: of texts their offsets behind them, of optional ones their mask
-// before them.
+/// The bytes of elements with what stands before them: of texts their offsets behind them, of optional ones their mask
+/// before them.
 pub fn elements_text(alloc: Global, elements: &ArrayBytes<'_>) -> Result<String, AllocError> {
     match elements {
         ArrayBytes::Fixed(bytes) => {
@@ -49,27 +55,13 @@ pub fn elements_text(alloc: Global, elements: &ArrayBytes<'_>) -> Result<String,
     }
 }
 
-// The same of elements that were made, or the error.
-pub fn told(
+/// The same of elements that were made, or the error.
+pub fn told<E: Debug + Drop>(
     alloc: Global,
-    made: Result<ArrayBytes<'static>, CodecError>,
+    made: Result<ArrayBytes<'static>, E>,
 ) -> Result<String, AllocError> {
     match made {
         Ok(elements) => elements_text(alloc, &elements),
-        Err(error) => error_text(alloc, error),
-    }
-}
-
-// The metadata of a name and a configuration.
-pub fn written(
-    alloc: Global,
-    name: Option<String>,
-    configuration: Option<Configuration>,
-) -> Result<String, AllocError> {
-    match (name, configuration) {
-        (Some(name), Some(configuration)) => {
-            MetadataV3::new_with_configuration(name, configuration).to_display(alloc)
-        }
-        _ => String::from_str(alloc, "no name"),
+        Err(error) => format!(in alloc; "{error:?}"),
     }
 }

@@ -1,5 +1,6 @@
 -- The chunks of a dimension that a span meets, where a chunk is found for each index.
-use Rattle.std.proofs.Common.{◌≡◌, ℕ, zero, suc, ◌+◌, ◌-◌, ◌<◌, ◌≤◌, ◌&&◌, nat_lt, min, max, sym, ap, subst, arith, ⊎_elim}
+use Rattle.std.proofs.Common.{◌≡◌, ℕ, zero, suc, ◌+◌, ◌-◌, ◌<◌, ◌≤◌, ◌&&◌, nat_lt, min, max, sym, ap, subst, arith}
+use Rattle.std.proofs.Common.{⊎_elim}
 use Rattle.std.proofs.lemmas.Bool.{and_parts, and_from, ltb-true, lt-ltb, cases_lt}
 use Rattle.zarr_model.specs.Prelude.{Span, is_in, Axis, CutsLength}
 use Rattle.zarr_model.proofs.Choices.{same_test}

@@ -1,5 +1,6 @@
 -- Tests, options and results, by cases.
-use Rattle.std.proofs.Common.{◌≡◌, ◌&&◌, ◌||◌, Bool, true, false, not, Option, Some, None, IsSome, is_some, option_map, option_and_then, Result, Ok, Err, OnOk, OnErr, refl, sym, subst}
+use Rattle.std.proofs.Common.{◌≡◌, ◌&&◌, ◌||◌, Bool, true, false, not, Option, Some, None, IsSome, is_some, option_map}
+use Rattle.std.proofs.Common.{option_and_then, Result, Ok, Err, OnOk, OnErr, refl, sym, subst}
 
 -- two tests that give each other are one
 pub same_test : (a b : Bool) → (a ≡ true → b ≡ true) → (b ≡ true → a ≡ true) → a ≡ b
@@ -49,7 +50,8 @@ is_some-option_map f None = refl
 is_some-option_map f (Some x) = refl
 
 -- what two steps give, each of them gives
-pub then_some : {A B : Type 0} (f : A → Option B) (o : Option A) (y : B) → option_and_then f o ≡ Some y → (x : A) × (o ≡ Some x) × (f x ≡ Some y)
+pub then_some : {A B : Type 0} (f : A → Option B) (o : Option A) (y : B) → option_and_then f o ≡ Some y →
+    (x : A) × (o ≡ Some x) × (f x ≡ Some y)
 then_some f None y e = cc
 then_some f (Some x) y e = (x, refl, e)
 

@@ -1,5 +1,6 @@
 -- Lengths cut a dimension exactly where their sum reaches it, and without the last is below it.
-use Rattle.std.proofs.Common.{◌≡◌, ℕ, zero, suc, ◌-◌, ◌<◌, ◌&&◌, ◌↔◌, nat_lt, true, List, [], ◌∷◌, length, take, sum, slice_index, refl, arith}
+use Rattle.std.proofs.Common.{◌≡◌, ℕ, zero, suc, ◌-◌, ◌<◌, ◌&&◌, ◌↔◌, nat_lt, true, List, [], ◌∷◌, length, take, sum}
+use Rattle.std.proofs.Common.{slice_index, refl, arith}
 use Rattle.std.proofs.lemmas.Bool.{and_parts, and_from, ltb-true, lt-ltb, eqb-true, eq-eqb}
 use Rattle.zarr_model.specs.Prelude.{cuts, ReachesEnd}
 use Rattle.zarr_model.proofs.LaidLaws.{sum-cons}

@@ -1,5 +1,6 @@
 -- Damaged values: commands that went through met none.
-use Rattle.std.proofs.Common.{◌≡◌, ℕ, zero, suc, ◌+◌, ◌-◌, ◌<◌, ◌≤◌, ◌⊎◌, false, List, [], ◌∷◌, ◌++◌, length, take, slice_get, Contains, Some, IsSome, refl, sym, ap, ◌∙◌, subst, arith, inl, inr, ⊎_elim}
+use Rattle.std.proofs.Common.{◌≡◌, ℕ, zero, suc, ◌+◌, ◌-◌, ◌<◌, ◌≤◌, ◌⊎◌, false, List, [], ◌∷◌, ◌++◌, length, take}
+use Rattle.std.proofs.Common.{slice_get, Contains, Some, IsSome, refl, sym, ap, ◌∙◌, subst, arith, inl, inr, ⊎_elim}
 use Rattle.std.specs.List.{list_any}
 use Rattle.std.proofs.lemmas.Bool.{true≢false}
 use Rattle.std.proofs.lemmas.List.{take-append-le}
@@ -33,9 +34,11 @@ slice_get-right (x ∷ xs) ys m =
 pub below_or_past : (m n : ℕ) → (m < n) ⊎ (n ≤ m)
 below_or_past m zero = inr (omega arith)
 below_or_past zero (suc n) = inl (omega arith)
-below_or_past (suc m) (suc n) = ⊎_elim (λ (below : m < n). inl (omega (arith, below))) (λ (past : n ≤ m). inr (omega (arith, past))) (below_or_past m n)
+below_or_past (suc m) (suc n) = ⊎_elim (λ (below : m < n). inl (omega (arith, below)))
+    (λ (past : n ≤ m). inr (omega (arith, past))) (below_or_past m n)
 
-pub MeetsNoDamage-none : (description : Description) (options : Options) (store : Content) → MeetsNoDamage description options [] store
+pub MeetsNoDamage-none : (description : Description) (options : Options) (store : Content) →
+    MeetsNoDamage description options [] store
 MeetsNoDamage-none description options store = record { no_key = unmet }
   where
     unmet : (key : List ℕ) → IsDamageMet description options [] store key → ⊥
@@ -44,20 +47,24 @@ MeetsNoDamage-none description options store = record { no_key = unmet }
 
 -- a read all of whose chunks decode
 pub MeetsNoDamage-read : (description : Description) (options : Options) (region : Region) (store : Content) →
-    ((k : ℕ) (chunk : List ℕ) → slice_get (command_chunks description (read region)) k ≡ Some chunk → IsSome (chunk_content (layout description options) store chunk)) →
+    ((k : ℕ) (chunk : List ℕ) → slice_get (command_chunks description (read region)) k ≡ Some chunk →
+    IsSome (chunk_content (layout description options) store chunk)) →
     MeetsNoDamage description options (read region ∷ []) store
 MeetsNoDamage-read description options region store decode = record { no_key = unmet }
   where
     unmet : (key : List ℕ) → IsDamageMet description options (read region ∷ []) store key → ⊥
     unmet key (zero, command, is, asks, chunk, met, its_key, none, damaged) =
         let same : read region ≡ command = cc in
-        let (k, here) = listed_at (command_chunks description (read region)) chunk (subst (λ c. Contains (command_chunks description c) chunk) (sym same) met) in
+        let (k, here) = listed_at (command_chunks description (read region)) chunk
+        (subst (λ c. Contains (command_chunks description c) chunk) (sym same) met) in
         true≢false (sym (subst IsSome damaged (decode k chunk here)))
     unmet key (suc m, command, is, _, _, _, _, _, _) = cc
 
 -- some commands, and then more
-pub MeetsNoDamage-append : (description : Description) (options : Options) → CoversShape description.shape description.grid → (commands more : List Command) (old mid : Content) →
-    KeepsDamage description options commands old mid → MeetsNoDamage description options commands old → MeetsNoDamage description options more mid →
+pub MeetsNoDamage-append : (description : Description) (options : Options) →
+    CoversShape description.shape description.grid → (commands more : List Command) (old mid : Content) →
+    KeepsDamage description options commands old mid → MeetsNoDamage description options commands old →
+    MeetsNoDamage description options more mid →
     MeetsNoDamage description options (commands ++ more) old
 MeetsNoDamage-append description options covers commands more old mid keeps first second = record { no_key = unmet }
   where
@@ -71,15 +78,18 @@ MeetsNoDamage-append description options covers commands more old mid keeps firs
           chunk,
           met,
           its_key,
-          subst (λ l. list_any (erases_chunk description chunk) l ≡ false) (take-append-le m commands more (omega (arith, below))) none,
+          subst (λ l. list_any (erases_chunk description chunk) l ≡
+              false) (take-append-le m commands more (omega (arith, below))) none,
           damaged,
         ))
         (λ (past : length commands ≤ m).
         let at : m ≡ length commands + (m - length commands) = omega (arith, past) in
         let (k, here) = listed_at (command_chunks description command) chunk met in
-        let is_chunk : IsChunk description.grid chunk = listed_is_chunk description covers (refusal description command) command refl k chunk here in
+        let is_chunk : IsChunk description.grid chunk =
+        listed_is_chunk description covers (refusal description command) command refl k chunk here in
         let parts = both_none description commands (take (m - length commands) more) chunk
-        (subst (λ l. list_any (erases_chunk description chunk) l ≡ false) (ap (λ i. take i (commands ++ more)) at ∙ take-append-add commands more (m - length commands)) none) in
+        (subst (λ l. list_any (erases_chunk description chunk) l ≡ false) (ap (λ i. take i (commands ++ more)) at
+        ∙ take-append-add commands more (m - length commands)) none) in
         second.no_key key (
           m - length commands,
           command,
@@ -89,6 +99,7 @@ MeetsNoDamage-append description options covers commands more old mid keeps firs
           met,
           its_key,
           parts.1,
-          ap (box_content (layout description options) (description.grid.chunk_box chunk)) (keeps.stands chunk is_chunk damaged parts.0) ∙ damaged,
+          ap (box_content (layout description options) (description.grid.chunk_box chunk))
+              (keeps.stands chunk is_chunk damaged parts.0) ∙ damaged,
         ))
         (below_or_past m (length commands))

@@ -1,5 +1,6 @@
 -- Elements that are the same, lists of one element, and elements that may be there.
-use Rattle.std.proofs.Common.{◌≡◌, ℕ, zero, suc, true, List, [], ◌∷◌, length, replicate, Option, Some, None, IsSome, unwrap_or, refl, sym, ap, ap₂}
+use Rattle.std.proofs.Common.{◌≡◌, ℕ, zero, suc, true, List, [], ◌∷◌, length, replicate, Option, Some, None, IsSome}
+use Rattle.std.proofs.Common.{unwrap_or, refl, sym, ap, ap₂}
 use Rattle.std.specs.List.{list_all}
 use Rattle.std.proofs.lemmas.Bool.{and_parts, and_from}
 use Rattle.std.proofs.lemmas.Slice.Eq.{bytes_eq-Decides}
@@ -31,7 +32,8 @@ each_same x (y ∷ xs) all =
 
 pub all_same : (x : Element) (number : ℕ) → list_all (same_element x) (replicate number x) ≡ true
 all_same x zero = refl
-all_same x (suc number) = and_from (same_element x x) (list_all (same_element x) (replicate number x)) (is_same x) (all_same x number)
+all_same x (suc number) =
+    and_from (same_element x x) (list_all (same_element x) (replicate number x)) (is_same x) (all_same x number)
 
 -- an element that is there is what it is unwrapped to
 pub denoted : (o : Option Element) → IsSome o → o ≡ Some (unwrap_or o null)

@@ -1,12 +1,16 @@
 -- Commands that ran over any store, one after another.
-use Rattle.std.proofs.Common.{◌≡◌, ℕ, ◌+◌, ◌<◌, false, List, ◌++◌, length, take, is_some, IsSome, refl, sym, ap, ◌∙◌, subst, arith, ⊎_elim}
+use Rattle.std.proofs.Common.{◌≡◌, ℕ, ◌+◌, ◌<◌, false, List, ◌++◌, length, take, is_some, IsSome, refl, sym, ap, ◌∙◌}
+use Rattle.std.proofs.Common.{subst, arith, ⊎_elim}
 use Rattle.std.specs.List.{AllZip, list_any}
 use Rattle.std.proofs.lemmas.Bool.{or_from, true≢false}
 use Rattle.std.proofs.lemmas.List.{take-append-le}
 use Rattle.std.proofs.lemmas.List.Folds.{list_any-append}
 use Rattle.std.proofs.lemmas.Option.{slice_get_within}
 use Rattle.std.proofs.Math.Seq.{take-append-add}
-use Rattle.zarr_model.specs.Prelude.{IsChunk, CoversShape, Options, Content, IsSound, WhollyMeans, chunk_content, stored_array, Command, Description, Answer, kind, layout, refusal, replies, array_after, Matches, command_chunks, erases_chunk, undamaged, IsDamageMet, KeepsDamage, MeetsNoDamage, RanOver, AnswersUndamaged}
+use Rattle.zarr_model.specs.Prelude.{IsChunk, CoversShape, Options, Content, IsSound, WhollyMeans, chunk_content}
+use Rattle.zarr_model.specs.Prelude.{stored_array, Command, Description, Answer, kind, layout, refusal, replies}
+use Rattle.zarr_model.specs.Prelude.{array_after, Matches, command_chunks, erases_chunk, undamaged, IsDamageMet}
+use Rattle.zarr_model.specs.Prelude.{KeepsDamage, MeetsNoDamage, RanOver, AnswersUndamaged}
 use Rattle.zarr_model.proofs.StoreLaws.{stored_array-meant, meant-same, Means-from_whole}
 use Rattle.zarr_model.proofs.RunLaws.{replies-append, array_after-append, replies-same}
 use Rattle.zarr_model.proofs.SessionLaws.{AllZip-append}

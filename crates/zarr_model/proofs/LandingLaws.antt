@@ -1,8 +1,10 @@
 -- Where an index lands among lengths laid one after another.
-use Rattle.std.proofs.Common.{◌≡◌, ℕ, suc, ◌+◌, ◌-◌, ◌<◌, ◌≤◌, nat_le, cond, true, false, List, [], ◌∷◌, length, take, sum, slice_index, refl, sym, ap, ap₂, ◌∙◌, subst, arith, ⊎_elim}
+use Rattle.std.proofs.Common.{◌≡◌, ℕ, suc, ◌+◌, ◌-◌, ◌<◌, ◌≤◌, nat_le, cond, true, false, List, [], ◌∷◌, length, take}
+use Rattle.std.proofs.Common.{sum, slice_index, refl, sym, ap, ap₂, ◌∙◌, subst, arith, ⊎_elim}
 use Rattle.std.specs.List.{AllByRecursion, AllZip}
 use Rattle.std.proofs.lemmas.Bool.{and_parts, le-leb, leb-true, cases_lt, false_from_ne_true}
-use Rattle.zarr_model.specs.Prelude.{boundary_axis, boundary_grid, CutsLength, CoversShape, starts_from, cuts, are_cut, reached, chunk_at}
+use Rattle.zarr_model.specs.Prelude.{boundary_axis, boundary_grid, CutsLength, CoversShape, starts_from, cuts, are_cut}
+use Rattle.zarr_model.specs.Prelude.{reached, chunk_at}
 use Rattle.zarr_model.proofs.GridLaws.{ReachesLength, boundary_axis-cuts, boundary_grid-covers}
 use Rattle.zarr_model.proofs.LaidLaws.{AllPositive, cuts_positive, cuts_reach, sum-cons}
 use Rattle.zarr_model.proofs.AxisLaws.{Finds}

@@ -1,8 +1,10 @@
 -- Which chunk of a grid of boundaries is the largest, and which ends last.
-use Rattle.std.proofs.Common.{◌≡◌, ℕ, zero, suc, ◌+◌, ◌-◌, ◌^◌, ◌<◌, ◌≤◌, ◌&&◌, max, Bool, true, nat_lt, List, [], ◌∷◌, length, map, take, sum, slice_index, refl, ap₂, ◌∙◌, arith, ⊎_elim}
+use Rattle.std.proofs.Common.{◌≡◌, ℕ, zero, suc, ◌+◌, ◌-◌, ◌^◌, ◌<◌, ◌≤◌, ◌&&◌, max, Bool, true, nat_lt, List, [], ◌∷◌}
+use Rattle.std.proofs.Common.{length, map, take, sum, slice_index, refl, ap₂, ◌∙◌, arith, ⊎_elim}
 use Rattle.std.proofs.lemmas.Bool.{and_parts, and_from, ltb-true, lt-ltb, cases_lt}
 use Rattle.std.proofs.lemmas.Nat.{mul-le}
-use Rattle.zarr_model.specs.Prelude.{Region, count, count_of, whole, contains, is_in, sizes, boundary_grid, IsChunk, largest, largest_lengths, sums_fit}
+use Rattle.zarr_model.specs.Prelude.{Region, count, count_of, whole, contains, is_in, sizes, boundary_grid, IsChunk}
+use Rattle.zarr_model.specs.Prelude.{largest, largest_lengths, sums_fit}
 use Rattle.zarr_model.proofs.RegionLaws.{span_in}
 use Rattle.zarr_model.proofs.GridLaws.{first_index}
 use Rattle.zarr_model.proofs.LaidLaws.{sum-cons}

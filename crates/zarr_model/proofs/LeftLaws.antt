@@ -1,10 +1,15 @@
 -- What a command leaves in any store where it ends at one of its chunks.
-use Rattle.std.proofs.Common.{◌≡◌, ℕ, ◌<◌, not, Bool, true, false, IsTrue, bytes_eq, List, [], ◌∷◌, slice_get, Some, None, is_some, refl, sym, ap, ◌∙◌, subst, arith, ⊎_elim, ◌⊎◌, inl, inr}
+use Rattle.std.proofs.Common.{◌≡◌, ℕ, ◌<◌, not, Bool, true, false, IsTrue, bytes_eq, List, [], ◌∷◌, slice_get, Some}
+use Rattle.std.proofs.Common.{None, is_some, refl, sym, ap, ◌∙◌, subst, arith, ⊎_elim, ◌⊎◌, inl, inr}
 use Rattle.std.specs.List.{list_any}
 use Rattle.std.proofs.lemmas.Bool.{and_parts, or_parts, true≢false, cases_Bool}
 use Rattle.std.proofs.lemmas.List.Folds.{list_any_at}
 use Rattle.std.proofs.lemmas.Option.{slice_get_within, get_or_from_slice_get}
-use Rattle.zarr_model.specs.Prelude.{Element, Array, IsChunk, CoversShape, Options, Content, IsSound, WhollyMeans, chunk_content, Command, read, write, erase, Description, layout, refusal, after, command_chunks, asks_store, erases_chunk, Changes, ChunkHas, IsPartWay, IsCutShort, without_chunks, is_damaged, is_still_damaged, mended, LeftAt, ChangedFirst, StopsAt, StaysDamaged}
+use Rattle.zarr_model.specs.Prelude.{Element, Array, IsChunk, CoversShape, Options, Content, IsSound, WhollyMeans}
+use Rattle.zarr_model.specs.Prelude.{chunk_content, Command, read, write, erase, Description, layout, refusal, after}
+use Rattle.zarr_model.specs.Prelude.{command_chunks, asks_store, erases_chunk, Changes, ChunkHas, IsPartWay, IsCutShort}
+use Rattle.zarr_model.specs.Prelude.{without_chunks, is_damaged, is_still_damaged, mended, LeftAt, ChangedFirst}
+use Rattle.zarr_model.specs.Prelude.{StopsAt, StaysDamaged}
 use Rattle.zarr_model.proofs.FailureLaws.{listed_is_chunk, chunks_under-once, part_way-fails, same_bytes, bytes_eq-refl}
 use Rattle.zarr_model.specs.LeavesLaws.{IsWithout}
 use Rattle.zarr_model.proofs.WithoutLaws.{without-is, without-key, without-same}

@@ -1,9 +1,12 @@
 -- A command's end after others is that of the whole list.
-use Rattle.std.proofs.Common.{◌≡◌, ℕ, suc, not, Bool, true, List, [], ◌∷◌, take, slice_get, Some, is_some, sym, ap, ◌∙◌, subst}
+use Rattle.std.proofs.Common.{◌≡◌, ℕ, suc, not, Bool, true, List, [], ◌∷◌, take, slice_get, Some, is_some, sym, ap, ◌∙◌}
+use Rattle.std.proofs.Common.{subst}
 use Rattle.std.specs.List.{list_any}
 use Rattle.std.proofs.lemmas.Bool.{and_parts, and_from, or_parts}
 use Rattle.std.proofs.lemmas.List.Folds.{list_any-append}
-use Rattle.zarr_model.specs.Prelude.{Element, Array, Options, Content, chunk_content, Command, Description, Answer, layout, after, array_after, erases_chunk, IsCutShort, FailedAt, is_damaged, is_still_damaged, mended, RanOver, LeftAt}
+use Rattle.zarr_model.specs.Prelude.{Element, Array, Options, Content, chunk_content, Command, Description, Answer}
+use Rattle.zarr_model.specs.Prelude.{layout, after, array_after, erases_chunk, IsCutShort, FailedAt, is_damaged}
+use Rattle.zarr_model.specs.Prelude.{is_still_damaged, mended, RanOver, LeftAt}
 use Rattle.zarr_model.proofs.StepLaws.{take_one, arrays_step}
 use Rattle.zarr_model.proofs.WithoutLaws.{without-same}
 use Rattle.zarr_model.proofs.Choices.{none_of, not_true}

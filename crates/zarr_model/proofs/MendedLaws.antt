@@ -1,8 +1,11 @@
 -- The damage that stands after commands, and a store without it.
-use Rattle.std.proofs.Common.{◌≡◌, ℕ, ◌&&◌, not, Bool, true, false, List, [], None, is_some, IsSome, refl, sym, ap, ◌∙◌, ⊎_elim}
+use Rattle.std.proofs.Common.{◌≡◌, ℕ, ◌&&◌, not, Bool, true, false, List, [], None, is_some, IsSome, refl, sym, ap, ◌∙◌}
+use Rattle.std.proofs.Common.{⊎_elim}
 use Rattle.std.specs.List.{list_any}
 use Rattle.std.proofs.lemmas.Bool.{true≢false}
-use Rattle.zarr_model.specs.Prelude.{IsChunk, Options, Content, Layout, IsHonest, box_content, chunk_content, Command, Description, layout, erases_chunk, KeepsDamage, without_chunks, is_damaged, is_still_damaged, mended}
+use Rattle.zarr_model.specs.Prelude.{IsChunk, Options, Content, Layout, IsHonest, box_content, chunk_content, Command}
+use Rattle.zarr_model.specs.Prelude.{Description, layout, erases_chunk, KeepsDamage, without_chunks, is_damaged}
+use Rattle.zarr_model.specs.Prelude.{is_still_damaged, mended}
 use Rattle.zarr_model.proofs.WithoutLaws.{without-none, without-same}
 use Rattle.zarr_model.proofs.Choices.{none_of}
 

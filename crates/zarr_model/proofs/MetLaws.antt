@@ -2,7 +2,9 @@
 use Rattle.std.proofs.Common.{◌≡◌, true, false, [], ◌∷◌, slice_get, Some, None, refl, sym, ap, ◌∙◌, ⊎_elim}
 use Rattle.std.proofs.lemmas.Bool.{cases_Bool}
 use Rattle.std.proofs.lemmas.Option.{slice_get_within, get_or_from_slice_get}
-use Rattle.zarr_model.specs.Prelude.{Region, Element, Array, IsChunk, Options, Content, IsSound, WhollyMeans, chunk_content, read, Description, layout, refusal, command_chunks, chunks_under, undamaged, MeetsNoDamage, is_damaged, HasMet}
+use Rattle.zarr_model.specs.Prelude.{Region, Element, Array, IsChunk, Options, Content, IsSound, WhollyMeans}
+use Rattle.zarr_model.specs.Prelude.{chunk_content, read, Description, layout, refusal, command_chunks, chunks_under}
+use Rattle.zarr_model.specs.Prelude.{undamaged, MeetsNoDamage, is_damaged, HasMet}
 use Rattle.zarr_model.proofs.FailureLaws.{meeting_is}
 use Rattle.zarr_model.proofs.WithoutLaws.{without-is}
 use Rattle.zarr_model.proofs.Choices.{none_of}

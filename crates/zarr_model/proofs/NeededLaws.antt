@@ -1,10 +1,17 @@
 -- The bytes of commands add up, each command's by the chunks that are present before it.
-use Rattle.std.proofs.Common.{◌≡◌, ℕ, ◌+◌, ◌-◌, ◌*◌, ◌^◌, ◌<◌, ◌≤◌, Bool, true, false, not, ◌&&◌, ◌||◌, List, [], ◌∷◌, ◌++◌, length, filter, cond, if◌then◌else◌, Option, Some, None, bytes_eq, refl, sym, ap, ap₂, ◌∙◌, subst, arith, inl, inr}
+use Rattle.std.proofs.Common.{◌≡◌, ℕ, ◌+◌, ◌-◌, ◌*◌, ◌^◌, ◌<◌, ◌≤◌, Bool, true, false, not, ◌&&◌, ◌||◌, List, [], ◌∷◌}
+use Rattle.std.proofs.Common.{◌++◌, length, filter, cond, if◌then◌else◌, Option, Some, None, bytes_eq, refl, sym, ap}
+use Rattle.std.proofs.Common.{ap₂, ◌∙◌, subst, arith, inl, inr}
 use Rattle.std.specs.List.{list_any, sum_by, AllByRecursion}
 use Rattle.std.specs.Prelude.{unwrap_or}
 use Rattle.std.proofs.lemmas.Bool.{and_parts, or_parts, or_from}
 use Rattle.std.proofs.lemmas.List.Sums.{sum_by-cons}
-use Rattle.zarr_model.specs.Prelude.{Region, count, contains, tuples, Element, fixed_size, Array, Options, Content, WhollyMeans, Command, read, write, erase, Refusal, Description, kind, layout, refusal, after, array_after, Answer, IsChunk, chunks_meeting, share_tuple, whole, present_in, present_under, present_after, is_among, is_blank, bytes_under, all_bytes, counted, Shown, ServesWhole, ArrayBytes, is_write, are_none, writes_last, TellsPresence, TakesNeeded, ErasesKeys, read_bytes, write_bytes}
+use Rattle.zarr_model.specs.Prelude.{Region, count, contains, tuples, Element, fixed_size, Array, Options, Content}
+use Rattle.zarr_model.specs.Prelude.{WhollyMeans, Command, read, write, erase, Refusal, Description, kind, layout}
+use Rattle.zarr_model.specs.Prelude.{refusal, after, array_after, Answer, IsChunk, chunks_meeting, share_tuple, whole}
+use Rattle.zarr_model.specs.Prelude.{present_in, present_under, present_after, is_among, is_blank, bytes_under}
+use Rattle.zarr_model.specs.Prelude.{all_bytes, counted, Shown, ServesWhole, ArrayBytes, is_write, are_none}
+use Rattle.zarr_model.specs.Prelude.{writes_last, TellsPresence, TakesNeeded, ErasesKeys, read_bytes, write_bytes}
 use Rattle.std.proofs.lemmas.List.Elements.{recursion_from_All}
 use Rattle.zarr_model.proofs.RegionLaws.{length-tuples, get_or-tuples, contains-tuple_at}
 use Rattle.zarr_model.proofs.SessionLaws.{present_after-append}

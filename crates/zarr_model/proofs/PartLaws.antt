@@ -3,9 +3,11 @@ use Rattle.std.proofs.Common.{◌≡◌, ℕ, ◌<◌, true, List, [], ◌∷◌
 use Rattle.std.proofs.lemmas.List.Elements.{recursion_from_All}
 use Rattle.std.proofs.lemmas.List.{length-map, get_or-map}
 use Rattle.std.specs.List.{AllByRecursion}
-use Rattle.zarr_model.specs.Prelude.{Region, count, count_of, whole, contains, ends_within, tuples, place, tuple_at, Element, null, Array, blank_array, elements_in, written}
+use Rattle.zarr_model.specs.Prelude.{Region, count, count_of, whole, contains, ends_within, tuples, place, tuple_at}
+use Rattle.zarr_model.specs.Prelude.{Element, null, Array, blank_array, elements_in, written}
 use Rattle.zarr_model.proofs.ArrayLaws.{elements_in-written, inside_shape}
-use Rattle.zarr_model.proofs.RegionLaws.{length-tuples, get_or-tuples, contains-tuple_at, place_below, tuple_at-place, count_whole}
+use Rattle.zarr_model.proofs.RegionLaws.{length-tuples, get_or-tuples, contains-tuple_at, place_below, tuple_at-place}
+use Rattle.zarr_model.proofs.RegionLaws.{count_whole}
 
 module _ (shape : List ℕ) (region : Region) (part : List Element) (inside : ends_within region shape ≡ true)
     (long : length part ≡ count region) where

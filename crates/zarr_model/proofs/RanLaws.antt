@@ -1,8 +1,15 @@
 -- One command over any store, and what is left of honest stores.
-use Rattle.std.proofs.Common.{◌≡◌, ℕ, ◌≤◌, ◌||◌, not, Bool, false, List, [], ◌∷◌, length, take, slice_get, Option, Some, None, is_some, refl, sym, ap, ◌∙◌, subst, arith, inl}
+use Rattle.std.proofs.Common.{◌≡◌, ℕ, ◌≤◌, ◌||◌, not, Bool, false, List, [], ◌∷◌, length, take, slice_get, Option, Some}
+use Rattle.std.proofs.Common.{None, is_some, refl, sym, ap, ◌∙◌, subst, arith, inl}
 use Rattle.std.specs.List.{list_any}
 use Rattle.std.proofs.lemmas.Bool.{and_parts, true≢false}
-use Rattle.zarr_model.specs.Prelude.{Region, ArrayBytes, Element, Array, IsChunk, CoversShape, Options, Content, IsSound, IsHonest, WhollyMeans, box_content, chunk_content, Command, write, erase, Description, Answer, answered_done, kind, layout, refusal, reply, reply_of, after, Matches, command_chunks, chunks_under, erases_chunk, ChunkHas, IsPartWay, IsCutShort, FailedAt, IsLeftAt, undamaged, KeepsDamage, MeetsNoDamage, IsUndecoded, PutsKey, without_chunks, is_damaged, is_still_damaged, mended, RanOver, LeftAt, ChangedFirst}
+use Rattle.zarr_model.specs.Prelude.{Region, ArrayBytes, Element, Array, IsChunk, CoversShape, Options, Content}
+use Rattle.zarr_model.specs.Prelude.{IsSound, IsHonest, WhollyMeans, box_content, chunk_content, Command, write, erase}
+use Rattle.zarr_model.specs.Prelude.{Description, Answer, answered_done, kind, layout, refusal, reply, reply_of, after}
+use Rattle.zarr_model.specs.Prelude.{Matches, command_chunks, chunks_under, erases_chunk, ChunkHas, IsPartWay}
+use Rattle.zarr_model.specs.Prelude.{IsCutShort, FailedAt, IsLeftAt, undamaged, KeepsDamage, MeetsNoDamage, IsUndecoded}
+use Rattle.zarr_model.specs.Prelude.{PutsKey, without_chunks, is_damaged, is_still_damaged, mended, RanOver, LeftAt}
+use Rattle.zarr_model.specs.Prelude.{ChangedFirst}
 use Rattle.zarr_model.proofs.FailureLaws.{listed_is_chunk, chunks_under-once, part_way-end, erase-done, undecoded-met}
 use Rattle.zarr_model.proofs.StepLaws.{WhollyMeans-same, KeepsDamage-none}
 use Rattle.zarr_model.proofs.WithoutLaws.{without-is, without-key, without-same, without-at}

@@ -1,5 +1,6 @@
 -- How many starts an index has reached.
-use Rattle.std.proofs.Common.{◌≡◌, ℕ, zero, suc, ◌+◌, ◌-◌, ◌<◌, ◌≤◌, nat_le, cond, false, List, [], ◌∷◌, length, get_or, Result, Ok, Err, sym, ap, ◌∙◌, arith, ⊎_elim}
+use Rattle.std.proofs.Common.{◌≡◌, ℕ, zero, suc, ◌+◌, ◌-◌, ◌<◌, ◌≤◌, nat_le, cond, false, List, [], ◌∷◌, length, get_or}
+use Rattle.std.proofs.Common.{Result, Ok, Err, sym, ap, ◌∙◌, arith, ⊎_elim}
 use Rattle.std.specs.Result.{MatchResult}
 use Rattle.std.specs.Ordering.{nat_cmp}
 use Rattle.std.specs.List.Sorted.{IsBinarySearchResult}

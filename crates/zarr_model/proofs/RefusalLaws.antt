@@ -1,5 +1,6 @@
 -- Tests that refuse, and offsets that rise.
-use Rattle.std.proofs.Common.{◌≡◌, ◌≤◌, ◌+◌, ◌==◌, ℕ, suc, nat_le, Bool, true, false, not, List, [], ◌∷◌, length, None, refl, arith, eqb-true, eq-eqb}
+use Rattle.std.proofs.Common.{◌≡◌, ◌≤◌, ◌+◌, ◌==◌, ℕ, suc, nat_le, Bool, true, false, not, List, [], ◌∷◌, length, None}
+use Rattle.std.proofs.Common.{refl, arith, eqb-true, eq-eqb}
 use Rattle.std.proofs.lemmas.Bool.{and_parts, leb-true}
 use Rattle.zarr_model.specs.ArrayBytes.{offsets_rise_to, are_offsets}
 use Rattle.zarr_model.specs.Command.{Refusal, refused_if}
@@ -15,7 +16,8 @@ not_refused true why e = refl
 not_refused false why e = cc
 
 -- offsets are one more than the elements
-pub offsets_long : (number end : ℕ) (offsets : List ℕ) → are_offsets number end offsets ≡ true → (length offsets == number + 1) ≡ true
+pub offsets_long : (number end : ℕ) (offsets : List ℕ) → are_offsets number end offsets ≡ true →
+    (length offsets == number + 1) ≡ true
 offsets_long number end [] is = cc
 offsets_long number end (first ∷ offsets) is =
     let long : length offsets ≡ number = eqb-true _ _ (and_parts _ _ is).0 in

@@ -1,10 +1,13 @@
 -- Damaged values: commands that went through saw none.
-use Rattle.std.proofs.Common.{◌≡◌, ℕ, true, zero, suc, ◌+◌, ◌-◌, ◌<◌, ◌≤◌, ◌⊎◌, false, List, [], ◌∷◌, ◌++◌, length, take, slice_get, Contains, Some, IsSome, refl, sym, ap, ◌∙◌, subst, arith, ⊎_elim}
+use Rattle.std.proofs.Common.{◌≡◌, ℕ, true, zero, suc, ◌+◌, ◌-◌, ◌<◌, ◌≤◌, ◌⊎◌, false, List, [], ◌∷◌, ◌++◌, length}
+use Rattle.std.proofs.Common.{take, slice_get, Contains, Some, IsSome, refl, sym, ap, ◌∙◌, subst, arith, ⊎_elim}
 use Rattle.std.specs.List.{list_any}
 use Rattle.std.proofs.lemmas.Bool.{true≢false}
 use Rattle.std.proofs.lemmas.List.{take-append-le}
 use Rattle.std.proofs.Math.Seq.{take-append-add}
-use Rattle.zarr_model.specs.Prelude.{Region, IsChunk, CoversShape, Options, Content, box_content, chunk_content, Command, read, write, erase, Description, layout, refusal, command_chunks, erases_chunk, KeepsDamage, finds_shared, passes_over, IsDamageSeen, SeesNoDamage}
+use Rattle.zarr_model.specs.Prelude.{Region, IsChunk, CoversShape, Options, Content, box_content, chunk_content}
+use Rattle.zarr_model.specs.Prelude.{Command, read, write, erase, Description, layout, refusal, command_chunks}
+use Rattle.zarr_model.specs.Prelude.{erases_chunk, KeepsDamage, finds_shared, passes_over, IsDamageSeen, SeesNoDamage}
 use Rattle.zarr_model.proofs.FailureLaws.{listed_is_chunk}
 use Rattle.zarr_model.proofs.StepLaws.{both_none}
 use Rattle.zarr_model.proofs.DamageLaws.{listed_at, slice_get-left, slice_get-right, below_or_past}

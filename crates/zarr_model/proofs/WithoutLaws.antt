@@ -1,9 +1,12 @@
 -- A store without some of its chunks.
-use Rattle.std.proofs.Common.{◌≡◌, ℕ, ◌&&◌, not, Bool, true, false, bytes_eq, List, Option, Some, None, is_some, IsSome, refl, sym, ap, ◌∙◌, subst, ⊎_elim}
+use Rattle.std.proofs.Common.{◌≡◌, ℕ, ◌&&◌, not, Bool, true, false, bytes_eq, List, Option, Some, None, is_some, IsSome}
+use Rattle.std.proofs.Common.{refl, sym, ap, ◌∙◌, subst, ⊎_elim}
 use Rattle.std.specs.List.{list_any}
-use Rattle.std.proofs.lemmas.Bool.{and_parts, and_from, cond-true, cond-false, false_from_ne_true, true≢false, cases_Bool}
+use Rattle.std.proofs.lemmas.Bool.{and_parts, and_from, cond-true, cond-false, false_from_ne_true, true≢false}
+use Rattle.std.proofs.lemmas.Bool.{cases_Bool}
 use Rattle.std.proofs.lemmas.List.Folds.{Any-from_list_any, list_any-from_Any}
-use Rattle.zarr_model.specs.Prelude.{whole, Element, IsChunk, chunks, Content, Layout, IsSound, IsHonest, box_content, chunk_content, without_chunks, is_damaged, undamaged}
+use Rattle.zarr_model.specs.Prelude.{whole, Element, IsChunk, chunks, Content, Layout, IsSound, IsHonest, box_content}
+use Rattle.zarr_model.specs.Prelude.{chunk_content, without_chunks, is_damaged, undamaged}
 use Rattle.zarr_model.specs.Laws.{IsUndamaged}
 use Rattle.zarr_model.specs.LeavesLaws.{IsWithout}
 use Rattle.zarr_model.proofs.ArrayLaws.{tuples_are}

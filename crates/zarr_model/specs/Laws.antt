@@ -1,12 +1,14 @@
 -- Laws of the definitions, as the contracts of `src/lib.rt` state them.
-use Rattle.std.specs.Prelude.{◌≡◌, ℕ, ◌<◌, ◌↔◌, Bool, true, List, [], ◌++◌, length, get_or, Contains, Some, None, is_some, IsSome}
+use Rattle.std.specs.Prelude.{◌≡◌, ℕ, ◌<◌, ◌↔◌, Bool, true, List, [], ◌++◌, length, get_or, Contains, Some, None}
+use Rattle.std.specs.Prelude.{is_some, IsSome}
 use Rattle.std.specs.List.{AllByRecursion}
 use Rattle.zarr_model.specs.Region.{Region, count, contains, ends_within, tuples, linear_index}
 use Rattle.zarr_model.specs.Element.{Element, Kind, IsOfKind}
 use Rattle.zarr_model.specs.ArrayBytes.{ArrayBytes, meaning, array_bytes}
 use Rattle.zarr_model.specs.Array.{Array, SameArray, elements_in, written}
 use Rattle.zarr_model.specs.Grid.{IsChunk, CoversShape}
-use Rattle.zarr_model.specs.Store.{Content, Layout, IsHonest, Means, WhollyMeans, IsSound, SameOtherKeys, chunk_content, stored_array}
+use Rattle.zarr_model.specs.Store.{Content, Layout, IsHonest, Means, WhollyMeans, IsSound, SameOtherKeys, chunk_content}
+use Rattle.zarr_model.specs.Store.{stored_array}
 use Rattle.zarr_model.specs.Codec.{Options}
 use Rattle.zarr_model.specs.Command.{Command, Description, layout, bytes_refusal, replies, array_after}
 use Rattle.zarr_model.specs.Failure.{IsCutShort, undamaged}

@@ -1,13 +1,16 @@
 -- Laws of damage and of what commands leave, as the contracts of `src/damage.rt` state them.
-use Rattle.std.specs.Prelude.{◌≡◌, ◌≤◌, ◌++◌, [], ◌∷◌, ℕ, suc, true, false, Bool, IsTrue, List, take, slice_get, length, Option, Some, None}
+use Rattle.std.specs.Prelude.{◌≡◌, ◌≤◌, ◌++◌, [], ◌∷◌, ℕ, suc, true, false, Bool, IsTrue, List, take, slice_get, length}
+use Rattle.std.specs.Prelude.{Option, Some, None}
 use Rattle.zarr_model.specs.Region.{Region}
 use Rattle.zarr_model.specs.Element.{Element}
 use Rattle.zarr_model.specs.ArrayBytes.{ArrayBytes}
 use Rattle.zarr_model.specs.Array.{Array}
 use Rattle.zarr_model.specs.Grid.{IsChunk, CoversShape}
 use Rattle.zarr_model.specs.Codec.{Options}
-use Rattle.zarr_model.specs.Store.{Content, Layout, IsHonest, IsSound, WhollyMeans, SameOtherKeys, chunk_content, with_keys}
-use Rattle.zarr_model.specs.Command.{Command, read, write, erase, Description, Answer, answered_done, kind, layout, refusal, reply, after, Matches}
+use Rattle.zarr_model.specs.Store.{Content, Layout, IsHonest, IsSound, WhollyMeans, SameOtherKeys, chunk_content}
+use Rattle.zarr_model.specs.Store.{with_keys}
+use Rattle.zarr_model.specs.Command.{Command, read, write, erase, Description, Answer, answered_done, kind, layout}
+use Rattle.zarr_model.specs.Command.{refusal, reply, after, Matches}
 use Rattle.zarr_model.specs.Cost.{command_chunks, asks_store}
 use Rattle.zarr_model.specs.Failure.{Changes, undamaged, without_chunks}
 use Rattle.zarr_model.specs.Outside.{PutsKey, MayPutKey}

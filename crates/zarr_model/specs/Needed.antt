@@ -1,5 +1,6 @@
 -- The bytes that commands take of a store where the codec `bytes` stands alone.
-use Rattle.std.specs.Prelude.{◌≡◌, ◌⊎◌, ℕ, ◌*◌, Bool, true, false, not, ◌&&◌, ◌||◌, if◌then◌else◌, List, [], ◌∷◌, length, filter, unwrap_or}
+use Rattle.std.specs.Prelude.{◌≡◌, ◌⊎◌, ℕ, ◌*◌, Bool, true, false, not, ◌&&◌, ◌||◌, if◌then◌else◌, List, [], ◌∷◌}
+use Rattle.std.specs.Prelude.{length, filter, unwrap_or}
 use Rattle.std.specs.List.{list_any}
 use Rattle.zarr_model.specs.Region.{Region, count, contains, tuples}
 use Rattle.zarr_model.specs.Element.{Element, fixed_size}

@@ -3,7 +3,8 @@ use Rattle.std.specs.Prelude.{ℕ, ◌+◌, ◌*◌, Bool, false, nat_le, List, 
 use Rattle.std.specs.List.{list_all}
 use Rattle.zarr_model.specs.Region.{Region, tuples, linear_index}
 use Rattle.zarr_model.specs.Element.{fixed_size, kind_of}
-use Rattle.zarr_model.specs.Codec.{Level, ArrayCodec, Chain, decode_bytes, ArrayToBytes, bytes_codec, vlen_codec, optional_codec}
+use Rattle.zarr_model.specs.Codec.{Level, ArrayCodec, Chain, decode_bytes, ArrayToBytes, bytes_codec, vlen_codec}
+use Rattle.zarr_model.specs.Codec.{optional_codec}
 
 -- the pieces of a region of a shape lie within so many bytes of pieces of a size
 abbrev pub holds_pieces : ℕ → List ℕ → Region → ℕ → Bool

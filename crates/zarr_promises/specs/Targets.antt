@@ -1,9 +1,10 @@
 -- What a view leaves as it was.
 use Rattle.std.specs.Prelude.{◌≡◌, ◌<◌, ℕ, false, get_or}
-use Rattle.zarr_model.specs.Prelude.{Element, count, sizes, contains, tuple_at, whole}
-use Rattle.zarrs_array_subset.specs.ArraySubset.{region}
+use Rattle.zarrs_codec_traits.specs.Prelude.{Element, count, sizes, contains, tuple_at, whole, region}
 use Rattle.zarrs_codec_slices.specs.Elements.{fixed_elements}
-use Rattle.zarrs_codec_view.specs.declared.array_bytes_fixed_disjoint_view.ArrayBytesFixedDisjointView.{ArrayBytesFixedDisjointView}
+use Rattle.zarrs_codec_array_bytes_parts.specs.declared.array_bytes_fixed_disjoint_view.ArrayBytesFixedDisjointView.{
+  ArrayBytesFixedDisjointView,
+}
 
 -- a view is of the same box of the same bytes, and the elements outside its box are as they were
 pub record KeepsOthers (old new : ArrayBytesFixedDisjointView) : Type 0 where

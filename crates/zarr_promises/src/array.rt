@@ -1,11 +1,9 @@
 //! A read and a write on an open array.
 
 ghost use Rattle.std.specs.Prelude.{[], ◌∷◌, IfOk, OnOk};
-ghost use Rattle.zarrs_codec_array_bytes.specs.Raw.{raw_of};
+ghost use Rattle.zarrs_codec_traits.specs.Prelude.{raw_of, region as region_of_subset, options_of};
 ghost use Rattle.zarr_model.specs.Prelude.{layout, read, write, IsHonest, SeesNoDamage, ServesArray, RefusesRight};
-ghost use Rattle.zarrs_array_subset.specs.ArraySubset.{region as region_of_subset};
-ghost use Rattle.zarrs_codec_traits.specs.Views.{options_of};
-ghost use Rattle.zarr_array.specs.OpenArray.{described};
+ghost use Rattle.zarr_array.specs.OpenArray.{described_array};
 ghost use Rattle.zarr_array.specs.Ended.{ended_one};
 
 use std::alloc::Global;
@@ -27,9 +25,9 @@ pub fn write_to<S: Store>(
     options: &CodecOptions,
 ) -> Result<Reply, SessionError>
     ensures serves { IfOk (ended_one result) (λ answers.
-        IsHonest (layout (described array.now) (options_of options.now))
+        IsHonest (layout (described_array array.now) (options_of options.now))
         (S.shown store.old).content →
-        ServesArray (described array.now) (options_of options.now)
+        ServesArray (described_array array.now) (options_of options.now)
         (write (region_of_subset region.now) (raw_of elements.now) ∷ [])
         (S.shown store.old).content (S.shown store.new).content answers) }
 {
@@ -47,9 +45,9 @@ pub fn read_from<S: Store>(
     store: &mut S,
     options: &CodecOptions,
 ) -> Result<Reply, SessionError>
-    ensures refusals { IfOk (ended_one result) (λ answers. RefusesRight (described array.now)
+    ensures refusals { IfOk (ended_one result) (λ answers. RefusesRight (described_array array.now)
         (read (region_of_subset region.now) ∷ []) answers) }
-    ensures undamaged { OnOk (ended_one result) (SeesNoDamage (described array.now)
+    ensures undamaged { OnOk (ended_one result) (SeesNoDamage (described_array array.now)
         (options_of options.now) (read (region_of_subset region.now) ∷ [])
         (S.shown store.old).content) }
 {

@@ -2,7 +2,7 @@
 
 ghost use Rattle.std.specs.Prelude.{◌≡◌, None, IfSome, MatchResult};
 ghost use Rattle.zarr_model.specs.Outside.{Rose};
-ghost use Rattle.zarrs_codec.specs.codec_error.declared.error.CodecError.TheVariants as error;
+ghost use Rattle.zarrs_codec_error.specs.declared.error.CodecError.TheVariants as error;
 
 use std::alloc::Global;
 use zarrs_codec::{BytesRepresentation, BytesToBytesCodecTraits, CodecError, CodecOptions};

@@ -1,11 +1,9 @@
 //! The callers that the crates' READMEs show.
 
 ghost use Rattle.std.specs.Prelude.{◌≡◌, ◌<◌, ◌^◌, ◌∷◌, ℕ, List, None, map, IfOk, IfSome};
-ghost use Rattle.zarrs_chunk_grid.specs.ArraySubset.{region};
-ghost use Rattle.zarrs_chunk_grid.specs.Boxes.{overlap_of};
-ghost use Rattle.zarrs_chunk_grid.specs.Cover.{linear_indices};
-ghost use Rattle.zarrs_chunk_grid.specs.Region.{count_of, linear_index, sizes};
-ghost use Rattle.zarrs_storage.specs.Store.{value_bytes};
+ghost use Rattle.zarrs_codec_traits.specs.Prelude.{region, overlap_of, count_of, linear_index};
+ghost use Rattle.zarrs_codec_traits.specs.Prelude.{sizes, value_bytes};
+ghost use Rattle.zarr_model.specs.Cover.{linear_indices};
 
 use std::alloc::Global;
 use zarrs_chunk_grid::{

@@ -1,16 +1,10 @@
 //! Elements of a level above, by any array-to-array codec.
 
 ghost use Rattle.std.specs.Prelude.{◌≡◌, true, ℕ, List, length, Some, None, IfOk, MatchResult};
-ghost use Rattle.zarr_model.specs.Region.{count_of, ends_within};
-ghost use Rattle.zarr_model.specs.Element.{Element};
-ghost use Rattle.zarrs_array_subset.specs.ArraySubset.{region as box_of};
-ghost use Rattle.zarrs_data_type_bytes.specs.FillValue.{fill_bytes};
-ghost use Rattle.zarrs_data_type_names.specs.DataType.{type_of};
-ghost use Rattle.zarrs_codec_array_bytes.specs.Raw.{raw_of};
+ghost use Rattle.zarr_codec_chain.specs.Prelude.{count_of, ends_within, Element, region as box_of};
+ghost use Rattle.zarr_codec_chain.specs.Prelude.{fill_bytes, type_of, raw_of, unserved_at, lengths};
+ghost use Rattle.zarr_codec_chain.specs.Prelude.{level_of, IsFit, list_at, at_box, select};
 ghost use Rattle.zarrs_codec_error.specs.declared.error.CodecError.TheVariants as error;
-ghost use Rattle.zarrs_codec_traits.specs.Errors.{unserved_at};
-ghost use Rattle.zarrs_codec_traits.specs.Views.{lengths, level_of};
-ghost use Rattle.zarrs_codec_traits.specs.Words.{IsFit, list_at, at_box, select};
 
 use std::alloc::Global;
 use std::num::NonZeroU64;
@@ -18,8 +12,8 @@ use zarrs_array_subset::ArraySubset;
 use zarrs_codec_array_bytes::ArrayBytes;
 use zarrs_codec_error::{CodecError, CodecOptions};
 use zarrs_codec_traits::ArrayToArrayCodecTraits;
+use zarrs_data_type::DataType;
 use zarrs_data_type_bytes::FillValue;
-use zarrs_data_type_names::DataType;
 
 /// The elements of a region, out of those of the box below that the codec names: that region of what the whole level
 /// below decodes to.

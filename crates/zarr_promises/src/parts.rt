@@ -1,18 +1,12 @@
 //! A part of a chunk, by any array-to-bytes codec.
 
 ghost use Rattle.std.specs.Prelude.{◌≡◌, true, ℕ, List, Some, None, IfOk, MatchResult};
-ghost use Rattle.zarr_model.specs.Element.{Element};
-ghost use Rattle.zarr_model.specs.Region.{ends_within};
-ghost use Rattle.zarrs_array_subset.specs.ArraySubset.{region as box_of};
-ghost use Rattle.zarrs_storage.specs.ByteRange.{parts_of};
-ghost use Rattle.zarrs_data_type_bytes.specs.FillValue.{fill_bytes};
-ghost use Rattle.zarrs_data_type_names.specs.DataType.{type_of};
-ghost use Rattle.zarrs_codec_array_bytes.specs.Raw.{raw_of};
+ghost use Rattle.zarrs_codec_traits.specs.Prelude.{Element, ends_within, region as box_of};
+ghost use Rattle.zarrs_codec_traits.specs.Prelude.{parts_of, fill_bytes, type_of, raw_of};
+ghost use Rattle.zarrs_codec_traits.specs.Prelude.{unserved_at, lengths, level_of, options_of};
+ghost use Rattle.zarrs_codec_traits.specs.Prelude.{IsFit, list_at, at_box, select};
 ghost use Rattle.zarrs_codec_error.specs.declared.error.CodecError.TheVariants as error;
-ghost use Rattle.zarrs_codec_traits.specs.Errors.{unserved_at};
-ghost use Rattle.zarrs_codec_traits.specs.Parts.{AreParts, IsAnswer};
-ghost use Rattle.zarrs_codec_traits.specs.Views.{lengths, level_of, options_of};
-ghost use Rattle.zarrs_codec_traits.specs.Words.{IsFit, list_at, at_box, select};
+ghost use Rattle.zarrs_codec_traits.specs.Parts.{ArePartsOf, IsAnswer};
 
 use std::alloc::Global;
 use std::num::NonZeroU64;
@@ -20,8 +14,8 @@ use zarrs_array_subset::ArraySubset;
 use zarrs_codec_array_bytes::ArrayBytes;
 use zarrs_codec_error::{CodecError, CodecOptions};
 use zarrs_codec_traits::ArrayToBytesCodecTraits;
+use zarrs_data_type::DataType;
 use zarrs_data_type_bytes::FillValue;
-use zarrs_data_type_names::DataType;
 
 /// The elements of a region, out of the parts of a value that the codec asks for: that region of what the whole value
 /// decodes to.
@@ -45,7 +39,7 @@ pub fn part_of_value<C: ArrayToBytesCodecTraits>(
     ensures { let level = level_of shape.now data_type.now fill_value.now in
         (value : List ℕ) (whole : List Element)
         → unserved_at (C.unserved codec.now) level (fill_bytes fill_value.now) ≡ None
-        → AreParts (C.request codec.now level.shape level.data_type (box_of region.now)) value
+        → ArePartsOf (C.request codec.now level.shape level.data_type (box_of region.now)) value
         (parts_of parts)
         → C.meaning codec.now (options_of options.now) level value ≡ Some whole
         → MatchResult result (λ part. list_at (at_box (box_of region.now) level) (raw_of part)

@@ -1,10 +1,9 @@
 //! A write on an open array that is refused.
 
 ghost use Rattle.std.specs.Prelude.{[], ◌∷◌};
-ghost use Rattle.zarrs_codec_array_bytes.specs.Raw.{raw_of};
-ghost use Rattle.zarr_model.specs.Prelude.{write, AreRefused, IsUntouched};
-ghost use Rattle.zarrs_array_subset.specs.ArraySubset.{region as region_of_subset};
-ghost use Rattle.zarr_array.specs.OpenArray.{described};
+ghost use Rattle.zarrs_codec_traits.specs.Prelude.{raw_of, write, AreRefused, IsUntouched};
+ghost use Rattle.zarrs_codec_traits.specs.Prelude.{region as region_of_subset};
+ghost use Rattle.zarr_array.specs.OpenArray.{described_array};
 
 use std::alloc::Global;
 use zarr_array::{CodecOptions, OpenArray, Reply, SessionError};
@@ -24,7 +23,7 @@ pub fn write_to<S: Store>(
     store: &mut S,
     options: &CodecOptions,
 ) -> Result<Reply, SessionError>
-    ensures refused { AreRefused (described array.now)
+    ensures refused { AreRefused (described_array array.now)
         (write (region_of_subset region.now) (raw_of elements.now) ∷ []) →
         IsUntouched (S.shown store.old) (S.shown store.new) }
 {

@@ -2,9 +2,9 @@
 
 ghost use Rattle.std.specs.Prelude.{◌≡◌};
 ghost use Rattle.zarr_model.specs.Prelude.{Rose};
-ghost use Rattle.zarr_cli.specs.parts.Words.{HasBadWords};
+ghost use Rattle.zarr_cli.specs.Words.{HasBadWords};
 ghost use Rattle.zarr_cli_runs.specs.Ending.{bad_words, store_fault, read_fault, write_fault};
-ghost use Rattle.zarr_cli.specs.parts.Status.{words_of};
+ghost use Rattle.zarr_cli.specs.Status.{words_of};
 ghost use Rattle.zarr_cli_runs.specs.Status.{ending_of};
 
 use std::alloc::Global;

@@ -1,8 +1,7 @@
 //! The runs of a subset in an array's shape.
 
 ghost use Rattle.std.specs.Prelude.{◌≡◌, ◌<◌, ◌^◌, map, IfOk};
-ghost use Rattle.zarrs_chunk_grid.specs.Region.{count_of};
-ghost use Rattle.zarrs_chunk_grid.specs.ArraySubset.{region};
+ghost use Rattle.zarrs_codec_traits.specs.Prelude.{count_of, region};
 ghost use Rattle.zarrs_chunk_grid.specs.Runs.{runs, span_of};
 
 use std::alloc::Global;

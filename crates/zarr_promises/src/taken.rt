@@ -2,8 +2,7 @@
 
 ghost use Rattle.std.specs.Prelude.{[], ◌∷◌};
 ghost use Rattle.zarr_model.specs.Prelude.{read};
-ghost use Rattle.zarrs_array_subset.specs.ArraySubset.{region as region_of_subset};
-ghost use Rattle.zarrs_codec_traits.specs.Views.{options_of};
+ghost use Rattle.zarrs_codec_traits.specs.Prelude.{region as region_of_subset, options_of};
 ghost use Rattle.zarr_array.specs.OpenArray.{documented};
 ghost use Rattle.zarr_array.specs.Ended.{ended_one};
 ghost use Rattle.zarr_array.specs.Taken.{TakesAlone};

@@ -1,20 +1,17 @@
 //! A value decoded into a view of a caller's bytes, by any array-to-bytes codec.
 
 ghost use Rattle.std.specs.Prelude.{◌≡◌, None, IfOk};
-ghost use Rattle.zarrs_data_type_bytes.specs.FillValue.{fill_bytes};
-ghost use Rattle.zarrs_data_type_names.specs.DataType.{type_of};
-ghost use Rattle.zarrs_codec_traits.specs.Errors.{unserved_at};
-ghost use Rattle.zarrs_codec_traits.specs.Views.{lengths, level_of};
-ghost use Rattle.zarrs_codec_traits.specs.Words.{IsFit};
+ghost use Rattle.zarrs_codec_traits.specs.Prelude.{fill_bytes, type_of, unserved_at, lengths};
+ghost use Rattle.zarrs_codec_traits.specs.Prelude.{level_of, IsFit};
 ghost use Rattle.zarr_promises.specs.Targets.{KeepsOthers};
 
 use std::alloc::Global;
 use std::num::NonZeroU64;
+use zarrs_codec_array_bytes_parts::{ArrayBytesDecodeIntoTarget, ArrayBytesFixedDisjointView};
 use zarrs_codec_error::{CodecError, CodecOptions};
 use zarrs_codec_traits::ArrayToBytesCodecTraits;
-use zarrs_codec_view::{ArrayBytesDecodeIntoTarget, ArrayBytesFixedDisjointView};
+use zarrs_data_type::DataType;
 use zarrs_data_type_bytes::FillValue;
-use zarrs_data_type_names::DataType;
 
 /// Decodes a value into a view's box. The view is still of the same bytes, and those of other elements are as they were.
 ///

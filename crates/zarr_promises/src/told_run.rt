@@ -1,10 +1,10 @@
 //! A run over a source that tells its bytes.
 
 ghost use Rattle.std.specs.Prelude.{◌≡◌, ℕ, List, Some};
-ghost use Rattle.zarr_array_parts.specs.Opening.{OpenRefusal};
-ghost use Rattle.zarr_cli.specs.Input.{HasBadLine, HasLongInput, HasRefusedDocument};
+ghost use Rattle.zarr_array_open.specs.Opening.{OpenRefusal};
+ghost use Rattle.zarr_cli.specs.ProgramInput.{HasBadLine, HasLongInput, HasRefusedDocument};
 ghost use Rattle.zarr_cli_runs.specs.Ending.{bad_input, refused_document, too_long};
-ghost use Rattle.zarr_cli.specs.parts.Status.{words_of};
+ghost use Rattle.zarr_cli.specs.Status.{words_of};
 ghost use Rattle.zarr_cli_runs.specs.Status.{ending_of};
 
 use std::alloc::Global;

@@ -7,20 +7,23 @@ use Rattle.zarr_model.specs.Grid.{CutsLength, boundary_axis, regular_axes}
 use Rattle.zarr_model.specs.Boundaries.{cuts, are_cut}
 use Rattle.zarr_model.proofs.GridLaws.{regular_axis-cuts}
 use Rattle.zarr_model.proofs.LandingLaws.{cuts_axis}
-use Rattle.zarr_basics_grids.specs.Lengths.{nonzeros}
-use Rattle.zarr_basics_grids.specs.Axes.{lengths_of}
-use Rattle.zarr_basics_grids.specs.BasicGrid.{basic_shape, basic_grid}
-use Rattle.zarr_basics_grids.specs.declared.basic_grid.BasicGrid.{BasicGrid}
-use Rattle.zarr_basics_grids.specs.declared.basic_grid.BasicGrid.TheVariants.{Regular, Boundary}
+use Rattle.zarr_basics.specs.Lengths.{nonzeros}
+use Rattle.zarr_basics.specs.Axes.{lengths_of}
+use Rattle.zarr_basics.specs.BasicGrid.{basic_shape, basic_grid}
+use Rattle.zarr_basics.specs.declared.basic_grid.BasicGrid.{BasicGrid}
+use Rattle.zarr_basics.specs.declared.basic_grid.BasicGrid.TheVariants.{Regular, Boundary}
 use Rattle.zarr_rechunk.proofs.BandLaws.{IsProduct}
 
-regular_cut : (shape : List ℕ) (lengths : List NonZeroU64) → length shape ≡ length lengths → AllZip CutsLength shape (regular_axes shape (nonzeros lengths))
+regular_cut : (shape : List ℕ) (lengths : List NonZeroU64) → length shape ≡ length lengths →
+    AllZip CutsLength shape (regular_axes shape (nonzeros lengths))
 regular_cut [] [] rank = tt
 regular_cut [] (p ∷ lengths) rank = absurd (omega (arith, rank))
 regular_cut (n ∷ shape) [] rank = absurd (omega (arith, rank))
-regular_cut (n ∷ shape) (p ∷ lengths) rank = (regular_axis-cuts n p.value p.ok, regular_cut shape lengths (omega (arith, rank)))
+regular_cut (n ∷ shape) (p ∷ lengths) rank =
+    (regular_axis-cuts n p.value p.ok, regular_cut shape lengths (omega (arith, rank)))
 
-boundaries_cut : (shape : List ℕ) (lengths : List (List ℕ)) → are_cut shape lengths ≡ true → AllZip CutsLength shape (map boundary_axis lengths)
+boundaries_cut : (shape : List ℕ) (lengths : List (List ℕ)) → are_cut shape lengths ≡ true →
+    AllZip CutsLength shape (map boundary_axis lengths)
 boundaries_cut [] [] cut = tt
 boundaries_cut [] (own ∷ lengths) cut = cc
 boundaries_cut (n ∷ shape) [] cut = cc

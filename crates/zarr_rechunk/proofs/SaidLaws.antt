@@ -1,11 +1,13 @@
 -- From what words and an input say to what a move comes to.
-use Rattle.std.proofs.Common.{◌≡◌, ◌⊎◌, ℕ, ◌+◌, ◌≤◌, nat_lt, Bool, true, false, List, [], ◌∷◌, length, drop, Vec, Option, Some, None, IsUtf8, Result, Ok, Err, IfErr, OnOk, inl, inr, refl, sym, ap, ◌∙◌, subst, arith, cond}
+use Rattle.std.proofs.Common.{◌≡◌, ◌⊎◌, ℕ, ◌+◌, ◌≤◌, nat_lt, Bool, true, false, List, [], ◌∷◌, length, drop, Vec}
+use Rattle.std.proofs.Common.{Option, Some, None, IsUtf8, Result, Ok, Err, IfErr, OnOk, inl, inr, refl, sym, ap, ◌∙◌}
+use Rattle.std.proofs.Common.{subst, arith, cond}
 use Rattle.std.proofs.lemmas.Bool.{lt-ltb, le-ltb}
 use Rattle.std.specs.declared.alloc.Global.{Global}
 use Rattle.std.specs.Str.Lossy.{utf8_valid_len}
 use Rattle.zarr_model.specs.Prelude.{Told, Rose}
 use Rattle.zarr_model.proofs.KeyLineLaws.{key-lines}
-use Rattle.zarr_cli_runs.specs.lines.Text.{first_entries, input_lines, line_at}
+use Rattle.zarr_cli_lines.specs.Text.{first_entries, input_lines, line_at}
 use Rattle.zarr_cli_runs.specs.array.parts.Document.{ArrayDocument}
 use Rattle.zarr_cli_runs.specs.array.parts.Opening.{OpenRefusal, OpenAnswer, opened, not_opened, open_builtin}
 use Rattle.zarr_cli_runs.specs.array.parts.OpenError.{open_refusal_of}
@@ -14,18 +16,21 @@ use Rattle.zarr_cli_runs.specs.Ending.{Ending}
 use Rattle.zarr_cli_runs.specs.Ending as end
 use Rattle.zarr_cli_runs.specs.Status.{refused_by}
 use Rattle.zarr_cli_runs.specs.declared.status.Status.{Status}
-use Rattle.zarr_cli_runs.specs.declared.status.Status.TheVariants.{Done, BadWords, BadInput, Document, Chunk, Store, Read, Write, TooLong, OutOfMemory}
-use Rattle.zarr_cli_parts.specs.Input.{input_limit, IsInputFault, text_says}
-use Rattle.zarr_cli_parts.specs.Lines.{first_line}
-use Rattle.zarr_cli_parts.specs.Status.{fault_status}
-use Rattle.zarr_cli_parts.specs.declared.lines.InputFault.{InputFault}
-use Rattle.zarr_cli_parts.specs.declared.lines.InputFault.TheVariants as Fault
-use Rattle.zarr_cli_parts.proofs.InputLaws.{lines_said, fault_said}
+use Rattle.zarr_cli_runs.specs.declared.status.Status.TheVariants.{Done, BadWords, BadInput, Document, Chunk, Store}
+use Rattle.zarr_cli_runs.specs.declared.status.Status.TheVariants.{Read, Write, TooLong, OutOfMemory}
+use Rattle.zarr_cli.specs.Input.{input_limit, IsInputFault, text_says}
+use Rattle.zarr_cli.specs.Lines.{first_line}
+use Rattle.zarr_cli.specs.Status.{fault_status}
+use Rattle.zarr_cli.specs.declared.lines.InputFault.{InputFault}
+use Rattle.zarr_cli.specs.declared.lines.InputFault.TheVariants as Fault
+use Rattle.zarr_cli.proofs.InputLaws.{lines_said, fault_said}
 use Rattle.zarr_rechunk.specs.declared.status.RechunkStatus.{RechunkStatus}
 use Rattle.zarr_rechunk.specs.declared.status.RechunkStatus.TheVariants.{Cli, Refused}
 use Rattle.zarr_rechunk.specs.Ending.{MoveEnding, cli, refused, move_ending_of}
-use Rattle.zarr_rechunk.specs.Input.{Move, Verdict, moves, stops, keys_say, target_says, source_says, lines_say, verdict}
-use Rattle.zarr_rechunk.specs.Said.{Both, move_of, IsMoveFault, RanMove, AreUntouched, Stopped, RanBy, RanInput, Tells, outcome, IsPlain, IsKeysFault}
+use Rattle.zarr_rechunk.specs.Input.{Move, MoveVerdict, moves, stops, keys_say, target_says, source_says}
+use Rattle.zarr_rechunk.specs.Input.{move_lines_say, move_verdict}
+use Rattle.zarr_rechunk.specs.Said.{Both, move_of, IsMoveFault, RanMove, AreUntouched, StoppedMove, RanMoveBy}
+use Rattle.zarr_rechunk.specs.Said.{RanMoveInput, TellsOfMove, move_outcome, IsPlainMove, IsKeysFault}
 
 -- stores as before
 pub untouched_self : (stores : Both) → AreUntouched stores stores
@@ -35,7 +40,8 @@ untouched_self stores = (
 )
 
 -- an early end of a move is told under its own name
-move_plain : (move : Move) (before now : Both) (status : RechunkStatus) → IsMoveFault move before now status → IsPlain (outcome ⊥ ⊥ before now) status
+move_plain : (move : Move) (before now : Both) (status : RechunkStatus) → IsMoveFault move before now status →
+    IsPlainMove (move_outcome ⊥ ⊥ before now) status
 move_plain move before now (Refused why) fault = record { told = tt; named = tt }
 move_plain move before now (Cli (Chunk key)) fault = record { told = tt; named = tt }
 move_plain move before now (Cli Store) fault = record { told = fault; named = tt }
@@ -48,16 +54,19 @@ move_plain move before now (Cli Read) fault = absurd fault
 move_plain move before now (Cli Write) fault = absurd fault
 move_plain move before now (Cli TooLong) fault = absurd fault
 
-pub all_plain : {Z : Type 0} (move : Move) (before now : Both) (result : Result (Vec ℕ Z) RechunkStatus) → RanMove move before now result → IfErr result (IsPlain (outcome ⊥ ⊥ before now))
+pub all_plain : {Z : Type 0} (move : Move) (before now : Both) (result : Result (Vec ℕ Z) RechunkStatus) →
+    RanMove move before now result → IfErr result (IsPlainMove (move_outcome ⊥ ⊥ before now))
 all_plain move before now (Ok text) ran = tt
 all_plain move before now (Err status) ran = move_plain move before now status ran.fault
 
 -- a move was stopped before a store was touched
-stop : (told : Ending) (stores : Both) (status : RechunkStatus) → (move_ending_of status ≡ cli told) ⊎ (status ≡ Cli OutOfMemory) → Stopped {Z = Global} told stores stores (Err status)
+stop : (told : Ending) (stores : Both) (status : RechunkStatus) → (move_ending_of status ≡ cli told) ⊎
+    (status ≡ Cli OutOfMemory) → StoppedMove {Z = Global} told stores stores (Err status)
 stop told stores status which = record { untouched = untouched_self stores; failed = tt; ends = which }
 
 -- want of memory stands in place of whatever was said
-pub memory_out : (said : Verdict) (stores : Both) → RanBy {Z = Global} said stores stores (Err (Cli OutOfMemory))
+pub memory_out : (said : MoveVerdict) (stores : Both) →
+    RanMoveBy {Z = Global} said stores stores (Err (Cli OutOfMemory))
 memory_out (stops told) stores = stop told stores (Cli OutOfMemory) (inr refl)
 memory_out (moves move) stores = record {
   moved = tt;
@@ -70,21 +79,29 @@ memory_out (moves move) stores = record {
 }
 
 -- whatever stops a move is told by a status with that ending
-stops_by : (said : Verdict) (told : Ending) (stores : Both) (status : RechunkStatus) → said ≡ stops told → move_ending_of status ≡ cli told → RanBy {Z = Global} said stores stores (Err status)
-stops_by said told stores status says is = subst (λ (v : Verdict). RanBy {Z = Global} v stores stores (Err status)) (sym says) (stop told stores status (inl is))
+stops_by : (said : MoveVerdict) (told : Ending) (stores : Both) (status : RechunkStatus) → said ≡ stops told →
+    move_ending_of status ≡ cli told → RanMoveBy {Z = Global} said stores stores (Err status)
+stops_by said told stores status says is = subst (λ (v : MoveVerdict).
+    RanMoveBy {Z = Global} v stores stores (Err status)) (sym says) (stop told stores status (inl is))
 
 -- the lines behind two documents
 module _ (source target : ArrayDocument) (lines : List (List ℕ)) where
-  pub keys_ran : {Z : Type 0} (entries : List (List ℕ × List ℕ)) (before now : Both) (result : Result (Vec ℕ Z) RechunkStatus) → entries ≡ first_entries lines → length (first_entries lines) ≡ length lines →
-      RanMove (move_of source target entries) before now result → RanBy (keys_say source target lines) before now result
+  pub keys_ran : {Z : Type 0} (entries : List (List ℕ × List ℕ)) (before now : Both) (result :
+      Result (Vec ℕ Z) RechunkStatus) → entries ≡ first_entries lines → length (first_entries lines) ≡ length lines →
+      RanMove (move_of source target entries) before now result →
+      RanMoveBy (keys_say source target lines) before now result
   keys_ran entries before now result same all ran =
-      let whole : nat_lt (length (first_entries lines)) (length lines) ≡ false = le-ltb (length (first_entries lines)) (length lines) (omega (arith, all)) in
+      let whole : nat_lt (length (first_entries lines)) (length lines) ≡ false =
+      le-ltb (length (first_entries lines)) (length lines) (omega (arith, all)) in
       rw whole (subst (λ (es : List (List ℕ × List ℕ)). RanMove (move_of source target es) before now result) same ran)
 
-  pub keys_stop : (stores : Both) (status : Status) → IsKeysFault lines status → RanBy {Z = Global} (keys_say source target lines) stores stores (Err (Cli status))
+  pub keys_stop : (stores : Both) (status : Status) → IsKeysFault lines status →
+      RanMoveBy {Z = Global} (keys_say source target lines) stores stores (Err (Cli status))
   keys_stop stores (BadInput line) fault =
-      let some : nat_lt (length (first_entries lines)) (length lines) ≡ true = lt-ltb (length (first_entries lines)) (length lines) fault.0 in
-      rw some (stop (end.bad_input (length (first_entries lines) + 3)) stores (Cli (BadInput line)) (inl (ap (λ (n : ℕ). cli (end.bad_input n)) fault.1)))
+      let some : nat_lt (length (first_entries lines)) (length lines) ≡ true =
+      lt-ltb (length (first_entries lines)) (length lines) fault.0 in
+      rw some (stop (end.bad_input (length (first_entries lines) + 3)) stores (Cli (BadInput line))
+      (inl (ap (λ (n : ℕ). cli (end.bad_input n)) fault.1)))
   keys_stop stores OutOfMemory fault = memory_out (keys_say source target lines) stores
   keys_stop stores Done fault = absurd fault
   keys_stop stores BadWords fault = absurd fault
@@ -95,7 +112,8 @@ module _ (source target : ArrayDocument) (lines : List (List ℕ)) where
   keys_stop stores Write fault = absurd fault
   keys_stop stores TooLong fault = absurd fault
 
-  pub keys_plain : (stores : Both) (status : Status) → IsKeysFault lines status → IsPlain (outcome ⊥ ⊥ stores stores) (Cli status)
+  pub keys_plain : (stores : Both) (status : Status) → IsKeysFault lines status →
+      IsPlainMove (move_outcome ⊥ ⊥ stores stores) (Cli status)
   keys_plain stores (BadInput line) fault = record { told = untouched_self stores; named = tt }
   keys_plain stores OutOfMemory fault = record { told = tt; named = tt }
   keys_plain stores Done fault = absurd fault
@@ -108,17 +126,23 @@ module _ (source target : ArrayDocument) (lines : List (List ℕ)) where
   keys_plain stores TooLong fault = absurd fault
 
 -- a line that is opened, or is not: what it says then by an answer
-module _ (line : List ℕ) (says : OpenAnswer → Verdict) (refuses : (why : OpenRefusal) → says (not_opened why) ≡ stops (end.refused_document why)) where
-  pub opened_says : {Z : Type 0} (document : ArrayDocument) (before now : Both) (result : Result (Vec ℕ Z) RechunkStatus) → open_builtin line ≡ opened document → RanBy (says (opened document)) before now result →
-      RanBy (says (open_builtin line)) before now result
-  opened_says document before now result is ran = subst (λ (answer : OpenAnswer). RanBy (says answer) before now result) (sym is) ran
+module _ (line : List ℕ) (says : OpenAnswer → MoveVerdict) (refuses : (why : OpenRefusal) →
+    says (not_opened why) ≡ stops (end.refused_document why)) where
+  pub opened_says : {Z : Type 0} (document : ArrayDocument) (before now : Both) (result : Result (Vec ℕ Z)
+      RechunkStatus) → open_builtin line ≡ opened document → RanMoveBy (says (opened document)) before now result →
+      RanMoveBy (says (open_builtin line)) before now result
+  opened_says document before now result is ran =
+      subst (λ (answer : OpenAnswer). RanMoveBy (says answer) before now result) (sym is) ran
 
-  pub not_opened_says : (stores : Both) (status : Status) → IsOpenFault status (open_builtin line) → RanBy {Z = Global} (says (open_builtin line)) stores stores (Err (Cli status))
+  pub not_opened_says : (stores : Both) (status : Status) → IsOpenFault status (open_builtin line) →
+      RanMoveBy {Z = Global} (says (open_builtin line)) stores stores (Err (Cli status))
   not_opened_says stores (Document error) fault = by (open_refusal_of error) refl fault
     where
-      by : (o : Option OpenRefusal) → open_refusal_of error ≡ o → IsRefusal o (open_builtin line) → RanBy {Z = Global} (says (open_builtin line)) stores stores (Err (Cli (Document error)))
+      by : (o : Option OpenRefusal) → open_refusal_of error ≡ o → IsRefusal o (open_builtin line) →
+          RanMoveBy {Z = Global} (says (open_builtin line)) stores stores (Err (Cli (Document error)))
       by None is h = absurd h
-      by (Some why) is h = stops_by (says (open_builtin line)) (end.refused_document why) stores (Cli (Document error)) (ap says h ∙ refuses why) (ap (λ (o : Option OpenRefusal). cli (refused_by o)) is)
+      by (Some why) is h = stops_by (says (open_builtin line)) (end.refused_document why) stores (Cli (Document error))
+          (ap says h ∙ refuses why) (ap (λ (o : Option OpenRefusal). cli (refused_by o)) is)
   not_opened_says stores OutOfMemory fault = memory_out (says (open_builtin line)) stores
   not_opened_says stores Done fault = absurd fault
   not_opened_says stores BadWords fault = absurd fault
@@ -129,13 +153,16 @@ module _ (line : List ℕ) (says : OpenAnswer → Verdict) (refuses : (why : Ope
   not_opened_says stores Write fault = absurd fault
   not_opened_says stores TooLong fault = absurd fault
 
-pub not_opened_plain : (answer : OpenAnswer) (stores : Both) (status : Status) → IsOpenFault status answer → IsPlain (outcome ⊥ ⊥ stores stores) (Cli status)
+pub not_opened_plain : (answer : OpenAnswer) (stores : Both) (status : Status) → IsOpenFault status answer →
+    IsPlainMove (move_outcome ⊥ ⊥ stores stores) (Cli status)
 not_opened_plain answer stores (Document error) fault = by (open_refusal_of error) refl fault
   where
-    by : (o : Option OpenRefusal) → open_refusal_of error ≡ o → IsRefusal o answer → IsPlain (outcome ⊥ ⊥ stores stores) (Cli (Document error))
+    by : (o : Option OpenRefusal) → open_refusal_of error ≡ o → IsRefusal o answer →
+        IsPlainMove (move_outcome ⊥ ⊥ stores stores) (Cli (Document error))
     by None is h = absurd h
     by (Some why) is h = record {
-      told = subst (λ (o : Option OpenRefusal). Tells (outcome ⊥ ⊥ stores stores) (cli (refused_by o))) (sym is) (untouched_self stores);
+      told = subst (λ (o : Option OpenRefusal). TellsOfMove (move_outcome ⊥ ⊥ stores stores) (cli (refused_by o)))
+          (sym is) (untouched_self stores);
       named = λ none. (let both : Some why ≡ None = sym is ∙ none in cc);
     }
 not_opened_plain answer stores OutOfMemory fault = record { told = tt; named = tt }
@@ -151,40 +178,50 @@ not_opened_plain answer stores TooLong fault = absurd fault
 -- an input that was not read
 module _ (input : List ℕ) where
   abbrev Unread : Both → Status → Type 0
-  Unread stores status = RanBy {Z = Global} (text_says stops lines_say input) stores stores (Err (Cli status)) ⊎ (AreUntouched stores stores × Unit {0} × (Cli status ≡ Cli Read))
+  Unread stores status = RanMoveBy {Z = Global} (text_says stops move_lines_say input) stores stores
+      (Err (Cli status)) ⊎ (AreUntouched stores stores × Unit {0} × (Cli status ≡ Cli Read))
 
-  pub not_read : (before now : Told) (stores : Both) (fault : InputFault) → before.left ≡ Some input → IsInputFault before now fault → Unread stores (fault_status fault)
+  pub not_read : (before now : Told) (stores : Both) (fault : InputFault) → before.left ≡ Some input →
+      IsInputFault before now fault → Unread stores (fault_status fault)
   not_read before now stores Fault.Read left is = inr (untouched_self stores, tt, refl)
   not_read before now stores Fault.TooLong left is =
-      inl (stops_by (text_says stops lines_say input) end.too_long stores (Cli TooLong) (fault_said stops lines_say input before now Fault.TooLong left is) refl)
+      inl (stops_by (text_says stops move_lines_say input) end.too_long stores (Cli TooLong)
+      (fault_said stops move_lines_say input before now Fault.TooLong left is) refl)
   not_read before now stores (Fault.NotUtf8 line) left is =
-      inl (stops_by (text_says stops lines_say input) (end.bad_input line) stores (Cli (BadInput line)) (fault_said stops lines_say input before now (Fault.NotUtf8 line) left is) refl)
-  not_read before now stores Fault.OutOfMemory left is = inl (memory_out (text_says stops lines_say input) stores)
+      inl (stops_by (text_says stops move_lines_say input) (end.bad_input line) stores (Cli (BadInput line))
+      (fault_said stops move_lines_say input before now (Fault.NotUtf8 line) left is) refl)
+  not_read before now stores Fault.OutOfMemory left is = inl (memory_out (text_says stops move_lines_say input) stores)
 
 -- an input whose lines were read
-pub input_ran : {Z : Type 0} (input : List ℕ) (lines : List (List ℕ)) (before now : Both) (result : Result (Vec ℕ Z) RechunkStatus) → length input ≤ input_limit → IsUtf8 input → lines ≡ input_lines input →
-    RanBy (lines_say lines) before now result → RanBy (text_says stops lines_say input) before now result
-input_ran input lines before now result within utf8 same ran = subst (λ (v : Verdict). RanBy v before now result) (sym (lines_said stops lines_say input lines within utf8 same)) ran
+pub input_ran : {Z : Type 0} (input : List ℕ) (lines : List (List ℕ)) (before now : Both) (result :
+    Result (Vec ℕ Z) RechunkStatus) → length input ≤ input_limit → IsUtf8 input → lines ≡ input_lines input →
+    RanMoveBy (move_lines_say lines) before now result →
+    RanMoveBy (text_says stops move_lines_say input) before now result
+input_ran input lines before now result within utf8 same ran = subst (λ (v : MoveVerdict).
+    RanMoveBy v before now result) (sym (lines_said stops move_lines_say input lines within utf8 same)) ran
 
 pub always_whole : {T E : Type 0} (P : Type 0) (result : Result T E) → P → OnOk result P
 always_whole P (Ok value) p = p
 always_whole P (Err error) p = tt
 
 -- an input that was not read, unless its bytes are known
-pub input_unread : (before now : Told) (stores : Both) (fault : InputFault) → IsInputFault before now fault → RanInput {Z = Global} (text_says stops lines_say) before now stores stores (Err (Cli (fault_status fault)))
+pub input_unread : (before now : Told) (stores : Both) (fault : InputFault) → IsInputFault before now fault →
+    RanMoveInput {Z = Global} (text_says stops move_lines_say) before now stores stores (Err (Cli (fault_status fault)))
 input_unread before now stores fault is = record {
   ran = λ input left. not_read input before now stores fault left is;
   whole = λ input left. tt;
 }
 
-pub not_read_plain : (before now : Told) (stores : Both) (fault : InputFault) → IsInputFault before now fault → IsPlain (outcome ⊥ (Rose before.faults now.faults) stores stores) (Cli (fault_status fault))
+pub not_read_plain : (before now : Told) (stores : Both) (fault : InputFault) → IsInputFault before now fault →
+    IsPlainMove (move_outcome ⊥ (Rose before.faults now.faults) stores stores) (Cli (fault_status fault))
 not_read_plain before now stores Fault.Read is = record { told = (is, untouched_self stores); named = tt }
 not_read_plain before now stores Fault.TooLong is = record { told = untouched_self stores; named = tt }
 not_read_plain before now stores (Fault.NotUtf8 line) is = record { told = untouched_self stores; named = tt }
 not_read_plain before now stores Fault.OutOfMemory is = record { told = tt; named = tt }
 
 -- what is told with less known is told
-wider_told : (bad read_failed : Type 0) (before now : Both) (ending : MoveEnding) → Tells (outcome ⊥ ⊥ before now) ending → Tells (outcome bad read_failed before now) ending
+wider_told : (bad read_failed : Type 0) (before now : Both) (ending : MoveEnding) →
+    TellsOfMove (move_outcome ⊥ ⊥ before now) ending → TellsOfMove (move_outcome bad read_failed before now) ending
 wider_told bad read_failed before now (cli end.done) told = told
 wider_told bad read_failed before now (cli end.bad_words) told = absurd told.0
 wider_told bad read_failed before now (cli (end.bad_input line)) told = told
@@ -197,9 +234,12 @@ wider_told bad read_failed before now (cli end.too_long) told = told
 wider_told bad read_failed before now (cli end.out_of_memory) told = tt
 wider_told bad read_failed before now (refused why) told = tt
 
-pub wider_plain : {Z : Type 0} (bad read_failed : Type 0) (before now : Both) (result : Result (Vec ℕ Z) RechunkStatus) → IfErr result (IsPlain (outcome ⊥ ⊥ before now)) → IfErr result (IsPlain (outcome bad read_failed before now))
+pub wider_plain :
+    {Z : Type 0} (bad read_failed : Type 0) (before now : Both) (result : Result (Vec ℕ Z) RechunkStatus) → IfErr result
+    (IsPlainMove (move_outcome ⊥ ⊥ before now)) → IfErr result (IsPlainMove (move_outcome bad read_failed before now))
 wider_plain bad read_failed before now (Ok text) plain = tt
-wider_plain bad read_failed before now (Err status) plain = record { told = wider_told bad read_failed before now (move_ending_of status) plain.told; named = plain.named }
+wider_plain bad read_failed before now (Err status) plain =
+    record { told = wider_told bad read_failed before now (move_ending_of status) plain.told; named = plain.named }
 
 -- whatever stops a move does so early
 one_stop : (a b : Ending) → stops a ≡ stops b → a ≡ b
@@ -211,29 +251,37 @@ no_stop move told e = cc
 early_as : (a told : Ending) → stops a ≡ stops told → end.IsBeforeStore a → end.IsBeforeStore told
 early_as a told e early = subst end.IsBeforeStore (one_stop a told e) early
 
-keys_early : (source target : ArrayDocument) (lines : List (List ℕ)) (told : Ending) → keys_say source target lines ≡ stops told → end.IsBeforeStore told
+keys_early : (source target : ArrayDocument) (lines : List (List ℕ)) (told : Ending) →
+    keys_say source target lines ≡ stops told → end.IsBeforeStore told
 keys_early source target lines told e = by (nat_lt (length (first_entries lines)) (length lines)) e
   where
-    by : (b : Bool) → cond b (stops (end.bad_input (length (first_entries lines) + 3))) (moves (move_of source target (first_entries lines))) ≡ stops told → end.IsBeforeStore told
+    by : (b : Bool) → cond b (stops (end.bad_input (length (first_entries lines) + 3)))
+        (moves (move_of source target (first_entries lines))) ≡ stops told → end.IsBeforeStore told
     by true e = early_as _ told e tt
     by false e = absurd (no_stop _ told e)
 
-target_early : (source : ArrayDocument) (answer : OpenAnswer) (lines : List (List ℕ)) (told : Ending) → target_says source answer lines ≡ stops told → end.IsBeforeStore told
+target_early : (source : ArrayDocument) (answer : OpenAnswer) (lines : List (List ℕ)) (told : Ending) →
+    target_says source answer lines ≡ stops told → end.IsBeforeStore told
 target_early source (not_opened why) lines told e = early_as _ told e tt
 target_early source (opened target) lines told e = keys_early source target lines told e
 
-source_early : (answer : OpenAnswer) (lines : List (List ℕ)) (told : Ending) → source_says answer lines ≡ stops told → end.IsBeforeStore told
+source_early : (answer : OpenAnswer) (lines : List (List ℕ)) (told : Ending) → source_says answer lines ≡ stops told →
+    end.IsBeforeStore told
 source_early (not_opened why) lines told e = early_as _ told e tt
 source_early (opened source) lines told e = target_early source (open_builtin (first_line lines)) (drop 1 lines) told e
 
-text_early : (input : List ℕ) (told : Ending) → text_says stops lines_say input ≡ stops told → end.IsBeforeStore told
+text_early : (input : List ℕ) (told : Ending) → text_says stops move_lines_say input ≡ stops told →
+    end.IsBeforeStore told
 text_early input told e = by (nat_lt input_limit (length input)) (nat_lt (utf8_valid_len input) (length input)) e
   where
-    by : (long bad : Bool) → cond long (stops end.too_long) (cond bad (stops (end.bad_input (line_at input (utf8_valid_len input)))) (lines_say (input_lines input))) ≡ stops told → end.IsBeforeStore told
+    by : (long bad : Bool) → cond long (stops end.too_long)
+        (cond bad (stops (end.bad_input (line_at input (utf8_valid_len input)))) (move_lines_say (input_lines input))) ≡
+        stops told → end.IsBeforeStore told
     by true bad e = early_as _ told e tt
     by false true e = early_as _ told e tt
     by false false e = source_early (open_builtin (first_line (input_lines input))) (drop 1 (input_lines input)) told e
 
-pub verdict_early : (words : List (List ℕ)) (input : List ℕ) (told : Ending) → verdict words input ≡ stops told → end.IsBeforeStore told
+pub verdict_early : (words : List (List ℕ)) (input : List ℕ) (told : Ending) → move_verdict words input ≡ stops told →
+    end.IsBeforeStore told
 verdict_early [] input told e = text_early input told e
 verdict_early (word ∷ words) input told e = early_as _ told e tt

@@ -1,6 +1,10 @@
 -- One band that is moved.
-use Rattle.std.specs.Prelude.{◌≡◌, ◌≤◌, true, false, ℕ, List, [], ◌∷◌, length, Some, None, IsSome}
-use Rattle.zarr_model.specs.Prelude.{Region, count, Element, Kind, kind, ArrayBytes, array_bytes, meaning, has_long_element, Options, Description, layout, IsHonest, read, write, refusal, answered, answered_done, Shown, SameOtherKeys, counted, chunks_meeting, is_among, IsChunk, Content, ServesArray, chunk_content, SeesNoDamage}
+use Rattle.std.specs.Prelude.{◌≡◌, ◌≤◌, true, false, ℕ, List, [], ◌∷◌, length, slice_get, Some, None, IsSome}
+use Rattle.zarr_model.specs.Prelude.{Region, count, Element, Kind, kind, ArrayBytes, array_bytes, meaning}
+use Rattle.zarr_model.specs.Prelude.{has_long_element, Options, Description, layout, IsHonest, read, write, refusal}
+use Rattle.zarr_model.specs.Prelude.{answered, answered_done, Shown, SameOtherKeys, counted, chunks_meeting, is_among}
+use Rattle.zarr_model.specs.Prelude.{IsChunk, Content, ServesArray, chunk_content, SeesNoDamage, region_refusal}
+use Rattle.zarrs_storage.specs.Store.{SameContent}
 use Rattle.zarr_rechunk.specs.Moved.{DecodesOrStays, DecodedOrStays}
 
 -- what one reading of a band did, which gave these bytes
@@ -53,6 +57,23 @@ pub record HasMovedBand (source target : Description) (options : Options) (band 
   pub got : HasReadBand source options band bytes from_before from_now
   pub clear : AreCleared (kind source) bytes cleared
   pub put : HasWrittenBand target options band cleared to_before to_now
+
+-- a band may be moved: the arrays are alike, and the target accepts it
+pub record IsMovable (source target : Description) (band : Region) : Type 0 where
+  pub alike : AreAlike source target
+  pub accepted : region_refusal target band ≡ None
+
+-- each band of a list may be
+pub record AreMovable (source target : Description) (list : List Region) : Type 0 where
+  pub alike : AreAlike source target
+  pub accepted : (k : ℕ) (band : Region) → slice_get list k ≡ Some band →
+      region_refusal target band ≡ None
+
+-- what reading a store leaves however it ends: it holds what it held, and had no writing call
+pub record IsOnlyRead (before now : Shown) : Type 0 where
+  pub same : SameContent before now
+  pub later : before.faults ≤ now.faults
+  pub puts : now.puts ≡ before.puts
 
 -- what writing a band leaves however it ends: the other keys are as they were, and the store is
 -- honest where it was

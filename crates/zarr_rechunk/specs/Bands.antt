@@ -1,8 +1,7 @@
 -- Bands of an array: what its chunks cover that have one first index.
 use Rattle.std.specs.Prelude.{ℕ, ◌-◌, ◌==◌, Bool, min, if◌then◌else◌, List, [], ◌∷◌, length, map, replicate}
 use Rattle.std.specs.List.{list_any, range_with_len}
-use Rattle.zarr_model.specs.Region.{Span, Region, whole, share_tuple}
-use Rattle.zarr_model.specs.Grid.{Grid}
+use Rattle.zarrs_codec_traits.specs.Prelude.{Span, Region, whole, share_tuple, Grid}
 
 -- the part of a span below a length
 abbrev pub span_inside : ℕ → Span → Span

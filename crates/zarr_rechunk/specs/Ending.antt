@@ -1,6 +1,6 @@
 -- How moving an array ends, and what the sink is given then.
 use Rattle.std.specs.Prelude.{◌≡◌, ◌⊎◌, ℕ, List, ◌++◌, codes, Option, Some}
-use Rattle.zarr_cli_runs.specs.lines.Text.{line_of}
+use Rattle.zarr_cli_lines.specs.Text.{line_of}
 use Rattle.zarr_cli_runs.specs.Ending.{Ending, ending_code, ending_line, IsBeforeStore}
 use Rattle.zarr_cli_runs.specs.Ending as end
 use Rattle.zarr_cli_runs.specs.Status.{ending_of}
@@ -36,10 +36,10 @@ move_ending_of (Cli status) = cli (ending_of status)
 move_ending_of (Refused why) = refused why
 
 -- an ending is this one, or want of memory, which is free
-abbrev pub IsOrMemory : MoveEnding → MoveEnding → Type 0
-IsOrMemory ending called_for = (ending ≡ called_for) ⊎ (ending ≡ cli end.out_of_memory)
+abbrev pub IsMoveOrMemory : MoveEnding → MoveEnding → Type 0
+IsMoveOrMemory ending called_for = (ending ≡ called_for) ⊎ (ending ≡ cli end.out_of_memory)
 
 -- an ending by the words, the reading or the input, before a store is touched
-abbrev pub IsEarly : MoveEnding → Type 0
-IsEarly (cli ending) = IsBeforeStore ending
-IsEarly (refused why) = ⊥
+abbrev pub IsEarlyMove : MoveEnding → Type 0
+IsEarlyMove (cli ending) = IsBeforeStore ending
+IsEarlyMove (refused why) = ⊥

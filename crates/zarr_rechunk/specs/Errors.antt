@@ -1,6 +1,6 @@
 -- The errors of moving an array, by those of its two arrays.
-use Rattle.zarr_array.specs.regions.declared.error.SessionErrorKind.{SessionErrorKind}
-use Rattle.zarr_array.specs.regions.declared.error.SessionErrorKind.TheVariants as session
+use Rattle.zarr_array.specs.declared.command_error.SessionErrorKind.{SessionErrorKind}
+use Rattle.zarr_array.specs.declared.command_error.SessionErrorKind.TheVariants as session
 use Rattle.zarr_rechunk.specs.declared.error.RechunkErrorKind.{RechunkErrorKind}
 use Rattle.zarr_rechunk.specs.declared.error.RechunkErrorKind.TheVariants as rechunk
 

@@ -1,16 +1,19 @@
 -- Why an array is not moved, and what is then left.
 use Rattle.std.specs.Prelude.{◌≡◌, ◌⊎◌, ℕ, Bool, true, false, List, slice_get, Option, Some, None}
 use Rattle.std.specs.List.{list_any}
-use Rattle.zarr_model.specs.Prelude.{Region, count, kind, fixed_size, is_too_large, chunks_meeting, chunk_content, Options, Content, Description, layout, Shown, Rose}
+use Rattle.zarr_model.specs.Prelude.{Region, count, kind, fixed_size, is_too_large, chunks_meeting, chunk_content}
+use Rattle.zarr_model.specs.Prelude.{Options, Content, Description, layout, Shown, Rose}
 use Rattle.zarr_array.specs.parts.Document.{ArrayDocument, describe}
-use Rattle.zarr_array.specs.regions.Told.{TellsWhy}
-use Rattle.zarr_array.specs.regions.declared.error.SessionErrorKind.TheVariants.{ChunkDecode}
+use Rattle.zarr_array.specs.Told.{TellsWhy}
+use Rattle.zarr_array.specs.declared.command_error.SessionErrorKind.TheVariants.{ChunkDecode}
 use Rattle.zarr_rechunk.specs.Bands.{bands}
 use Rattle.zarr_rechunk.specs.Moved.{AreMoved}
 use Rattle.zarr_rechunk.specs.Band.{AreAlike, StaysOutside}
 use Rattle.zarr_rechunk.specs.declared.error.RechunkError.{RechunkError}
 use Rattle.zarr_rechunk.specs.declared.error.RechunkErrorKind.{RechunkErrorKind}
-use Rattle.zarr_rechunk.specs.declared.error.RechunkErrorKind.TheVariants.{ShapeMismatch, DataTypeMismatch, BandTooLarge, SourceChunk, SourceStore, TargetChunk, TargetStore, OutOfMemory}
+use Rattle.zarr_rechunk.specs.declared.error.RechunkErrorKind.TheVariants.{ShapeMismatch, DataTypeMismatch}
+use Rattle.zarr_rechunk.specs.declared.error.RechunkErrorKind.TheVariants.{BandTooLarge, SourceChunk, SourceStore}
+use Rattle.zarr_rechunk.specs.declared.error.RechunkErrorKind.TheVariants.{TargetChunk, TargetStore, OutOfMemory}
 
 -- a key is that of a chunk that a region meets, and whose value does not decode
 pub record IsDamagedIn (array : Description) (options : Options) (region : Region)
@@ -71,11 +74,11 @@ pub record FailsAtBand (source target : ArrayDocument) (options : Options) (list
   pub cause : BandFails source target options band from_before from_now to_before to_now kind
 
 -- whether a region has too many elements or bytes to be in memory, and whether one of several has
-abbrev pub is_large : Description → Region → Bool
-is_large array region = is_too_large (fixed_size (kind array)) (count region)
+abbrev pub is_large_band : Description → Region → Bool
+is_large_band array region = is_too_large (fixed_size (kind array)) (count region)
 
 abbrev pub has_large : Description → List Region → Bool
-has_large array list = list_any (is_large array) list
+has_large array list = list_any (is_large_band array) list
 
 -- an array may be moved into another: their shapes and data types are the same, and no band of the
 -- target is too large

@@ -5,6 +5,7 @@ pub mod Moved
 pub mod Band
 pub mod Errors
 pub mod Fails
+pub mod Whole
 pub mod Ending
 pub mod Written
 pub mod Input

@@ -1,6 +1,8 @@
 -- Bands of an array that were moved from one store to another.
 use Rattle.std.specs.Prelude.{◌≡◌, ◌≤◌, ◌⊎◌, ℕ, List, [], ◌∷◌, length, take, sum_by, slice_get, true, Some, IsSome}
-use Rattle.zarr_model.specs.Prelude.{Region, Element, Array, Grid, IsChunk, chunks_meeting, is_among, chunk_content, Options, Description, layout, IsHonest, Means, Content, SameOtherKeys, Shown, counted, elements_in, written, read, reply, SeesNoDamage}
+use Rattle.zarr_model.specs.Prelude.{Region, Element, Array, Grid, IsChunk, chunks_meeting, is_among, chunk_content}
+use Rattle.zarr_model.specs.Prelude.{Options, Description, layout, IsHonest, Means, Content, SameOtherKeys, Shown}
+use Rattle.zarr_model.specs.Prelude.{counted, elements_in, written, read, reply, SeesNoDamage}
 
 -- an array with the elements of another one at the tuples of some regions
 abbrev pub with_regions : {E : Type 0} → Array E → List Region → Array E → Array E

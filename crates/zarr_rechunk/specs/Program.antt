@@ -1,11 +1,12 @@
 -- What a move of an array prints, leaves and owes.
 use Rattle.std.specs.Prelude.{◌≡◌, ◌⊎◌, ℕ, ◌+◌, List, [], length, filter, slice_get, Some, true, false}
-use Rattle.zarr_model.specs.Prelude.{Region, Element, Array, Options, Content, Shown, Told, Given, Rose, counted, with_keys, chunks, layout, IsHonest, Means, SameOtherKeys, SetsSome, IsUntouched}
+use Rattle.zarr_model.specs.Prelude.{Region, Element, Array, Options, Content, Shown, Told, Given, Rose, counted}
+use Rattle.zarr_model.specs.Prelude.{with_keys, chunks, layout, IsHonest, Means, SameOtherKeys, SetsSome, IsUntouched}
 use Rattle.zarr_cli_runs.specs.array.parts.Document.{describe}
 use Rattle.zarr_cli_runs.specs.Ending.{IsGiven, IsGivenFront, IsGivenLine}
 use Rattle.zarr_cli_runs.specs.Ending as end
 use Rattle.zarr_cli_runs.specs.Keys.{IsDump, IsDumpAsks}
-use Rattle.zarr_cli_parts.specs.Lines.{with_entries}
+use Rattle.zarr_cli.specs.Lines.{with_entries}
 use Rattle.zarr_rechunk.specs.declared.error.RechunkErrorKind.{RechunkErrorKind}
 use Rattle.zarr_rechunk.specs.declared.error.RechunkErrorKind.TheVariants as kind
 use Rattle.zarr_rechunk.specs.declared.status.RechunkRefusal.{RechunkRefusal}
@@ -13,8 +14,8 @@ use Rattle.zarr_rechunk.specs.declared.status.RechunkRefusal.TheVariants.{ShapeM
 use Rattle.zarr_rechunk.specs.Bands.{bands, meets_band}
 use Rattle.zarr_rechunk.specs.Moved.{chunks_of_each, in_description, MeetsNone}
 use Rattle.zarr_rechunk.specs.Fails.{MayMove, IsUnbegun, IsDamagedIn}
-use Rattle.zarr_rechunk.specs.Ending.{MoveEnding, cli, refused, move_line, IsOrMemory, IsEarly}
-use Rattle.zarr_rechunk.specs.Input.{Move, Verdict, moves, stops}
+use Rattle.zarr_rechunk.specs.Ending.{MoveEnding, cli, refused, move_line, IsMoveOrMemory, IsEarlyMove}
+use Rattle.zarr_rechunk.specs.Input.{Move, MoveVerdict, moves, stops}
 
 -- what a source, a sink and two stores show to the contract of the program
 pub record SeenBoth : Type 0 where
@@ -104,11 +105,11 @@ pub record HasDamage (move : Move) (from to : Content) (key : List ℕ) : Type 0
 
 -- what a move owes, by what the words and the input say, over a source that tells its bytes, which
 -- are the input
-pub record AnswersMove (verdict : Verdict) (before now : SeenBoth) (ending : MoveEnding)
+pub record AnswersMove (verdict : MoveVerdict) (before now : SeenBoth) (ending : MoveEnding)
     : Type 0 where
   -- where they stop it, it ends so, but for want of memory or of a source that failed
   pub stopped : (told : end.Ending) → verdict ≡ stops told →
-      ¬ Rose before.source.faults now.source.faults → IsOrMemory ending (cli told)
+      ¬ Rose before.source.faults now.source.faults → IsMoveOrMemory ending (cli told)
   -- and both stores are as before
   pub kept : (told : end.Ending) → verdict ≡ stops told →
       IsUntouched before.from now.from × IsUntouched before.to now.to
@@ -131,7 +132,7 @@ pub record AnswersMove (verdict : Verdict) (before now : SeenBoth) (ending : Mov
       × IsUnmoved move before.from now.from before.to now.to
   pub exactly_refused : (move : Move) → verdict ≡ moves move → (why : RechunkRefusal) →
       IsRefusedMove move why → ¬ Rose before.source.faults now.source.faults →
-      ¬ Rose before.from.faults now.from.faults → IsOrMemory ending (refused why)
+      ¬ Rose before.from.faults now.from.faults → IsMoveOrMemory ending (refused why)
   -- a damaged chunk is one that a band meets, and all key lines are set then
   pub chunk : (key : List ℕ) → ending ≡ cli (end.damaged_chunk key) → (move : Move)
       × (verdict ≡ moves move) × MayBeMoved move
@@ -142,7 +143,7 @@ pub record AnswersMove (verdict : Verdict) (before now : SeenBoth) (ending : Mov
       IsHonestSource move before.from.content → IsHonestTarget move before.to.content →
       ¬ Rose before.source.faults now.source.faults → ¬ Rose before.sink.faults now.sink.faults →
       ¬ Rose before.from.faults now.from.faults → ¬ Rose before.to.faults now.to.faults →
-      IsOrMemory ending (cli end.done)
+      IsMoveOrMemory ending (cli end.done)
   -- whatever the ending, in the source's store nothing but key lines is set, the first of them, and
   -- the next one perhaps
   pub set : (move : Move) → verdict ≡ moves move →
@@ -158,7 +159,7 @@ pub record EndsMoved (words : List (List ℕ)) (before now : SeenBoth) (ending :
     : Type 0 where
   -- any word is answered as a bad one, but for want of memory, and nothing is read
   pub bad_words : ending ≡ cli end.bad_words → ¬ (words ≡ [])
-  pub exactly_words : ¬ (words ≡ []) → IsOrMemory ending (cli end.bad_words)
+  pub exactly_words : ¬ (words ≡ []) → IsMoveOrMemory ending (cli end.bad_words)
   pub unread : ¬ (words ≡ []) → now.source ≡ before.source
   pub unstored : ¬ (words ≡ []) → IsUntouched before.from now.from × IsUntouched before.to now.to
   -- a fault from outside is answered only where its count rose
@@ -169,4 +170,4 @@ pub record EndsMoved (words : List (List ℕ)) (before now : SeenBoth) (ending :
   -- on an early end the sink was given its line, or a front of it where the sink failed
   pub line : IsGivenLine (move_line ending) before.sink now.sink
   -- where the words, the reading or the input decided, both stores are as before
-  pub untouched : IsEarly ending → IsUntouched before.from now.from × IsUntouched before.to now.to
+  pub untouched : IsEarlyMove ending → IsUntouched before.from now.from × IsUntouched before.to now.to

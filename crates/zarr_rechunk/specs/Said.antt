@@ -1,11 +1,11 @@
 -- What a move comes to, by what its lines, its input and its words say, before its text is written.
 use Rattle.std.specs.Prelude.{◌≡◌, ◌⊎◌, ℕ, ◌+◌, ◌<◌, List, [], length, Vec, Result, IfOk, IfErr, OnOk, Some, None}
 use Rattle.zarr_model.specs.Prelude.{Shown, Told, Rose, IsUntouched, layout, SameOtherKeys, SetsSome}
-use Rattle.zarr_cli_runs.specs.lines.Text.{first_entries}
+use Rattle.zarr_cli_lines.specs.Text.{first_entries}
 use Rattle.zarr_cli_runs.specs.array.parts.Document.{ArrayDocument, describe}
 use Rattle.zarr_cli_runs.specs.array.parts.OpenError.{open_refusal_of}
 use Rattle.zarr_cli_runs.specs.Ending.{Ending}
-use Rattle.zarr_cli_runs.specs.Ending as end
+use Rattle.zarr_cli.specs.Outcome.{Outcome, TellsEarly}
 use Rattle.zarr_cli_runs.specs.declared.status.Status.{Status}
 use Rattle.zarr_rechunk.specs.declared.error.RechunkErrorKind.{RechunkErrorKind}
 use Rattle.zarr_rechunk.specs.declared.error.RechunkErrorKind.TheVariants as kind
@@ -14,8 +14,9 @@ use Rattle.zarr_rechunk.specs.declared.status.RechunkRefusal.TheVariants.{ShapeM
 use Rattle.zarr_rechunk.specs.declared.status.RechunkStatus.{RechunkStatus}
 use Rattle.zarr_rechunk.specs.declared.status.RechunkStatus.TheVariants.{Cli, Refused}
 use Rattle.zarr_rechunk.specs.Ending.{MoveEnding, cli, refused, move_ending_of}
-use Rattle.zarr_rechunk.specs.Input.{Move, Verdict, moves, stops}
-use Rattle.zarr_rechunk.specs.Program.{move_options, source_content, IsUnmoved, IsMoved, IsRefusedMove, MayBeMoved, HasDamage, IsHonestSource, IsHonestTarget}
+use Rattle.zarr_rechunk.specs.Input.{Move, MoveVerdict, moves, stops}
+use Rattle.zarr_rechunk.specs.Program.{move_options, source_content, IsUnmoved, IsMoved, IsRefusedMove, MayBeMoved}
+use Rattle.zarr_rechunk.specs.Program.{HasDamage, IsHonestSource, IsHonestTarget}
 
 -- what both stores show
 pub record Both : Type 0 where
@@ -63,7 +64,7 @@ abbrev pub AreUntouched : Both → Both → Type 0
 AreUntouched before now = IsUntouched before.from now.from × IsUntouched before.to now.to
 
 -- both stores are as before, and the move was stopped by this ending, or memory ran out
-pub record Stopped {Z : Type 0} (told : Ending) (before now : Both)
+pub record StoppedMove {Z : Type 0} (told : Ending) (before now : Both)
     (result : Result (Vec ℕ Z) RechunkStatus) : Type 0 where
   pub untouched : AreUntouched before now
   pub failed : OnOk result ⊥
@@ -71,43 +72,27 @@ pub record Stopped {Z : Type 0} (told : Ending) (before now : Both)
       (move_ending_of status ≡ cli told) ⊎ (status ≡ Cli Status.OutOfMemory))
 
 -- what was moved, by what was said
-abbrev pub RanBy : {Z : Type 0} → Verdict → Both → Both → Result (Vec ℕ Z) RechunkStatus → Type 0
-RanBy (moves move) before now result = RanMove move before now result
-RanBy (stops told) before now result = Stopped told before now result
+abbrev pub RanMoveBy : {Z : Type 0} → MoveVerdict → Both → Both → Result (Vec ℕ Z) RechunkStatus → Type 0
+RanMoveBy (moves move) before now result = RanMove move before now result
+RanMoveBy (stops told) before now result = StoppedMove told before now result
 
 -- where a source tells its bytes, what was moved by what they say, unless it failed
-pub record RanInput {Z : Type 0} (says : List ℕ → Verdict) (source_before source_now : Told)
+pub record RanMoveInput {Z : Type 0} (says : List ℕ → MoveVerdict) (source_before source_now : Told)
     (before now : Both) (result : Result (Vec ℕ Z) RechunkStatus) : Type 0 where
   pub ran : (input : List ℕ) → source_before.left ≡ Some input →
-      RanBy (says input) before now result
+      RanMoveBy (says input) before now result
       ⊎ (AreUntouched before now × OnOk result ⊥
       × IfErr result (λ status. status ≡ Cli Status.Read))
   pub whole : (input : List ℕ) → source_before.left ≡ Some input →
       OnOk result (source_now.left ≡ Some [])
 
--- what holds of an early ending over any source: a type says whether the words are bad, others
--- whether the source and a store failed, and that the stores are as before
-pub record Outcome : Type 1 where
-  pub bad : Type 0
-  pub read_failed : Type 0
-  pub store_failed : Type 0
-  pub untouched : Type 0
+-- what an early ending of a move tells
+abbrev pub TellsOfMove : Outcome → MoveEnding → Type 0
+TellsOfMove o (cli ending) = TellsEarly o ending
+TellsOfMove o (refused why) = Unit {0}
 
-abbrev pub Tells : Outcome → MoveEnding → Type 0
-Tells o (cli end.done) = ⊥
-Tells o (cli end.bad_words) = o.bad × o.untouched
-Tells o (cli (end.bad_input line)) = o.untouched
-Tells o (cli (end.refused_document why)) = o.untouched
-Tells o (cli (end.damaged_chunk key)) = Unit {0}
-Tells o (cli end.store_fault) = o.store_failed
-Tells o (cli end.read_fault) = o.read_failed × o.untouched
-Tells o (cli end.write_fault) = ⊥
-Tells o (cli end.too_long) = o.untouched
-Tells o (cli end.out_of_memory) = Unit {0}
-Tells o (refused why) = Unit {0}
-
-abbrev pub outcome : Type 0 → Type 0 → Both → Both → Outcome
-outcome bad read_failed before now = record {
+abbrev pub move_outcome : Type 0 → Type 0 → Both → Both → Outcome
+move_outcome bad read_failed before now = record {
   bad = bad;
   read_failed = read_failed;
   store_failed = Rose before.from.faults now.from.faults ⊎ Rose before.to.faults now.to.faults;
@@ -115,15 +100,15 @@ outcome bad read_failed before now = record {
 }
 
 -- a status that holds no want of memory under another name
-abbrev pub IsNamed : RechunkStatus → Type 0
-IsNamed (Cli (Status.Document error)) = ¬ (open_refusal_of error ≡ None)
-IsNamed (Cli _) = Unit {0}
-IsNamed (Refused why) = Unit {0}
+abbrev pub IsNamedMove : RechunkStatus → Type 0
+IsNamedMove (Cli (Status.Document error)) = ¬ (open_refusal_of error ≡ None)
+IsNamedMove (Cli _) = Unit {0}
+IsNamedMove (Refused why) = Unit {0}
 
 -- a status whose ending tells so, under its own name
-pub record IsPlain (o : Outcome) (status : RechunkStatus) : Type 0 where
-  pub told : Tells o (move_ending_of status)
-  pub named : IsNamed status
+pub record IsPlainMove (o : Outcome) (status : RechunkStatus) : Type 0 where
+  pub told : TellsOfMove o (move_ending_of status)
+  pub named : IsNamedMove status
 
 -- the status of an array that was not moved
 abbrev pub status_of : RechunkErrorKind → RechunkStatus

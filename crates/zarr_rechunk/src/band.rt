@@ -1,15 +1,13 @@
 //! One band of an array, moved.
 
-ghost use Rattle.std.specs.Prelude.{◌≡◌, ◌≤◌, None, IfOk, IfErr, OnOk};
-ghost use Rattle.zarr_model.specs.Prelude.{region_refusal, refusal, write};
-ghost use Rattle.zarrs_array_subset.specs.ArraySubset.{region as region_of};
-ghost use Rattle.zarrs_storage.specs.Store.{SameContent};
-ghost use Rattle.zarrs_codec_array_bytes.specs.Raw.{raw_of};
-ghost use Rattle.zarrs_codec_array_bytes.specs.Steps.{kind_seen};
-ghost use Rattle.zarrs_codec_traits.specs.Views.{options_of};
-ghost use Rattle.zarr_array.specs.OpenArray.{documented, described};
+ghost use Rattle.std.specs.Prelude.{◌≡◌, None, IfOk, IfErr, OnOk};
+ghost use Rattle.zarrs_codec_traits.specs.Prelude.{region_refusal, refusal, write};
+ghost use Rattle.zarrs_codec_traits.specs.Prelude.{region as region_of, raw_of};
+ghost use Rattle.zarrs_codec_traits.specs.Prelude.{kind_seen, options_of};
+ghost use Rattle.zarr_array.specs.OpenArray.{documented, described_array};
 ghost use Rattle.zarr_rechunk.specs.Cleared.{AreElements};
-ghost use Rattle.zarr_rechunk.specs.Band.{HasReadBand, HasWrittenBand, AreCleared, AreAlike, HasMovedBand, LeavesBand, StaysOutside};
+ghost use Rattle.zarr_rechunk.specs.Band.{HasReadBand, HasWrittenBand, AreCleared, IsMovable, HasMovedBand};
+ghost use Rattle.zarr_rechunk.specs.Band.{IsOnlyRead, LeavesBand, StaysOutside};
 ghost use Rattle.zarr_rechunk.specs.Fails.{ReadFails, WriteFails, BandFails};
 
 use crate::clear::clear_nulls;
@@ -28,11 +26,10 @@ fn read_band<S: Store>(
     from: &mut S,
     options: &CodecOptions,
 ) -> Result<ArrayBytes<'static>, RechunkErrorKind>
-    requires { region_refusal (described source.now) (region_of band.now) ≡ None }
-    ensures read { IfOk result (λ bytes. HasReadBand (described source.now) (options_of options.now)
+    requires { region_refusal (described_array source.now) (region_of band.now) ≡ None }
+    ensures read { IfOk result (λ bytes. HasReadBand (described_array source.now) (options_of options.now)
         (region_of band.now) (raw_of bytes) (S.shown from.old) (S.shown from.new)) }
-    ensures same { SameContent (S.shown from.old) (S.shown from.new) }
-    ensures later { (S.shown from.old).faults ≤ (S.shown from.new).faults }
+    ensures source { IsOnlyRead (S.shown from.old) (S.shown from.new) }
     ensures kept { S.kept from.old from.new }
     ensures fails { IfErr result (ReadFails (documented source.now) (options_of options.now)
         (region_of band.now) (S.shown from.old) (S.shown from.new)) }
@@ -70,13 +67,13 @@ fn write_band<T: Store>(
     to: &mut T,
     options: &CodecOptions,
 ) -> Result<(), RechunkErrorKind>
-    requires { refusal (described target.now) (write (region_of band.now) (raw_of bytes.now))
+    requires { refusal (described_array target.now) (write (region_of band.now) (raw_of bytes.now))
         ≡ None }
-    ensures written { OnOk result (HasWrittenBand (described target.now) (options_of options.now)
+    ensures written { OnOk result (HasWrittenBand (described_array target.now) (options_of options.now)
         (region_of band.now) (raw_of bytes.now) (T.shown to.old) (T.shown to.new)) }
-    ensures left { LeavesBand (described target.now) (options_of options.now)
+    ensures left { LeavesBand (described_array target.now) (options_of options.now)
         (T.shown to.old) (T.shown to.new) }
-    ensures rest { StaysOutside (described target.now) (region_of band.now)
+    ensures rest { StaysOutside (described_array target.now) (region_of band.now)
         (T.shown to.old).content (T.shown to.new).content }
     ensures fails { IfErr result (WriteFails (documented target.now) (options_of options.now)
         (region_of band.now) (T.shown to.old) (T.shown to.new)) }
@@ -99,17 +96,16 @@ pub(crate) fn move_band<S: Store, T: Store>(
     to: &mut T,
     options: &CodecOptions,
 ) -> Result<(), RechunkErrorKind>
-    requires alike { AreAlike (described source.now) (described target.now) }
-    requires accepted { region_refusal (described target.now) (region_of band.now) ≡ None }
-    ensures moved { OnOk result (HasMovedBand (described source.now) (described target.now)
+    requires { IsMovable (described_array source.now) (described_array target.now)
+        (region_of band.now) }
+    ensures moved { OnOk result (HasMovedBand (described_array source.now) (described_array target.now)
         (options_of options.now) (region_of band.now) (S.shown from.old) (S.shown from.new)
         (T.shown to.old) (T.shown to.new)) }
-    ensures same { SameContent (S.shown from.old) (S.shown from.new) }
-    ensures later { (S.shown from.old).faults ≤ (S.shown from.new).faults }
+    ensures source { IsOnlyRead (S.shown from.old) (S.shown from.new) }
     ensures kept { S.kept from.old from.new }
-    ensures left { LeavesBand (described target.now) (options_of options.now)
+    ensures left { LeavesBand (described_array target.now) (options_of options.now)
         (T.shown to.old) (T.shown to.new) }
-    ensures rest { StaysOutside (described target.now) (region_of band.now)
+    ensures rest { StaysOutside (described_array target.now) (region_of band.now)
         (T.shown to.old).content (T.shown to.new).content }
     ensures fails { IfErr result (BandFails (documented source.now) (documented target.now)
         (options_of options.now) (region_of band.now) (S.shown from.old) (S.shown from.new)

@@ -2,17 +2,15 @@
 
 ghost use Rattle.std.specs.Prelude.{◌≡◌, ◌==◌, ◌-◌, ◌∷◌, [], min, ℕ, List, false, length, map, replicate, IfOk};
 ghost use Rattle.std.specs.List.{list_any, range_with_len};
-ghost use Rattle.zarr_model.specs.Region.{whole, starts, sizes};
-ghost use Rattle.zarr_model.specs.Grid.{IsChunk};
-ghost use Rattle.zarrs_array_subset.specs.ArraySubset.{region};
+ghost use Rattle.zarrs_codec_traits.specs.Prelude.{whole, starts, sizes, IsChunk, region};
 ghost use Rattle.zarrs_array_subset.specs.Boxes.{region_of_ranges};
 ghost use Rattle.zarr_rechunk.specs.Bands.{span_inside, first_span, first_length, band, bands};
-ghost use Rattle.zarr_rechunk.specs.Spans.{span_of};
+ghost use Rattle.zarr_rechunk.specs.Spans.{range_span};
 
 use std::alloc::{AllocError, Global};
 use std::ops::Range;
 use zarrs_array_subset::ArraySubset;
-use zarrs_chunk_grid_traits::{ChunkGridError, ChunkGridTraits};
+use zarrs_chunk_grid::{ChunkGridError, ChunkGridTraits};
 
 // The first of some numbers, or 0 where there is none.
 fn first_of(numbers: &[u64]) -> u64
@@ -76,7 +74,7 @@ fn length_of<G: ChunkGridTraits>(alloc: Global, grid: &G, chunk: &[u64]) -> Resu
 
 // The part of a span below a length.
 fn range_inside(start: u64, size: u64, length: u64) -> Range<u64>
-    ensures { span_of result ≡ span_inside length (record { start = start; size = size }) }
+    ensures { range_span result ≡ span_inside length (record { start = start; size = size }) }
 {
     let from = start.min(length);
     from..from + size.min(length - from)
@@ -84,7 +82,7 @@ fn range_inside(start: u64, size: u64, length: u64) -> Range<u64>
 
 // A span, and all of some more dimensions.
 fn box_over(alloc: Global, first: Range<u64>, shape: &[u64]) -> Result<ArraySubset, AllocError>
-    ensures { IfOk result (λ subset. region subset ≡ span_of first ∷ whole shape.now) }
+    ensures { IfOk result (λ subset. region subset ≡ range_span first ∷ whole shape.now) }
 {
     let mut ranges = Vec::new(alloc);
     ranges.push(first)?;

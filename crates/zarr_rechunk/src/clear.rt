@@ -1,12 +1,9 @@
 //! Elements under masks, cleared where they are null.
 
 ghost use Rattle.std.specs.Prelude.{◌≡◌, ◌<◌, ◌+◌, ◌*◌, ◌^◌, ◌++◌, ◌∷◌, [], true, Some, None, ℕ, List, length, flat_map, IfOk, OnOk};
-ghost use Rattle.zarr_model.specs.Element.{Element};
-ghost use Rattle.zarr_model.specs.ArrayBytes.{ends_from, meaning, array_bytes};
+ghost use Rattle.zarrs_codec_traits.specs.Prelude.{Element, ends_from, meaning, array_bytes};
+ghost use Rattle.zarrs_codec_traits.specs.Prelude.{raw_of, kind_seen, lengths_refusal};
 ghost use Rattle.zarrs_codec_slices.specs.Picking.{are_within};
-ghost use Rattle.zarrs_codec_array_bytes.specs.Raw.{raw_of};
-ghost use Rattle.zarrs_codec_array_bytes.specs.Steps.{kind_seen};
-ghost use Rattle.zarrs_codec_array_bytes.specs.Refusals.{lengths_refusal};
 ghost use Rattle.zarr_rechunk.specs.Cleared.{kept_piece, kept_value, kept_flag, pieces_under, values_under, mask_under, under_mask, cleared, fit_masks, AreElements};
 
 use std::alloc::{AllocError, Global};
@@ -15,7 +12,7 @@ use zarrs_codec_array_bytes::array_bytes::bytes_in;
 use zarrs_codec_array_bytes::array_bytes::step::element_size;
 use zarrs_codec_array_bytes::{ArrayBytes, ArrayBytesVariableLength};
 use zarrs_codec_slices::values::value_at;
-use zarrs_data_type_names::DataType;
+use zarrs_data_type::DataType;
 
 // Appends an element of one size, or as many zero bytes where it is null.
 fn push_piece(cleared: &mut Vec<u8>, flag: u8, piece: &[u8]) -> Result<(), AllocError>

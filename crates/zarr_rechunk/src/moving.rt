@@ -1,13 +1,10 @@
 //! Bands of an array, moved one after another.
 
-ghost use Rattle.std.specs.Prelude.{◌≡◌, ◌≤◌, ℕ, length, map, slice_get, Some, None, OnOk, IfErr};
-ghost use Rattle.zarr_model.specs.Prelude.{Region, region_refusal};
-ghost use Rattle.zarrs_array_subset.specs.ArraySubset.{region as region_of};
-ghost use Rattle.zarrs_storage.specs.Store.{SameContent};
-ghost use Rattle.zarrs_codec_traits.specs.Views.{options_of};
-ghost use Rattle.zarr_array.specs.OpenArray.{documented, described};
+ghost use Rattle.std.specs.Prelude.{length, map, OnOk, IfErr};
+ghost use Rattle.zarrs_codec_traits.specs.Prelude.{region as region_of, options_of};
+ghost use Rattle.zarr_array.specs.OpenArray.{documented, described_array};
 ghost use Rattle.zarr_rechunk.specs.Moved.{AreMoved};
-ghost use Rattle.zarr_rechunk.specs.Band.{AreAlike, LeavesBand};
+ghost use Rattle.zarr_rechunk.specs.Band.{AreMovable, IsOnlyRead, LeavesBand};
 ghost use Rattle.zarr_rechunk.specs.Fails.{FailsAtBand};
 
 use crate::band::move_band;
@@ -27,17 +24,14 @@ pub(crate) fn move_bands<S: Store, T: Store>(
     to: &mut T,
     options: &CodecOptions,
 ) -> Result<(), RechunkError>
-    requires alike { AreAlike (described source.now) (described target.now) }
-    requires accepted { (k : ℕ) (band : Region) →
-        slice_get (map region_of bands.now) k ≡ Some band →
-        region_refusal (described target.now) band ≡ None }
-    ensures moved { OnOk result (AreMoved (described source.now) (described target.now)
+    requires { AreMovable (described_array source.now) (described_array target.now)
+        (map region_of bands.now) }
+    ensures moved { OnOk result (AreMoved (described_array source.now) (described_array target.now)
         (options_of options.now) (map region_of bands.now) (length bands.now)
         (S.shown from.old) (S.shown from.new) (T.shown to.old) (T.shown to.new)) }
-    ensures same { SameContent (S.shown from.old) (S.shown from.new) }
-    ensures later { (S.shown from.old).faults ≤ (S.shown from.new).faults }
+    ensures source { IsOnlyRead (S.shown from.old) (S.shown from.new) }
     ensures kept { S.kept from.old from.new }
-    ensures left { LeavesBand (described target.now) (options_of options.now)
+    ensures left { LeavesBand (described_array target.now) (options_of options.now)
         (T.shown to.old) (T.shown to.new) }
     ensures fails { IfErr result (λ error. FailsAtBand (documented source.now)
         (documented target.now) (options_of options.now) (map region_of bands.now)

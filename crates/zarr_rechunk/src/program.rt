@@ -1,30 +1,29 @@
 //! The program that moves an array: two documents and key lines in, the keys of the array's new store out.
 
 ghost use Rattle.std.specs.Prelude.{◌≡◌, ◌≤◌, true, List, ℕ, [], length, map, drop, string_bytes, Some, Err, IfOk, IfErr, OnOk};
-ghost use Rattle.zarr_model.specs.Prelude.{Rose, counted};
-ghost use Rattle.zarrs_storage.specs.Store.{SameContent};
+ghost use Rattle.zarrs_codec_traits.specs.Prelude.{Rose, counted, SameContent};
 ghost use Rattle.zarr_array.specs.OpenArray.{documented};
 ghost use Rattle.zarr_cli_lines.specs.Text.{first_entries};
 ghost use Rattle.zarr_cli_lines.specs.Parts.{entry_view};
 ghost use Rattle.zarr_cli_runs.specs.Keys.{IsDump, IsDumpAsks, IsDumpFault};
 ghost use Rattle.zarr_cli_runs.specs.declared.status.Status.TheVariants.{BadWords};
-ghost use Rattle.zarr_cli_parts.specs.Status.{words_of};
+ghost use Rattle.zarr_cli.specs.Status.{words_of};
 ghost use Rattle.zarr_rechunk.specs.declared.status.RechunkStatus.TheVariants.{Cli};
 ghost use Rattle.zarr_rechunk.specs.Ending.{move_ending_of};
-ghost use Rattle.zarr_rechunk.specs.Input.{stops, key_lines, keys_say, target_lines_say, lines_say, verdict};
-ghost use Rattle.zarr_cli_parts.specs.Input.{text_says};
+ghost use Rattle.zarr_rechunk.specs.Input.{stops, key_lines, keys_say, target_lines_say, move_lines_say, move_verdict};
+ghost use Rattle.zarr_cli.specs.Input.{text_says};
 ghost use Rattle.zarr_rechunk.specs.Program.{seen_both, AnswersMove, EndsMoved};
-ghost use Rattle.zarr_rechunk.specs.Said.{both, move_of, RanMove, RanBy, RanInput, IsNamed, IsPlain, outcome, status_of, IsKeysFault};
+ghost use Rattle.zarr_rechunk.specs.Said.{both, move_of, RanMove, RanMoveBy, RanMoveInput, IsNamedMove, IsPlainMove, move_outcome, status_of, IsKeysFault};
 
 use crate::error::RechunkErrorKind;
 use crate::status::{RechunkRefusal, RechunkStatus, write_moved};
 use crate::whole::rechunk;
 use std::alloc::{AllocError, Global};
 use zarr_array::{CodecOptions, OpenArray};
+use zarr_cli::lines::{behind_first, fault_status, first_line};
+use zarr_cli::run::set_entries;
+use zarr_cli::{Status, read_lines};
 use zarr_cli_lines::entry::parse_key_line;
-use zarr_cli_parts::lines::{behind_first, fault_status, first_line};
-use zarr_cli_parts::run::set_entries;
-use zarr_cli_parts::{Status, read_lines};
 use zarr_cli_runs::Entry;
 use zarr_cli_runs::keys::push_dump;
 use zarr_cli_runs::opening::open_line;
@@ -150,10 +149,10 @@ fn text_of_lines<S: Store, T: Store>(
     from: &mut S,
     to: &mut T,
 ) -> Result<Vec<u8>, RechunkStatus>
-    ensures ran { RanBy (keys_say (documented source.now) (documented target.now)
+    ensures ran { RanMoveBy (keys_say (documented source.now) (documented target.now)
         (key_lines lines.items)) (both (S.shown from.old) (T.shown to.old))
         (both (S.shown from.new) (T.shown to.new)) result }
-    ensures plain { IfErr result (IsPlain (outcome ⊥ ⊥
+    ensures plain { IfErr result (IsPlainMove (move_outcome ⊥ ⊥
         (both (S.shown from.old) (T.shown to.old)) (both (S.shown from.new) (T.shown to.new)))) }
 {
     match parse_entries(alloc, lines) {
@@ -170,11 +169,11 @@ fn text_of_target<S: Store, T: Store>(
     from: &mut S,
     to: &mut T,
 ) -> Result<Vec<u8>, RechunkStatus>
-    ensures ran { RanBy (target_lines_say (documented source.now)
+    ensures ran { RanMoveBy (target_lines_say (documented source.now)
         (drop 1 (map string_bytes lines.items)))
         (both (S.shown from.old) (T.shown to.old))
         (both (S.shown from.new) (T.shown to.new)) result }
-    ensures plain { IfErr result (IsPlain (outcome ⊥ ⊥
+    ensures plain { IfErr result (IsPlainMove (move_outcome ⊥ ⊥
         (both (S.shown from.old) (T.shown to.old)) (both (S.shown from.new) (T.shown to.new)))) }
 {
     match open_line(alloc, first_line(behind_first(&lines))) {
@@ -190,10 +189,10 @@ fn text_of_source<S: Store, T: Store>(
     from: &mut S,
     to: &mut T,
 ) -> Result<Vec<u8>, RechunkStatus>
-    ensures ran { RanBy (lines_say (map string_bytes lines.items))
+    ensures ran { RanMoveBy (move_lines_say (map string_bytes lines.items))
         (both (S.shown from.old) (T.shown to.old))
         (both (S.shown from.new) (T.shown to.new)) result }
-    ensures plain { IfErr result (IsPlain (outcome ⊥ ⊥
+    ensures plain { IfErr result (IsPlainMove (move_outcome ⊥ ⊥
         (both (S.shown from.old) (T.shown to.old)) (both (S.shown from.new) (T.shown to.new)))) }
 {
     match open_line(alloc, first_line(&lines)) {
@@ -209,10 +208,10 @@ fn text_of_input<R: Source, S: Store, T: Store>(
     from: &mut S,
     to: &mut T,
 ) -> Result<Vec<u8>, RechunkStatus>
-    ensures ran { RanInput (text_says stops lines_say) (R.shown source.old) (R.shown source.new)
+    ensures ran { RanMoveInput (text_says stops move_lines_say) (R.shown source.old) (R.shown source.new)
         (both (S.shown from.old) (T.shown to.old)) (both (S.shown from.new) (T.shown to.new))
         result }
-    ensures plain { IfErr result (IsPlain (outcome (⊥)
+    ensures plain { IfErr result (IsPlainMove (move_outcome (⊥)
         (Rose (R.shown source.old).faults (R.shown source.new).faults)
         (both (S.shown from.old) (T.shown to.old)) (both (S.shown from.new) (T.shown to.new)))) }
 {
@@ -230,10 +229,10 @@ fn text_of_words<R: Source, S: Store, T: Store>(
     from: &mut S,
     to: &mut T,
 ) -> Result<Vec<u8>, RechunkStatus>
-    ensures ran { RanInput (verdict (words_of words.now)) (R.shown source.old) (R.shown source.new)
+    ensures ran { RanMoveInput (move_verdict (words_of words.now)) (R.shown source.old) (R.shown source.new)
         (both (S.shown from.old) (T.shown to.old)) (both (S.shown from.new) (T.shown to.new))
         result }
-    ensures plain { IfErr result (IsPlain (outcome (¬ (words_of words.now ≡ []))
+    ensures plain { IfErr result (IsPlainMove (move_outcome (¬ (words_of words.now ≡ []))
         (Rose (R.shown source.old).faults (R.shown source.new).faults)
         (both (S.shown from.old) (T.shown to.old)) (both (S.shown from.new) (T.shown to.new)))) }
     ensures unread { ¬ (words_of words.now ≡ []) →
@@ -261,7 +260,7 @@ pub fn run_rechunk<R: Source, W: Sink, S: Store, T: Store>(
 ) -> RechunkStatus
     // Over a source that tells its bytes: each answer with its cause, and what it leaves.
     ensures told { (input : List ℕ) → (R.shown source.old).left ≡ Some input →
-        AnswersMove (verdict (words_of words.now) input)
+        AnswersMove (move_verdict (words_of words.now) input)
         (seen_both (R.shown source.old) (W.shown sink.old) (S.shown from.old) (T.shown to.old))
         (seen_both (R.shown source.new) (W.shown sink.new) (S.shown from.new) (T.shown to.new))
         (move_ending_of result) }
@@ -271,7 +270,7 @@ pub fn run_rechunk<R: Source, W: Sink, S: Store, T: Store>(
         (seen_both (R.shown source.new) (W.shown sink.new) (S.shown from.new) (T.shown to.new))
         (move_ending_of result) }
     // Want of memory is told as such.
-    ensures named { IsNamed result }
+    ensures named { IsNamedMove result }
 {
     let output = text_of_words(alloc, words, source, from, to);
     write_moved(alloc, output, sink)

@@ -5,8 +5,8 @@ ghost use Rattle.zarr_rechunk.specs.Ending.{refusal_text, move_code, move_line, 
 ghost use Rattle.zarr_rechunk.specs.Written.{WritesKeys, EndsMove};
 
 use std::alloc::{AllocError, Global};
-use zarr_cli_parts::write::{end_with, write_output};
-use zarr_cli_parts::{Status, write_text};
+use zarr_cli::write::{end_with, write_output};
+use zarr_cli::{Status, write_text};
 use zarrs_storage::Sink;
 
 /// Why an array may not be moved into another.

@@ -1,17 +1,14 @@
 //! An array moved into another store, under another grid and other codecs.
 
-ghost use Rattle.std.specs.Prelude.{◌≡◌, ◌≤◌, ◌↔◌, None, length, map, filter, IsTrue, IfOk, OnOk, IfErr};
+ghost use Rattle.std.specs.Prelude.{◌≡◌, ◌↔◌, None, map, IsTrue, IfOk, OnOk, IfErr};
 ghost use Rattle.std.specs.List.{list_any};
-ghost use Rattle.zarr_model.specs.Prelude.{count, Element, Array, kind_of, fixed_size, is_too_large, chunks, layout, IsHonest, Means, counted, Rose};
-ghost use Rattle.zarrs_array_subset.specs.ArraySubset.{region as region_of};
-ghost use Rattle.zarrs_storage.specs.Store.{SameContent};
-ghost use Rattle.zarrs_data_type_names.specs.DataType.{type_of};
-ghost use Rattle.zarrs_codec_traits.specs.Views.{options_of};
-ghost use Rattle.zarr_array.specs.OpenArray.{documented, described};
-ghost use Rattle.zarr_rechunk.specs.Bands.{bands, meets_band};
-ghost use Rattle.zarr_rechunk.specs.Moved.{chunks_of_each, in_description, RepliesAlike, MeetsNone};
-ghost use Rattle.zarr_rechunk.specs.Band.{LeavesBand};
-ghost use Rattle.zarr_rechunk.specs.Fails.{MayMove, IsUnbegun, FailsToMove};
+ghost use Rattle.zarrs_codec_traits.specs.Prelude.{count, kind_of, fixed_size, is_too_large};
+ghost use Rattle.zarrs_codec_traits.specs.Prelude.{region as region_of, type_of, options_of};
+ghost use Rattle.zarr_array.specs.OpenArray.{documented, described_array};
+ghost use Rattle.zarr_rechunk.specs.Bands.{bands};
+ghost use Rattle.zarr_rechunk.specs.Band.{IsOnlyRead, LeavesBand};
+ghost use Rattle.zarr_rechunk.specs.Fails.{MayMove, IsUnbegun};
+ghost use Rattle.zarr_rechunk.specs.Whole.{HasMovedArray, HasNotMoved};
 
 use crate::bands::bands_of;
 use crate::error::{RechunkError, RechunkErrorKind};
@@ -29,7 +26,7 @@ fn is_same_shape(shape: &[u64], other: &[u64]) -> bool
 }
 
 // Whether two data types are.
-#[tactic(auto, using(zarrs_data_type_names::proofs::SameTypeLaws::same_is))]
+#[tactic(auto, using(zarrs_data_type::proofs::SameTypeLaws::same_is))]
 fn is_same_type(data_type: &DataType, other: &DataType) -> bool
     ensures { IsTrue result ↔ (type_of data_type.now ≡ type_of other.now) }
 {
@@ -70,10 +67,10 @@ fn bands_to_move(
     source: &OpenArray,
     target: &OpenArray,
 ) -> Result<Vec<ArraySubset>, RechunkErrorKind>
-    ensures may { OnOk result (MayMove (described source.now) (described target.now)) }
+    ensures may { OnOk result (MayMove (described_array source.now) (described_array target.now)) }
     ensures bands { IfOk result (λ list. map region_of list.items
-        ≡ bands (described target.now).shape (described target.now).grid) }
-    ensures fails { IfErr result (IsUnbegun (described source.now) (described target.now)) }
+        ≡ bands (described_array target.now).shape (described_array target.now).grid) }
+    ensures fails { IfErr result (IsUnbegun (described_array source.now) (described_array target.now)) }
 {
     if !is_same_shape(source.shape(), target.shape()) {
         return Err(RechunkErrorKind::ShapeMismatch);
@@ -108,66 +105,26 @@ pub fn rechunk<S: Store, T: Store>(
     to: &mut T,
     options: &CodecOptions,
 ) -> Result<(), RechunkError>
-    ensures may { OnOk result (MayMove (described source.now) (described target.now)) }
-
-    // The target means the array of its own shape and fill that has the elements of the source, so each read of the one
-    // has the reply of the other.
-    ensures moves { OnOk result ((array : Array Element) →
-        Means (layout (described source.now) (options_of options.now))
-        (S.shown from.old).content array →
-        IsHonest (layout (described target.now) (options_of options.now))
-        (T.shown to.old).content →
-        Means (layout (described target.now) (options_of options.now))
-        (T.shown to.new).content (in_description (described target.now) array)) }
-    ensures replies { OnOk result (IsHonest (layout (described target.now) (options_of options.now))
-        (T.shown to.old).content →
-        RepliesAlike (described source.now) (described target.now) (options_of options.now)
-        (S.shown from.new).content (T.shown to.new).content) }
-
-    // Over any stores: no read of a band saw damage in the source, and each chunk of the target that a band meets decoded, so
-    // nothing damaged was overwritten.
-    ensures undamaged { OnOk result (MeetsNone (described source.now) (described target.now)
-        (options_of options.now) (bands (described target.now).shape (described target.now).grid)
-        (S.shown from.old).content (T.shown to.old).content) }
-
-    // Each chunk of the source is asked for once for each band that meets it, and each of the target once; there are as many
-    // writing calls as chunks of the target.
-    ensures asked_from { OnOk result ((S.shown from.new).asks ≡ counted (S.shown from.old).asks
-        (chunks_of_each (described source.now).grid
-        (bands (described target.now).shape (described target.now).grid))) }
-    ensures asked_to { OnOk result ((T.shown to.new).asks ≡ counted (T.shown to.old).asks
-        (length (filter (meets_band (described target.now).grid
-        (bands (described target.now).shape (described target.now).grid))
-        (chunks (described target.now).grid)))) }
-    ensures put_to { OnOk result ((T.shown to.new).puts ≡ counted (T.shown to.old).puts
-        (length (filter (meets_band (described target.now).grid
-        (bands (described target.now).shape (described target.now).grid))
-        (chunks (described target.now).grid)))) }
+    // The target means what the source does, so each read of the one has the reply of the other; and each chunk of the
+    // source is asked for once for each band that meets it, each of the target asked for and put once.
+    ensures moved { OnOk result (HasMovedArray (described_array source.now)
+        (described_array target.now) (options_of options.now) (S.shown from.old) (S.shown from.new)
+        (T.shown to.old) (T.shown to.new)) }
 
     // However it ends, the source is as it was and had no writing call, and the other keys of the target are as they were,
     // which is honest where it was.
-    ensures same { SameContent (S.shown from.old) (S.shown from.new) }
-    ensures later { (S.shown from.old).faults ≤ (S.shown from.new).faults }
-    ensures put_from { (S.shown from.new).puts ≡ (S.shown from.old).puts }
+    ensures source { IsOnlyRead (S.shown from.old) (S.shown from.new) }
     ensures kept { S.kept from.old from.new }
-    ensures left { LeavesBand (described target.now) (options_of options.now)
+    ensures left { LeavesBand (described_array target.now) (options_of options.now)
         (T.shown to.old) (T.shown to.new) }
 
     // An error has its cause. Before the first band nothing is touched, and over honest stores that do not fail only
     // memory can be wanting.
-    ensures fails { IfErr result (FailsToMove (documented source.now) (documented target.now)
+    ensures failed { IfErr result (HasNotMoved (documented source.now) (documented target.now)
         (options_of options.now) (S.shown from.old) (S.shown from.new) (T.shown to.old)
         (T.shown to.new)) }
     ensures unbegun { IfErr result (λ error. error.at ≡ None →
         (from.new ≡ from.old) × (to.new ≡ to.old)) }
-    ensures complete { MayMove (described source.now) (described target.now) →
-        IsHonest (layout (described source.now) (options_of options.now))
-        (S.shown from.old).content →
-        IsHonest (layout (described target.now) (options_of options.now))
-        (T.shown to.old).content →
-        ¬ Rose (S.shown from.old).faults (S.shown from.new).faults →
-        ¬ Rose (T.shown to.old).faults (T.shown to.new).faults →
-        IfErr result (λ error. error.kind ≡ RechunkErrorKind.OutOfMemory) }
 {
     match bands_to_move(alloc, source, target) {
         Ok(list) => move_bands(alloc, source, target, &list, from, to, options),

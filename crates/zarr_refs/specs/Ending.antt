@@ -1,11 +1,12 @@
 -- How a run over references ends, and what the sink is given then.
 use Rattle.std.specs.Prelude.{◌≡◌, ◌⊎◌, ℕ, List, ◌++◌, codes, decimal, Option, Some}
-use Rattle.zarr_cli_runs.specs.lines.Text.{line_of}
+use Rattle.zarr_cli_lines.specs.Text.{line_of}
 use Rattle.zarr_cli_runs.specs.Ending.{Ending, ending_code, ending_line, IsBeforeStore}
 use Rattle.zarr_cli_runs.specs.Ending as end
 use Rattle.zarr_cli_runs.specs.Status.{ending_of}
-use Rattle.zarr_refs_store.specs.declared.reference.RefError.{RefError}
-use Rattle.zarr_refs_store.specs.declared.reference.RefError.TheVariants.{RepeatedKey, MissingBase, SliceOutOfBounds, Store, OutOfMemory}
+use Rattle.zarr_refs.specs.declared.reference.RefError.{RefError}
+use Rattle.zarr_refs.specs.declared.reference.RefError.TheVariants.{RepeatedKey, MissingBase, SliceOutOfBounds, Store}
+use Rattle.zarr_refs.specs.declared.reference.RefError.TheVariants.{OutOfMemory}
 use Rattle.zarr_refs.specs.declared.status.RefStatus.{RefStatus}
 use Rattle.zarr_refs.specs.declared.status.RefStatus.TheVariants.{Cli, Reference, ReadOnly}
 
@@ -48,8 +49,8 @@ ref_ending_of (Reference error) = by_reference error
 ref_ending_of (ReadOnly line) = read_only line
 
 -- an ending is this one, or want of memory, which is free
-abbrev pub IsOrMemory : RefEnding → RefEnding → Type 0
-IsOrMemory ending called_for = (ending ≡ called_for) ⊎ (ending ≡ cli end.out_of_memory)
+abbrev pub IsRefOrMemory : RefEnding → RefEnding → Type 0
+IsRefOrMemory ending called_for = (ending ≡ called_for) ⊎ (ending ≡ cli end.out_of_memory)
 
 -- an ending that tells that all key lines were set
 abbrev pub IsBehindKeys : RefEnding → Type 0
@@ -63,12 +64,12 @@ IsBehindKeys (slice_out_of_bounds key) = Unit {0}
 IsBehindKeys (read_only line) = ⊥
 
 -- an ending by the words, the reading or the input, before the store is touched
-abbrev pub IsEarly : RefEnding → Type 0
-IsEarly (cli ending) = IsBeforeStore ending
-IsEarly (repeated_key key) = ⊥
-IsEarly (missing_base key) = ⊥
-IsEarly (slice_out_of_bounds key) = ⊥
-IsEarly (read_only line) = Unit {0}
+abbrev pub IsEarlyRef : RefEnding → Type 0
+IsEarlyRef (cli ending) = IsBeforeStore ending
+IsEarlyRef (repeated_key key) = ⊥
+IsEarlyRef (missing_base key) = ⊥
+IsEarlyRef (slice_out_of_bounds key) = ⊥
+IsEarlyRef (read_only line) = Unit {0}
 
 -- an ending by a reference
 abbrev pub IsByReference : RefEnding → Type 0

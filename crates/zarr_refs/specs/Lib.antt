@@ -1,3 +1,9 @@
+pub mod References
+pub mod Slices
+pub mod RefStore
+pub mod Over
+pub mod Kept
+pub mod Lent
 pub mod Session
 pub mod Lines
 pub mod Ending

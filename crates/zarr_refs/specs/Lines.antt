@@ -1,11 +1,12 @@
 -- The lines of a run over references: a document, key lines, ref lines, and lines that read.
-use Rattle.std.specs.Prelude.{ℕ, ◌+◌, ◌&&◌, Bool, false, if◌then◌else◌, List, [], ◌∷◌, length, map, drop, codes, bytes_eq, Option, Some, None, is_some}
+use Rattle.std.specs.Prelude.{ℕ, ◌+◌, ◌&&◌, Bool, false, if◌then◌else◌, List, [], ◌∷◌, length, map, drop, codes}
+use Rattle.std.specs.Prelude.{bytes_eq, Option, Some, None, is_some}
 use Rattle.std.specs.List.{prefix_len}
 use Rattle.zarrs_plugin.specs.Number.{number_of}
 use Rattle.zarr_model.specs.Prelude.{Kind, Command, is_store_key}
-use Rattle.zarr_array.specs.Command.{is_read}
+use Rattle.zarr_array.specs.boxes.Command.{is_read}
 use Rattle.zarr_cli_lines.specs.Text.{split_at, all_some, line_command, first_entries, lines_after_entries}
-use Rattle.zarr_refs_store.specs.declared.reference.Reference.{Reference}
+use Rattle.zarr_refs.specs.declared.reference.Reference.{Reference}
 
 -- five texts, if they are five
 abbrev pub five_of : List (List ℕ) → Option (List ℕ × List ℕ × List ℕ × List ℕ × List ℕ)

@@ -1,20 +1,21 @@
 -- What reads over references come to before their text is written.
 use Rattle.std.specs.Prelude.{◌≡◌, ◌⊎◌, ℕ, ◌≤◌, List, map, Vec, Result, IfOk, IfErr, OnOk, Some}
-use Rattle.zarr_model.specs.Prelude.{Element, Array, Options, Content, Command, Description, Shown, Rose, replies, SeesNoDamage, IsDamageSeen, SetsSome}
-use Rattle.zarr_cli_runs.specs.lines.Text.{replies_text}
-use Rattle.zarr_array.specs.Command.{command_of}
+use Rattle.zarr_model.specs.Prelude.{Element, Array, Options, Content, Command, Description, Shown, Rose, replies}
+use Rattle.zarr_model.specs.Prelude.{SeesNoDamage, IsDamageSeen, SetsSome}
+use Rattle.zarr_cli_lines.specs.Text.{replies_text}
+use Rattle.zarr_array.specs.boxes.Command.{command_of}
 use Rattle.zarr_cli_runs.specs.Commands.{MeansUndamaged}
 use Rattle.zarr_cli_runs.specs.declared.status.Status.{Status}
 use Rattle.zarr_cli_runs.specs.declared.status.Status.TheVariants as Status
-use Rattle.zarr_cli_parts.specs.Lines.{IsKeyOf}
-use Rattle.zarr_refs_store.specs.declared.reference.RefError.{RefError}
-use Rattle.zarr_refs_store.specs.declared.reference.RefError.TheVariants as RefError
+use Rattle.zarr_cli.specs.Lines.{IsKeyOf}
+use Rattle.zarr_refs.specs.declared.reference.RefError.{RefError}
+use Rattle.zarr_refs.specs.declared.reference.RefError.TheVariants as RefError
 use Rattle.zarr_refs.specs.declared.lines.RefLines.{RefLines}
 use Rattle.zarr_refs.specs.declared.status.RefStatus.{RefStatus}
 use Rattle.zarr_refs.specs.declared.status.RefStatus.TheVariants.{Cli, Reference, ReadOnly}
 use Rattle.zarr_refs.specs.Input.{RefRun, Verdict, runs, stops}
 use Rattle.zarr_refs.specs.Ending.{ref_ending_of}
-use Rattle.zarr_refs.specs.Run.{reference_fault, base_of, AreFit, SeesNone, SeesDamage, IsAllSet, PrintsReads}
+use Rattle.zarr_refs.specs.Run.{reference_fault, base_of, AreFitRefs, SeesNone, SeesDamage, IsAllSet, PrintsReads}
 
 -- the cause of an early end of reads over some content; a type says whether the store failed
 abbrev pub IsReadsFault : Description → Options → List Command → Content → Type 0 → Status → Type 0
@@ -52,7 +53,7 @@ IsRefsFault run before now (Reference error) =
     (reference_fault run.references (base_of run before.content) ≡ Some error)
     × ¬ (error ≡ RefError.Store) × ¬ (error ≡ RefError.OutOfMemory) × IsAllSet run before now
 IsRefsFault run before now (Cli (Status.Chunk key)) =
-    AreFit run before.content × IsAllSet run before now × SeesDamage run before.content key
+    AreFitRefs run before.content × IsAllSet run before now × SeesDamage run before.content key
 IsRefsFault run before now (Cli Status.Store) = Rose before.faults now.faults
 IsRefsFault run before now (Cli Status.OutOfMemory) = Unit {0}
 IsRefsFault run before now (Cli _) = ⊥
@@ -67,7 +68,7 @@ pub record RanRefs {Z : Type 0} (run : RefRun) (before now : Shown)
       reference_fault run.references (base_of run before.content) ≡ Some why →
       ¬ Rose before.faults now.faults →
       IfErr result (λ status. (status ≡ Reference why) ⊎ (status ≡ Cli Status.OutOfMemory))
-  pub complete : AreFit run before.content → SeesNone run before.content →
+  pub complete : AreFitRefs run before.content → SeesNone run before.content →
       ¬ Rose before.faults now.faults →
       IfErr result (λ status. status ≡ Cli Status.OutOfMemory)
   pub set : (n : ℕ) × SetsSome run.entries n before.content now.content

@@ -2,15 +2,16 @@
 -- text is written.
 use Rattle.std.specs.Prelude.{◌≡◌, ◌⊎◌, ℕ, List, [], Vec, Result, IfErr, OnOk, Some, None}
 use Rattle.zarr_model.specs.Prelude.{Shown, Told, Rose, IsUntouched}
-use Rattle.zarr_cli_runs.specs.Ending as end
+use Rattle.zarr_cli.specs.Outcome.{Outcome, TellsEarly}
 use Rattle.zarr_cli_runs.specs.array.parts.OpenError.{open_refusal_of}
 use Rattle.zarr_cli_runs.specs.declared.status.Status.{Status}
 use Rattle.zarr_cli_runs.specs.declared.status.Status.TheVariants as Status
-use Rattle.zarr_refs_store.specs.declared.reference.RefError.{RefError}
-use Rattle.zarr_refs_store.specs.declared.reference.RefError.TheVariants as RefError
+use Rattle.zarr_refs.specs.declared.reference.RefError.{RefError}
+use Rattle.zarr_refs.specs.declared.reference.RefError.TheVariants as RefError
 use Rattle.zarr_refs.specs.declared.status.RefStatus.{RefStatus}
 use Rattle.zarr_refs.specs.declared.status.RefStatus.TheVariants.{Cli, Reference, ReadOnly}
-use Rattle.zarr_refs.specs.Ending.{RefEnding, cli, repeated_key, missing_base, slice_out_of_bounds, read_only, ref_ending_of}
+use Rattle.zarr_refs.specs.Ending.{RefEnding, cli, repeated_key, missing_base, slice_out_of_bounds, read_only}
+use Rattle.zarr_refs.specs.Ending.{ref_ending_of}
 use Rattle.zarr_refs.specs.Input.{Verdict, runs, stops}
 use Rattle.zarr_refs.specs.Reads.{RanRefs}
 
@@ -43,25 +44,9 @@ pub record RanInput {Z : Type 0} (says : List ℕ → Verdict) (source_before so
   pub whole : (input : List ℕ) → source_before.left ≡ Some input →
       OnOk result (source_now.left ≡ Some [])
 
--- what holds of an early ending over any source: a type says whether the words are bad, others
--- whether the source and the store failed, and that the store is as before
-pub record Outcome : Type 1 where
-  pub bad : Type 0
-  pub read_failed : Type 0
-  pub store_failed : Type 0
-  pub untouched : Type 0
-
+-- what an early ending of a run over references tells
 abbrev pub Tells : Outcome → RefEnding → Type 0
-Tells o (cli end.done) = ⊥
-Tells o (cli end.bad_words) = o.bad × o.untouched
-Tells o (cli (end.bad_input line)) = o.untouched
-Tells o (cli (end.refused_document why)) = o.untouched
-Tells o (cli (end.damaged_chunk key)) = Unit {0}
-Tells o (cli end.store_fault) = o.store_failed
-Tells o (cli end.read_fault) = o.read_failed × o.untouched
-Tells o (cli end.write_fault) = ⊥
-Tells o (cli end.too_long) = o.untouched
-Tells o (cli end.out_of_memory) = Unit {0}
+Tells o (cli ending) = TellsEarly o ending
 Tells o (repeated_key key) = Unit {0}
 Tells o (missing_base key) = Unit {0}
 Tells o (slice_out_of_bounds key) = Unit {0}
@@ -76,6 +61,6 @@ outcome bad read_failed before now = record {
 }
 
 -- a status whose ending tells so, under its own name
-pub record IsPlain (o : Outcome) (status : RefStatus) : Type 0 where
+pub record IsPlainRef (o : Outcome) (status : RefStatus) : Type 0 where
   pub told : Tells o (ref_ending_of status)
   pub named : IsNamed status

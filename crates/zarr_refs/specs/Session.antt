@@ -1,10 +1,11 @@
 -- Sessions of commands that read.
-use Rattle.std.specs.Prelude.{ℕ, suc, if◌then◌else◌, List, [], ◌∷◌, Vec, Option, Some, None, option_map, MatchOption, Result, Ok, Err, IfErr}
+use Rattle.std.specs.Prelude.{ℕ, suc, if◌then◌else◌, List, [], ◌∷◌, Vec, Option, Some, None, option_map, MatchOption}
+use Rattle.std.specs.Prelude.{Result, Ok, Err, IfErr}
 use Rattle.zarr_model.specs.Prelude.{Command, Options, Shown}
-use Rattle.zarr_array.specs.Command.{is_read, region_at}
+use Rattle.zarr_array.specs.boxes.Command.{is_read, region_at}
 use Rattle.zarr_array.specs.Ended.{Ended, ended}
-use Rattle.zarr_array.specs.declared.command.Reply.{Reply}
-use Rattle.zarr_array.specs.regions.Told.{TellsWhy}
+use Rattle.zarr_array.specs.boxes.declared.command.Reply.{Reply}
+use Rattle.zarr_array.specs.Told.{TellsWhy}
 use Rattle.zarr_array.specs.parts.Document.{ArrayDocument}
 use Rattle.zarr_refs.specs.declared.error.RefSessionError.{RefSessionError}
 use Rattle.zarr_refs.specs.declared.error.RefSessionError.TheVariants.{ReadOnly, Session}

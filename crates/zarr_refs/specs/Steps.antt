@@ -3,11 +3,12 @@ use Rattle.std.specs.Prelude.{◌≡◌, ℕ, ◌<◌, Bool, true, false, List, 
 use Rattle.zarr_model.specs.Prelude.{Kind}
 use Rattle.zarr_cli_lines.specs.Text.{all_some, first_entries}
 use Rattle.zarr_cli_lines.specs.Parts.{entry_view}
-use Rattle.zarr_array.specs.Command.{command_of}
+use Rattle.zarr_array.specs.boxes.Command.{command_of}
 use Rattle.zarr_refs.specs.declared.lines.RefLines.{RefLines}
 use Rattle.zarr_refs.specs.declared.lines.RefLineError.{RefLineError}
 use Rattle.zarr_refs.specs.declared.lines.RefLineError.TheVariants.{OutOfForm, ReadOnly, OutOfMemory}
-use Rattle.zarr_refs.specs.Lines.{line_references, lines_after_references, line_read, reads_of, good_reads, changes_first, good_ref_lines}
+use Rattle.zarr_refs.specs.Lines.{line_references, lines_after_references, line_read, reads_of, good_reads}
+use Rattle.zarr_refs.specs.Lines.{changes_first, good_ref_lines}
 
 -- lines are of their form, and this is what they say
 pub record SaysRefs (kind : Kind) (lines : List (List ℕ)) (parsed : RefLines) : Type 0 where

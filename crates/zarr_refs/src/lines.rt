@@ -3,17 +3,17 @@
 ghost use Rattle.std.specs.Prelude.{◌≡◌, map, string_bytes, Some, IfOk, IfErr, option_map};
 ghost use Rattle.zarrs_codec_array_bytes.specs.Steps.{kind_seen};
 ghost use Rattle.zarr_cli_lines.specs.Text.{all_some, split_at};
-ghost use Rattle.zarr_cli_runs.specs.array.Command.{command_of};
+ghost use Rattle.zarr_array.specs.boxes.Command.{command_of};
 ghost use Rattle.zarr_refs.specs.Lines.{five_of, reference_of_line, first_references, that_reads, line_read};
 ghost use Rattle.zarr_refs.specs.Steps.{SaysRefs, IsRefLineFault, IsReadFault, stop_after};
 
+use crate::Reference;
 use std::alloc::{AllocError, AllocFailed, Global};
 use thiserror::Error;
-use zarr_cli_elements::parts::cut;
+use zarr_cli_lines::element_parts::cut;
 use zarr_cli_lines::parse::first_entries;
 use zarr_cli_runs::{Command, Entry, parse_command_line};
-use zarr_refs_store::Reference;
-use zarrs_data_type_names::DataType;
+use zarrs_data_type::DataType;
 use zarrs_plugin::parse_number;
 use zarrs_storage::StoreKey;
 

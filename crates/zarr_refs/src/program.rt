@@ -1,13 +1,12 @@
 //! The program over references: words, a document, key lines, references and reads in, the replies of the array out.
 
 ghost use Rattle.std.specs.Prelude.{◌≡◌, List, ℕ, map, string_bytes, Some, None, Err, IfErr, option_map};
-ghost use Rattle.zarrs_codec_traits.specs.Views.{options_of};
-ghost use Rattle.zarr_array.specs.OpenArray.{described};
-ghost use Rattle.zarr_cli_parts.specs.Status.{words_of};
-ghost use Rattle.zarr_cli_parts.specs.Seen.{seen};
-ghost use Rattle.zarr_model.specs.Prelude.{Rose};
-ghost use Rattle.zarr_refs.specs.Input.{word_options, lines_say, all_lines_say, input_says, verdict};
-ghost use Rattle.zarr_refs.specs.Said.{RanBy, RanInput, IsNamed, IsPlain, outcome};
+ghost use Rattle.zarrs_codec_traits.specs.Prelude.{options_of, Rose};
+ghost use Rattle.zarr_array.specs.OpenArray.{described_array};
+ghost use Rattle.zarr_cli.specs.Status.{words_of};
+ghost use Rattle.zarr_cli.specs.Seen.{seen};
+ghost use Rattle.zarr_refs.specs.Input.{word_options, ref_lines_say, all_lines_say, input_says_refs, verdict};
+ghost use Rattle.zarr_refs.specs.Said.{RanBy, RanInput, IsNamed, IsPlainRef, outcome};
 ghost use Rattle.zarr_refs.specs.Ending.{ref_ending_of};
 ghost use Rattle.zarr_refs.specs.declared.status.RefStatus.TheVariants.{Cli};
 ghost use Rattle.zarr_cli_runs.specs.declared.status.Status.TheVariants.{BadWords};
@@ -18,8 +17,8 @@ use crate::run::run_ref_lines;
 use crate::status::{RefStatus, write_refs};
 use std::alloc::Global;
 use zarr_array::{CodecOptions, OpenArray, Store};
-use zarr_cli_parts::lines::{behind_first, fault_status, first_line};
-use zarr_cli_parts::{Status, read_lines};
+use zarr_cli::lines::{behind_first, fault_status, first_line};
+use zarr_cli::{Status, read_lines};
 use zarr_cli_runs::opening::open_line;
 use zarrs_storage::{Sink, Source};
 
@@ -43,9 +42,9 @@ fn text_of_lines<S: Store>(
     options: &CodecOptions,
     store: &mut S,
 ) -> Result<Vec<u8>, RefStatus>
-    ensures ran { RanBy (lines_say (described array.now) (options_of options.now)
+    ensures ran { RanBy (ref_lines_say (described_array array.now) (options_of options.now)
         (map string_bytes lines.now)) (S.shown store.old) (S.shown store.new) result }
-    ensures plain { IfErr result (IsPlain (outcome ⊥ ⊥ (S.shown store.old) (S.shown store.new))) }
+    ensures plain { IfErr result (IsPlainRef (outcome ⊥ ⊥ (S.shown store.old) (S.shown store.new))) }
 {
     match parse_ref_lines(alloc, lines, array.data_type()) {
         Ok(parsed) => run_ref_lines(alloc, array, &parsed, store, options),
@@ -68,7 +67,7 @@ fn text_of_document<S: Store>(
 ) -> Result<Vec<u8>, RefStatus>
     ensures ran { RanBy (all_lines_say (options_of options.now) (map string_bytes lines.now))
         (S.shown store.old) (S.shown store.new) result }
-    ensures plain { IfErr result (IsPlain (outcome ⊥ ⊥ (S.shown store.old) (S.shown store.new))) }
+    ensures plain { IfErr result (IsPlainRef (outcome ⊥ ⊥ (S.shown store.old) (S.shown store.new))) }
 {
     match open_line(alloc, first_line(lines)) {
         Ok(array) => text_of_lines(alloc, &array, behind_first(lines), options, store),
@@ -83,9 +82,9 @@ fn text_of_input<R: Source, S: Store>(
     source: &mut R,
     store: &mut S,
 ) -> Result<Vec<u8>, RefStatus>
-    ensures ran { RanInput (input_says (options_of options.now)) (R.shown source.old)
+    ensures ran { RanInput (input_says_refs (options_of options.now)) (R.shown source.old)
         (R.shown source.new) (S.shown store.old) (S.shown store.new) result }
-    ensures plain { IfErr result (IsPlain (outcome ⊥
+    ensures plain { IfErr result (IsPlainRef (outcome ⊥
         (Rose (R.shown source.old).faults (R.shown source.new).faults)
         (S.shown store.old) (S.shown store.new))) }
 {
@@ -104,7 +103,7 @@ fn text_of_words<R: Source, S: Store>(
 ) -> Result<Vec<u8>, RefStatus>
     ensures ran { RanInput (verdict (words_of words.now)) (R.shown source.old)
         (R.shown source.new) (S.shown store.old) (S.shown store.new) result }
-    ensures plain { IfErr result (IsPlain (outcome (word_options (words_of words.now) ≡ None)
+    ensures plain { IfErr result (IsPlainRef (outcome (word_options (words_of words.now) ≡ None)
         (Rose (R.shown source.old).faults (R.shown source.new).faults)
         (S.shown store.old) (S.shown store.new))) }
     ensures unread { word_options (words_of words.now) ≡ None →

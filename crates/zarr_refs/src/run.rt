@@ -1,22 +1,20 @@
 //! Reads over slices of the values of a store: key lines, references, and then the reads.
 
 ghost use Rattle.std.specs.Prelude.{◌≡◌, ◌≤◌, true, ℕ, List, [], map};
-ghost use Rattle.zarr_model.specs.Prelude.{Rose};
-ghost use Rattle.zarrs_storage.specs.Store.{SameContent};
-ghost use Rattle.zarrs_codec_traits.specs.Views.{options_of};
-ghost use Rattle.zarr_array.specs.OpenArray.{described};
-ghost use Rattle.zarr_array.specs.Command.{command_of, AreReads};
+ghost use Rattle.zarrs_codec_traits.specs.Prelude.{Rose, SameContent, options_of};
+ghost use Rattle.zarr_array.specs.OpenArray.{described_array};
+ghost use Rattle.zarr_array.specs.boxes.Command.{command_of, AreReads};
 ghost use Rattle.zarr_cli_lines.specs.Parts.{entry_view};
-ghost use Rattle.zarr_refs_store.specs.Slices.{slice_at, held_by, is_within};
+ghost use Rattle.zarr_refs.specs.Slices.{slice_at, slice_held, is_slice_within};
 ghost use Rattle.zarr_refs.specs.Reads.{ReadsBack, RanRefs, run_of};
 
 use crate::lines::RefLines;
 use crate::status::RefStatus;
+use crate::{RefError, RefStore, Slices, slices_in};
 use std::alloc::Global;
 use zarr_array::{CodecOptions, Command, OpenArray, Store};
-use zarr_cli_parts::Status;
-use zarr_cli_parts::run::{set_entries, text_of_commands};
-use zarr_refs_store::{RefError, RefStore, Slices, slices_in};
+use zarr_cli::Status;
+use zarr_cli::run::{set_entries, text_of_commands};
 use zarrs_storage::StorageError;
 
 // Runs reads over slices of the values of a store, and gives the text of their replies.
@@ -29,11 +27,11 @@ fn text_of_reads<S: Store>(
     options: &CodecOptions,
 ) -> Result<Vec<u8>, Status>
     requires within { (key : List ℕ) →
-        is_within (S.shown store.old).content (slice_at slices key) ≡ true }
+        is_slice_within (S.shown store.old).content (slice_at slices key) ≡ true }
     requires reads { AreReads (map command_of reads.now) }
-    ensures back { ReadsBack (described array.now) (options_of options.now)
+    ensures back { ReadsBack (described_array array.now) (options_of options.now)
         (map command_of reads.now)
-        (λ key. held_by (S.shown store.old).content (slice_at slices key))
+        (λ key. slice_held (S.shown store.old).content (slice_at slices key))
         (Rose (S.shown store.old).faults (S.shown store.new).faults) result }
     ensures same { SameContent (S.shown store.old) (S.shown store.new) }
     ensures puts { (S.shown store.new).puts ≡ (S.shown store.old).puts }
@@ -54,7 +52,7 @@ fn text_of_references<S: Store>(
     options: &CodecOptions,
 ) -> Result<Vec<u8>, RefStatus>
     requires reads { AreReads (map command_of lines.now.reads.items) }
-    ensures { RanRefs (run_of (described array.now) (options_of options.now) [] lines.now)
+    ensures { RanRefs (run_of (described_array array.now) (options_of options.now) [] lines.now)
         (S.shown store.old) (S.shown store.new) result }
 {
     let slices = match slices_in(alloc, store, &lines.references) {
@@ -78,7 +76,7 @@ pub(crate) fn run_ref_lines<S: Store>(
     options: &CodecOptions,
 ) -> Result<Vec<u8>, RefStatus>
     requires reads { AreReads (map command_of lines.now.reads.items) }
-    ensures { RanRefs (run_of (described array.now) (options_of options.now)
+    ensures { RanRefs (run_of (described_array array.now) (options_of options.now)
         (map entry_view lines.now.entries.items) lines.now)
         (S.shown store.old) (S.shown store.new) result }
 {

@@ -1,7 +1,7 @@
 //! Sessions of commands that read, over a store of slices.
 
 ghost use Rattle.std.specs.Prelude.{◌≡◌, map, ℕ, List, Some, None, Err};
-ghost use Rattle.zarr_array.specs.Command.{command_of};
+ghost use Rattle.zarr_array.specs.boxes.Command.{command_of};
 ghost use Rattle.zarr_array.specs.Ended.{ended};
 ghost use Rattle.zarr_array.specs.Runs.{Runs};
 ghost use Rattle.zarr_array.specs.Session.{EndsUnopened};
@@ -9,18 +9,17 @@ ghost use Rattle.zarr_array.specs.Taken.{TakesAlone};
 ghost use Rattle.zarr_array.specs.parts.Document.{ArrayDocument, describe};
 ghost use Rattle.zarr_array.specs.parts.Opening.{OpenRefusal, opened, not_opened, open_document};
 ghost use Rattle.zarr_array.specs.parts.basics.Registries.{names_of};
-ghost use Rattle.zarrs_codec_traits.specs.Views.{options_of};
-ghost use Rattle.zarrs_storage.specs.Store.{SameContent};
-ghost use Rattle.zarr_refs_store.specs.Over.{shown_of};
-ghost use Rattle.zarr_refs_store.specs.Lent.{over_of};
-ghost use Rattle.zarr_refs_store.specs.Kept.{Keeps};
+ghost use Rattle.zarrs_codec_traits.specs.Prelude.{options_of, SameContent};
+ghost use Rattle.zarr_refs.specs.Over.{over_shown};
+ghost use Rattle.zarr_refs.specs.Lent.{over_of};
+ghost use Rattle.zarr_refs.specs.Kept.{KeepsOver};
 ghost use Rattle.zarr_refs.specs.Session.{first_change, session_ended, IsSession, TellsError};
 ghost use Rattle.zarr_refs.specs.declared.error.RefSessionError.TheVariants.{ReadOnly};
 
+use crate::RefStore;
 use crate::error::RefSessionError;
 use std::alloc::Global;
 use zarr_array::{CodecOptions, Command, Registries, Reply, SessionError, Store, run_session};
-use zarr_refs_store::RefStore;
 
 // The number of the first command that writes or erases.
 #[tactic(auto, using(crate::proofs::ChangeLaws::none_before, crate::proofs::ChangeLaws::one_more, crate::proofs::ChangeLaws::is_first, crate::proofs::ChangeLaws::none_at_all))]
@@ -57,27 +56,27 @@ pub fn run_ref_session<S: Store>(
     // Else it is a session: of a text that is not opened, or of the array that its document describes.
     ensures not_opened { first_change (map command_of commands.now) ≡ None → (why : OpenRefusal) →
         open_document (names_of registries.now) metadata.now ≡ not_opened why →
-        IsSession result (EndsUnopened why (shown_of (over_of S.Store store.old))
-        (shown_of (over_of S.Store store.new))) }
+        IsSession result (EndsUnopened why (over_shown (over_of S.Store store.old))
+        (over_shown (over_of S.Store store.new))) }
     ensures runs { first_change (map command_of commands.now) ≡ None → (document : ArrayDocument) →
         open_document (names_of registries.now) metadata.now ≡ opened document →
         IsSession result (Runs (describe document) (options_of options.now)
-        (map command_of commands.now) (shown_of (over_of S.Store store.old))
-        (shown_of (over_of S.Store store.new))) }
+        (map command_of commands.now) (over_shown (over_of S.Store store.old))
+        (over_shown (over_of S.Store store.new))) }
     ensures taken { first_change (map command_of commands.now) ≡ None → (document : ArrayDocument) →
         open_document (names_of registries.now) metadata.now ≡ opened document →
         IsSession result (TakesAlone document (options_of options.now)
-        (map command_of commands.now) (shown_of (over_of S.Store store.old))
-        (shown_of (over_of S.Store store.new))) }
+        (map command_of commands.now) (over_shown (over_of S.Store store.old))
+        (over_shown (over_of S.Store store.new))) }
     ensures told { first_change (map command_of commands.now) ≡ None → (document : ArrayDocument) →
         open_document (names_of registries.now) metadata.now ≡ opened document →
         IsSession result (TellsError document (options_of options.now)
-        (map command_of commands.now) (shown_of (over_of S.Store store.new))) }
+        (map command_of commands.now) (over_shown (over_of S.Store store.new))) }
 
     // However it ends, the slices are the same, and their base holds what it held.
-    ensures kept { Keeps (over_of S.Store store.old) (over_of S.Store store.new) }
-    ensures same { SameContent (shown_of (over_of S.Store store.old))
-        (shown_of (over_of S.Store store.new)) }
+    ensures kept { KeepsOver (over_of S.Store store.old) (over_of S.Store store.new) }
+    ensures same { SameContent (over_shown (over_of S.Store store.old))
+        (over_shown (over_of S.Store store.new)) }
 {
     match first_change(commands) {
         Some(command) => Err(RefSessionError::ReadOnly { command }),

@@ -4,10 +4,10 @@ ghost use Rattle.std.specs.Prelude.{◌≡◌, IfOk, IfSome, MatchResult, string
 ghost use Rattle.zarr_refs.specs.Ending.{ref_code, ref_line, ref_ending_of, by_reference};
 ghost use Rattle.zarr_refs.specs.Written.{WritesRefs, EndsRef};
 
+use crate::RefError;
 use std::alloc::{AllocError, Global};
-use zarr_cli_parts::write::{end_with, write_output};
-use zarr_cli_parts::{Status, status_line, write_text};
-use zarr_refs_store::RefError;
+use zarr_cli::write::{end_with, write_output};
+use zarr_cli::{Status, status_line, write_text};
 use zarrs_storage::Sink;
 
 /// How a run over references ends.

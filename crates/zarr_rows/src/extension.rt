@@ -2,7 +2,7 @@
 
 use std::alloc::{AllocError, Global};
 use zarrs_metadata::laws::read_again;
-use zarrs_metadata::{MetadataError, MetadataV3};
+use zarrs_metadata::{EmptyConfiguration, MetadataError, MetadataV3, ToConfigurationFault};
 
 // How an extension is written.
 fn written(alloc: Global, extension: &MetadataV3) -> Result<String, AllocError> {
@@ -17,11 +17,24 @@ fn written_again(alloc: Global, extension: &MetadataV3) -> Result<String, Metada
     Ok(written(alloc, &again)?)
 }
 
+// That its configuration is the empty one, or a copy of the error that it is not.
+fn emptied(alloc: Global, extension: &MetadataV3) -> Result<String, AllocError> {
+    let empty: Result<EmptyConfiguration, ToConfigurationFault> = extension.to_configuration(alloc);
+    match empty {
+        Ok(empty) => format!(in alloc; "{empty:?}"),
+        Err(ToConfigurationFault::Mismatch(error)) => {
+            let copy = error.try_clone(alloc)?;
+            format!(in alloc; "{copy}")
+        }
+        Err(ToConfigurationFault::OutOfMemory) => Err(AllocError),
+    }
+}
+
 fn told(alloc: Global, extension: &MetadataV3, again: &str) -> Result<String, AllocError> {
-    let shown = extension.to_display(alloc)?;
+    let (shown, empty) = (extension.to_display(alloc)?, emptied(alloc, extension)?);
     let text = written(alloc, extension)?;
     let understood = extension.must_understand();
-    format!(in alloc; "{shown}; {understood}; {text}; {again}")
+    format!(in alloc; "{shown}; {empty}; {understood}; {text}; {again}")
 }
 
 fn of_text(alloc: Global, text: &str) -> Result<String, MetadataError> {
@@ -30,8 +43,8 @@ fn of_text(alloc: Global, text: &str) -> Result<String, MetadataError> {
     Ok(told(alloc, &extension, again.as_str())?)
 }
 
-/// What is shown of the extension that a text says, whether it must be understood, how it is written, and how once it
-/// was written and read again; or the name of the refusal.
+/// What is shown of the extension that a text says, whether its configuration is the empty one, whether it must be
+/// understood, how it is written, and how once it was written and read again; or the name of the refusal.
 pub fn line_of(alloc: Global, text: &str) -> Result<String, AllocError> {
     match of_text(alloc, text) {
         Ok(line) => Ok(line),

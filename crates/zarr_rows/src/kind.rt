@@ -1,6 +1,6 @@
 //! What a row of texts tries.
 
-use crate::{document, extension, field, fill, group, version_2};
+use crate::{data_type, document, extension, field, fill, group, node, version_2};
 use std::alloc::{AllocError, Global};
 
 /// How the texts of a row are read and written.
@@ -8,7 +8,11 @@ use std::alloc::{AllocError, Global};
 pub enum TextKind {
     /// How a document is read and written.
     Document,
-    /// How each line is read and written as the document of a group.
+    /// The pretty text of a document of either version.
+    Pretty,
+    /// How each line is read and written as a document of either version.
+    Node,
+    /// The same as the document of a group.
     Group,
     /// The same as an extension, an additional field and a fill value.
     Extension,
@@ -17,12 +21,17 @@ pub enum TextKind {
     /// The same as a codec and a data type of version 2.
     CodecV2,
     DataTypeV2,
+    /// The data type that each line names, and its fill value there.
+    DataType,
 }
 
 impl TextKind {
     /// The kind that a word names.
     pub fn of_word(word: &str) -> Option<TextKind> {
         match word {
+            "pretty" => Some(TextKind::Pretty),
+            "node" => Some(TextKind::Node),
+            "data_type" => Some(TextKind::DataType),
             "group" => Some(TextKind::Group),
             "extension" => Some(TextKind::Extension),
             "field" => Some(TextKind::Field),
@@ -38,6 +47,9 @@ impl TextKind {
     fn line_of(self, alloc: Global, text: &str) -> Result<String, AllocError> {
         match self {
             TextKind::Document => document::line_of(alloc, text),
+            TextKind::Pretty => node::pretty_text(alloc, text),
+            TextKind::Node => node::line_of(alloc, text),
+            TextKind::DataType => data_type::line_of(alloc, text),
             TextKind::Group => group::line_of(alloc, text),
             TextKind::Extension => extension::line_of(alloc, text),
             TextKind::Field => field::line_of(alloc, text),
@@ -67,7 +79,7 @@ impl TextKind {
     /// Tries a text, and appends what comes of it.
     pub fn try_text(self, alloc: Global, text: &str, out: &mut Vec<u8>) -> Result<(), AllocError> {
         match self {
-            TextKind::Document => self.try_line(alloc, text, out),
+            TextKind::Document | TextKind::Pretty => self.try_line(alloc, text, out),
             _ => self.try_each(alloc, text, out),
         }
     }

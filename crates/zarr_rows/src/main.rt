@@ -1,12 +1,14 @@
 //! Tries each row of standard input, and prints what comes of it.
 #![tactic(auto)]
 
+mod data_type;
 mod document;
 mod extension;
 mod field;
 mod fill;
 mod group;
 mod kind;
+mod node;
 mod row;
 mod run;
 mod version_2;

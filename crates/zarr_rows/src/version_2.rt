@@ -1,7 +1,13 @@
 //! Rows of the codecs and data types of version 2 arrays: what a text says as one.
 
 use std::alloc::{AllocError, Global};
-use zarrs_metadata::{DataTypeMetadataV2, EmptyConfiguration, MetadataError, MetadataV2};
+use zarr_basics::builtin_registries;
+use zarrs_data_type::{DataType, DataTypeTraitsV2};
+use zarrs_metadata::{
+    DataTypeMetadataV2, EmptyConfiguration, MetadataError, MetadataV2,
+    data_type_metadata_v2_to_endianness,
+};
+use zarrs_plugin::PluginCreateError;
 
 fn codec_of_value(alloc: Global, codec: &MetadataV2) -> Result<MetadataV2, MetadataError> {
     let value = codec.to_value(alloc)?;
@@ -54,12 +60,28 @@ fn type_again(alloc: Global, text: &str) -> Result<DataTypeMetadataV2, MetadataE
     type_of_value(alloc, &copy)
 }
 
-fn told_type(alloc: Global, data_type: &DataTypeMetadataV2) -> Result<String, AllocError> {
-    let value = data_type.to_value(alloc)?;
-    value.to_string(alloc)
+// The data type of elements that it is.
+fn created(alloc: Global, data_type: &DataTypeMetadataV2) -> Result<DataType, PluginCreateError> {
+    let registries = builtin_registries(alloc)?;
+    DataTypeTraitsV2::create(alloc, data_type, &registries.data_types)
 }
 
-/// How the data type is written that a text says; or the name of the refusal.
+fn named(alloc: Global, data_type: &DataTypeMetadataV2) -> Result<String, AllocError> {
+    match created(alloc, data_type) {
+        Ok(data_type) => format!(in alloc; "{data_type:?}"),
+        Err(error) => format!(in alloc; "{error}"),
+    }
+}
+
+fn told_type(alloc: Global, data_type: &DataTypeMetadataV2) -> Result<String, AllocError> {
+    let order = data_type_metadata_v2_to_endianness(data_type);
+    let (name, value) = (named(alloc, data_type)?, data_type.to_value(alloc)?);
+    let text = value.to_string(alloc)?;
+    format!(in alloc; "{order:?}; {name}; {text}")
+}
+
+/// The byte order of the data type that a text says, what it is the name of, and how it is written; or the name of the
+/// refusal.
 pub fn data_type_line(alloc: Global, text: &str) -> Result<String, AllocError> {
     match type_again(alloc, text) {
         Ok(data_type) => told_type(alloc, &data_type),

@@ -3,13 +3,13 @@ use Rattle.std.specs.Prelude.{◌≡◌, ℕ, List, [], Some}
 use Rattle.zarr_model.specs.Prelude.{Rose}
 use Rattle.zarr_cli_runs.specs.Ending.{Ending, IsOrMemory}
 use Rattle.zarr_cli_runs.specs.Ending as end
-use Rattle.zarr_cli_parts.specs.Seen.{Seen}
-use Rattle.zarr_cli_parts.specs.Words.{Settings}
+use Rattle.zarr_cli.specs.Seen.{ProgramSeen}
+use Rattle.zarr_cli.specs.Words.{Settings}
 use Rattle.zarr_shard.specs.Says.{input_says, stops, IsOfInput}
-use Rattle.zarr_shard.specs.Run.{ShardRun, IsOfRun, RunsLines, SameButChanged}
+use Rattle.zarr_shard.specs.Run.{ShardRun, IsOfRun, RunsLines, SameButSharded}
 
 -- what a run owes over a source that tells its bytes, which are the input
-pub record AnswersShard (settings : Settings) (input : List ℕ) (before now : Seen)
+pub record AnswersShard (settings : Settings) (input : List ℕ) (before now : ProgramSeen)
     (ending : Ending) : Type 0 where
   -- an ending by the input is the first that it calls for; and where the source did not fail, what it
   -- calls for is answered, but for want of memory
@@ -26,4 +26,4 @@ pub record AnswersShard (settings : Settings) (input : List ℕ) (before now : S
   pub read_whole : ending ≡ end.done → now.source.left ≡ Some []
   -- after every end: all keys but those of key lines and of chunks that an accepted command changes
   -- are as before
-  pub unchanged : SameButChanged input before.store.content now.store.content
+  pub unchanged : SameButSharded input before.store.content now.store.content

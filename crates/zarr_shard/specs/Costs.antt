@@ -2,9 +2,9 @@
 use Rattle.std.specs.Prelude.{◌≡◌, false, List}
 use Rattle.zarr_model.specs.Prelude.{Options, Content, Command, all_puts, counted}
 use Rattle.zarr_array.specs.Costs.{read_cost, OnlyReads}
-use Rattle.zarr_array_regions.specs.Pays.{Pays, costs_of}
-use Rattle.zarr_cli_parts.specs.Run.{Costs, Counts, shown_by}
-use Rattle.zarr_shard_open.specs.Document.{ShardDocument}
+use Rattle.zarr_array.specs.Pays.{Pays, costs_of}
+use Rattle.zarr_cli.specs.Run.{RunCosts, Counts, shown_by}
+use Rattle.zarr_array_open.specs.ShardDocument.{ShardDocument}
 use Rattle.zarr_shard.specs.Access.{shard_cost}
 use Rattle.zarr_shard.specs.ShardArray.{describe_sharded}
 
@@ -17,5 +17,5 @@ pub record CostsShard (document : ShardDocument) (options : Options) (commands :
       (describe_sharded document) options store) commands) (shown_by store before)
       (shown_by store now)
 
-abbrev pub shard_costs : ShardDocument → Costs
+abbrev pub shard_costs : ShardDocument → RunCosts
 shard_costs document = record { once = false; ran = CostsShard document }

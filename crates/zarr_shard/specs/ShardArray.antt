@@ -2,17 +2,17 @@
 -- and an index of them; what it decodes to is the chain of the array.
 use Rattle.std.specs.Prelude.{◌≡◌, ℕ, Bool, List, [], is_some, Result, Ok, Err}
 use Rattle.zarr_model.specs.Prelude.{Region, Level, Options, Description, decode_chain, chunk_key}
-use Rattle.zarr_basics_grids.specs.BasicGrid.{basic_shape}
-use Rattle.zarr_basics_grids.specs.GridForms.{regular, grid_of}
-use Rattle.zarr_array_parts.specs.Document.{ArrayDocument, describe}
-use Rattle.zarr_array_parts.specs.OpenError.{open_refusal_of}
-use Rattle.zarr_array_parts.specs.declared.open_error.OpenError.{OpenError}
-use Rattle.zarr_shard_open.specs.Document.{ShardDocument, sharded}
-use Rattle.zarr_shard_open.specs.Opening.{ShardAnswer, opened}
-use Rattle.zarr_shard_open.specs.Views.{IsRefusedBy}
+use Rattle.zarr_basics.specs.BasicGrid.{basic_shape}
+use Rattle.zarr_basics.specs.GridForms.{regular, grid_of}
+use Rattle.zarr_array_open.specs.Document.{ArrayDocument, describe}
+use Rattle.zarr_array_open.specs.OpenError.{open_refusal_of}
+use Rattle.zarr_array_open.specs.declared.open_error.OpenError.{OpenError}
+use Rattle.zarr_array_open.specs.ShardDocument.{ShardDocument, sharded}
+use Rattle.zarr_array_open.specs.ShardOpening.{ShardAnswer, opened}
+use Rattle.zarr_array_open.specs.Views.{IsShardRefusedBy}
 use Rattle.zarr_shard_codec.specs.Region.{region_list}
 use Rattle.zarr_shard_codec.specs.Shard.{Form, Meaning, inner_array, decode_shard}
-use Rattle.zarr_shard_codec.specs.ShardCodec.{codec_form}
+use Rattle.zarr_shard_codec.specs.ShardCodec.{codec_shard_form}
 use Rattle.zarr_shard.specs.declared.array.ShardArray.{ShardArray}
 
 -- a chunk as an array of its own, which its inner chunks are the chunks of
@@ -33,12 +33,12 @@ abbrev pub inner_meaning : ShardDocument → Options → Meaning
 inner_meaning document under = decode_chain ((describe (inner_document document)).chain under)
 
 -- the shape of inner chunks, and whether the number of the index stands behind it
-abbrev pub form_of : ShardDocument → Form
-form_of document = record { inner_shape = document.inner_shape; checked = document.checked }
+abbrev pub document_inner_form : ShardDocument → Form
+document_inner_form document = record { inner_shape = document.inner_shape; checked = document.checked }
 
 -- what a chunk's value decodes to
-abbrev pub shard_meaning : ShardDocument → Options → Meaning
-shard_meaning document under = decode_shard (form_of document) under.validate_checksums
+abbrev pub document_meaning : ShardDocument → Options → Meaning
+document_meaning document under = decode_shard (document_inner_form document) under.validate_checksums
     (inner_meaning document under)
 
 -- whether a value that need not decode holds a region of a chunk: its index is found, and each inner
@@ -46,7 +46,7 @@ shard_meaning document under = decode_shard (form_of document) under.validate_ch
 abbrev pub finds_region : ShardDocument → Options → Level → Region → List ℕ → Bool
 finds_region document under level region value =
     is_some (region_list document.checked under.validate_checksums
-    (inner_array (form_of document) (inner_meaning document under) level) region value)
+    (inner_array (document_inner_form document) (inner_meaning document under) level) region value)
 
 -- the array that a document describes
 abbrev pub describe_sharded : ShardDocument → Description
@@ -58,20 +58,20 @@ describe_sharded document = record {
   key = chunk_key document.keys;
   chain = λ under. record {
     array_codecs = [];
-    to_elements = shard_meaning document under;
+    to_elements = document_meaning document under;
     byte_codecs = [];
   };
   finds = finds_region document;
 }
 
 -- an array's document, and what it describes
-abbrev pub documented : ShardArray → ShardDocument
-documented array = sharded (basic_shape array.grid) (codec_form array.codec)
+abbrev pub documented_shards : ShardArray → ShardDocument
+documented_shards array = sharded (basic_shape array.grid) (codec_shard_form array.codec)
 
-abbrev pub described : ShardArray → Description
-described array = describe_sharded (documented array)
+abbrev pub described_shards : ShardArray → Description
+described_shards array = describe_sharded (documented_shards array)
 
 -- opening gave the array of the document, or the refusal of the text
-abbrev pub OpensAs : Result ShardArray OpenError → ShardAnswer → Type 0
-OpensAs (Ok array) answer = answer ≡ opened (documented array)
-OpensAs (Err error) answer = IsRefusedBy (open_refusal_of error) answer
+abbrev pub OpensShardsAs : Result ShardArray OpenError → ShardAnswer → Type 0
+OpensShardsAs (Ok array) answer = answer ≡ opened (documented_shards array)
+OpensShardsAs (Err error) answer = IsShardRefusedBy (open_refusal_of error) answer

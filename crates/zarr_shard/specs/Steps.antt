@@ -1,29 +1,29 @@
 -- What each step of a run promises to the next one.
 use Rattle.std.specs.Prelude.{◌≡◌, ◌⊎◌, ℕ, List, Option, Some, None, Result, Ok, Err}
-use Rattle.zarr_array_parts.specs.Opening.{OpenRefusal}
-use Rattle.zarr_array_parts.specs.OpenError.{open_refusal_of}
+use Rattle.zarr_array_open.specs.Opening.{OpenRefusal}
+use Rattle.zarr_array_open.specs.OpenError.{open_refusal_of}
 use Rattle.zarr_cli_runs.specs.Ending.{Ending, read_fault, out_of_memory}
 use Rattle.zarr_cli_runs.specs.declared.status.Status.{Status}
 use Rattle.zarr_cli_runs.specs.declared.status.Status.TheVariants.{Document, OutOfMemory}
-use Rattle.zarr_shard_open.specs.Opening.{ShardAnswer, opened, not_opened}
+use Rattle.zarr_array_open.specs.ShardOpening.{ShardAnswer, opened, not_opened}
 use Rattle.zarr_shard.specs.Says.{input_says, stops, IsOfInput}
-use Rattle.zarr_shard.specs.ShardArray.{documented}
+use Rattle.zarr_shard.specs.ShardArray.{documented_shards}
 use Rattle.zarr_shard.specs.declared.array.ShardArray.{ShardArray}
 
 -- opening refused for a reason other than memory
-abbrev pub IsRefusal : Option OpenRefusal → ShardAnswer → Type 0
-IsRefusal None answer = ⊥
-IsRefusal (Some why) answer = answer ≡ not_opened why
+abbrev pub IsShardRefusal : Option OpenRefusal → ShardAnswer → Type 0
+IsShardRefusal None answer = ⊥
+IsShardRefusal (Some why) answer = answer ≡ not_opened why
 
 -- a first line was opened as the array of its document, or refused, or memory ran out
-abbrev pub IsOpenFault : Status → ShardAnswer → Type 0
-IsOpenFault (Document error) answer = IsRefusal (open_refusal_of error) answer
-IsOpenFault OutOfMemory answer = Unit {0}
-IsOpenFault _ _ = ⊥
+abbrev pub IsShardOpenFault : Status → ShardAnswer → Type 0
+IsShardOpenFault (Document error) answer = IsShardRefusal (open_refusal_of error) answer
+IsShardOpenFault OutOfMemory answer = Unit {0}
+IsShardOpenFault _ _ = ⊥
 
-abbrev pub OpensLine : Result ShardArray Status → ShardAnswer → Type 0
-OpensLine (Ok array) answer = answer ≡ opened (documented array)
-OpensLine (Err status) answer = IsOpenFault status answer
+abbrev pub OpensShardLine : Result ShardArray Status → ShardAnswer → Type 0
+OpensShardLine (Ok array) answer = answer ≡ opened (documented_shards array)
+OpensShardLine (Err status) answer = IsShardOpenFault status answer
 
 -- an ending before the lines are run, for an input that is known: the one that the input calls for,
 -- one by the source, which failed if the type says so, or want of memory

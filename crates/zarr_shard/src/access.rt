@@ -2,28 +2,25 @@
 
 ghost use Rattle.std.specs.Prelude.{◌≡◌, List, Some, IfOk, IfSome};
 ghost use Rattle.std.specs.List.{list_all};
-ghost use Rattle.zarr_model.specs.Prelude.{Element, same_element};
-ghost use Rattle.zarrs_codec_array_bytes.specs.Raw.{raw_of};
-ghost use Rattle.zarrs_codec_traits.specs.Views.{options_of};
-ghost use Rattle.zarrs_codec_traits.specs.Words.{list_at};
-ghost use Rattle.zarr_array_regions.specs.Access.{IsInHand};
-ghost use Rattle.zarr_array_regions.specs.Chunk.{is_dropped};
-ghost use Rattle.zarr_array_regions.specs.RegionChunks.{IsPlace};
+ghost use Rattle.zarrs_codec.specs.Prelude.{Element, same_element, raw_of, options_of, list_at};
+ghost use Rattle.zarr_array.specs.Access.{IsInHand};
+ghost use Rattle.zarr_array.specs.Chunk.{is_dropped};
+ghost use Rattle.zarr_array.specs.RegionChunks.{IsChunkPlace};
 ghost use Rattle.zarr_shard_codec.specs.ShardCodec.{inner_of, own_level};
 ghost use Rattle.zarr_shard.specs.Access.{shard_access, shard_served, serves_all};
-ghost use Rattle.zarr_shard.specs.ShardArray.{described};
+ghost use Rattle.zarr_shard.specs.ShardArray.{described_shards};
 
 use crate::array::ShardArray;
 use std::alloc::{AllocError, Global};
-use zarr_array_regions::{ChunkAccess, ChunkPlace};
-use zarr_basics_grids::BasicGrid;
-use zarr_chain_stored::Fetched;
+use zarr_array::{ChunkAccess, ChunkPlace};
+use zarr_basics::BasicGrid;
+use zarr_chunks::Fetched;
 use zarr_shard_codec::ShardCodec;
 use zarrs_array_subset::ArraySubset;
 use zarrs_codec_array_bytes::ArrayBytes;
 use zarrs_codec_error::{CodecError, CodecOptions};
+use zarrs_data_type::DataType;
 use zarrs_data_type_bytes::FillValue;
-use zarrs_data_type_names::DataType;
 use zarrs_storage::{StorageError, Store, StoreKey};
 
 // Whether all elements of a chunk are the fill value.
@@ -39,7 +36,7 @@ fn is_blank(codec: &ShardCodec, elements: &ArrayBytes<'_>) -> bool
 fn is_left_out(array: &ShardArray, elements: &ArrayBytes<'_>, options: &CodecOptions) -> bool
     ensures { (list : List Element)
         → list_at (own_level array.now.codec) (raw_of elements.now) ≡ Some list
-        → result ≡ is_dropped (described array.now) (options_of options.now) list }
+        → result ≡ is_dropped (described_shards array.now) (options_of options.now) list }
 {
     !options.store_empty_chunks() && is_blank(&array.codec, elements)
 }
@@ -78,7 +75,7 @@ impl ChunkAccess for ShardArray {
         _place: &ChunkPlace,
     ) -> Result<(), AllocError>
         requires hand { IfSome _hand (IsInHand (serves_all self.now)) }
-        requires place { IsPlace (shard_access self.now).description _place.now }
+        requires place { IsChunkPlace (shard_access self.now).description _place.now }
         ensures { IfOk result (serves_all self.now _place.now.indices.items) }
     {
         Ok(())

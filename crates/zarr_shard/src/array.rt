@@ -4,21 +4,20 @@
 
 ghost use Rattle.std.specs.Prelude.{◌≡◌, true, false, IfOk};
 ghost use Rattle.zarrs_metadata.specs.ArrayMetadata.{array_seen};
-ghost use Rattle.zarr_basics_grids.specs.BasicGrid.{basic_shape, basic_form, basic_grid};
-ghost use Rattle.zarr_basics_grids.specs.GridForms.{regular};
-ghost use Rattle.zarr_array_parts.specs.basics.Registries.{names_of};
-ghost use Rattle.zarr_array_parts.specs.Parts.{Opens};
-ghost use Rattle.zarr_array_parts.specs.Sizes.{are_countable};
-ghost use Rattle.zarr_shard_open.specs.Document.{sharded, shard_shape};
-ghost use Rattle.zarr_shard_open.specs.Opening.{has_large_shard, shard_document_of, open_sharded};
-ghost use Rattle.zarr_shard_open.specs.Views.{shard_form, sharded_document};
-ghost use Rattle.zarr_shard_codec.specs.ShardCodec.{codec_form};
+ghost use Rattle.zarr_basics.specs.BasicGrid.{basic_shape, basic_form, basic_grid};
+ghost use Rattle.zarr_basics.specs.GridForms.{regular};
+ghost use Rattle.zarr_basics.specs.Registries.{names_of};
+ghost use Rattle.zarr_array_open.specs.Parts.{Opens};
+ghost use Rattle.zarr_array_open.specs.Sizes.{are_countable};
+ghost use Rattle.zarr_array_open.specs.ShardDocument.{sharded, shard_shape};
+ghost use Rattle.zarr_array_open.specs.ShardOpening.{has_large_shard, shard_document_of, open_sharded};
+ghost use Rattle.zarr_array_open.specs.Views.{shard_form, sharded_document};
+ghost use Rattle.zarr_shard_codec.specs.ShardCodec.{codec_shard_form};
 
 use std::alloc::{AllocError, Global};
-use zarr_array_parts::{OpenError, Registries};
-use zarr_basics_grids::BasicGrid;
+use zarr_array_open::{OpenError, Registries, Shard, ShardParts};
+use zarr_basics::BasicGrid;
 use zarr_shard_codec::ShardCodec;
-use zarr_shard_open::{Shard, ShardParts};
 use zarrs_metadata::ArrayMetadataV3;
 
 /// An array that a document describes, whose chunks keep inner chunks: a read of a region takes of each chunk that it meets
@@ -29,20 +28,20 @@ pub struct ShardArray {
     pub(crate) grid: BasicGrid,
     // The codec of a chunk.
     pub(crate) codec: ShardCodec,
-    ghost form: { basic_form grid ≡ regular (shard_shape (codec_form codec)) },
+    ghost form: { basic_form grid ≡ regular (shard_shape (codec_shard_form codec)) },
     ghost countable: { are_countable (basic_grid grid).grid_shape ≡ true },
-    ghost small: { has_large_shard (basic_shape grid) (codec_form codec).inner ≡ false },
+    ghost small: { has_large_shard (basic_shape grid) (codec_shard_form codec).inner ≡ false },
 }
 
 impl ShardArray {
-    ghost use Rattle.zarr_shard.specs.ShardArray.{documented, OpensAs};
+    ghost use Rattle.zarr_shard.specs.ShardArray.{documented_shards, OpensShardsAs};
 
     // The array of these chunks.
     fn with_shard(alloc: Global, grid: BasicGrid, shard: Shard) -> Result<ShardArray, AllocError>
         requires form { basic_form grid ≡ regular (shard_shape (shard_form shard)) }
         requires countable { are_countable (basic_grid grid).grid_shape ≡ true }
         requires small { has_large_shard (basic_shape grid) (shard_form shard).inner ≡ false }
-        ensures { IfOk result (λ array. documented array
+        ensures { IfOk result (λ array. documented_shards array
             ≡ sharded (basic_shape grid) (shard_form shard)) }
     {
         let codec = ShardCodec::new(alloc, shard)?;
@@ -51,7 +50,7 @@ impl ShardArray {
 
     // The array of the parts that a document describes.
     fn of_parts(alloc: Global, parts: ShardParts) -> Result<ShardArray, AllocError>
-        ensures { IfOk result (λ array. documented array ≡ sharded_document parts) }
+        ensures { IfOk result (λ array. documented_shards array ≡ sharded_document parts) }
     {
         let (grid, shard) = parts.into_parts();
         Self::with_shard(alloc, grid, shard)
@@ -66,7 +65,7 @@ impl ShardArray {
     /// # Errors
     /// The first of [`OpenError`] that applies, or `OutOfMemory`.
     pub fn open(alloc: Global, text: &str, registries: &Registries) -> Result<ShardArray, OpenError>
-        ensures { OpensAs result (open_sharded (names_of registries.now) text.now) }
+        ensures { OpensShardsAs result (open_sharded (names_of registries.now) text.now) }
     {
         let parts = ShardParts::open(alloc, text, registries)?;
         let array = Self::of_parts(alloc, parts)?;
@@ -83,7 +82,7 @@ impl ShardArray {
         metadata: &ArrayMetadataV3,
         registries: &Registries,
     ) -> Result<ShardArray, OpenError>
-        ensures { Opens documented result (shard_document_of (names_of registries.now)
+        ensures { Opens documented_shards result (shard_document_of (names_of registries.now)
             (array_seen metadata.now)) }
     {
         let parts = ShardParts::from_metadata(alloc, metadata, registries)?;

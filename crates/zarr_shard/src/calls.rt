@@ -1,14 +1,12 @@
 //! Commands on a sharded array.
 
-ghost use Rattle.std.specs.Prelude.{◌≡◌, ℕ, List, [], ◌∷◌, map, Some, None, IfOk, IfErr, IsOk};
-ghost use Rattle.zarr_model.specs.Prelude.{read, write, erase, AreRefused};
-ghost use Rattle.zarrs_array_subset.specs.ArraySubset.{region as region_of_subset};
-ghost use Rattle.zarrs_codec_array_bytes.specs.Raw.{raw_of};
-ghost use Rattle.zarrs_codec_traits.specs.Views.{options_of};
-ghost use Rattle.zarr_array.specs.Command.{command_of, region_at, AreReads, IsReadReply, IsShortReply};
+ghost use Rattle.std.specs.Prelude.{◌≡◌, [], ◌∷◌, map, Some, None, IfErr};
+ghost use Rattle.zarr_model.specs.Prelude.{read, write, erase};
+ghost use Rattle.zarrs_codec_traits.specs.Prelude.{region as region_of_subset, raw_of, options_of};
+ghost use Rattle.zarr_array.specs.boxes.Command.{command_of, region_at, AreReads};
 ghost use Rattle.zarr_array.specs.Ended.{ended, ended_one};
 ghost use Rattle.zarr_array.specs.Runs.{RunsOn};
-ghost use Rattle.zarr_array.specs.WritesUpTo.{WritesUpTo};
+ghost use Rattle.zarr_array.specs.Answers.{AnswersRefused, AnswersRead, IsAlone, StopsWrite};
 ghost use Rattle.zarr_shard.specs.Calls.{CostsOfReads, TellsOfShards};
 
 use crate::array::ShardArray;
@@ -20,7 +18,7 @@ use zarrs_codec_array_bytes::ArrayBytes;
 use zarrs_storage::Store;
 
 impl ShardArray {
-    ghost use Rattle.zarr_shard.specs.ShardArray.{documented, described};
+    ghost use Rattle.zarr_shard.specs.ShardArray.{documented_shards, described_shards};
 
     /// Reads a region of the array: its elements in row-major order, or why it is refused.
     ///
@@ -37,23 +35,17 @@ impl ShardArray {
         store: &mut S,
         options: &CodecOptions,
     ) -> Result<Reply, SessionError>
-        ensures runs { RunsOn (described self.now) (options_of options.now)
+        ensures runs { RunsOn (described_shards self.now) (options_of options.now)
             (read (region_of_subset region.now) ∷ [])
             (S.shown store.old) (S.shown store.new) (ended_one result) }
-        ensures costs { CostsOfReads (documented self.now) (options_of options.now)
+        ensures costs { CostsOfReads (documented_shards self.now) (options_of options.now)
             (read (region_of_subset region.now) ∷ [])
             (S.shown store.old) (S.shown store.new) (ended_one result) }
-        // A refusal is an answer, and an error is at this command.
-        ensures answered { AreRefused (described self.now)
-            (read (region_of_subset region.now) ∷ []) → IsOk result }
-        ensures begun { IfErr result (λ error. (k : ℕ) × (error.at ≡ Some (0, k))) }
-        ensures same { (key : List ℕ) →
-            (S.shown store.new).content key ≡ (S.shown store.old).content key }
+        // A refusal is an answer, and no reply has an element of 2^32 bytes or more.
+        ensures read { AnswersRead (described_shards self.now) (region_of_subset region.now)
+            (S.shown store.old) (S.shown store.new) result }
+        ensures begun { IfErr result IsAlone }
         ensures kept { S.kept store.old store.new }
-        // A reply that is no refusal has the region's elements, and none of them has 2^32 bytes or more.
-        ensures valid { IfOk result
-            (IsReadReply (described self.now) (region_of_subset region.now)) }
-        ensures short { IfOk result IsShortReply }
         ensures told { IfErr result (λ error. TellsOfShards self.now
             (Some (region_of_subset region.now)) (options_of options.now) (S.shown store.new)
             error.kind) }
@@ -79,17 +71,14 @@ impl ShardArray {
         store: &mut S,
         options: &CodecOptions,
     ) -> Result<Reply, SessionError>
-        ensures runs { RunsOn (described self.now) (options_of options.now)
+        ensures runs { RunsOn (described_shards self.now) (options_of options.now)
             (write (region_of_subset region.now) (raw_of bytes.now) ∷ [])
             (S.shown store.old) (S.shown store.new) (ended_one result) }
-        // A refusal is an answer, and an error is at this command.
-        ensures answered { AreRefused (described self.now)
-            (write (region_of_subset region.now) (raw_of bytes.now) ∷ []) → IsOk result }
+        ensures answered { AnswersRefused (described_shards self.now)
+            (write (region_of_subset region.now) (raw_of bytes.now) ∷ []) result }
         // An error that is not the store's leaves the chunks before it changed, and all other keys as they were.
-        ensures begun { IfErr result (λ error. (k : ℕ) × (error.at ≡ Some (0, k))
-            × WritesUpTo (described self.now) (options_of options.now)
-            (region_of_subset region.now) (raw_of bytes.now) k
-            (S.shown store.old) (S.shown store.new) error.kind) }
+        ensures begun { IfErr result (StopsWrite (described_shards self.now) (options_of options.now)
+            (region_of_subset region.now) (raw_of bytes.now) (S.shown store.old) (S.shown store.new)) }
         ensures told { IfErr result (λ error. TellsOfShards self.now None
             (options_of options.now) (S.shown store.new) error.kind) }
     {
@@ -109,15 +98,14 @@ impl ShardArray {
         store: &mut S,
         options: &CodecOptions,
     ) -> Result<Reply, SessionError>
-        ensures runs { RunsOn (described self.now) (options_of options.now)
+        ensures runs { RunsOn (described_shards self.now) (options_of options.now)
             (erase chunk.now ∷ [])
             (S.shown store.old) (S.shown store.new) (ended_one result) }
         ensures unasked { (S.shown store.new).asks ≡ (S.shown store.old).asks }
         ensures untaken { (S.shown store.new).taken ≡ (S.shown store.old).taken }
-        // A refusal is an answer, and an error is at this command.
-        ensures answered { AreRefused (described self.now)
-            (erase chunk.now ∷ []) → IsOk result }
-        ensures begun { IfErr result (λ error. (k : ℕ) × (error.at ≡ Some (0, k))) }
+        ensures answered { AnswersRefused (described_shards self.now)
+            (erase chunk.now ∷ []) result }
+        ensures begun { IfErr result IsAlone }
         ensures told { IfErr result (λ error. TellsOfShards self.now None
             (options_of options.now) (S.shown store.new) error.kind) }
     {
@@ -140,10 +128,10 @@ impl ShardArray {
         store: &mut S,
         options: &CodecOptions,
     ) -> Result<Vec<Reply>, SessionError>
-        ensures runs { RunsOn (described self.now) (options_of options.now)
+        ensures runs { RunsOn (described_shards self.now) (options_of options.now)
             (map command_of commands.now) (S.shown store.old) (S.shown store.new) (ended result) }
         // Where all accepted commands read, they cost what reading the regions of the chunks costs that they meet.
-        ensures costs { CostsOfReads (documented self.now) (options_of options.now)
+        ensures costs { CostsOfReads (documented_shards self.now) (options_of options.now)
             (map command_of commands.now) (S.shown store.old) (S.shown store.new) (ended result) }
         ensures told { IfErr result (λ error. TellsOfShards self.now
             (region_at (map command_of commands.now) error.at) (options_of options.now)

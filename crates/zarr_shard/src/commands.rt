@@ -1,20 +1,20 @@
 //! A sharded array runs the commands of a program.
 
 ghost use Rattle.zarr_shard.specs.Costs.{shard_costs};
-ghost use Rattle.zarr_shard.specs.ShardArray.{documented, described};
+ghost use Rattle.zarr_shard.specs.ShardArray.{documented_shards, described_shards};
 
 use crate::array::ShardArray;
 use std::alloc::Global;
 use zarr_array::{CodecOptions, Command, Reply};
-use zarr_cli_parts::{CommandArray, Status};
+use zarr_cli::{CommandArray, Status};
 use zarr_cli_runs::commands::replies_of;
-use zarrs_data_type_names::DataType;
+use zarrs_data_type::DataType;
 use zarrs_storage::Store;
 
 impl CommandArray for ShardArray {
-    ghost described = { described };
+    ghost described = { described_shards };
 
-    ghost costs = { λ array. shard_costs (documented array) };
+    ghost costs = { λ array. shard_costs (documented_shards array) };
 
     fn data_type(&self) -> &DataType {
         self.codec.inner().data_type()

@@ -5,26 +5,26 @@ ghost use Rattle.std.specs.Prelude.{◌≡◌, ◌≤◌, List, ℕ, [], length,
 ghost use Rattle.zarr_model.specs.Prelude.{Told};
 ghost use Rattle.zarr_cli_runs.specs.Status.{ending_of};
 ghost use Rattle.zarr_cli_runs.specs.lines.Text.{input_lines};
-ghost use Rattle.zarr_cli_parts.specs.Ends.{EndsBy};
-ghost use Rattle.zarr_cli_parts.specs.Input.{input_limit};
-ghost use Rattle.zarr_cli_parts.specs.Seen.{seen};
-ghost use Rattle.zarr_cli_parts.specs.Status.{words_of, settings_view};
-ghost use Rattle.zarr_cli_parts.specs.Words.{Settings, ReadsBy, HasNoReading};
-ghost use Rattle.zarr_shard_open.specs.Opening.{open_builtin_sharded};
+ghost use Rattle.zarr_cli.specs.Ends.{EndsBy};
+ghost use Rattle.zarr_cli.specs.Input.{input_limit};
+ghost use Rattle.zarr_cli.specs.Seen.{seen};
+ghost use Rattle.zarr_cli.specs.Status.{words_of, settings_view};
+ghost use Rattle.zarr_cli.specs.Words.{Settings, ReadsBy, HasNoReading};
+ghost use Rattle.zarr_array_open.specs.ShardOpening.{open_builtin_sharded};
 ghost use Rattle.zarr_shard.specs.Answers.{AnswersShard};
-ghost use Rattle.zarr_shard.specs.Steps.{OpensLine};
+ghost use Rattle.zarr_shard.specs.Steps.{OpensShardLine};
 
 use crate::array::ShardArray;
 use std::alloc::Global;
 use zarr_array::{OpenError, builtin_registries};
-use zarr_cli_parts::lines::{fault_status, first_line};
-use zarr_cli_parts::write::end_with;
-use zarr_cli_parts::{Status, Words, read_input_words, read_lines, run_lines};
+use zarr_cli::lines::{fault_status, first_line};
+use zarr_cli::write::end_with;
+use zarr_cli::{Status, Words, read_input_words, read_lines, run_lines};
 use zarrs_storage::{Sink, Source, Store};
 
 // The array of a first line, by the built-in names.
 fn open_line(alloc: Global, line: &str) -> Result<ShardArray, Status>
-    ensures { OpensLine result (open_builtin_sharded line.now) }
+    ensures { OpensShardLine result (open_builtin_sharded line.now) }
 {
     let Ok(registries) = builtin_registries(alloc) else {
         return Err(Status::OutOfMemory);

@@ -1,13 +1,13 @@
 -- A shape that is cut into equal parts.
-use Rattle.std.proofs.Common.{◌≡◌, ℕ, zero, suc, ◌+◌, ◌-◌, ◌*◌, ◌/◌, ◌%◌, ◌<◌, ◌≤◌, true, ◌==◌, ◌&&◌, nat_le, List, [], ◌∷◌, refl, arith, eqb-true}
+use Rattle.std.proofs.Common.{◌≡◌, ℕ, zero, suc, ◌+◌, ◌-◌, ◌*◌, ◌/◌, ◌%◌, ◌<◌, ◌≤◌, true, ◌==◌, ◌&&◌, nat_le, List, []}
+use Rattle.std.proofs.Common.{◌∷◌, refl, arith, eqb-true}
 use Rattle.std.proofs.lemmas.Bool.{and_parts, and_from, le-leb, leb-true}
 use Rattle.std.proofs.lemmas.Nat.{le-div}
 use Rattle.std.proofs.Math.Nat.{mul-le-mul_right, div-add-mod', suc-mul, lt_of_mul-lt-mul_right, mul-pos}
-use Rattle.zarr_model.specs.Prelude.{whole, contains, ends_within, regular_grid, count_of}
-use Rattle.zarr_model.specs.Region.{is_in}
+use Rattle.zarrs_codec_traits.specs.Prelude.{whole, contains, ends_within, regular_grid, count_of, is_in}
 use Rattle.zarr_model.specs.Grid.{box_of_axes, regular_axes}
 use Rattle.zarr_model.proofs.RegionLaws.{first_is}
-use Rattle.zarr_shard_open.specs.Sharding.{are_inner_lengths}
+use Rattle.zarr_array_open.specs.Sharding.{are_inner_lengths}
 
 -- a part of a length that is cut into equal ones ends within it
 part_within : (c n p : ℕ) → 0 < p → n % p ≡ 0 → c < (n + (p - 1)) / p → c * p + p ≤ n
@@ -23,7 +23,8 @@ part_within c n p some even below =
     omega (arith, whole, under, suc-mul c p)
 
 -- so each part of a shape does
-pub cut_within : (shape dims chunk : List ℕ) → are_inner_lengths shape dims ≡ true → contains (whole (regular_grid shape dims).grid_shape) chunk ≡ true → ends_within (box_of_axes (regular_axes shape dims) chunk) shape ≡ true
+pub cut_within : (shape dims chunk : List ℕ) → are_inner_lengths shape dims ≡ true → contains (whole (regular_grid shape
+    dims).grid_shape) chunk ≡ true → ends_within (box_of_axes (regular_axes shape dims) chunk) shape ≡ true
 cut_within [] [] [] cut h = refl
 cut_within [] [] (c ∷ chunk) cut h = cc
 cut_within [] (p ∷ dims) chunk cut h = cc
@@ -32,9 +33,11 @@ cut_within (n ∷ shape) (p ∷ dims) [] cut h = cc
 cut_within (n ∷ shape) (p ∷ dims) (c ∷ chunk) cut h =
     let cuts = and_parts (nat_le 1 p && (n % p == 0)) (are_inner_lengths shape dims) cut in
     let own = and_parts (nat_le 1 p) (n % p == 0) cuts.0 in
-    let parts = and_parts (is_in c (record { start = 0; size = (n + (p - 1)) / p })) (contains (whole (regular_grid shape dims).grid_shape) chunk) h in
+    let parts = and_parts (is_in c (record { start = 0; size = (n + (p - 1)) / p }))
+    (contains (whole (regular_grid shape dims).grid_shape) chunk) h in
     let some : 0 < p = (let least : 1 ≤ p = leb-true 1 p own.0 in omega (arith, least)) in
-    and_from _ _ (le-leb (c * p + p) n (part_within c n p some (eqb-true (n % p) 0 own.1) (first_is c ((n + (p - 1)) / p) parts.0))) (cut_within shape dims chunk cuts.1 parts.1)
+    and_from _ _ (le-leb (c * p + p) n (part_within c n p some (eqb-true (n % p) 0 own.1)
+    (first_is c ((n + (p - 1)) / p) parts.0))) (cut_within shape dims chunk cuts.1 parts.1)
 
 -- a shape with an element has a part
 factors : (n m : ℕ) → 0 < n * m → (0 < n) × (0 < m)
@@ -42,7 +45,8 @@ factors zero m some = absurd (omega (arith, some))
 factors (suc n) zero some = absurd (omega (arith, some))
 factors (suc n) (suc m) some = (omega arith, omega arith)
 
-pub cut_some : (shape dims : List ℕ) → are_inner_lengths shape dims ≡ true → 0 < count_of shape → 0 < count_of (regular_grid shape dims).grid_shape
+pub cut_some : (shape dims : List ℕ) → are_inner_lengths shape dims ≡ true → 0 < count_of shape →
+    0 < count_of (regular_grid shape dims).grid_shape
 cut_some [] [] cut some = omega arith
 cut_some [] (p ∷ dims) cut some = cc
 cut_some (n ∷ shape) [] cut some = cc
@@ -51,5 +55,6 @@ cut_some (n ∷ shape) (p ∷ dims) cut some =
     let own = and_parts (nat_le 1 p) (n % p == 0) cuts.0 in
     let least : 1 ≤ p = leb-true 1 p own.0 in
     let both = factors n (count_of shape) some in
-    let one : 1 ≤ (n + (p - 1)) / p = le-div 1 (n + (p - 1)) p (omega (arith, least)) (let more : 0 < n = both.0 in omega (arith, more)) in
+    let one : 1 ≤ (n + (p - 1)) / p =
+    le-div 1 (n + (p - 1)) p (omega (arith, least)) (let more : 0 < n = both.0 in omega (arith, more)) in
     mul-pos (omega (arith, one)) (cut_some shape dims cuts.1 both.1)

@@ -1,30 +1,35 @@
 -- The inner chunks that a region meets, by their numbers.
-use Rattle.std.proofs.Common.{◌≡◌, ℕ, zero, suc, ◌+◌, ◌-◌, ◌*◌, ◌<◌, nat_le, nat_lt, true, List, [], ◌∷◌, length, get_or, slice_get, Some, refl, sym, ap, ap₂, ◌∙◌, subst, arith}
+use Rattle.std.proofs.Common.{◌≡◌, ℕ, zero, suc, ◌+◌, ◌-◌, ◌*◌, ◌<◌, nat_le, nat_lt, true, List, [], ◌∷◌, length}
+use Rattle.std.proofs.Common.{get_or, slice_get, Some, refl, sym, ap, ap₂, ◌∙◌, subst, arith}
 use Rattle.std.proofs.lemmas.Bool.{and_parts, and_from, cond-true}
-use Rattle.zarr_model.specs.Prelude.{Region, starts, sizes, count, count_of, whole, contains, tuples, tuple_at, place, Grid, IsChunk, chunks_meeting}
-use Rattle.zarr_model.specs.Region.{is_in}
+use Rattle.zarrs_codec_traits.specs.Prelude.{Region, starts, sizes, count, count_of, whole, contains, tuples, tuple_at}
+use Rattle.zarrs_codec_traits.specs.Prelude.{place, Grid, IsChunk, chunks_meeting, is_in, is_box, region_of}
+use Rattle.zarrs_codec_traits.specs.Prelude.{region as region_of_subset}
 use Rattle.zarr_model.proofs.RegionLaws.{length-tuples, get_or-tuples, place_below, count_whole, rank_within}
 use Rattle.zarr_model.proofs.FailureLaws.{meeting_is}
-use Rattle.zarrs_array_subset.specs.Boxes.{is_box, region_of}
-use Rattle.zarrs_array_subset.specs.ArraySubset.{region as region_of_subset}
 use Rattle.zarrs_array_subset.specs.Ravel.{count_front, place_front, is_below, raveled}
 use Rattle.zarrs_array_subset.proofs.BoxLaws.{starts_region, sizes_region}
-use Rattle.zarr_shard_codec.specs.MetInner.{codec_of, region_met, chunk_at, AreMet}
-use Rattle.zarr_shard_codec.specs.Placing.{number_of}
+use Rattle.zarr_shard_codec.specs.MetInner.{met_codec, region_met, met_inner_at, AreMetInner}
+use Rattle.zarr_shard_codec.specs.Placing.{inner_number}
 use Rattle.zarr_shard_codec.specs.ShardCodec.{inner_of, inner_grid}
 use Rattle.zarr_shard_codec.specs.declared.met_inner.MetInner.{MetInner}
 use Rattle.zarr_shard_codec.specs.declared.shard_codec.ShardCodec.{ShardCodec}
 use Rattle.zarr_shard_codec.proofs.CodecFacts.{covers}
 
 -- the two lists of a subset are a box
-pub parts_box : (start shape : List ℕ) → is_box start shape ≡ true → (is_box (starts (region_of start shape)) (sizes (region_of start shape)) ≡ true)
+pub parts_box : (start shape : List ℕ) → is_box start shape ≡ true →
+    (is_box (starts (region_of start shape)) (sizes (region_of start shape)) ≡ true)
     × (region_of (starts (region_of start shape)) (sizes (region_of start shape)) ≡ region_of start shape)
-parts_box start shape box = (ap₂ is_box (starts_region start shape box) (sizes_region start shape box) ∙ box, ap₂ region_of (starts_region start shape box) (sizes_region start shape box))
+parts_box start shape box = (
+  ap₂ is_box (starts_region start shape box) (sizes_region start shape box) ∙ box,
+  ap₂ region_of (starts_region start shape box) (sizes_region start shape box),
+)
 
 pub ruleset of_subsets = (parts_box)
 
 -- the linear index of a tuple inside a shape is its place
-front_is : (shape indices : List ℕ) → contains (whole shape) indices ≡ true → (is_below shape indices ≡ true) × (place_front shape indices ≡ place (whole shape) indices) × (count_front shape indices ≡ count_of shape)
+front_is : (shape indices : List ℕ) → contains (whole shape) indices ≡ true → (is_below shape indices ≡ true) ×
+    (place_front shape indices ≡ place (whole shape) indices) × (count_front shape indices ≡ count_of shape)
 front_is [] [] inside = (refl, refl, refl)
 front_is [] (i ∷ indices) inside = cc
 front_is (n ∷ shape) [] inside = cc
@@ -34,18 +39,26 @@ front_is (n ∷ shape) (i ∷ indices) inside =
     let rest = front_is shape indices parts.1 in
     let same : i ≡ i - 0 = omega arith in
     let counted : count_front shape indices ≡ count (whole shape) = rest.2 ∙ sym (count_whole shape) in
-    let below : nat_lt i n ≡ true = ap (nat_lt i) (omega arith) ∙ near.1 in
-    (and_from _ _ below rest.0, ap₂ (λ (a b : ℕ). a + b) (ap₂ (λ (a b : ℕ). a * b) same counted) rest.1, ap (λ (c : ℕ). n * c) rest.2)
+    let below : nat_lt i n ≡ true = ap (nat_lt i) (omega arith) ∙ near.1 in (
+      and_from _ _ below rest.0,
+      ap₂ (λ (a b : ℕ). a + b) (ap₂ (λ (a b : ℕ). a * b) same counted) rest.1,
+      ap (λ (c : ℕ). n * c) rest.2,
+    )
 
-pub raveled_inside : (shape indices : List ℕ) → contains (whole shape) indices ≡ true → raveled shape indices ≡ Some (place (whole shape) indices)
-raveled_inside shape indices inside = let front = front_is shape indices inside in cond-true _ _ _ front.0 ∙ ap Some front.1
+pub raveled_inside : (shape indices : List ℕ) → contains (whole shape) indices ≡ true →
+    raveled shape indices ≡ Some (place (whole shape) indices)
+raveled_inside shape indices inside = let front = front_is shape indices inside in
+    cond-true _ _ _ front.0 ∙ ap Some front.1
 
-pub front_counted : (shape indices : List ℕ) → contains (whole shape) indices ≡ true → count_front shape indices ≡ count_of shape
+pub front_counted : (shape indices : List ℕ) → contains (whole shape) indices ≡ true →
+    count_front shape indices ≡ count_of shape
 front_counted shape indices inside = (front_is shape indices inside).2
 
 -- the number of an inner chunk is that of a pair
-pub below_pairs : (codec : ShardCodec) (chunk : List ℕ) → IsChunk (inner_grid codec) chunk → number_of codec chunk < count_of (inner_grid codec).grid_shape
-below_pairs codec chunk is_chunk = subst (λ n. number_of codec chunk < n) (count_whole (inner_grid codec).grid_shape) (place_below (whole (inner_grid codec).grid_shape) chunk is_chunk)
+pub below_pairs : (codec : ShardCodec) (chunk : List ℕ) → IsChunk (inner_grid codec) chunk →
+    inner_number codec chunk < count_of (inner_grid codec).grid_shape
+below_pairs codec chunk is_chunk = subst (λ n. inner_number codec chunk < n) (count_whole (inner_grid codec).grid_shape)
+    (place_below (whole (inner_grid codec).grid_shape) chunk is_chunk)
 
 -- a place of a list
 listed_at : {A : Type 0} (xs : List A) (k : ℕ) (x : A) → k < length xs → get_or xs k x ≡ x → slice_get xs k ≡ Some x
@@ -54,28 +67,36 @@ listed_at (y ∷ ys) zero x h e = ap Some e
 listed_at (y ∷ ys) (suc k) x h e = listed_at ys k x (omega arith) e
 
 -- the chunk at a place of a box of chunks that lists those that a region meets
-met_at : (grid : Grid) (region chunks : Region) (number : ℕ) → tuples chunks ≡ chunks_meeting grid region → number < count chunks →
-    (slice_get (chunks_meeting grid region) number ≡ Some (tuple_at chunks number)) × IsChunk grid (tuple_at chunks number)
+met_at : (grid : Grid) (region chunks : Region) (number : ℕ) → tuples chunks ≡ chunks_meeting grid region →
+    number < count chunks →
+    (slice_get (chunks_meeting grid region) number ≡ Some (tuple_at chunks number)) ×
+    IsChunk grid (tuple_at chunks number)
 met_at grid region chunks number listed below =
     let here : slice_get (tuples chunks) number ≡ Some (tuple_at chunks number) =
-    listed_at (tuples chunks) number (tuple_at chunks number) (subst (λ n. number < n) (sym (length-tuples chunks)) below) (get_or-tuples chunks number (tuple_at chunks number) below) in
-    let met : slice_get (chunks_meeting grid region) number ≡ Some (tuple_at chunks number) = ap (λ l. slice_get l number) (sym listed) ∙ here in
+    listed_at (tuples chunks) number (tuple_at chunks number) (subst (λ n. number < n) (sym (length-tuples chunks))
+    below) (get_or-tuples chunks number (tuple_at chunks number) below) in
+    let met : slice_get (chunks_meeting grid region) number ≡ Some (tuple_at chunks number) =
+    ap (λ l. slice_get l number) (sym listed) ∙ here in
     (met, (meeting_is grid region number (tuple_at chunks number) met).0)
 
-module _ (met : MetInner) (are : AreMet met) where
+module _ (met : MetInner) (are : AreMetInner met) where
   abbrev own : Grid
-  own = inner_grid (codec_of met)
+  own = inner_grid (met_codec met)
 
   -- the number of the last one
-  pub num_met : count (region_of_subset met.chunks) ≡ length (chunks_meeting (inner_grid (codec_of met)) (region_met met))
+  pub num_met : count (region_of_subset met.chunks) ≡
+      length (chunks_meeting (inner_grid (met_codec met)) (region_met met))
   num_met = sym (length-tuples (region_of_subset met.chunks)) ∙ ap length are.listed
 
   module _ (number : ℕ) (below : number < count (region_of_subset met.chunks)) where
-    pub met_here : slice_get (chunks_meeting (inner_grid (codec_of met)) (region_met met)) number ≡ Some (chunk_at met number)
+    pub met_here : slice_get (chunks_meeting (inner_grid (met_codec met)) (region_met met)) number ≡
+        Some (met_inner_at met number)
     met_here = (met_at own (region_met met) (region_of_subset met.chunks) number are.listed below).0
 
-    pub met_chunk : IsChunk (inner_grid (codec_of met)) (chunk_at met number)
+    pub met_chunk : IsChunk (inner_grid (met_codec met)) (met_inner_at met number)
     met_chunk = (met_at own (region_met met) (region_of_subset met.chunks) number are.listed below).1
 
-  pub its_rank : (chunk : List ℕ) → IsChunk (inner_grid (codec_of met)) chunk → length (region_met met) ≡ length ((inner_grid (codec_of met)).chunk_box chunk)
-  its_rank chunk is_chunk = rank_within (region_met met) (inner_of (codec_of met)).shape are.inside ∙ sym ((covers (codec_of met)).box_rank chunk is_chunk)
+  pub its_rank : (chunk : List ℕ) → IsChunk (inner_grid (met_codec met)) chunk →
+      length (region_met met) ≡ length ((inner_grid (met_codec met)).chunk_box chunk)
+  its_rank chunk is_chunk = rank_within (region_met met) (inner_of (met_codec met)).shape are.inside
+      ∙ sym ((covers (met_codec met)).box_rank chunk is_chunk)

@@ -1,8 +1,10 @@
 -- What a shard's elements are.
 use Rattle.std.specs.Prelude.{◌≡◌, ℕ, true, Bool, List, length, get_or, Some}
-use Rattle.zarr_model.specs.Prelude.{Region, whole, count_of, contains, place, ends_within, Element, elements_in, IsChunk, CoversShape, Level, Layout, stored_array}
+use Rattle.zarr_model.specs.Prelude.{Region, whole, count_of, contains, place, ends_within, Element, elements_in}
+use Rattle.zarr_model.specs.Prelude.{IsChunk, CoversShape, Level, Layout, stored_array}
 use Rattle.zarrs_codec_traits.specs.Words.{select}
-use Rattle.zarr_shard_codec.specs.Shard.{inner_layout, inner_pairs, inner_content, index_of, shard_list, Meaning, Form, decode_shard}
+use Rattle.zarr_shard_codec.specs.Shard.{inner_layout, inner_pairs, inner_content, index_of, shard_list, Meaning, Form}
+use Rattle.zarr_shard_codec.specs.Shard.{decode_shard}
 
 -- the element at a tuple is the one that the inner chunk with this tuple has
 abbrev pub ElementIsInner : Type 0

@@ -1,5 +1,6 @@
 -- CRC-32C of bytes, bit by bit, and bytes with it behind them.
-use Rattle.std.specs.Prelude.{ℕ, zero, suc, ◌-◌, ◌/◌, ◌%◌, ◌==◌, ◌&&◌, ◌||◌, not, nat_le, if◌then◌else◌, Bool, List, [], ◌∷◌, length, take, drop, bytes_eq, bit_xor, Option, Some, None}
+use Rattle.std.specs.Prelude.{ℕ, zero, suc, ◌-◌, ◌/◌, ◌%◌, ◌==◌, ◌&&◌, ◌||◌, not, nat_le, if◌then◌else◌, Bool, List, []}
+use Rattle.std.specs.Prelude.{◌∷◌, length, take, drop, bytes_eq, bit_xor, Option, Some, None}
 use Rattle.zarr_model.specs.Codec.{low_bytes}
 
 -- one step of the register, by the bit that leaves it

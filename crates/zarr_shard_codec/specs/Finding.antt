@@ -3,7 +3,7 @@ use Rattle.std.specs.Prelude.{◌≡◌, ℕ, Bool, true, false, nat_le, List, l
 use Rattle.zarrs_codec_error.specs.declared.error.CodecError.{CodecError}
 use Rattle.zarrs_codec_error.specs.declared.error.CodecError.TheVariants as codec
 use Rattle.zarrs_codec_array_bytes.specs.Refusals.{told_by, wrong_length}
-use Rattle.zarr_shard_open.specs.Document.{index_size}
+use Rattle.zarr_array_open.specs.ShardDocument.{index_size}
 use Rattle.zarr_shard_codec.specs.Index.{index_in, index_part}
 
 -- the bytes of the pairs of a value with so many inner chunks

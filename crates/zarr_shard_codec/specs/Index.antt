@@ -1,7 +1,8 @@
 -- The index at the end of a shard: a place for each inner chunk.
-use Rattle.std.specs.Prelude.{ℕ, ◌+◌, ◌-◌, ◌*◌, ◌^◌, Bool, true, false, ◌==◌, ◌&&◌, nat_le, if◌then◌else◌, List, ◌++◌, length, take, drop, Option, Some, None, flat_map}
+use Rattle.std.specs.Prelude.{ℕ, ◌+◌, ◌-◌, ◌*◌, ◌^◌, Bool, true, false, ◌==◌, ◌&&◌, nat_le, if◌then◌else◌, List, ◌++◌}
+use Rattle.std.specs.Prelude.{length, take, drop, Option, Some, None, flat_map}
 use Rattle.zarr_model.specs.Codec.{number_of_bytes, low_bytes}
-use Rattle.zarr_shard_open.specs.Document.{index_size}
+use Rattle.zarr_array_open.specs.ShardDocument.{index_size}
 use Rattle.zarr_shard_codec.specs.Crc32c.{crc32c_bytes, crc32c_codec}
 
 -- where an inner chunk lies in the value, if it is there
@@ -55,10 +56,10 @@ abbrev pub pair_at : List ℕ → ℕ → Pair
 pair_at index k = pair_of (pair_part index k)
 
 -- an index with its number behind it, or without
-abbrev pub ended : Bool → List ℕ → List ℕ
-ended false pairs = pairs
-ended true pairs = pairs ++ crc32c_bytes pairs
+abbrev pub index_ended : Bool → List ℕ → List ℕ
+index_ended false pairs = pairs
+index_ended true pairs = pairs ++ crc32c_bytes pairs
 
 -- an index as it is written
 abbrev pub index_bytes : Bool → List Pair → List ℕ
-index_bytes checked pairs = ended checked (flat_map pair_bytes pairs)
+index_bytes checked pairs = index_ended checked (flat_map pair_bytes pairs)

@@ -1,13 +1,12 @@
 -- One inner chunk of a shard: what it decodes to, and why it does not.
-use Rattle.std.specs.Prelude.{◌≡◌, ℕ, if◌then◌else◌, false, List, length, replicate, Option, Some, None, IsSome, option_map, option_and_then}
-use Rattle.zarr_model.specs.Prelude.{count_of, Element, Level, has_long_element}
+use Rattle.std.specs.Prelude.{◌≡◌, ℕ, if◌then◌else◌, false, List, length, replicate, Option, Some, None, IsSome}
+use Rattle.std.specs.Prelude.{option_map, option_and_then}
+use Rattle.zarrs_codec_traits.specs.Prelude.{count_of, Element, Level, has_long_element, raw_of, list_at}
 use Rattle.zarrs_storage.specs.declared.byte_range.ByteRange.TheVariants.{FromStart}
 use Rattle.zarrs_codec_error.specs.declared.error.CodecError.{CodecError}
 use Rattle.zarrs_codec_error.specs.declared.error.CodecError.TheVariants as codec
-use Rattle.zarrs_codec_array_bytes.specs.Raw.{raw_of}
 use Rattle.zarrs_codec_array_bytes.specs.declared.array_bytes.ArrayBytes.{ArrayBytes}
-use Rattle.zarrs_codec_traits.specs.Words.{list_at}
-use Rattle.zarr_array_parts.specs.ChunkLevels.{ServesShape}
+use Rattle.zarr_array_open.specs.ChunkLevels.{ServesShape}
 use Rattle.zarr_shard_codec.specs.Index.{Pair, is_absent, part_of}
 use Rattle.zarr_shard_codec.specs.ShardCodec.{inner_of, inner_dims, inner_level}
 use Rattle.zarr_shard_codec.specs.declared.inner_chunks.InnerChunks.{InnerChunks}

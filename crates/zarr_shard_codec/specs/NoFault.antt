@@ -1,22 +1,20 @@
 -- No error that tells that a shard does not decode is a fault of a store.
 use Rattle.std.specs.Prelude.{◌≡◌, ℕ, Bool, true, false, nat_le, List, [], ◌∷◌, length, Option, Some, None, refl}
 use Rattle.std.proofs.Common.{sym, ◌∙◌}
-use Rattle.zarr_model.specs.Prelude.{count_of, Options, decode_bytes}
+use Rattle.zarrs_codec_traits.specs.Prelude.{count_of, Options, decode_bytes, wrong_length, IsNoFault}
 use Rattle.zarrs_storage.specs.declared.byte_range.InvalidByteRangeError.{InvalidByteRangeError}
 use Rattle.zarrs_storage.specs.declared.store.StorageError.{StorageError}
 use Rattle.zarrs_codec_error.specs.declared.error.CodecError.{CodecError}
 use Rattle.zarrs_codec_error.specs.declared.error.CodecError.TheVariants as codec
-use Rattle.zarrs_codec_array_bytes.specs.Refusals.{wrong_length}
-use Rattle.zarrs_codec_traits.specs.Errors.{IsNoFault}
 use Rattle.zarrs_codec_traits.proofs.FaultLaws.{told_no_fault}
-use Rattle.zarr_basics.specs.kinds.BytesToBytes.{byte_no_fault, byte_form}
-use Rattle.zarr_basics.specs.kinds.declared.bytes_to_bytes.BasicBytesToBytes.{BasicBytesToBytes}
-use Rattle.zarr_codecs_array_to_bytes.specs.Laws.{plain_no_fault}
-use Rattle.zarr_codecs_array_to_bytes.specs.Views.{plain_of}
-use Rattle.zarr_chain.specs.Chain.{bottom_level}
-use Rattle.zarr_chain.specs.Values.{byte_codecs, said_at, bytes_says}
-use Rattle.zarr_array_parts.specs.Codecs.{list_says, bytes_meaning, bytes_says as codec_says}
-use Rattle.zarr_shard_open.specs.Document.{index_size}
+use Rattle.zarr_codecs.specs.BytesToBytes.{byte_no_fault, byte_form}
+use Rattle.zarr_codecs.specs.declared.bytes_to_bytes.BasicBytesToBytes.{BasicBytesToBytes}
+use Rattle.zarr_codecs.specs.Laws.{plain_no_fault}
+use Rattle.zarr_codecs.specs.Views.{plain_of}
+use Rattle.zarr_codec_chain.specs.Chain.{bottom_level}
+use Rattle.zarr_codec_chain.specs.Values.{byte_codecs, said_at, bytes_says}
+use Rattle.zarr_array_open.specs.Codecs.{list_says, bytes_meaning, bytes_codec_says as codec_says}
+use Rattle.zarr_array_open.specs.ShardDocument.{index_size}
 use Rattle.zarr_shard_codec.specs.Crc32cCodec.{number_no_fault}
 use Rattle.zarr_shard_codec.specs.Index.{Pair, pair_at, part_of}
 use Rattle.zarr_shard_codec.specs.Finding.{says_index, index_found}
@@ -55,9 +53,9 @@ inner_no_fault codec under value e says =
     bytes e said) says.said
 
 -- a range past the value
-pub range_no_fault : (error : InvalidByteRangeError) (e : CodecError)
+pub range_error_no_fault : (error : InvalidByteRangeError) (e : CodecError)
     → e ≡ codec.InvalidByteRangeError error → IsNoFault e
-range_no_fault error e is = record { unlike = λ fault same. other fault (sym is ∙ same) }
+range_error_no_fault error e is = record { unlike = λ fault same. other fault (sym is ∙ same) }
   where
     other : (fault : StorageError) → codec.InvalidByteRangeError error ≡ codec.StorageError fault
         → ⊥
@@ -66,7 +64,7 @@ range_no_fault error e is = record { unlike = λ fault same. other fault (sym is
 pub found_no_fault : (codec : ShardCodec) (under : Options) (bytes : Option (List ℕ)) (len : ℕ)
     (pair : Pair) (e : CodecError) → says_found bytes (InnerSays codec under) len pair e
     → IsNoFault e
-found_no_fault codec under None len pair e told = range_no_fault _ e told
+found_no_fault codec under None len pair e told = range_error_no_fault _ e told
 found_no_fault codec under (Some bytes) len pair e told = inner_no_fault codec under bytes e told
 
 -- the index

@@ -1,17 +1,15 @@
 -- What reading a region of a chunk owes.
 use Rattle.std.specs.Prelude.{◌≡◌, ◌≤◌, ◌⊎◌, ℕ, true, false, List, length, take, slice_get, is_some, Option, Some, None}
 use Rattle.std.specs.List.{list_all}
-use Rattle.zarr_model.specs.Prelude.{Region, Element, chunks_meeting, ArrayBytes, has_long_element, Options, Shown, counted}
-use Rattle.zarrs_storage.specs.Store.{SameContent}
+use Rattle.zarrs_codec_traits.specs.Prelude.{Region, Element, chunks_meeting, ArrayBytes, has_long_element, Options}
+use Rattle.zarrs_codec_traits.specs.Prelude.{Shown, counted, SameContent, IsHandleError, list_at, at_box, Gives}
 use Rattle.zarrs_storage.specs.declared.byte_range.ByteRange.TheVariants.{Suffix}
 use Rattle.zarrs_codec_error.specs.declared.error.CodecError.{CodecError}
 use Rattle.zarrs_codec_error.specs.declared.error.CodecError.TheVariants as error
-use Rattle.zarrs_codec_held.specs.Reads.{IsHandleError}
-use Rattle.zarrs_codec_traits.specs.Words.{list_at, at_box, Gives}
 use Rattle.zarr_shard_codec.specs.Index.{index_in, pair_at}
 use Rattle.zarr_shard_codec.specs.Shard.{inner_content}
 use Rattle.zarr_shard_codec.specs.ShardCodec.{inner_grid, own_level, own_array, InnerSays}
-use Rattle.zarr_shard_codec.specs.Placing.{number_of}
+use Rattle.zarr_shard_codec.specs.Placing.{inner_number}
 use Rattle.zarr_shard_codec.specs.Inner.{found_says}
 use Rattle.zarr_shard_codec.specs.Region.{index_len, own_part}
 use Rattle.zarr_shard_codec.specs.declared.shard_codec.ShardCodec.{ShardCodec}
@@ -42,7 +40,7 @@ pub record HasRegion (codec : ShardCodec) (region : Region) (wanted : Option (Li
 -- which errors tell why an inner chunk has none
 abbrev pub says_at : ShardCodec → Options → List ℕ → List ℕ → List ℕ → CodecError → Type 0
 says_at codec under value index chunk e =
-    found_says (InnerSays codec under) value (pair_at index (number_of codec chunk)) e
+    found_says (InnerSays codec under) value (pair_at index (inner_number codec chunk)) e
 
 -- an error tells why the first inner chunk that a region meets and that has no elements has none: its
 -- pair names bytes past the value, or its bytes do not decode
@@ -58,16 +56,16 @@ pub record SaysMet (codec : ShardCodec) (under : Options) (region : Region)
 
 -- why there is nothing of a region by what the bytes of the index hold: its number is wrong, and
 -- else such an inner chunk
-abbrev pub says_by : ShardCodec → Options → Region → List ℕ → Option (List ℕ) → CodecError → Type 0
-says_by codec under region value None e = e ≡ error.InvalidChecksum
-says_by codec under region value (Some index) e = SaysMet codec under region value index e
+abbrev pub region_says_by : ShardCodec → Options → Region → List ℕ → Option (List ℕ) → CodecError → Type 0
+region_says_by codec under region value None e = e ≡ error.InvalidChecksum
+region_says_by codec under region value (Some index) e = SaysMet codec under region value index e
 
 -- and by a value: it is shorter than the index, and else these
 abbrev pub says_from : ShardCodec → Options → Region → List ℕ → Option (List ℕ) → CodecError
     → Type 0
 says_from codec under region value None e = e ≡ error.InvalidByteRangeError
     (record { range = Suffix (index_len codec); size = length value })
-says_from codec under region value (Some part) e = says_by codec under region value
+says_from codec under region value (Some part) e = region_says_by codec under region value
     (index_in codec.shard.checked under.validate_checksums part) e
 
 abbrev pub region_says : ShardCodec → Options → Region → List ℕ → CodecError → Type 0

@@ -1,10 +1,12 @@
 -- A region of a shard: what its inner chunks give of it, whatever stands where the region does not
 -- reach.
-use Rattle.std.specs.Prelude.{◌≡◌, ℕ, ◌+◌, Bool, true, not, nat_le, if◌then◌else◌, List, [], length, map, filter, replicate, Option, Some, None, is_some, option_and_then}
+use Rattle.std.specs.Prelude.{◌≡◌, ℕ, ◌+◌, Bool, true, not, nat_le, if◌then◌else◌, List, [], length, map, filter}
+use Rattle.std.specs.Prelude.{replicate, Option, Some, None, is_some, option_and_then}
 use Rattle.std.specs.List.{list_all, sum_by}
-use Rattle.zarr_model.specs.Prelude.{Region, count, count_of, whole, place, ends_within, Element, elements_in, Grid, chunks_meeting, Layout, Options, stored_array}
+use Rattle.zarr_model.specs.Prelude.{Region, count, count_of, whole, place, ends_within, Element, elements_in, Grid}
+use Rattle.zarr_model.specs.Prelude.{chunks_meeting, Layout, Options, stored_array}
 use Rattle.zarrs_codec_traits.specs.Words.{select}
-use Rattle.zarr_shard_open.specs.Document.{index_size}
+use Rattle.zarr_array_open.specs.ShardDocument.{index_size}
 use Rattle.zarr_shard_codec.specs.Index.{Pair, index_part, is_absent, pair_at}
 use Rattle.zarr_shard_codec.specs.Finding.{index_found}
 use Rattle.zarr_shard_codec.specs.Shard.{inner_layout, inner_pairs, inner_content, index_of, shard_list}

@@ -3,12 +3,10 @@
 use Rattle.std.specs.Prelude.{◌≡◌, ℕ, ◌&&◌, Bool, true, false, List, bytes_eq, Option, Some, None, refl}
 use Rattle.std.proofs.Common.{ap}
 use Rattle.std.proofs.lemmas.Bool.{and_parts, and_from}
-use Rattle.zarr_model.specs.Prelude.{DataType, Level}
-use Rattle.zarrs_data_type_bytes.specs.FillValue.{fill_bytes}
+use Rattle.zarrs_codec_traits.specs.Prelude.{DataType, Level, fill_bytes, taken}
 use Rattle.zarrs_data_type_bytes.specs.declared.codec_support.CodecName.TheVariants as names
-use Rattle.zarrs_data_type_names.specs.DataType.{same_type}
+use Rattle.zarrs_data_type.specs.DataType.{same_type}
 use Rattle.zarrs_codec_traits.specs.Errors.{Unserved, unsupported, unserved_at}
-use Rattle.zarrs_codec_traits.specs.Words.{taken}
 use Rattle.zarr_shard_codec.specs.ShardCodec.{inner_of}
 use Rattle.zarr_shard_codec.specs.declared.shard_codec.ShardCodec.{ShardCodec}
 

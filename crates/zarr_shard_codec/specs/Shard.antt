@@ -2,7 +2,8 @@
 -- chunks are as those of an array in a store, but that each is found by its pair in place of a key.
 use Rattle.std.specs.Prelude.{ℕ, Bool, if◌then◌else◌, List, Option, Some, None, is_some, option_and_then}
 use Rattle.std.specs.List.{list_all}
-use Rattle.zarr_model.specs.Prelude.{whole, count_of, place, Element, elements_in, Grid, chunks, regular_grid, Level, Content, Layout, chunk_content, stored_array}
+use Rattle.zarr_model.specs.Prelude.{whole, count_of, place, Element, elements_in, Grid, chunks, regular_grid, Level}
+use Rattle.zarr_model.specs.Prelude.{Content, Layout, chunk_content, stored_array}
 use Rattle.zarr_shard_codec.specs.Index.{pair_of, pair_part, pair_at, is_absent, part_of}
 use Rattle.zarr_shard_codec.specs.Finding.{index_found}
 

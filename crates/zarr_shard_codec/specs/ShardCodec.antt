@@ -1,25 +1,25 @@
 -- What a `ShardCodec` stands for.
 use Rattle.std.specs.Prelude.{ℕ, List, Option}
 use Rattle.zarr_model.specs.Prelude.{Element, Grid, Layout, Level, Options, Description, layout, decode_chain}
-use Rattle.zarr_basics_grids.specs.Lengths.{nonzeros}
+use Rattle.zarr_basics.specs.Lengths.{nonzeros}
 use Rattle.zarrs_codec_error.specs.declared.error.CodecError.{CodecError}
-use Rattle.zarr_chain.specs.Chain.{chain_says}
-use Rattle.zarr_chain.specs.declared.levels.ChunkLevels.{ChunkLevels}
-use Rattle.zarr_array_parts.specs.ChunkLevels.{shape_level, ServesShape}
-use Rattle.zarr_array_parts.specs.Codecs.{list_says, bytes_meaning, bytes_says}
-use Rattle.zarr_array_parts.specs.Parts.{described}
-use Rattle.zarr_shard_open.specs.Document.{ShardForm}
-use Rattle.zarr_shard_open.specs.Views.{shard_form}
+use Rattle.zarr_codec_chain.specs.Chain.{chain_says}
+use Rattle.zarr_codec_chain.specs.declared.levels.ChunkLevels.{ChunkLevels}
+use Rattle.zarr_array_open.specs.ChunkLevels.{shape_level, ServesShape}
+use Rattle.zarr_array_open.specs.Codecs.{list_says, bytes_meaning, bytes_codec_says}
+use Rattle.zarr_array_open.specs.Parts.{described_parts}
+use Rattle.zarr_array_open.specs.ShardDocument.{ShardForm}
+use Rattle.zarr_array_open.specs.Views.{shard_form}
 use Rattle.zarr_shard_codec.specs.Shard.{Form, shard_list, decode_shard}
 use Rattle.zarr_shard_codec.specs.declared.shard_codec.ShardCodec.{ShardCodec}
 
 -- how a chunk keeps inner chunks
-abbrev pub codec_form : ShardCodec → ShardForm
-codec_form codec = shard_form codec.shard
+abbrev pub codec_shard_form : ShardCodec → ShardForm
+codec_shard_form codec = shard_form codec.shard
 
 -- the array whose chunks are the inner ones, and their grid
 abbrev pub inner_of : ShardCodec → Description
-inner_of codec = described codec.shard.inner
+inner_of codec = described_parts codec.shard.inner
 
 abbrev pub inner_grid : ShardCodec → Grid
 inner_grid codec = (inner_of codec).grid
@@ -49,11 +49,11 @@ own_list codec under value =
     shard_list codec.shard.checked under.validate_checksums (own_array codec under) value
 
 -- the same at any level, by the codec's form
-abbrev pub form_of : ShardCodec → Form
-form_of codec = record { inner_shape = inner_dims codec; checked = codec.shard.checked }
+abbrev pub codec_inner_form : ShardCodec → Form
+codec_inner_form codec = record { inner_shape = inner_dims codec; checked = codec.shard.checked }
 
 abbrev pub shard_meaning : ShardCodec → Options → Level → List ℕ → Option (List Element)
-shard_meaning codec under level value = decode_shard (form_of codec) under.validate_checksums
+shard_meaning codec under level value = decode_shard (codec_inner_form codec) under.validate_checksums
     (decode_chain ((inner_of codec).chain under)) level value
 
 -- which errors tell that the bytes of an inner chunk do not decode: those of its chain
@@ -61,5 +61,5 @@ pub record InnerSays (codec : ShardCodec) (under : Options) (value : List ℕ) (
     : Type 0 where
   pub levels : ChunkLevels
   pub serves : ServesShape codec.shard.inner (inner_dims codec) codec.shard.inner.chain levels
-  pub said : chain_says list_says bytes_meaning bytes_says codec.shard.inner.chain levels under
+  pub said : chain_says list_says bytes_meaning bytes_codec_says codec.shard.inner.chain levels under
       value e

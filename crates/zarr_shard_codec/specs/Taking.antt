@@ -2,12 +2,10 @@
 -- an inner chunk never has too many elements, and elsewhere no element is too long.
 use Rattle.std.specs.Prelude.{◌≡◌, Bool, true, false, not, refl}
 use Rattle.std.proofs.Common.{ap, inl, inr}
-use Rattle.zarr_model.specs.Prelude.{ArrayBytes, has_long_element}
-use Rattle.zarrs_codec_array_bytes.specs.Refusals.{Told, fine}
-use Rattle.zarrs_codec_traits.specs.Errors.{IsFormRefusal}
-use Rattle.zarr_codecs_array_to_bytes.specs.vlen.Vlen.{refusal_unless}
+use Rattle.zarrs_codec_traits.specs.Prelude.{ArrayBytes, has_long_element, BytesAnswer, fine, IsFormRefusal}
+use Rattle.zarr_codecs.specs.to_bytes.VlenCodec.{refusal_unless}
 
-abbrev pub long_refusal : ArrayBytes → Told
+abbrev pub long_refusal : ArrayBytes → BytesAnswer
 long_refusal bytes = refusal_unless (not (has_long_element bytes))
 
 -- nothing is where all are short, and else their form

@@ -1,10 +1,9 @@
 -- All inner chunks of a chunk, put together.
 use Rattle.std.specs.Prelude.{◌≡◌, ◌<◌, ℕ, List, length, Option, Some, None, IsSome}
-use Rattle.zarr_model.specs.Prelude.{Region, count, count_of, kind, Element, Options}
-use Rattle.zarrs_codec_slices.specs.Overlap.{Copied}
+use Rattle.zarrs_codec_traits.specs.Prelude.{Region, count, count_of, kind, Element, Options, Copied}
 use Rattle.zarrs_codec_error.specs.declared.error.CodecError.{CodecError}
-use Rattle.zarr_array_elements.specs.BoxElements.{kind_held, box_held, list_held, HoldsShort}
-use Rattle.zarr_array_elements.specs.declared.box_elements.BoxElements.{BoxElements}
+use Rattle.zarr_array_boxes.specs.BoxElements.{kind_held, box_held, list_held, HoldsShort}
+use Rattle.zarr_array_boxes.specs.declared.box_elements.BoxElements.{BoxElements}
 use Rattle.zarr_shard_codec.specs.Index.{pair_at}
 use Rattle.zarr_shard_codec.specs.Shard.{inner_content}
 use Rattle.zarr_shard_codec.specs.Finding.{index_found, index_says}
@@ -14,8 +13,8 @@ use Rattle.zarr_shard_codec.specs.Placing.{indices_at}
 use Rattle.zarr_shard_codec.specs.declared.shard_codec.ShardCodec.{ShardCodec}
 
 -- the elements of the inner chunk of a number, by an index
-abbrev pub content_of : ShardCodec → Options → List ℕ → List ℕ → ℕ → Option (List Element)
-content_of codec under value index number =
+abbrev pub inner_content_of : ShardCodec → Options → List ℕ → List ℕ → ℕ → Option (List Element)
+inner_content_of codec under value index number =
     inner_content (own_array codec under) value index (indices_at codec number)
 
 -- elements are held over a region of the chunk, none of which is too long for its length to be
@@ -45,7 +44,7 @@ pub record SaysInner (codec : ShardCodec) (under : Options) (value index : List 
     (e : CodecError) : Type 0 where
   pub number : ℕ
   pub below : number < count_of (inner_grid codec).grid_shape
-  pub first : (k : ℕ) → k < number → IsSome (content_of codec under value index k)
+  pub first : (k : ℕ) → k < number → IsSome (inner_content_of codec under value index k)
   pub why : SaysAt codec under value index number e
 
 -- which errors tell that a value decodes to nothing: those of its index, and else of an inner chunk

@@ -1,11 +1,9 @@
 //! The elements of a chunk, encoded as a shard.
 
 ghost use Rattle.std.specs.Prelude.{◌≡◌, ◌<◌, true, false, List, Some, MatchResult, IfOk};
-ghost use Rattle.zarr_model.specs.Prelude.{count_of, Element, has_long_element};
-ghost use Rattle.zarrs_codec_array_bytes.specs.Raw.{raw_of};
+ghost use Rattle.zarrs_codec_traits.specs.Prelude.{count_of, Element, has_long_element, raw_of};
+ghost use Rattle.zarrs_codec_traits.specs.Prelude.{options_of, list_at};
 ghost use Rattle.zarrs_codec_error.specs.declared.error.CodecError.TheVariants as errors;
-ghost use Rattle.zarrs_codec_traits.specs.Views.{options_of};
-ghost use Rattle.zarrs_codec_traits.specs.Words.{list_at};
 ghost use Rattle.zarr_shard_codec.specs.Encoding.{part_list, IsFill, HasAppended, IsEncoded};
 ghost use Rattle.zarr_shard_codec.specs.Inner.{AreInner};
 ghost use Rattle.zarr_shard_codec.specs.Pair.{pair_seen};

@@ -1,10 +1,7 @@
 //! Parts of the value under a key.
 
 ghost use Rattle.std.specs.Prelude.{◌≡◌, ◌∷◌, [], Some, MatchResult};
-ghost use Rattle.zarrs_storage.specs.Store.{value_bytes};
-ghost use Rattle.zarrs_codec_held.specs.Held.{value_part};
-ghost use Rattle.zarrs_codec_held.specs.Reads.{TellsRangeOf};
-ghost use Rattle.zarrs_codec_partial_bytes.specs.Stored.{taken_of};
+ghost use Rattle.zarrs_codec.specs.Prelude.{value_bytes, value_part, TellsRangeOf, taken_of};
 ghost use Rattle.zarr_shard_codec.specs.ReadRegion.{HasCost, NotRead};
 
 use std::alloc::Global;

@@ -2,7 +2,7 @@
 
 ghost use Rattle.std.specs.Prelude.{◌≡◌, ◌≤◌, ◌<◌, ◌*◌, ◌+◌, ◌^◌, length, IfSome, SomeIff, Some, None, MatchResult, IfOk, option_map};
 ghost use Rattle.zarrs_codec_array_bytes.specs.Refusals.{told_by, wrong_length};
-ghost use Rattle.zarr_shard_open.specs.Document.{index_size};
+ghost use Rattle.zarr_array_open.specs.ShardDocument.{index_size};
 ghost use Rattle.zarr_shard_codec.specs.Crc32c.{crc32c_codec};
 ghost use Rattle.zarr_shard_codec.specs.Index.{index_part};
 ghost use Rattle.zarr_shard_codec.specs.Finding.{index_found, index_says};

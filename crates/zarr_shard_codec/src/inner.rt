@@ -1,11 +1,8 @@
 //! One inner chunk of a shard, decoded.
 
 ghost use Rattle.std.specs.Prelude.{◌≡◌, ◌*◌, ◌+◌, ◌≤◌, false, length, option_map, IfOk, IfErr, IfSome};
-ghost use Rattle.zarr_model.specs.Prelude.{has_long_element};
-ghost use Rattle.zarrs_codec_array_bytes.specs.Raw.{raw_of};
-ghost use Rattle.zarrs_codec_traits.specs.Errors.{IsDecodeError};
-ghost use Rattle.zarrs_codec_traits.specs.Views.{options_of};
-ghost use Rattle.zarrs_codec_traits.specs.Words.{list_at, Gives};
+ghost use Rattle.zarrs_codec_traits.specs.Prelude.{has_long_element, raw_of, IsDecodeError};
+ghost use Rattle.zarrs_codec_traits.specs.Prelude.{options_of, list_at, Gives};
 ghost use Rattle.zarr_shard_codec.specs.Index.{part_of, pair_at as pair_in};
 ghost use Rattle.zarr_shard_codec.specs.Inner.{AreInner, pair_says, found_at, found_says, inner_at, GivesInner};
 ghost use Rattle.zarr_shard_codec.specs.Pair.{pair_seen};

@@ -1,25 +1,22 @@
 //! The inner chunks of a chunk.
 
 ghost use Rattle.std.specs.Prelude.{◌≡◌, ◌<◌, false, Some, IsSome, IfOk, IfErr, OnOk};
-ghost use Rattle.zarr_model.specs.Prelude.{count_of, tuple_at, whole, has_long_element};
-ghost use Rattle.zarrs_array_subset.specs.ArraySubset.{region};
-ghost use Rattle.zarrs_codec_array_bytes.specs.Raw.{raw_of};
+ghost use Rattle.zarrs_codec_traits.specs.Prelude.{count_of, tuple_at, whole, has_long_element};
+ghost use Rattle.zarrs_codec_traits.specs.Prelude.{region, raw_of, list_at, IsFit, Copied};
 ghost use Rattle.zarrs_codec_error.specs.declared.error.CodecError.TheVariants as errors;
-ghost use Rattle.zarrs_codec_traits.specs.Words.{list_at, IsFit};
-ghost use Rattle.zarr_chain.specs.Chain.{first_level, HasFill};
-ghost use Rattle.zarrs_codec_slices.specs.Overlap.{Copied};
-ghost use Rattle.zarr_array_elements.specs.BoxElements.{kind_held, box_held, list_held};
-ghost use Rattle.zarr_array_elements.specs.Elements.{list_in};
+ghost use Rattle.zarr_codec_chain.specs.Chain.{first_level, HasFill};
+ghost use Rattle.zarr_array_boxes.specs.BoxElements.{kind_held, box_held, list_held};
+ghost use Rattle.zarr_array_boxes.specs.Elements.{list_in};
 ghost use Rattle.zarr_shard_codec.specs.Whole.{HoldsOver};
 ghost use Rattle.zarr_shard_codec.specs.Placing.{IsBlank, box_at};
 ghost use Rattle.zarr_shard_codec.specs.ShardCodec.{inner_of, inner_grid, inner_level};
 
 use crate::shard_codec::ShardCodec;
 use std::alloc::{AllocError, Global};
-use zarr_array_elements::BoxElements;
-use zarr_chain::ChunkLevels;
+use zarr_array_boxes::BoxElements;
+use zarr_codec_chain::ChunkLevels;
 use zarrs_array_subset::{ArraySubset, unravel_index};
-use zarrs_chunk_grid_traits::ChunkGridTraits;
+use zarrs_chunk_grid::ChunkGridTraits;
 use zarrs_codec_array_bytes::ArrayBytes;
 use zarrs_codec_error::CodecError;
 use zarrs_codec_traits::num_elements;

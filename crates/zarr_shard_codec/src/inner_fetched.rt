@@ -1,9 +1,7 @@
 //! One inner chunk of a shard, fetched from a store.
 
 ghost use Rattle.std.specs.Prelude.{◌≡◌, IsSome, MatchResult};
-ghost use Rattle.zarrs_storage.specs.Parts.{held_bytes};
-ghost use Rattle.zarrs_codec_array_bytes.specs.Raw.{raw_of};
-ghost use Rattle.zarrs_codec_traits.specs.Views.{options_of};
+ghost use Rattle.zarrs_codec_traits.specs.Prelude.{held_bytes, raw_of, options_of};
 ghost use Rattle.zarr_shard_codec.specs.Inner.{AreInner, found_at, found_says, inner_at};
 ghost use Rattle.zarr_shard_codec.specs.MetInner.{HasPair, HasInner};
 ghost use Rattle.zarr_shard_codec.specs.Pair.{pair_seen};

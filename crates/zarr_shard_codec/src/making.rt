@@ -1,39 +1,34 @@
 //! Making the codec of shards: of how chunks keep inner chunks, or of metadata.
 
 ghost use Rattle.std.specs.Prelude.{◌≡◌, ◌<◌, true, Some, None, IfOk, option_map};
-ghost use Rattle.zarr_model.specs.Prelude.{count_of, kind_of, fill_element};
-ghost use Rattle.zarrs_plugin.specs.Registry.{registry_of};
+ghost use Rattle.zarrs_codec_traits.specs.Prelude.{count_of, kind_of, fill_element, registry_of};
+ghost use Rattle.zarrs_codec_traits.specs.Prelude.{extension_seen, fill_bytes, type_of};
+ghost use Rattle.zarrs_codec_traits.specs.Prelude.{unserved_at, level_of};
 ghost use Rattle.zarrs_metadata_values.specs.Configuration.{configuration_seen};
-ghost use Rattle.zarrs_metadata_parts.specs.MetadataV3.{extension_seen};
-ghost use Rattle.zarrs_data_type_bytes.specs.FillValue.{fill_bytes};
-ghost use Rattle.zarrs_data_type_names.specs.DataType.{type_of};
-ghost use Rattle.zarrs_codec_traits.specs.Errors.{unserved_at};
-ghost use Rattle.zarrs_codec_traits.specs.Views.{level_of};
-ghost use Rattle.zarr_basics_grids.specs.BasicGrid.{basic_form};
-ghost use Rattle.zarr_basics_grids.specs.Lengths.{nonzeros};
-ghost use Rattle.zarr_array_parts.specs.Parts.{Opens};
-ghost use Rattle.zarr_shard_open.specs.Document.{is_regular, lengths_of, shard_shape};
-ghost use Rattle.zarr_shard_open.specs.Opening.{shard_of_chunk};
-ghost use Rattle.zarr_shard_open.specs.Views.{shard_form};
+ghost use Rattle.zarr_basics.specs.BasicGrid.{basic_form};
+ghost use Rattle.zarr_basics.specs.Lengths.{nonzeros};
+ghost use Rattle.zarr_array_open.specs.Parts.{Opens};
+ghost use Rattle.zarr_array_open.specs.ShardDocument.{is_regular_grid, grid_lengths_of, shard_shape};
+ghost use Rattle.zarr_array_open.specs.ShardOpening.{shard_of_chunk};
+ghost use Rattle.zarr_array_open.specs.Views.{shard_form};
 ghost use Rattle.zarr_shard_codec.specs.Serving.{shard_unserved};
-ghost use Rattle.zarr_shard_codec.specs.ShardCodec.{codec_form};
+ghost use Rattle.zarr_shard_codec.specs.ShardCodec.{codec_shard_form};
 
 use crate::shard_codec::ShardCodec;
 use std::alloc::{AllocError, Global};
 use std::num::NonZeroU64;
-use zarr_array_parts::{OpenError, Registries};
-use zarr_basics_grids::BasicGrid;
-use zarr_shard_open::Shard;
+use zarr_array_open::{OpenError, Registries, Shard};
+use zarr_basics::BasicGrid;
 use zarrs_array_subset::ChunkShape;
 use zarrs_codec_traits::same_shape;
+use zarrs_data_type::DataType;
 use zarrs_data_type_bytes::FillValue;
-use zarrs_data_type_names::DataType;
 use zarrs_metadata_parts::{Configuration, MetadataV3};
 
 // The lengths of the chunks of a grid `regular`.
 fn chunk_shape(alloc: Global, grid: &BasicGrid) -> Result<ChunkShape, AllocError>
-    requires { is_regular (basic_form grid.now) ≡ true }
-    ensures { IfOk result (λ v. lengths_of (basic_form grid.now) ≡ nonzeros v.items) }
+    requires { is_regular_grid (basic_form grid.now) ≡ true }
+    ensures { IfOk result (λ v. grid_lengths_of (basic_form grid.now) ≡ nonzeros v.items) }
 {
     match grid {
         BasicGrid::Regular(grid) => same_shape(alloc, &grid.chunk_shape),
@@ -110,7 +105,7 @@ impl ShardCodec {
         fill_value: &FillValue,
         registries: &Registries,
     ) -> Result<ShardCodec, OpenError>
-        ensures made { Opens codec_form result (shard_of_chunk (registry_of registries.now.codecs)
+        ensures made { Opens codec_shard_form result (shard_of_chunk (registry_of registries.now.codecs)
             (nonzeros shape.now) (type_of data_type.now) (fill_bytes fill_value.now)
             (extension_seen metadata.now)) }
         ensures served { IfOk result (λ codec. unserved_at (shard_unserved codec)

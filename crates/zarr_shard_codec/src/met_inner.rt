@@ -1,15 +1,13 @@
 //! The inner chunks of a value under a key that a region meets.
 
 ghost use Rattle.std.specs.Prelude.{◌≡◌, ◌<◌, ◌^◌, true, false, IsSome, IfOk, IfErr, OnOk, MatchResult};
-ghost use Rattle.zarr_model.specs.Prelude.{count, count_of, whole, contains, tuples, tuple_at, place, IsChunk, ends_within, chunks_meeting, has_long_element};
-ghost use Rattle.zarrs_array_subset.specs.ArraySubset.{region as region_of};
-ghost use Rattle.zarrs_codec_slices.specs.Overlap.{Copied};
-ghost use Rattle.zarrs_codec_array_bytes.specs.Raw.{raw_of};
-ghost use Rattle.zarrs_codec_traits.specs.Views.{options_of};
-ghost use Rattle.zarrs_codec_traits.specs.Words.{list_at};
-ghost use Rattle.zarr_array_elements.specs.BoxElements.{kind_held, box_held, list_held};
-ghost use Rattle.zarr_array_elements.specs.Elements.{list_in};
-ghost use Rattle.zarr_shard_codec.specs.Placing.{number_of as number_in};
+ghost use Rattle.zarrs_codec.specs.Prelude.{count, count_of, whole, contains, tuples, tuple_at};
+ghost use Rattle.zarrs_codec.specs.Prelude.{place, IsChunk, ends_within, chunks_meeting};
+ghost use Rattle.zarrs_codec.specs.Prelude.{has_long_element, region as region_of, Copied, raw_of};
+ghost use Rattle.zarrs_codec.specs.Prelude.{options_of, list_at};
+ghost use Rattle.zarr_array_boxes.specs.BoxElements.{kind_held, box_held, list_held};
+ghost use Rattle.zarr_array_boxes.specs.Elements.{list_in};
+ghost use Rattle.zarr_shard_codec.specs.Placing.{inner_number as number_in};
 ghost use Rattle.zarr_shard_codec.specs.ReadRegion.{HasRegion, NotRead};
 ghost use Rattle.zarr_shard_codec.specs.ShardCodec.{inner_of, inner_grid, inner_level};
 ghost use Rattle.zarr_shard_codec.specs.Whole.{HoldsOver};
@@ -18,9 +16,9 @@ use crate::inner_chunks::InnerChunks;
 use crate::pair::pair_at;
 use crate::shard_codec::ShardCodec;
 use std::alloc::{AllocError, Global};
-use zarr_array_elements::BoxElements;
+use zarr_array_boxes::BoxElements;
 use zarrs_array_subset::{ArrayIndicesTinyVec, ArraySubset, push_tuple, ravel_indices};
-use zarrs_chunk_grid_traits::ChunkGridTraits;
+use zarrs_chunk_grid::ChunkGridTraits;
 use zarrs_codec_array_bytes::ArrayBytes;
 use zarrs_codec_error::{CodecError, CodecOptions};
 use zarrs_storage::{Store, StoreKey};
@@ -112,7 +110,7 @@ fn box_of(codec: &ShardCodec, alloc: Global, indices: &[u64]) -> Result<ArraySub
 }
 
 impl MetInner<'_> {
-    ghost use Rattle.zarr_shard_codec.specs.MetInner.{codec_of, region_met, chunk_at, value_under, AreMet, ReadsInner, HasReadMet, met_content, met_calls, met_size, MetSays};
+    ghost use Rattle.zarr_shard_codec.specs.MetInner.{met_codec, region_met, met_inner_at, value_under, AreMetInner, ReadsInner, HasReadMet, met_content, met_calls, met_size, MetSays};
 
     // Puts elements of an inner chunk where it lies.
     fn put(
@@ -122,13 +120,13 @@ impl MetInner<'_> {
         bytes: &ArrayBytes<'_>,
         elements: &mut BoxElements<'_>,
     ) -> Result<(), AllocError>
-        requires met { AreMet self.now }
-        requires chunk { IsChunk (inner_grid (codec_of self.now)) indices.now }
-        requires holds { HoldsOver (codec_of self.now) (region_met self.now) elements.old }
-        requires means { IsSome (list_at (inner_level (codec_of self.now)) (raw_of bytes.now)) }
+        requires met { AreMetInner self.now }
+        requires chunk { IsChunk (inner_grid (met_codec self.now)) indices.now }
+        requires holds { HoldsOver (met_codec self.now) (region_met self.now) elements.old }
+        requires means { IsSome (list_at (inner_level (met_codec self.now)) (raw_of bytes.now)) }
         requires short { has_long_element (raw_of bytes.now) ≡ false }
-        ensures holds { HoldsOver (codec_of self.now) (region_met self.now) elements.new }
-        ensures copied { let box = (inner_grid (codec_of self.now)).chunk_box indices.now in
+        ensures holds { HoldsOver (met_codec self.now) (region_met self.now) elements.new }
+        ensures copied { let box = (inner_grid (met_codec self.now)).chunk_box indices.now in
             OnOk result (Copied (box_held elements.old) box
             (list_in (kind_held elements.old) box (raw_of bytes.now)) (list_held elements.old)
             (list_held elements.new)) }
@@ -146,13 +144,13 @@ impl MetInner<'_> {
         store: &mut S,
         options: &CodecOptions,
     ) -> Result<(), CodecError>
-        requires met { AreMet self.now }
+        requires met { AreMetInner self.now }
         requires below { number < count (region_of self.now.chunks) }
         requires there { IsSome ((S.shown store.old).content self.now.key.now) }
-        requires holds { HoldsOver (codec_of self.now) (region_met self.now) elements.old }
+        requires holds { HoldsOver (met_codec self.now) (region_met self.now) elements.old }
         ensures read { ReadsInner self.now (options_of options.now) number elements.old
             elements.new (S.shown store.old) (S.shown store.new) result }
-        ensures holds { HoldsOver (codec_of self.now) (region_met self.now) elements.new }
+        ensures holds { HoldsOver (met_codec self.now) (region_met self.now) elements.new }
         ensures kept { S.kept store.old store.new }
     {
         let tuple = indices_at(alloc, &self.chunks, number)?;
@@ -183,16 +181,16 @@ impl MetInner<'_> {
         store: &mut S,
         options: &CodecOptions,
     ) -> Result<(), CodecError>
-        requires met { AreMet self.now }
+        requires met { AreMetInner self.now }
         requires there { IsSome ((S.shown store.old).content self.now.key.now) }
-        requires holds { HoldsOver (codec_of self.now) (region_met self.now) elements.old }
+        requires holds { HoldsOver (met_codec self.now) (region_met self.now) elements.old }
         ensures read { MatchResult result
             (λ _. HasReadMet self.now (options_of options.now) (S.shown store.old)
             (S.shown store.new) elements.new)
             (NotRead (met_content self.now (options_of options.now) (S.shown store.old))
             (MetSays self.now (options_of options.now) (S.shown store.old))
             (S.shown store.old) (S.shown store.new)) }
-        ensures holds { HoldsOver (codec_of self.now) (region_met self.now) elements.new }
+        ensures holds { HoldsOver (met_codec self.now) (region_met self.now) elements.new }
         ensures kept { S.kept store.old store.new }
     {
         for number in 0..self.chunks.num_elements() {
@@ -213,10 +211,10 @@ impl MetInner<'_> {
         store: &mut S,
         options: &CodecOptions,
     ) -> Result<ArrayBytes<'static>, CodecError>
-        requires met { AreMet self.now }
+        requires met { AreMetInner self.now }
         requires there { IsSome ((S.shown store.old).content self.now.key.now) }
         ensures read { MatchResult result
-            (λ v. HasRegion (codec_of self.now) (region_met self.now)
+            (λ v. HasRegion (met_codec self.now) (region_met self.now)
             (met_content self.now (options_of options.now) (S.shown store.old))
             (met_calls self.now) (met_size self.now) (S.shown store.old) (S.shown store.new)
             (raw_of v))

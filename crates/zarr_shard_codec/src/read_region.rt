@@ -2,13 +2,10 @@
 
 ghost use Rattle.std.specs.Prelude.{◌≡◌, ◌≤◌, ◌*◌, ℕ, true, false, List, length, replicate, Some, IsSome, IfOk, MatchResult};
 ghost use Rattle.std.specs.List.{sum_by};
-ghost use Rattle.zarr_model.specs.Prelude.{count, count_of, ends_within, Element, has_long_element};
-ghost use Rattle.zarrs_array_subset.specs.ArraySubset.{region as region_of};
-ghost use Rattle.zarrs_storage.specs.Parts.{held_bytes};
-ghost use Rattle.zarrs_codec_array_bytes.specs.Raw.{raw_of};
-ghost use Rattle.zarrs_codec_traits.specs.Views.{options_of};
-ghost use Rattle.zarrs_codec_traits.specs.Words.{list_at, at_box, select};
-ghost use Rattle.zarr_array_elements.specs.BoxElements.{list_held};
+ghost use Rattle.zarrs_codec.specs.Prelude.{count, count_of, ends_within, Element};
+ghost use Rattle.zarrs_codec.specs.Prelude.{has_long_element, region as region_of, held_bytes};
+ghost use Rattle.zarrs_codec.specs.Prelude.{raw_of, options_of, list_at, at_box, select};
+ghost use Rattle.zarr_array_boxes.specs.BoxElements.{list_held};
 ghost use Rattle.zarr_shard_codec.specs.ReadRegion.{HasRegion, NotRead, SaysMet, region_says, held_says};
 ghost use Rattle.zarr_shard_codec.specs.Region.{index_len as own_len, region_by_index, own_region, met_pairs, own_part, pairs_read, held_region, held_asks, held_taken, region_content, region_asks, region_taken, SelectsRegion, WholeIsAll};
 ghost use Rattle.zarr_shard_codec.specs.ShardCodec.{inner_of, inner_grid, own_level, own_array, own_list};
@@ -20,7 +17,7 @@ use crate::inner_chunks::InnerChunks;
 use crate::met_inner::{MetInner, chunks_of};
 use crate::shard_codec::ShardCodec;
 use std::alloc::{AllocError, Global};
-use zarr_array_elements::BoxElements;
+use zarr_array_boxes::BoxElements;
 use zarrs_array_subset::ArraySubset;
 use zarrs_codec_array_bytes::ArrayBytes;
 use zarrs_codec_error::{CodecError, CodecOptions};

@@ -1,18 +1,16 @@
 //! What a codec of shards serves: chunks of the shape, the data type and the fill value that it was made for.
 
 ghost use Rattle.std.specs.Prelude.{◌≡◌, bytes_eq, Some, None, MatchResult, option_map};
-ghost use Rattle.zarrs_data_type_bytes.specs.FillValue.{fill_bytes};
+ghost use Rattle.zarrs_codec_traits.specs.Prelude.{fill_bytes, type_of, lengths, level_of};
 ghost use Rattle.zarrs_data_type_bytes.specs.declared.codec_support.CodecName.TheVariants as names;
-ghost use Rattle.zarrs_data_type_names.specs.DataType.{type_of};
 ghost use Rattle.zarrs_codec_traits.specs.Errors.{unsupported, unserved_error, unserved_at};
-ghost use Rattle.zarrs_codec_traits.specs.Views.{lengths, level_of};
 ghost use Rattle.zarr_shard_codec.specs.Serving.{is_own_chunk, is_own, shard_unserved};
 
 use crate::shard_codec::ShardCodec;
 use std::num::NonZeroU64;
 use zarrs_codec_error::CodecError;
+use zarrs_data_type::DataType;
 use zarrs_data_type_bytes::{CodecName, DataTypeCodecError, FillValue};
-use zarrs_data_type_names::DataType;
 
 // Whether a shape has these lengths.
 fn has_lengths(numbers: &[u64], shape: &[NonZeroU64]) -> bool

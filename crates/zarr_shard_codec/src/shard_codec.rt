@@ -1,19 +1,17 @@
 //! The codec `sharding_indexed` of chunks of one shape.
 
 ghost use Rattle.std.specs.Prelude.{◌≡◌, ◌<◌, true, IfOk};
-ghost use Rattle.zarr_model.specs.Prelude.{count_of, kind_of, fill_element};
-ghost use Rattle.zarrs_data_type_bytes.specs.FillValue.{fill_bytes};
-ghost use Rattle.zarr_basics_grids.specs.Lengths.{nonzeros};
-ghost use Rattle.zarr_array_parts.specs.Parts.{documented};
-ghost use Rattle.zarr_shard_open.specs.Document.{lengths_of};
+ghost use Rattle.zarrs_codec_traits.specs.Prelude.{count_of, kind_of, fill_element, fill_bytes};
+ghost use Rattle.zarr_basics.specs.Lengths.{nonzeros};
+ghost use Rattle.zarr_array_open.specs.Parts.{documented_parts};
+ghost use Rattle.zarr_array_open.specs.ShardDocument.{grid_lengths_of};
 ghost use Rattle.zarr_shard_codec.specs.Fill.{denotes};
 
 use std::alloc::{AllocError, Global};
-use zarr_array_parts::ArrayParts;
-use zarr_chain::ChunkLevels;
-use zarr_shard_open::Shard;
+use zarr_array_open::{ArrayParts, Shard};
+use zarr_codec_chain::ChunkLevels;
 use zarrs_array_subset::{ChunkShape, shape_product, unravel_index};
-use zarrs_chunk_grid_traits::ChunkGridTraits;
+use zarrs_chunk_grid::ChunkGridTraits;
 use zarrs_data_type_bytes::FillValue;
 use zarrs_metadata_parts::Configuration;
 
@@ -31,15 +29,15 @@ pub struct ShardCodec {
     pub(crate) inner_shape: ChunkShape,
     // The fill value of a chunk, and so of its inner chunks.
     pub(crate) fill_value: FillValue,
-    ghost dims: { lengths_of (documented shard.inner).grid ≡ nonzeros inner_shape.items },
+    ghost dims: { grid_lengths_of (documented_parts shard.inner).grid ≡ nonzeros inner_shape.items },
     ghost filled: { denotes
-        (fill_element (kind_of (documented shard.inner).data_type) (fill_bytes fill_value))
-        (documented shard.inner).fill ≡ true },
-    ghost some: { 0 < count_of (documented shard.inner).shape },
+        (fill_element (kind_of (documented_parts shard.inner).data_type) (fill_bytes fill_value))
+        (documented_parts shard.inner).fill ≡ true },
+    ghost some: { 0 < count_of (documented_parts shard.inner).shape },
 }
 
 impl ShardCodec {
-    ghost use Rattle.zarr_array_parts.specs.ChunkLevels.{ServesShape};
+    ghost use Rattle.zarr_array_open.specs.ChunkLevels.{ServesShape};
     ghost use Rattle.zarr_shard_codec.specs.ShardCodec.{inner_of, inner_dims};
 
     /// The shape of a chunk.

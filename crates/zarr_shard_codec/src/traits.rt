@@ -14,8 +14,8 @@ use zarrs_codec_error::{
 use zarrs_codec_traits::{
     ArrayCodecTraits, ArrayToBytesCodecTraits, CodecTraits, extracted, only_part, same_shape,
 };
+use zarrs_data_type::DataType;
 use zarrs_data_type_bytes::FillValue;
-use zarrs_data_type_names::DataType;
 use zarrs_metadata_parts::Configuration;
 use zarrs_plugin::{ExtensionName, ZarrVersion};
 use zarrs_storage::ByteRange;
@@ -105,7 +105,7 @@ impl ArrayToBytesCodecTraits for ShardCodec {
     ghost use Rattle.std.specs.Prelude.{◌≡◌, List, None, IfOk};
     ghost use Rattle.zarr_model.specs.Prelude.{kind_of, count_of, Element, Options, decode_chain};
     ghost use Rattle.zarrs_data_type_bytes.specs.FillValue.{fill_bytes};
-    ghost use Rattle.zarrs_data_type_names.specs.DataType.{type_of};
+    ghost use Rattle.zarrs_data_type.specs.DataType.{type_of};
     ghost use Rattle.zarrs_codec_array_bytes.specs.Raw.{raw_of};
     ghost use Rattle.zarrs_codec_array_bytes.specs.Refusals.{validity, then_answer, Answers};
     ghost use Rattle.zarrs_codec_traits.specs.Errors.{unserved_at, RefusesBy};
@@ -116,8 +116,8 @@ impl ArrayToBytesCodecTraits for ShardCodec {
     ghost use Rattle.zarrs_codec_error.specs.declared.bytes_representation.BytesRepresentation.TheVariants.{UnboundedSize};
     ghost use Rattle.zarrs_codec_traits.proofs.TakenLaws.{nothing_asked};
     ghost use Rattle.zarr_shard_codec.specs.NoFault.{shard_no_fault};
-    ghost use Rattle.zarr_shard_codec.specs.ShardCodec.{inner_of, form_of, shard_meaning};
-    ghost use Rattle.zarr_shard_codec.specs.Counted.{counted};
+    ghost use Rattle.zarr_shard_codec.specs.ShardCodec.{inner_of, codec_inner_form, shard_meaning};
+    ghost use Rattle.zarr_shard_codec.specs.Counted.{shard_counted};
     ghost use Rattle.zarr_shard_codec.specs.Taking.{long_refusal, short_taken, long_form};
     ghost use Rattle.zarr_shard_codec.specs.Whole.{shard_says};
 
@@ -135,7 +135,7 @@ impl ArrayToBytesCodecTraits for ShardCodec {
 
     ghost compacts = { λ _. false };
 
-    ghost counted = { λ c under. counted (form_of c) under.validate_checksums
+    ghost counted = { λ c under. shard_counted (codec_inner_form c) under.validate_checksums
         (decode_chain ((inner_of c).chain under)) };
 
     ghost taken = { λ _ _ _ bytes served few there short. short_taken bytes short };

@@ -1,14 +1,11 @@
 //! Values of whole chunks: what they decode to, and the encoding of elements.
 
 ghost use Rattle.std.specs.Prelude.{◌≡◌, false, List, Some, IfOk, MatchResult};
-ghost use Rattle.zarr_model.specs.Prelude.{count_of, kind_of, whole, Element, Options, has_long_element};
-ghost use Rattle.zarrs_array_subset.specs.ArraySubset.{region};
-ghost use Rattle.zarrs_codec_array_bytes.specs.Raw.{raw_of};
-ghost use Rattle.zarrs_codec_array_bytes.specs.Refusals.{fine, validity, then_answer, Answers};
+ghost use Rattle.zarrs_codec_traits.specs.Prelude.{count_of, kind_of, whole, Element, Options};
+ghost use Rattle.zarrs_codec_traits.specs.Prelude.{has_long_element, region, raw_of, fine};
+ghost use Rattle.zarrs_codec_traits.specs.Prelude.{validity, then_answer, Answers, IsDecodeError};
+ghost use Rattle.zarrs_codec_traits.specs.Prelude.{options_of, list_at, Gives};
 ghost use Rattle.zarrs_codec_error.specs.declared.error.CodecError.TheVariants as errors;
-ghost use Rattle.zarrs_codec_traits.specs.Errors.{IsDecodeError};
-ghost use Rattle.zarrs_codec_traits.specs.Views.{options_of};
-ghost use Rattle.zarrs_codec_traits.specs.Words.{list_at, Gives};
 ghost use Rattle.zarr_shard_codec.specs.Encoding.{IsEncoded};
 ghost use Rattle.zarr_shard_codec.specs.ShardCodec.{inner_of, own_level, own_list, shard_meaning};
 ghost use Rattle.zarr_shard_codec.specs.Taking.{long_refusal};

@@ -1,23 +1,19 @@
 //! The inner chunks of a chunk, put together.
 
 ghost use Rattle.std.specs.Prelude.{◌≡◌, ◌<◌, ◌*◌, ◌≤◌, false, length, Some, MatchResult, IfOk, IfErr};
-ghost use Rattle.zarr_model.specs.Prelude.{count_of, whole as all_of, has_long_element};
-ghost use Rattle.zarrs_array_subset.specs.ArraySubset.{region};
-ghost use Rattle.zarrs_codec_array_bytes.specs.Raw.{raw_of};
-ghost use Rattle.zarrs_codec_traits.specs.Errors.{IsDecodeError};
-ghost use Rattle.zarrs_codec_traits.specs.Views.{options_of};
-ghost use Rattle.zarrs_codec_traits.specs.Words.{list_at, Gives};
-ghost use Rattle.zarr_array_elements.specs.BoxElements.{list_held};
+ghost use Rattle.zarrs_codec.specs.Prelude.{count_of, whole as all_of, has_long_element, region};
+ghost use Rattle.zarrs_codec.specs.Prelude.{raw_of, IsDecodeError, options_of, list_at, Gives};
+ghost use Rattle.zarr_array_boxes.specs.BoxElements.{list_held};
 ghost use Rattle.zarr_shard_codec.specs.Inner.{AreInner};
 ghost use Rattle.zarr_shard_codec.specs.Placing.{indices_at};
 ghost use Rattle.zarr_shard_codec.specs.Shard.{by_index};
 ghost use Rattle.zarr_shard_codec.specs.ShardCodec.{inner_of, inner_grid, own_level, own_list, own_array};
-ghost use Rattle.zarr_shard_codec.specs.Whole.{content_of, HoldsOver, HasPut, SaysAt, SaysInner, shard_says};
+ghost use Rattle.zarr_shard_codec.specs.Whole.{inner_content_of, HoldsOver, HasPut, SaysAt, SaysInner, shard_says};
 
 use crate::index::find_index;
 use crate::inner_chunks::{InnerChunks, put_at};
 use std::alloc::Global;
-use zarr_array_elements::BoxElements;
+use zarr_array_boxes::BoxElements;
 use zarrs_array_subset::ArraySubset;
 use zarrs_codec_array_bytes::ArrayBytes;
 use zarrs_codec_error::{CodecError, CodecOptions};
@@ -45,7 +41,7 @@ impl InnerChunks<'_> {
             (λ _. HasPut self.now.codec.now under value.now index.now
             (all_of (inner_of self.now.codec.now).shape) (indices_at self.now.codec.now number)
             elements.old elements.new)
-            (IsDecodeError (content_of self.now.codec.now under value.now index.now number)
+            (IsDecodeError (inner_content_of self.now.codec.now under value.now index.now number)
             (SaysAt self.now.codec.now under value.now index.now number)) }
     {
         match self.decode_inner(alloc, value, index, number as usize, options) {

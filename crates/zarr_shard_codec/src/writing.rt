@@ -2,7 +2,7 @@
 
 ghost use Rattle.std.specs.Prelude.{◌≡◌, ◌++◌, OnOk, IfOk};
 ghost use Rattle.zarr_model.specs.Codec.{low_bytes};
-ghost use Rattle.zarr_shard_codec.specs.Index.{pair_bytes, ended};
+ghost use Rattle.zarr_shard_codec.specs.Index.{pair_bytes, index_ended};
 ghost use Rattle.zarr_shard_codec.specs.Pair.{pair_seen};
 
 use crate::crc32c_codec::append_number;
@@ -32,7 +32,7 @@ pub(crate) fn push_pair(out: &mut Vec<u8>, pair: Pair) -> Result<(), AllocError>
 /// # Errors
 /// [`AllocError`] where memory runs out.
 pub(crate) fn finish_index(index: &mut Vec<u8>, checked: bool) -> Result<(), AllocError>
-    ensures { IfOk result (λ _. index.new.items ≡ ended checked index.old.items) }
+    ensures { IfOk result (λ _. index.new.items ≡ index_ended checked index.old.items) }
 {
     if checked {
         append_number(index)?;

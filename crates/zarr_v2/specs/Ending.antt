@@ -3,8 +3,11 @@ use Rattle.std.specs.Prelude.{◌≡◌, ◌⊎◌, ℕ, List, ◌++◌, codes, 
 use Rattle.zarr_cli_runs.specs.lines.Text.{line_of}
 use Rattle.zarr_cli_runs.specs.Ending.{Ending, ending_code, ending_line, out_of_memory}
 use Rattle.zarr_cli_runs.specs.Status.{ending_of}
-use Rattle.zarr_v2_translate.specs.declared.error.V2Error.{V2Error}
-use Rattle.zarr_v2_translate.specs.declared.error.V2Error.TheVariants.{InvalidJson, FloatNumber, InvalidMetadata, RankMismatch, UnsupportedDataType, UnsupportedFillValue, UnsupportedCodec, OutOfMemory}
+use Rattle.zarr_v2.specs.declared.translation_error.V2Error.{V2Error}
+use Rattle.zarr_v2.specs.declared.translation_error.V2Error.TheVariants.{InvalidJson, FloatNumber, InvalidMetadata}
+use Rattle.zarr_v2.specs.declared.translation_error.V2Error.TheVariants.{RankMismatch, UnsupportedDataType}
+use Rattle.zarr_v2.specs.declared.translation_error.V2Error.TheVariants.{UnsupportedFillValue, UnsupportedCodec}
+use Rattle.zarr_v2.specs.declared.translation_error.V2Error.TheVariants.{OutOfMemory}
 use Rattle.zarr_v2.specs.declared.status.V2Status.{V2Status}
 use Rattle.zarr_v2.specs.declared.status.V2Status.TheVariants.{Cli, Refused}
 

@@ -1,3 +1,8 @@
+pub mod ElementType
+pub mod Translate
+pub mod ChunksV2
+pub mod Documents
+pub mod Alike
 pub mod Opening
 pub mod Ending
 pub mod Says

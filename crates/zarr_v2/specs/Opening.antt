@@ -7,33 +7,34 @@ use Rattle.zarrs_metadata_values.specs.declared.error.MetadataError.TheVariants 
 use Rattle.zarrs_metadata_v2.specs.ArrayMetadataV2.{ArrayV2, array_v2_of}
 use Rattle.zarrs_metadata.specs.ArrayMetadata.{ArrayFields, array_seen, array_data}
 use Rattle.zarrs_metadata.specs.declared.v3.array.ArrayMetadataV3.{ArrayMetadataV3}
-use Rattle.zarr_array.specs.parts.basics.Registries.{KnownNames, builtin_names}
-use Rattle.zarr_array.specs.parts.Document.{ArrayDocument}
-use Rattle.zarr_array.specs.parts.Opening.{OpenRefusal, chunk_too_large, OpenAnswer, opened, not_opened, document_of, open_document}
-use Rattle.zarr_array.specs.parts.OpenError.{open_refusal_of}
-use Rattle.zarr_array.specs.parts.declared.open_error.OpenError.{OpenError}
-use Rattle.zarr_array.specs.parts.declared.open_error.OpenError.TheVariants as Unopened
+use Rattle.zarr_basics.specs.Registries.{KnownNames, builtin_names}
+use Rattle.zarr_array_open.specs.Document.{ArrayDocument}
+use Rattle.zarr_array_open.specs.Opening.{OpenRefusal, chunk_too_large, OpenAnswer, opened, not_opened, document_of}
+use Rattle.zarr_array_open.specs.Opening.{open_document}
+use Rattle.zarr_array_open.specs.OpenError.{open_refusal_of}
+use Rattle.zarr_array_open.specs.declared.open_error.OpenError.{OpenError}
+use Rattle.zarr_array_open.specs.declared.open_error.OpenError.TheVariants as Unopened
 use Rattle.zarr_array.specs.OpenArray.{documented}
 use Rattle.zarr_array.specs.declared.open.OpenArray.{OpenArray}
-use Rattle.zarr_v2_translate.specs.Translate.{translated}
-use Rattle.zarr_v2_translate.specs.declared.error.V2Error.{V2Error}
-use Rattle.zarr_v2_translate.specs.declared.error.V2Error.TheVariants as Why
-use Rattle.zarr_v2_meaning.specs.ChunksV2.{ChunksV2}
-use Rattle.zarr_v2_meaning.specs.Documents.{chunks_of, MeansTheSame}
+use Rattle.zarr_v2.specs.Translate.{translated}
+use Rattle.zarr_v2.specs.declared.translation_error.V2Error.{V2Error}
+use Rattle.zarr_v2.specs.declared.translation_error.V2Error.TheVariants as Why
+use Rattle.zarr_v2.specs.ChunksV2.{ChunksV2}
+use Rattle.zarr_v2.specs.Documents.{chunks_of, MeansTheSame}
 use Rattle.zarr_v2.specs.declared.error.V2OpenError.{V2OpenError}
 use Rattle.zarr_v2.specs.declared.error.V2OpenError.TheVariants.{Refused, Open, OutOfMemory}
 
 -- why a text is no version 2 array document
-abbrev pub unread_as : MetadataError → V2Error
-unread_as Read.InvalidJson = Why.InvalidJson
-unread_as Read.FloatNumber = Why.FloatNumber
-unread_as Read.InvalidMetadata = Why.InvalidMetadata
-unread_as Read.OutOfMemory = Why.OutOfMemory
+abbrev pub unread_v2_as : MetadataError → V2Error
+unread_v2_as Read.InvalidJson = Why.InvalidJson
+unread_v2_as Read.FloatNumber = Why.FloatNumber
+unread_v2_as Read.InvalidMetadata = Why.InvalidMetadata
+unread_v2_as Read.OutOfMemory = Why.OutOfMemory
 
 -- the document of version 3 that a text's is translated to, or the first reason against it
 abbrev pub translated_if : Result ArrayV2 MetadataError → Result ArrayFields V2Error
 translated_if (Ok a) = translated a
-translated_if (Err error) = Err (unread_as error)
+translated_if (Err error) = Err (unread_v2_as error)
 
 abbrev pub translated_text : List ℕ → Result ArrayFields V2Error
 translated_text text = translated_if (from_json array_v2_of (read text))
@@ -45,12 +46,12 @@ pub data AnswerV2 : Type 0 where
   refused_v2 : V2Error → AnswerV2
   not_opened_v2 : OpenRefusal → AnswerV2
 
-abbrev pub answer_of : Result ArrayDocument OpenRefusal → AnswerV2
-answer_of (Ok document) = opened_v2 document
-answer_of (Err why) = not_opened_v2 why
+abbrev pub answer_v2_of : Result ArrayDocument OpenRefusal → AnswerV2
+answer_v2_of (Ok document) = opened_v2 document
+answer_v2_of (Err why) = not_opened_v2 why
 
 abbrev pub answer_v2 : KnownNames → Result ArrayFields V2Error → AnswerV2
-answer_v2 names (Ok fields) = answer_of (document_of names fields)
+answer_v2 names (Ok fields) = answer_v2_of (document_of names fields)
 answer_v2 names (Err why) = refused_v2 why
 
 abbrev pub open_document_v2 : KnownNames → List ℕ → AnswerV2
@@ -66,7 +67,7 @@ untranslated_by Why.OutOfMemory = OutOfMemory
 untranslated_by why = Refused why
 
 abbrev pub unread_by : MetadataError → V2OpenError
-unread_by error = untranslated_by (unread_as error)
+unread_by error = untranslated_by (unread_v2_as error)
 
 abbrev pub unopened_by : OpenError → V2OpenError
 unopened_by Unopened.OutOfMemory = OutOfMemory

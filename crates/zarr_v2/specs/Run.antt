@@ -2,14 +2,16 @@
 -- which means an array by that document alone.
 use Rattle.std.specs.Prelude.{◌≡◌, ℕ, Bool, true, false, List, take, slice_get, Contains, Some, None}
 use Rattle.std.specs.List.{list_any}
-use Rattle.zarr_model.specs.Prelude.{Element, Array, Content, IsHonest, Means, WhollyMeans, SameOtherKeys, chunk_content, Command, Description, array_after, command_chunks, asks_store, erases_chunk}
-use Rattle.zarr_cli_runs.specs.array.parts.Document.{ArrayDocument, describe}
+use Rattle.zarr_model.specs.Prelude.{Element, Array, Content, IsHonest, Means, WhollyMeans, SameOtherKeys}
+use Rattle.zarr_model.specs.Prelude.{chunk_content, Command, Description, array_after, command_chunks, asks_store}
+use Rattle.zarr_model.specs.Prelude.{erases_chunk}
+use Rattle.zarr_array_open.specs.Document.{ArrayDocument, describe}
 use Rattle.zarr_cli_runs.specs.Commands.{IsChangedKey}
 use Rattle.zarr_cli_runs.specs.lines.Text.{input_lines}
-use Rattle.zarr_cli_parts.specs.Words.{Settings}
-use Rattle.zarr_cli_parts.specs.Lines.{LinesRun, document_line, IsLineKey, store_after_keys}
-use Rattle.zarr_cli_parts.specs.Run.{IsOutput}
-use Rattle.zarr_v2_meaning.specs.ChunksV2.{ChunksV2, layout_v2}
+use Rattle.zarr_cli.specs.Words.{Settings}
+use Rattle.zarr_cli.specs.Lines.{LinesRun, document_line, IsLineKey, store_after_keys}
+use Rattle.zarr_cli.specs.Run.{IsOutput}
+use Rattle.zarr_v2.specs.ChunksV2.{ChunksV2, layout_v2}
 use Rattle.zarr_v2.specs.Opening.{chunks_text}
 use Rattle.zarr_v2.specs.Says.{says_v2, runs}
 

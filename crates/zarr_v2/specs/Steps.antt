@@ -1,15 +1,15 @@
 -- What each step of a run promises to the next one.
 use Rattle.std.specs.Prelude.{◌≡◌, ◌⊎◌, ℕ, List, Result, Ok, Err}
 use Rattle.zarr_model.specs.Prelude.{Given}
-use Rattle.zarr_cli_runs.specs.array.OpenArray.{documented}
-use Rattle.zarr_cli_runs.specs.array.declared.open.OpenArray.{OpenArray}
-use Rattle.zarr_cli_runs.specs.array.parts.OpenError.{open_refusal_of}
+use Rattle.zarr_array.specs.OpenArray.{documented}
+use Rattle.zarr_array.specs.declared.open.OpenArray.{OpenArray}
+use Rattle.zarr_array_open.specs.OpenError.{open_refusal_of}
 use Rattle.zarr_cli_runs.specs.Ending.{IsGivenLine, read_fault, out_of_memory}
 use Rattle.zarr_cli_runs.specs.declared.status.Status.TheVariants.{Document, OutOfMemory}
-use Rattle.zarr_v2_translate.specs.declared.error.V2Error.TheVariants as Why
+use Rattle.zarr_v2.specs.declared.translation_error.V2Error.TheVariants as Why
 use Rattle.zarr_v2.specs.Opening.{AnswerV2, opened_v2, refused_v2, IsNotOpened}
 use Rattle.zarr_v2.specs.Ending.{EndingV2, cli, ending_v2, line_v2}
-use Rattle.zarr_v2.specs.Says.{says_v2, stops, IsOfInput}
+use Rattle.zarr_v2.specs.Says.{says_v2, stops, IsOfInputV2}
 use Rattle.zarr_v2.specs.declared.status.V2Status.{V2Status}
 use Rattle.zarr_v2.specs.declared.status.V2Status.TheVariants.{Cli, Refused}
 
@@ -33,5 +33,5 @@ OpensLineV2 (Err status) answer = IsOpenFaultV2 status answer
 -- an ending before the lines are run, for an input that is known: the one that the input calls for,
 -- one by the source, which failed if the type says so, or want of memory
 abbrev pub IsEarlyV2 : List ℕ → Type 0 → EndingV2 → Type 0
-IsEarlyV2 input rose ending = (says_v2 input ≡ stops ending × IsOfInput ending)
+IsEarlyV2 input rose ending = (says_v2 input ≡ stops ending × IsOfInputV2 ending)
     ⊎ ((ending ≡ cli read_fault) × rose ⊎ (ending ≡ cli out_of_memory))

@@ -1,8 +1,8 @@
 //! Why a version 2 array document is not opened.
 
+use crate::V2Error;
 use thiserror::Error;
 use zarr_array::OpenError;
-use zarr_v2_translate::V2Error;
 
 /// Why a text is not opened as a version 2 array.
 #[derive(Clone, Copy, Debug, PartialEq, Eq, Error)]

@@ -4,17 +4,17 @@
 
 ghost use Rattle.std.specs.Prelude.{◌≡◌, IfOk, IfErr};
 ghost use Rattle.zarr_array.specs.OpenArray.{documented};
-ghost use Rattle.zarr_array.specs.parts.basics.Registries.{names_of, builtin_names};
-ghost use Rattle.zarr_array.specs.parts.Opening.{document_of};
+ghost use Rattle.zarr_basics.specs.Registries.{names_of, builtin_names};
+ghost use Rattle.zarr_array_open.specs.Opening.{document_of};
 ghost use Rattle.zarrs_metadata.specs.ArrayMetadata.{array_seen};
 ghost use Rattle.zarrs_metadata_v2.specs.ArrayMetadataV2.{array_v2_seen};
-ghost use Rattle.zarr_v2_translate.specs.Translate.{translated};
-ghost use Rattle.zarr_v2.specs.Opening.{translated_text, answer_of, open_document_v2, unread_by, untranslated_by, unopened_by, TranslatesText, OpensV2, OpensAsItsText, IsOnlyLarge, MeansAsV2};
+ghost use Rattle.zarr_v2.specs.Translate.{translated};
+ghost use Rattle.zarr_v2.specs.Opening.{translated_text, answer_v2_of, open_document_v2, unread_by, untranslated_by, unopened_by, TranslatesText, OpensV2, OpensAsItsText, IsOnlyLarge, MeansAsV2};
 
 use crate::error::V2OpenError;
+use crate::{V2Error, translate};
 use std::alloc::Global;
 use zarr_array::{OpenArray, OpenError, Registries};
-use zarr_v2_translate::{V2Error, translate};
 use zarrs_metadata::{ArrayMetadataV2, ArrayMetadataV3, MetadataError};
 
 // The error of a text that is no version 2 array document.
@@ -77,7 +77,7 @@ fn open_fields(
     registries: &Registries,
 ) -> Result<OpenArray, V2OpenError>
     ensures { OpensV2 result
-        (answer_of (document_of (names_of registries.now) (array_seen document.now))) }
+        (answer_v2_of (document_of (names_of registries.now) (array_seen document.now))) }
 {
     match OpenArray::from_metadata(alloc, document, registries) {
         Ok(array) => Ok(array),

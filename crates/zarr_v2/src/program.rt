@@ -4,24 +4,24 @@
 ghost use Rattle.std.specs.Prelude.{◌≡◌, ◌≤◌, List, ℕ, [], length, map, string_bytes, IsUtf8, Some};
 ghost use Rattle.zarr_model.specs.Prelude.{Told};
 ghost use Rattle.zarr_cli_runs.specs.lines.Text.{input_lines};
-ghost use Rattle.zarr_cli_parts.specs.Words.{Settings, ReadsBy};
-ghost use Rattle.zarr_cli_parts.specs.Status.{words_of, settings_view};
-ghost use Rattle.zarr_cli_parts.specs.Input.{input_limit};
-ghost use Rattle.zarr_cli_parts.specs.Seen.{seen};
+ghost use Rattle.zarr_cli.specs.Words.{Settings, ReadsBy};
+ghost use Rattle.zarr_cli.specs.Status.{words_of, settings_view};
+ghost use Rattle.zarr_cli.specs.Input.{input_limit};
+ghost use Rattle.zarr_cli.specs.Seen.{seen};
 ghost use Rattle.zarr_v2.specs.Ending.{ending_v2};
 ghost use Rattle.zarr_v2.specs.Opening.{open_builtin_v2};
 ghost use Rattle.zarr_v2.specs.Steps.{OpensLineV2};
 ghost use Rattle.zarr_v2.specs.Answers.{AnswersV2, EndsV2};
 
+use crate::V2Error;
 use crate::error::V2OpenError;
 use crate::opening::open_v2;
 use crate::status::{V2Status, end_with_v2};
 use std::alloc::Global;
 use zarr_array::{OpenArray, OpenError, builtin_registries};
-use zarr_cli_parts::lines::{fault_status, first_line};
-use zarr_cli_parts::write::end_with;
-use zarr_cli_parts::{Status, Words, read_input_words, read_lines, run_lines};
-use zarr_v2_translate::V2Error;
+use zarr_cli::lines::{fault_status, first_line};
+use zarr_cli::write::end_with;
+use zarr_cli::{Status, Words, read_input_words, read_lines, run_lines};
 use zarrs_storage::{Sink, Source, Store};
 
 // The array of a first line, by the built-in names.

@@ -4,10 +4,10 @@ ghost use Rattle.std.specs.Prelude.{◌≡◌};
 ghost use Rattle.zarr_v2.specs.Ending.{code_v2, ending_v2, v2_error_name};
 ghost use Rattle.zarr_v2.specs.Steps.{EndsWithV2};
 
+use crate::V2Error;
 use std::alloc::Global;
-use zarr_cli_parts::write::end_with;
-use zarr_cli_parts::{Status, write_text};
-use zarr_v2_translate::V2Error;
+use zarr_cli::write::end_with;
+use zarr_cli::{Status, write_text};
 use zarrs_storage::Sink;
 
 /// How the program over a version 2 document ends.

@@ -1,5 +1,6 @@
 -- Boxes as two lists of numbers, and the algebra of regions.
-use Rattle.std.specs.Prelude.{ℕ, ◌+◌, ◌-◌, ◌^◌, ◌&&◌, Bool, true, false, nat_le, nat_lt, min, max, List, [], ◌∷◌, map, zip}
+use Rattle.std.specs.Prelude.{ℕ, ◌+◌, ◌-◌, ◌^◌, ◌&&◌, Bool, true, false, nat_le, nat_lt, min, max, List, [], ◌∷◌, map}
+use Rattle.std.specs.Prelude.{zip}
 use Rattle.std.specs.List.{list_all}
 use Rattle.std.specs.declared.ops.Range.{Range}
 use Rattle.zarr_model.specs.Region.{Region, is_in}
@@ -105,8 +106,8 @@ are_in start shape indices =
     list_all (λ p. nat_le p.0.0 p.1 && nat_lt p.1 (min (p.0.0 + p.0.1) (2 ^ 64 - 1)))
     (zip (zip start shape) indices)
 
-unfoldable pub end_in : List ℕ → List ℕ → List ℕ → Bool
-end_in start shape bounds =
+unfoldable pub ends_in_bounds : List ℕ → List ℕ → List ℕ → Bool
+ends_in_bounds start shape bounds =
     list_all (λ p. nat_le (min (p.0.0 + p.0.1) (2 ^ 64 - 1)) p.1) (zip (zip start shape) bounds)
 
 unfoldable pub can_move : List ℕ → List ℕ → List ℕ → Bool

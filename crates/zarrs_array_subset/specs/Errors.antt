@@ -3,7 +3,10 @@ use Rattle.std.specs.Prelude.{◌≡◌, ◌≢◌, ℕ, Bool, false, List, leng
 use Rattle.zarr_model.specs.Region.{Region, starts, ends_within}
 use Rattle.zarrs_array_subset.specs.Boxes.{ends}
 use Rattle.zarrs_array_subset.specs.declared.error.ArraySubsetError.{ArraySubsetError}
-use Rattle.zarrs_array_subset.specs.declared.error.ArraySubsetError.TheVariants.{IncompatibleDimensionality, IncompatibleStartShape, IncompatibleStartEnd, IncompatibleOffset, OutOfMemory}
+use Rattle.zarrs_array_subset.specs.declared.error.ArraySubsetError.TheVariants.{IncompatibleDimensionality}
+use Rattle.zarrs_array_subset.specs.declared.error.ArraySubsetError.TheVariants.{IncompatibleStartShape}
+use Rattle.zarrs_array_subset.specs.declared.error.ArraySubsetError.TheVariants.{IncompatibleStartEnd}
+use Rattle.zarrs_array_subset.specs.declared.error.ArraySubsetError.TheVariants.{IncompatibleOffset, OutOfMemory}
 use Rattle.zarrs_array_subset.specs.declared.error.IndexerError.{IndexerError}
 use Rattle.zarrs_array_subset.specs.declared.error.IndexerError.TheVariants as index
 

@@ -14,8 +14,8 @@ pub use Rattle.zarrs_chunk_grid_iterators.specs.ListIterators
 pub use Rattle.zarrs_chunk_grid_iterators.specs.Lists
 pub use Rattle.zarrs_chunk_grid_indexer.specs.Bytes
 pub use Rattle.zarrs_chunk_grid_indexer.specs.RangeTests
-pub use Rattle.zarrs_chunk_grid_traits.specs.ChunkGrid
-pub use Rattle.zarrs_chunk_grid_traits.specs.ChunkGridErrors
-pub use Rattle.zarrs_chunk_grid_traits.specs.Making
-pub use Rattle.zarrs_chunk_grid_traits.specs.GridMade
-pub use Rattle.zarrs_chunk_grid_traits.specs.ChunkIterators
+pub mod ChunkGrid
+pub mod ChunkGridErrors
+pub mod Making
+pub mod GridMade
+pub mod ChunkIterators

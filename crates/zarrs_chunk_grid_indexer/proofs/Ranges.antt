@@ -1,5 +1,6 @@
 -- Facts on ranges as regions.
-use Rattle.std.proofs.Common.{◌≡◌, ℕ, zero, suc, ◌-◌, ◌*◌, ◌≤◌, ◌||◌, Bool, true, false, nat_eq, nat_le, List, [], ◌∷◌, length, map, refl, ap, ◌∙◌, arith}
+use Rattle.std.proofs.Common.{◌≡◌, ℕ, zero, suc, ◌-◌, ◌*◌, ◌≤◌, ◌||◌, Bool, true, false, nat_eq, nat_le, List, [], ◌∷◌}
+use Rattle.std.proofs.Common.{length, map, refl, ap, ◌∙◌, arith}
 use Rattle.std.specs.List.{list_any}
 use Rattle.std.specs.declared.ops.Range.{Range}
 use Rattle.std.proofs.lemmas.Bool.{leb-true, le-leb, eqb-true, eq-eqb}
@@ -8,7 +9,8 @@ use Rattle.zarr_model.proofs.Choices.{same_test}
 use Rattle.zarrs_array_subset.specs.Boxes.{region_of_ranges}
 use Rattle.zarrs_chunk_grid_indexer.specs.RangeTests.{some_is_empty}
 
-pub lengths_are : (ranges : List (Range ℕ)) → map (λ range. range.end - range.start) ranges ≡ sizes (region_of_ranges ranges)
+pub lengths_are : (ranges : List (Range ℕ)) →
+    map (λ range. range.end - range.start) ranges ≡ sizes (region_of_ranges ranges)
 lengths_are [] = refl
 lengths_are (r ∷ ranges) = ap (λ rest. (r.end - r.start) ∷ rest) (lengths_are ranges)
 
@@ -31,7 +33,8 @@ pub empty_by_any : (ranges : List (Range ℕ)) → some_is_empty ranges ≡ nat_
 unfolding some_is_empty
 empty_by_any [] = refl
 empty_by_any (r ∷ ranges) =
-    let rest : list_any (λ range. nat_le range.end range.start) ranges ≡ nat_eq (count (region_of_ranges ranges)) 0 = empty_by_any ranges in
+    let rest : list_any (λ range. nat_le range.end range.start) ranges ≡ nat_eq (count (region_of_ranges ranges)) 0 =
+    empty_by_any ranges in
     ap (λ b. nat_le r.end r.start || b) rest ∙ empty_range r.start r.end (count (region_of_ranges ranges))
 
 pub ruleset of_empty = (empty_by_any)

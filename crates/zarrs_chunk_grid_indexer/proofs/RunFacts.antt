@@ -8,4 +8,5 @@ pub run_step : (items all : List ℕ) (index end : ℕ) → index < end → item
     (items ++ index ∷ []) ++ range_with_len (index + 1) (end - (index + 1)) ≡ all
 run_step items all index end h e =
     append_assoc items (index ∷ []) (range_with_len (index + 1) (end - (index + 1)))
-    ∙ (ap (λ n. items ++ range_with_len index n) (let f : suc (end - (index + 1)) ≡ end - index = omega (arith, h) in f) ∙ e)
+    ∙ (ap (λ n. items ++ range_with_len index n) (let f : suc (end - (index + 1)) ≡ end - index = omega (arith, h) in f)
+    ∙ e)

@@ -6,8 +6,8 @@ use Rattle.zarr_model.specs.Region.{Span}
 use Rattle.zarrs_chunk_grid_indexer.specs.declared.indexer.byte_runs.ByteRuns.{ByteRuns}
 
 -- the bytes of an interval of elements of this size
-abbrev pub bytes_of : ℕ → Span → Range ℕ
-bytes_of size span = record { start = span.start * size; end = (span.start + span.size) * size }
+abbrev pub span_byte_range : ℕ → Span → Range ℕ
+span_byte_range size span = record { start = span.start * size; end = (span.start + span.size) * size }
 
 -- the same where each number stops at the greatest
 abbrev pub capped : ℕ → ℕ

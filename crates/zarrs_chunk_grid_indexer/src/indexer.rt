@@ -41,7 +41,7 @@ impl<I: Iterator> IndexerIterator for I {}
 
 /// A list of indices of an array, in some form.
 pub trait Indexer {
-    ghost use Rattle.zarrs_chunk_grid_indexer.specs.Bytes.{AllWithin, byte_steps, bytes_of};
+    ghost use Rattle.zarrs_chunk_grid_indexer.specs.Bytes.{AllWithin, byte_steps, span_byte_range};
 
     /// The indices one by one.
     type IndicesIter: DoubleEndedIterator<Item = Result<ArrayIndicesTinyVec, AllocError>>
@@ -171,7 +171,7 @@ pub trait Indexer {
         ensures size { IfOk result (λ it. it.element_size ≡ element_size) }
         ensures lists { IfOk result
             (λ it. AlwaysYields (byte_steps Self.RunsIter.next_gives) (λ x. x)
-            it (map (bytes_of element_size) (pieces self.now array_shape.now))) }
+            it (map (span_byte_range element_size) (pieces self.now array_shape.now))) }
         ensures refused { IfErr result (refuses self.now array_shape.now) }
     {
         match self.iter_contiguous_linearised_indices(alloc, array_shape) {

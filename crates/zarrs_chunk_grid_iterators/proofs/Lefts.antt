@@ -14,7 +14,8 @@ length_left f a b = length-map-range_with_len f a (b - a)
 pub first_place_left : {X : Type 0} (f : ℕ → X) (a b : ℕ) → a < b → map f (places a b) ≡ f a ∷ map f (places (a + 1) b)
 first_place_left f a b h = let n : b - a ≡ suc (b - (a + 1)) = omega arith in ap (λ n. map f (range_with_len a n)) n
 
-pub last_place_left : {X : Type 0} (f : ℕ → X) (a b : ℕ) → a < b → map f (places a b) ≡ map f (places a (b - 1)) ++ f (b - 1) ∷ []
+pub last_place_left : {X : Type 0} (f : ℕ → X) (a b : ℕ) → a < b →
+    map f (places a b) ≡ map f (places a (b - 1)) ++ f (b - 1) ∷ []
 last_place_left f a b h =
     let n : b - a ≡ (b - 1 - a) + 1 = omega arith in
     ap (λ n. map f (range_with_len a n)) n ∙ map-range_with_len_more f a (b - 1 - a) (b - 1) (omega arith)
@@ -30,6 +31,7 @@ pub ruleset of_places = (length_left, first_place_left, last_place_left, none_le
 
 pub length_at : (region : Region) (place : ℕ) → length (tuple_at region place) ≡ length region
 length_at [] place = refl
-length_at (span ∷ region) place = let rest : length (tuple_at region (place % count region)) ≡ length region = length_at region (place % count region) in omega arith
+length_at (span ∷ region) place = let rest : length (tuple_at region (place % count region)) ≡ length region =
+    length_at region (place % count region) in omega arith
 
 pub ruleset of_tuple = (region_parts, length_at, length-map)

@@ -7,11 +7,19 @@ use Rattle.zarrs_chunk_grid_iterators.specs.declared.indices_iterator.Indices.{I
 use Rattle.zarrs_chunk_grid_iterators.specs.declared.indices_iterator.IndicesIterator.{IndicesIterator}
 use Rattle.zarrs_chunk_grid_iterators.specs.declared.indices_iterator.IndicesIntoIterator.{IndicesIntoIterator}
 use Rattle.zarrs_chunk_grid_iterators.specs.declared.linearised_indices_iterator.LinearisedIndices.{LinearisedIndices}
-use Rattle.zarrs_chunk_grid_iterators.specs.declared.linearised_indices_iterator.LinearisedIndicesIterator.{LinearisedIndicesIterator}
-use Rattle.zarrs_chunk_grid_iterators.specs.declared.linearised_indices_iterator.LinearisedIndicesIntoIterator.{LinearisedIndicesIntoIterator}
+use Rattle.zarrs_chunk_grid_iterators.specs.declared.linearised_indices_iterator.LinearisedIndicesIterator.{
+  LinearisedIndicesIterator,
+}
+use Rattle.zarrs_chunk_grid_iterators.specs.declared.linearised_indices_iterator.LinearisedIndicesIntoIterator.{
+  LinearisedIndicesIntoIterator,
+}
 use Rattle.zarrs_chunk_grid_iterators.specs.declared.contiguous_indices_iterator.ContiguousIndices.{ContiguousIndices}
-use Rattle.zarrs_chunk_grid_iterators.specs.declared.contiguous_indices_iterator.ContiguousIndicesIterator.{ContiguousIndicesIterator}
-use Rattle.zarrs_chunk_grid_iterators.specs.declared.contiguous_indices_iterator.ContiguousIndicesIntoIterator.{ContiguousIndicesIntoIterator}
+use Rattle.zarrs_chunk_grid_iterators.specs.declared.contiguous_indices_iterator.ContiguousIndicesIterator.{
+  ContiguousIndicesIterator,
+}
+use Rattle.zarrs_chunk_grid_iterators.specs.declared.contiguous_indices_iterator.ContiguousIndicesIntoIterator.{
+  ContiguousIndicesIntoIterator,
+}
 use Rattle.zarrs_chunk_grid_iterators.specs.declared.contiguous_linearised_indices_iterator.ContiguousLinearisedIndices.{ContiguousLinearisedIndices}
 use Rattle.zarrs_chunk_grid_iterators.specs.declared.contiguous_linearised_indices_iterator.ContiguousLinearisedIndicesIterator.{ContiguousLinearisedIndicesIterator}
 use Rattle.zarrs_chunk_grid_iterators.specs.declared.contiguous_linearised_indices_iterator.ContiguousLinearisedIndicesIntoIterator.{ContiguousLinearisedIndicesIntoIterator}
@@ -22,25 +30,25 @@ indices_of region a b = map (tuple_at region) (places a b)
 
 -- tuples
 abbrev pub tuples_of : Indices → List (List ℕ)
-tuples_of s = map (tuple_at (region s.subset)) (places s.start s.end)
+tuples_of s = map (tuple_at (region s.subset)) (places s.left.start s.left.end)
 
 abbrev pub tuples_lent : IndicesIterator → List (List ℕ)
-tuples_lent s = map (tuple_at (region s.indices.now.subset)) (places s.start s.end)
+tuples_lent s = map (tuple_at (region s.indices.now.subset)) (places s.left.start s.left.end)
 
 abbrev pub first_lent : IndicesIterator → List ℕ
-first_lent s = tuple_at (region s.indices.now.subset) s.start
+first_lent s = tuple_at (region s.indices.now.subset) s.left.start
 
 abbrev pub last_lent : IndicesIterator → List ℕ
-last_lent s = tuple_at (region s.indices.now.subset) (s.end - 1)
+last_lent s = tuple_at (region s.indices.now.subset) (s.left.end - 1)
 
 abbrev pub tuples_left : IndicesIntoIterator → List (List ℕ)
-tuples_left s = map (tuple_at (region s.indices.subset)) (places s.start s.end)
+tuples_left s = map (tuple_at (region s.indices.subset)) (places s.left.start s.left.end)
 
 abbrev pub first_left : IndicesIntoIterator → List ℕ
-first_left s = tuple_at (region s.indices.subset) s.start
+first_left s = tuple_at (region s.indices.subset) s.left.start
 
 abbrev pub last_left : IndicesIntoIterator → List ℕ
-last_left s = tuple_at (region s.indices.subset) (s.end - 1)
+last_left s = tuple_at (region s.indices.subset) (s.left.end - 1)
 
 -- linear indices
 abbrev pub linear_of : LinearisedIndices → List ℕ
@@ -49,11 +57,11 @@ linear_of s = map (linear_at s.array_shape.items (region s.subset)) (places 0 s.
 abbrev pub linear_lent : LinearisedIndicesIterator → List ℕ
 linear_lent s =
     map (linear_at s.indices.now.array_shape.items (region s.indices.now.subset))
-    (places s.start s.end)
+    (places s.left.start s.left.end)
 
 abbrev pub linear_left : LinearisedIndicesIntoIterator → List ℕ
 linear_left s =
-    map (linear_at s.indices.array_shape.items (region s.indices.subset)) (places s.start s.end)
+    map (linear_at s.indices.array_shape.items (region s.indices.subset)) (places s.left.start s.left.end)
 
 -- runs of linear indices
 abbrev pub runs_of : ContiguousLinearisedIndices → List Span

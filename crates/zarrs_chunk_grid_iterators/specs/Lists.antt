@@ -5,7 +5,8 @@ use Rattle.std.specs.List.{list_all}
 use Rattle.zarr_model.specs.Region.{Span, whole, contains, linear_index}
 use Rattle.zarrs_array_subset.specs.Errors.{no_memory}
 use Rattle.zarrs_array_subset.specs.declared.error.IndexerError.{IndexerError}
-use Rattle.zarrs_array_subset.specs.declared.error.IndexerError.TheVariants.{OutOfMemory, IncompatibleDimensionality, OutOfBounds, IncompatibleLength}
+use Rattle.zarrs_array_subset.specs.declared.error.IndexerError.TheVariants.{OutOfMemory, IncompatibleDimensionality}
+use Rattle.zarrs_array_subset.specs.declared.error.IndexerError.TheVariants.{OutOfBounds, IncompatibleLength}
 
 -- each tuple lies in a shape
 abbrev pub is_list_inside : List (List ℕ) → List ℕ → Bool

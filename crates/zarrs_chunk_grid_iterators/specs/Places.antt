@@ -1,5 +1,6 @@
 -- What iterators give, place by place.
-use Rattle.std.specs.Prelude.{◌≡◌, ℕ, ◌-◌, ◌+◌, ◌*◌, ◌<◌, ◌≤◌, ◌^◌, min, List, [], ◌∷◌, ◌++◌, length, Option, Result, IfOk, IsOk, MatchOption}
+use Rattle.std.specs.Prelude.{◌≡◌, ℕ, ◌-◌, ◌+◌, ◌*◌, ◌<◌, ◌≤◌, ◌^◌, min, List, [], ◌∷◌, ◌++◌, length, Option, Result}
+use Rattle.std.specs.Prelude.{IfOk, IsOk, MatchOption}
 use Rattle.std.specs.List.{range_with_len}
 use Rattle.std.specs.declared.alloc.AllocError.{AllocError}
 use Rattle.std.specs.declared.ops.Bound.{Bound}
@@ -11,28 +12,40 @@ use Rattle.zarr_model.specs.Region.{Region, tuple_at, linear_index}
 abbrev pub places : ℕ → ℕ → List ℕ
 places a b = range_with_len a (b - a)
 
+-- the first place of those from a up to b, and c up to d are left; or none, where none was
+abbrev pub TakesPlace : ℕ → ℕ → Option ℕ → ℕ → ℕ → Type 0
+TakesPlace a b place c d =
+    MatchOption place ((b ≤ a) × (c ≡ a) × (d ≡ b))
+    (λ p. (p ≡ a) × (a < b) × (c ≡ a + 1) × (d ≡ b))
+
+-- the same of the last place
+abbrev pub TakesPlaceBack : ℕ → ℕ → Option ℕ → ℕ → ℕ → Type 0
+TakesPlaceBack a b place c d =
+    MatchOption place ((b ≤ a) × (c ≡ a) × (d ≡ b))
+    (λ p. (p + 1 ≡ b) × (a < b) × (c ≡ a) × (d + 1 ≡ b))
+
 -- the linear index of the tuple at a place
 abbrev pub linear_at : List ℕ → Region → ℕ → ℕ
 linear_at shape region place = linear_index shape (tuple_at region place)
 
 -- the linear indices of so many places as are left, from one on, rise by a step after an index
-abbrev pub Rises : List ℕ → Region → ℕ → ℕ → ℕ → ℕ → Type 0
-Rises shape region place index step left =
+abbrev pub PlacesRise : List ℕ → Region → ℕ → ℕ → ℕ → ℕ → Type 0
+PlacesRise shape region place index step left =
     (k : ℕ) → k < left → linear_at shape region (place + k) ≡ index + (k + 1) * step
 
 -- the next number, at most the greatest
-abbrev pub after : ℕ → ℕ
-after n = min (n + 1) (2 ^ 64 - 1)
+abbrev pub next_capped : ℕ → ℕ
+next_capped n = min (n + 1) (2 ^ 64 - 1)
 
 -- the first place of a range, which isn't clamped
 abbrev pub first_place : Bound ℕ → ℕ
 first_place (Included n) = n
-first_place (Excluded n) = after n
+first_place (Excluded n) = next_capped n
 first_place Unbounded = 0
 
 -- the place past the last one of a range, which is clamped to the number of places
 abbrev pub end_place : Bound ℕ → ℕ → ℕ
-end_place (Included n) total = min (after n) total
+end_place (Included n) total = min (next_capped n) total
 end_place (Excluded n) total = min n total
 end_place Unbounded total = total
 

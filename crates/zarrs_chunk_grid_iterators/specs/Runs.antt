@@ -14,13 +14,13 @@ is_whole [] (span ∷ region) = false
 is_whole (n ∷ shape) [] = false
 
 -- the first index of each span
-abbrev pub first_of : Region → Region
-first_of region = map (λ span. record { start = span.start; size = 1 }) region
+abbrev pub first_region_of : Region → Region
+first_region_of region = map (λ span. record { start = span.start; size = 1 }) region
 
 -- where runs begin: the dimensions that a run passes through have one index
 abbrev pub run_box : List ℕ → Region → Region
 run_box (n ∷ shape) (span ∷ region) =
-    if is_whole shape region then first_of (span ∷ region) else span ∷ run_box shape region
+    if is_whole shape region then first_region_of (span ∷ region) else span ∷ run_box shape region
 run_box _ _ = []
 
 -- how many indices each run has
@@ -66,5 +66,5 @@ abbrev pub span_of : ℕ × ℕ → Span
 span_of run = record { start = run.0; size = run.1 }
 
 -- a tuple and a length as an interval of linear indices
-abbrev pub span_at : List ℕ → List ℕ × ℕ → Span
-span_at shape run = record { start = linear_index shape run.0; size = run.1 }
+abbrev pub run_span_at : List ℕ → List ℕ × ℕ → Span
+run_span_at shape run = record { start = linear_index shape run.0; size = run.1 }

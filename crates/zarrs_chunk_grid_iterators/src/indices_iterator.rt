@@ -8,6 +8,7 @@ ghost use Rattle.zarr_model.specs.Region.{count, tuple_at, tuples};
 ghost use Rattle.zarrs_array_subset.specs.ArraySubset.{region};
 ghost use Rattle.zarrs_chunk_grid_iterators.specs.Places.{IsTuple, YieldsOne, YieldsOneBack, end_place, first_place};
 
+use crate::places::Places;
 use smallvec::SmallVec;
 use std::alloc::{AllocError, Global};
 use std::ops::{Bound, RangeBounds};
@@ -27,10 +28,9 @@ use zarrs_array_subset::{ArrayIndicesTinyVec, ArraySubset, push_tuple};
 pub struct Indices {
     subset: ArraySubset,
     total: u64,
-    start: u64,
-    end: u64,
+    left: Places,
     ghost whole: { total ≡ count (region subset) },
-    ghost within: { end ≤ total },
+    ghost within: { left.end ≤ total },
 }
 
 #[tactic(auto, using(crate::proofs::Linears::of_all))]
@@ -46,8 +46,10 @@ impl Indices {
         Indices {
             subset,
             total,
-            start: 0,
-            end: total,
+            left: Places {
+                start: 0,
+                end: total,
+            },
         }
     }
 
@@ -57,9 +59,9 @@ impl Indices {
         ensures lists { R.has_bounds range
             → tuples_of result ≡ indices_of (region subset) (first_place (R.start_bound range))
             (end_place (R.end_bound range) (count (region subset))) }
-        ensures start { R.has_bounds range → result.start ≡ first_place (R.start_bound range) }
+        ensures start { R.has_bounds range → result.left.start ≡ first_place (R.start_bound range) }
         ensures end { R.has_bounds range
-            → result.end ≡ end_place (R.end_bound range) (count (region subset)) }
+            → result.left.end ≡ end_place (R.end_bound range) (count (region subset)) }
     {
         let total = subset.num_elements();
         let start = first_of(range.start_bound());
@@ -67,8 +69,7 @@ impl Indices {
         Indices {
             subset,
             total,
-            start,
-            end,
+            left: Places { start, end },
         }
     }
 
@@ -77,7 +78,7 @@ impl Indices {
     pub fn len(&self) -> usize
         ensures { result ≡ length (tuples_of self.now) }
     {
-        self.end.saturating_sub(self.start) as usize
+        self.left.len()
     }
 
     /// Whether there is no index.
@@ -93,8 +94,7 @@ impl Indices {
     {
         IndicesIterator {
             indices: self,
-            start: self.start,
-            end: self.end,
+            left: self.left,
         }
     }
 
@@ -157,11 +157,10 @@ impl IntoIterator for Indices {
     ghost into_iter_gives = { λ s it. tuples_left it ≡ tuples_of s };
 
     fn into_iter(self) -> IndicesIntoIterator {
-        let (start, end) = (self.start, self.end);
+        let left = self.left;
         IndicesIntoIterator {
             indices: self,
-            start,
-            end,
+            left,
         }
     }
 }
@@ -184,9 +183,8 @@ impl<'a> IntoIterator for &'a Indices {
 #[derive(Drop)]
 pub struct IndicesIterator<'a> {
     indices: &'a Indices,
-    start: u64,
-    end: u64,
-    ghost within: { end ≤ indices.now.total },
+    left: Places,
+    ghost within: { left.end ≤ indices.now.total },
 }
 
 #[tactic(auto, using(crate::proofs::Lefts::of_places))]
@@ -200,13 +198,8 @@ impl Iterator for IndicesIterator<'_> {
     ghost remaining = { item_count tuples_lent };
 
     fn next(&mut self) -> Option<Result<ArrayIndicesTinyVec, AllocError>> {
-        if self.start < self.end {
-            let tuple = self.indices.at(self.start);
-            self.start += 1;
-            Some(tuple)
-        } else {
-            None
-        }
+        let place = self.left.next()?;
+        Some(self.indices.at(place))
     }
 
     fn size_hint(&self) -> (usize, Option<usize>)
@@ -215,7 +208,7 @@ impl Iterator for IndicesIterator<'_> {
         ensures exact { result.0 ≡ length (tuples_lent self.now) }
         ensures told { result.1 ≡ Some (length (tuples_lent self.now)) }
     {
-        let left = self.end.saturating_sub(self.start) as usize;
+        let left = self.left.len();
         (left, Some(left))
     }
 }
@@ -227,19 +220,15 @@ impl DoubleEndedIterator for IndicesIterator<'_> {
     ghost next_back_gives = { YieldsOneBack IsTuple tuples_lent last_lent };
 
     fn next_back(&mut self) -> Option<Result<ArrayIndicesTinyVec, AllocError>> {
-        if self.start < self.end {
-            self.end -= 1;
-            Some(self.indices.at(self.end))
-        } else {
-            None
-        }
+        let place = self.left.next_back()?;
+        Some(self.indices.at(place))
     }
 }
 
 #[tactic(auto, using(crate::proofs::Lefts::of_places))]
 impl ExactSizeIterator for IndicesIterator<'_> {
     fn len(&self) -> usize {
-        self.end.saturating_sub(self.start) as usize
+        self.left.len()
     }
 }
 
@@ -247,9 +236,8 @@ impl ExactSizeIterator for IndicesIterator<'_> {
 #[derive(Drop)]
 pub struct IndicesIntoIterator {
     indices: Indices,
-    start: u64,
-    end: u64,
-    ghost within: { end ≤ indices.total },
+    left: Places,
+    ghost within: { left.end ≤ indices.total },
 }
 
 #[tactic(auto, using(crate::proofs::Lefts::of_places))]
@@ -263,13 +251,8 @@ impl Iterator for IndicesIntoIterator {
     ghost remaining = { item_count tuples_left };
 
     fn next(&mut self) -> Option<Result<ArrayIndicesTinyVec, AllocError>> {
-        if self.start < self.end {
-            let tuple = self.indices.at(self.start);
-            self.start += 1;
-            Some(tuple)
-        } else {
-            None
-        }
+        let place = self.left.next()?;
+        Some(self.indices.at(place))
     }
 
     fn size_hint(&self) -> (usize, Option<usize>)
@@ -278,7 +261,7 @@ impl Iterator for IndicesIntoIterator {
         ensures exact { result.0 ≡ length (tuples_left self.now) }
         ensures told { result.1 ≡ Some (length (tuples_left self.now)) }
     {
-        let left = self.end.saturating_sub(self.start) as usize;
+        let left = self.left.len();
         (left, Some(left))
     }
 }
@@ -290,19 +273,14 @@ impl DoubleEndedIterator for IndicesIntoIterator {
     ghost next_back_gives = { YieldsOneBack IsTuple tuples_left last_left };
 
     fn next_back(&mut self) -> Option<Result<ArrayIndicesTinyVec, AllocError>> {
-        if self.start < self.end {
-            let tuple = self.indices.at(self.end - 1);
-            self.end -= 1;
-            Some(tuple)
-        } else {
-            None
-        }
+        let place = self.left.next_back()?;
+        Some(self.indices.at(place))
     }
 }
 
 #[tactic(auto, using(crate::proofs::Lefts::of_places))]
 impl ExactSizeIterator for IndicesIntoIterator {
     fn len(&self) -> usize {
-        self.end.saturating_sub(self.start) as usize
+        self.left.len()
     }
 }

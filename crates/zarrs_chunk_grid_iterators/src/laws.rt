@@ -4,7 +4,7 @@ ghost use Rattle.std.specs.Prelude.{◌≡◌, ℕ, List, true, map};
 ghost use Rattle.std.specs.Iterator.{AlwaysYields, YieldsFirst, YieldsFirstBy};
 ghost use Rattle.zarr_model.specs.Region.{Region, ends_within};
 ghost use Rattle.zarrs_chunk_grid_iterators.specs.Places.{IsRun, IsTuple, YieldsOne};
-ghost use Rattle.zarrs_chunk_grid_iterators.specs.Runs.{CoversLeast, runs, span_at, span_of, tuple_runs};
+ghost use Rattle.zarrs_chunk_grid_iterators.specs.Runs.{CoversLeast, runs, run_span_at, span_of, tuple_runs};
 ghost use Rattle.zarrs_chunk_grid_iterators.specs.Yields.{AlwaysGives};
 ghost use Rattle.zarrs_chunk_grid_iterators.specs.Iterators.{tuples_lent, first_lent, tuples_left, first_left, linear_lent, linear_left, runs_lent, runs_left, tuple_runs_lent, first_run_lent, tuple_runs_left, first_run_left};
 ghost use Rattle.zarrs_chunk_grid_iterators.specs.declared.indices_iterator.IndicesIterator.{IndicesIterator};
@@ -26,7 +26,7 @@ pub fn runs_cover()
 /// The tuples of runs are those at which the runs of linear indices begin.
 pub fn runs_begin()
     ensures { (shape : List ℕ) (region : Region)
-        → map (span_at shape) (tuple_runs shape region) ≡ runs shape region }
+        → map (run_span_at shape) (tuple_runs shape region) ≡ runs shape region }
 {}
 
 /// Each iterator gives what it has left, item by item, and then ends.

@@ -8,6 +8,7 @@ mod gathered;
 mod indices_iterator;
 mod laws;
 mod linearised_indices_iterator;
+mod places;
 mod rows;
 mod runs;
 

@@ -7,8 +7,9 @@ ghost use Rattle.zarr_model.specs.Region.{count, count_of, ends_within};
 ghost use Rattle.zarr_model.specs.Cover.{linear_indices};
 ghost use Rattle.zarrs_array_subset.specs.ArraySubset.{region};
 ghost use Rattle.zarrs_array_subset.specs.Errors.{RefusesShape};
-ghost use Rattle.zarrs_chunk_grid_iterators.specs.Places.{linear_at, Rises};
+ghost use Rattle.zarrs_chunk_grid_iterators.specs.Places.{linear_at, PlacesRise};
 
+use crate::places::Places;
 use crate::rows::{Row, row_of_place};
 use std::alloc::Global;
 use zarrs_array_subset::{ArrayShape, ArraySubset, IndexerError};
@@ -98,8 +99,10 @@ impl LinearisedIndices {
     {
         LinearisedIndicesIterator {
             indices: self,
-            start: 0,
-            end: self.total,
+            left: Places {
+                start: 0,
+                end: self.total,
+            },
             row: Row::NONE,
         }
     }
@@ -118,7 +121,7 @@ impl LinearisedIndices {
         requires { place < self.now.total }
         ensures index { result.index
             ≡ linear_at self.now.array_shape.items (region self.now.subset) place }
-        ensures rises { Rises self.now.array_shape.items (region self.now.subset) (place + 1)
+        ensures rises { PlacesRise self.now.array_shape.items (region self.now.subset) (place + 1)
             result.index result.step result.left }
     {
         let (start, shape) = (self.subset.start(), self.subset.shape());
@@ -131,11 +134,11 @@ impl LinearisedIndices {
     #[tactic(auto, using(crate::proofs::RowLaws::of_next))]
     fn row_after(&self, row: Row, place: u64) -> Row
         requires below { place < self.now.total }
-        requires rises { Rises self.now.array_shape.items (region self.now.subset) place
+        requires rises { PlacesRise self.now.array_shape.items (region self.now.subset) place
             row.index row.step row.left }
         ensures index { result.index
             ≡ linear_at self.now.array_shape.items (region self.now.subset) place }
-        ensures rises { Rises self.now.array_shape.items (region self.now.subset) (place + 1)
+        ensures rises { PlacesRise self.now.array_shape.items (region self.now.subset) (place + 1)
             result.index result.step result.left }
     {
         if row.left == 0 {
@@ -162,8 +165,7 @@ impl IntoIterator for LinearisedIndices {
         let end = self.total;
         LinearisedIndicesIntoIterator {
             indices: self,
-            start: 0,
-            end,
+            left: Places { start: 0, end },
             row: Row::NONE,
         }
     }
@@ -187,11 +189,10 @@ impl<'a> IntoIterator for &'a LinearisedIndices {
 #[derive(Drop)]
 pub struct LinearisedIndicesIterator<'a> {
     indices: &'a LinearisedIndices,
-    start: u64,
-    end: u64,
+    left: Places,
     row: Row,
-    ghost within: { end ≤ indices.now.total },
-    ghost rises: { Rises indices.now.array_shape.items (region indices.now.subset) start
+    ghost within: { left.end ≤ indices.now.total },
+    ghost rises: { PlacesRise indices.now.array_shape.items (region indices.now.subset) left.start
         row.index row.step row.left },
 }
 
@@ -206,13 +207,9 @@ impl Iterator for LinearisedIndicesIterator<'_> {
     ghost remaining = { item_count linear_lent };
 
     fn next(&mut self) -> Option<u64> {
-        if self.start < self.end {
-            self.row = self.indices.row_after(self.row, self.start);
-            self.start += 1;
-            Some(self.row.index)
-        } else {
-            None
-        }
+        let place = self.left.next()?;
+        self.row = self.indices.row_after(self.row, place);
+        Some(self.row.index)
     }
 
     fn size_hint(&self) -> (usize, Option<usize>)
@@ -221,7 +218,7 @@ impl Iterator for LinearisedIndicesIterator<'_> {
         ensures exact { result.0 ≡ length (linear_lent self.now) }
         ensures told { result.1 ≡ Some (length (linear_lent self.now)) }
     {
-        let left = self.end.saturating_sub(self.start) as usize;
+        let left = self.left.len();
         (left, Some(left))
     }
 }
@@ -233,19 +230,15 @@ impl DoubleEndedIterator for LinearisedIndicesIterator<'_> {
     ghost next_back_gives = { YieldsLast linear_lent };
 
     fn next_back(&mut self) -> Option<u64> {
-        if self.start < self.end {
-            self.end -= 1;
-            Some(self.indices.at(self.end))
-        } else {
-            None
-        }
+        let place = self.left.next_back()?;
+        Some(self.indices.at(place))
     }
 }
 
 #[tactic(auto, using(crate::proofs::Lefts::of_places))]
 impl ExactSizeIterator for LinearisedIndicesIterator<'_> {
     fn len(&self) -> usize {
-        self.end.saturating_sub(self.start) as usize
+        self.left.len()
     }
 }
 
@@ -253,11 +246,10 @@ impl ExactSizeIterator for LinearisedIndicesIterator<'_> {
 #[derive(Drop)]
 pub struct LinearisedIndicesIntoIterator {
     indices: LinearisedIndices,
-    start: u64,
-    end: u64,
+    left: Places,
     row: Row,
-    ghost within: { end ≤ indices.total },
-    ghost rises: { Rises indices.array_shape.items (region indices.subset) start
+    ghost within: { left.end ≤ indices.total },
+    ghost rises: { PlacesRise indices.array_shape.items (region indices.subset) left.start
         row.index row.step row.left },
 }
 
@@ -272,13 +264,9 @@ impl Iterator for LinearisedIndicesIntoIterator {
     ghost remaining = { item_count linear_left };
 
     fn next(&mut self) -> Option<u64> {
-        if self.start < self.end {
-            self.row = self.indices.row_after(self.row, self.start);
-            self.start += 1;
-            Some(self.row.index)
-        } else {
-            None
-        }
+        let place = self.left.next()?;
+        self.row = self.indices.row_after(self.row, place);
+        Some(self.row.index)
     }
 
     fn size_hint(&self) -> (usize, Option<usize>)
@@ -287,7 +275,7 @@ impl Iterator for LinearisedIndicesIntoIterator {
         ensures exact { result.0 ≡ length (linear_left self.now) }
         ensures told { result.1 ≡ Some (length (linear_left self.now)) }
     {
-        let left = self.end.saturating_sub(self.start) as usize;
+        let left = self.left.len();
         (left, Some(left))
     }
 }
@@ -299,18 +287,14 @@ impl DoubleEndedIterator for LinearisedIndicesIntoIterator {
     ghost next_back_gives = { YieldsLast linear_left };
 
     fn next_back(&mut self) -> Option<u64> {
-        if self.start < self.end {
-            self.end -= 1;
-            Some(self.indices.at(self.end))
-        } else {
-            None
-        }
+        let place = self.left.next_back()?;
+        Some(self.indices.at(place))
     }
 }
 
 #[tactic(auto, using(crate::proofs::Lefts::of_places))]
 impl ExactSizeIterator for LinearisedIndicesIntoIterator {
     fn len(&self) -> usize {
-        self.end.saturating_sub(self.start) as usize
+        self.left.len()
     }
 }

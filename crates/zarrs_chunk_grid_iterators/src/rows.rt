@@ -3,7 +3,7 @@
 ghost use Rattle.std.specs.Prelude.{◌≡◌, ◌<◌, ◌+◌, ◌^◌, true};
 ghost use Rattle.zarr_model.specs.Region.{count_of, ends_within, linear_index, tuple_at};
 ghost use Rattle.zarrs_array_subset.specs.Boxes.{is_box, region_of};
-ghost use Rattle.zarrs_chunk_grid_iterators.specs.Places.{Rises};
+ghost use Rattle.zarrs_chunk_grid_iterators.specs.Places.{PlacesRise};
 
 // A place in a row: its linear index, by how much that grows from one place of the row to the next, and
 // how many places of the row are behind it.
@@ -42,7 +42,7 @@ pub(crate) fn row_of_place(
     ensures index { result.0.index
         ≡ linear_index array_shape.now (tuple_at (region_of start.now shape.now) place) }
     ensures within { place + result.0.left < total }
-    ensures rises { Rises array_shape.now (region_of start.now shape.now) (place + 1)
+    ensures rises { PlacesRise array_shape.now (region_of start.now shape.now) (place + 1)
         result.0.index result.0.step result.0.left }
     ensures stride { result.1 ≡ count_of array_shape.now }
 {

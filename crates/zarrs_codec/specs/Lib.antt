@@ -1,3 +1,4 @@
+pub use Rattle.zarrs_codec_error.specs as codec_error
 pub use Rattle.zarrs_codec_slices.specs.Elements
 pub use Rattle.zarrs_codec_slices.specs.Overlap
 pub use Rattle.zarrs_codec_slices.specs.Picking
@@ -17,12 +18,12 @@ pub use Rattle.zarrs_codec_array_bytes.specs.Created
 pub use Rattle.zarrs_codec_array_bytes.specs.Steps
 pub use Rattle.zarrs_codec_array_bytes.specs.Selection
 pub use Rattle.zarrs_codec_array_bytes.specs.Refusals
-pub use Rattle.zarrs_codec_array_bytes_update.specs.Pairs
-pub use Rattle.zarrs_codec_array_bytes_update.specs.Picks
-pub use Rattle.zarrs_codec_view.specs.Answers
-pub use Rattle.zarrs_codec_view.specs.TargetViews
-pub use Rattle.zarrs_codec_view.specs.Held
-pub use Rattle.zarrs_codec_view.specs.Targets
+pub use Rattle.zarrs_codec_array_bytes_parts.specs.Pairs
+pub use Rattle.zarrs_codec_array_bytes_parts.specs.Picks
+pub use Rattle.zarrs_codec_array_bytes_parts.specs.Answers
+pub use Rattle.zarrs_codec_array_bytes_parts.specs.TargetViews
+pub use Rattle.zarrs_codec_array_bytes_parts.specs.Held
+pub use Rattle.zarrs_codec_array_bytes_parts.specs.Targets
 pub use Rattle.zarrs_codec_traits.specs.Words
 pub use Rattle.zarrs_codec_traits.specs.Views
 pub use Rattle.zarrs_codec_traits.specs.Errors
@@ -31,8 +32,12 @@ pub use Rattle.zarrs_codec_traits.specs.Parts
 pub use Rattle.zarrs_codec_traits.specs.CodecMetadata
 pub use Rattle.zarrs_codec_traits.specs.CodecOf
 pub use Rattle.zarrs_codec_traits.specs.Making
-pub use Rattle.zarrs_codec_partial_traits.specs.Lists
-pub use Rattle.zarrs_codec_partial_traits.specs.Selects
-pub use Rattle.zarrs_codec_partial_traits.specs.ListWrites
-pub use Rattle.zarrs_codec_partial_traits.specs.Updates
-pub use Rattle.zarrs_codec_error.specs as codec_error
+pub mod Boxes
+pub mod Lists
+pub mod ListWrites
+pub mod Updates
+pub mod Selects
+pub mod Ranges
+pub mod NoFault
+pub mod Stored
+pub mod Prelude

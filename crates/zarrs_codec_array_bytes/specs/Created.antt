@@ -1,6 +1,8 @@
 -- What making offsets gives.
 use Rattle.std.specs.Prelude.{◌≡◌, ℕ, List, Some, None, Result, Ok, Err}
-use Rattle.zarrs_codec_error.specs.declared.array_bytes_error.ArrayBytesRawOffsetsCreateError.{ArrayBytesRawOffsetsCreateError}
+use Rattle.zarrs_codec_error.specs.declared.array_bytes_error.ArrayBytesRawOffsetsCreateError.{
+  ArrayBytesRawOffsetsCreateError,
+}
 use Rattle.zarrs_codec_array_bytes.specs.declared.array_bytes.offsets.ArrayBytesOffsets.{ArrayBytesOffsets}
 use Rattle.zarrs_codec_array_bytes.specs.Offsets.{offsets_error}
 use Rattle.zarrs_codec_array_bytes.specs.Raw.{numbers_of}

@@ -1,7 +1,13 @@
 -- Offsets of variable-length elements.
-use Rattle.std.specs.Prelude.{ℕ, ◌-◌, Bool, true, nat_le, ◌&&◌, if◌then◌else◌, List, [], ◌∷◌, length, get_or, Option, Some, None}
-use Rattle.zarrs_codec_error.specs.declared.array_bytes_error.ArrayBytesRawOffsetsCreateError.{ArrayBytesRawOffsetsCreateError}
-use Rattle.zarrs_codec_error.specs.declared.array_bytes_error.ArrayBytesRawOffsetsCreateError.TheVariants.{ZeroLength, NotMonotonicallyIncreasing}
+use Rattle.std.specs.Prelude.{ℕ, ◌-◌, Bool, true, nat_le, ◌&&◌, if◌then◌else◌, List, [], ◌∷◌, length, get_or, Option}
+use Rattle.std.specs.Prelude.{Some, None}
+use Rattle.zarrs_codec_error.specs.declared.array_bytes_error.ArrayBytesRawOffsetsCreateError.{
+  ArrayBytesRawOffsetsCreateError,
+}
+use Rattle.zarrs_codec_error.specs.declared.array_bytes_error.ArrayBytesRawOffsetsCreateError.TheVariants.{
+  ZeroLength,
+  NotMonotonicallyIncreasing,
+}
 
 -- from this number on none is less than the one before it
 abbrev pub rises_from : ℕ → List ℕ → Bool

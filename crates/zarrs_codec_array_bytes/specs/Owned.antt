@@ -5,7 +5,9 @@ use Rattle.std.specs.declared.borrow.CowSlice.TheVariants as slice
 use Rattle.zarrs_codec_array_bytes.specs.declared.array_bytes.ArrayBytes as code
 use Rattle.zarrs_codec_array_bytes.specs.declared.array_bytes.ArrayBytesOptional.{ArrayBytesOptional}
 use Rattle.zarrs_codec_array_bytes.specs.declared.array_bytes.offsets.ArrayBytesOffsets.{ArrayBytesOffsets}
-use Rattle.zarrs_codec_array_bytes.specs.declared.array_bytes.variable_length.ArrayBytesVariableLength.{ArrayBytesVariableLength}
+use Rattle.zarrs_codec_array_bytes.specs.declared.array_bytes.variable_length.ArrayBytesVariableLength.{
+  ArrayBytesVariableLength,
+}
 
 -- a slice that is owned
 abbrev pub owns_slice : {X Z : Type 0} → CowSlice X Z → Bool

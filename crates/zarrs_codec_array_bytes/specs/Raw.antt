@@ -5,7 +5,9 @@ use Rattle.zarr_model.specs.ArrayBytes as bytes
 use Rattle.zarrs_codec_array_bytes.specs.declared.array_bytes.ArrayBytes as code
 use Rattle.zarrs_codec_array_bytes.specs.declared.array_bytes.ArrayBytesOptional.{ArrayBytesOptional}
 use Rattle.zarrs_codec_array_bytes.specs.declared.array_bytes.offsets.ArrayBytesOffsets.{ArrayBytesOffsets}
-use Rattle.zarrs_codec_array_bytes.specs.declared.array_bytes.variable_length.ArrayBytesVariableLength.{ArrayBytesVariableLength}
+use Rattle.zarrs_codec_array_bytes.specs.declared.array_bytes.variable_length.ArrayBytesVariableLength.{
+  ArrayBytesVariableLength,
+}
 
 -- the numbers of offsets
 abbrev pub numbers_of : ArrayBytesOffsets → List ℕ

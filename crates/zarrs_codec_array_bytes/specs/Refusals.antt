@@ -1,5 +1,6 @@
 -- Why a call on array bytes is refused.
-use Rattle.std.specs.Prelude.{◌≡◌, ℕ, ◌*◌, ◌+◌, ◌-◌, ◌^◌, ◌==◌, ◌⊎◌, min, Bool, true, false, not, length, Option, Some, None, Result, Ok, Err}
+use Rattle.std.specs.Prelude.{◌≡◌, ℕ, ◌*◌, ◌+◌, ◌-◌, ◌^◌, ◌==◌, ◌⊎◌, min, Bool, true, false, not, length, Option, Some}
+use Rattle.std.specs.Prelude.{None, Result, Ok, Err}
 use Rattle.zarr_model.specs.Element.{Kind, fixed, variable, optional, fixed_size}
 use Rattle.zarr_model.specs.ArrayBytes.{ArrayBytes, fixed_bytes, variable_bytes, optional_bytes}
 use Rattle.zarr_model.specs.Command as model
@@ -13,16 +14,16 @@ use Rattle.zarrs_codec_error.specs.declared.error.CodecError.TheVariants as code
 -- what an answer says: nothing against the bytes, a refusal of them, their length and the expected
 -- one, an indexer that does not fit, a fill value of another size, want of memory, or what no call
 -- here says
-pub data Told : Type 0 where
-  fine : Told
-  refused : model.Refusal → Told
-  wrong_length : ℕ → ℕ → Told
-  unfit : Told
-  other_fill : Told
-  no_memory : Told
-  odd : Told
+pub data BytesAnswer : Type 0 where
+  fine : BytesAnswer
+  refused : model.Refusal → BytesAnswer
+  wrong_length : ℕ → ℕ → BytesAnswer
+  unfit : BytesAnswer
+  other_fill : BytesAnswer
+  no_memory : BytesAnswer
+  odd : BytesAnswer
 
-abbrev pub told_by : CodecError → Told
+abbrev pub told_by : CodecError → BytesAnswer
 told_by (codec.ExpectedFixedLengthBytes e) = refused model.expected_fixed_length_bytes
 told_by (codec.ExpectedVariableLengthBytes e) = refused model.expected_variable_length_bytes
 told_by (codec.ExpectedOptionalBytes e) = refused model.expected_optional_bytes
@@ -34,17 +35,17 @@ told_by (codec.DataTypeFillValueError e) = other_fill
 told_by codec.OutOfMemory = no_memory
 told_by _ = odd
 
-abbrev pub told : {T : Type 0} → Result T CodecError → Told
+abbrev pub told : {T : Type 0} → Result T CodecError → BytesAnswer
 told (Ok v) = fine
 told (Err e) = told_by e
 
-abbrev pub answer_of : Option model.Refusal → Told
-answer_of None = fine
-answer_of (Some why) = refused why
+abbrev pub refusal_answer : Option model.Refusal → BytesAnswer
+refusal_answer None = fine
+refusal_answer (Some why) = refused why
 
 -- the same with the length of the data and the expected one, which is told as the greatest number
 -- where it is greater
-abbrev pub sized_answer : ℕ → ℕ → Option model.Refusal → Told
+abbrev pub sized_answer : ℕ → ℕ → Option model.Refusal → BytesAnswer
 sized_answer len expected None = fine
 sized_answer len expected (Some model.unexpected_chunk_decoded_size) =
     wrong_length len (min expected (2 ^ 64 - 1))
@@ -71,17 +72,17 @@ lengths_refusal size number (optional_bytes under mask) =
     (lengths_refusal size number under)
 
 -- what is said of the bytes as so many elements of a kind, and of their lengths alone
-abbrev pub validity : Kind → ℕ → ArrayBytes → Told
+abbrev pub validity : Kind → ℕ → ArrayBytes → BytesAnswer
 validity kind number value =
     sized_answer (inner_length value) (number * size_in (fixed_size kind))
     (model.bytes_refusal kind number value)
 
-abbrev pub lengths_answer : ℕ → ℕ → ArrayBytes → Told
+abbrev pub lengths_answer : ℕ → ℕ → ArrayBytes → BytesAnswer
 lengths_answer size number value =
     sized_answer (inner_length value) (number * size) (lengths_refusal size number value)
 
 -- the first of two answers that is not fine
-abbrev pub then_answer : Told → Told → Told
+abbrev pub then_answer : BytesAnswer → BytesAnswer → BytesAnswer
 then_answer fine next = next
 then_answer first next = first
 
@@ -92,24 +93,24 @@ holds_fixed (variable_bytes value offsets) = false
 holds_fixed (optional_bytes under mask) = holds_fixed under
 
 -- what a call over an indexer answers first: the kinds, then the indexer, then the lengths
-abbrev pub first_answer : Option model.Refusal → Bool → Told → Told
+abbrev pub first_answer : Option model.Refusal → Bool → BytesAnswer → BytesAnswer
 first_answer (Some why) fits next = refused why
 first_answer None false next = unfit
 first_answer None true next = next
 
 -- what a call over a fill value answers, by whether the fill value has the size of the type
-abbrev pub fill_answer : Bool → Told
+abbrev pub fill_answer : Bool → BytesAnswer
 fill_answer true = fine
 fill_answer false = other_fill
 
 -- what an extraction answers
-abbrev pub extract_answer : Kind → Bool → ℕ → ArrayBytes → Told
+abbrev pub extract_answer : Kind → Bool → ℕ → ArrayBytes → BytesAnswer
 extract_answer kind fits number value =
     first_answer (kind_refusal kind value) fits
     (lengths_answer (size_in (fixed_size kind)) number value)
 
 -- the call answers so, or memory ran out
-abbrev pub Answers : {T : Type 0} → Told → Result T CodecError → Type 0
+abbrev pub Answers : {T : Type 0} → BytesAnswer → Result T CodecError → Type 0
 Answers wanted (Ok v) = wanted ≡ fine
 Answers wanted (Err e) = (e ≡ codec.OutOfMemory) ⊎ (told_by e ≡ wanted)
 

@@ -11,5 +11,5 @@ outer_box rows = region rows.outer
 abbrev pub inner_box : Rows → Region
 inner_box rows = region rows.subset
 
-abbrev pub element_bytes : Rows → ℕ
-element_bytes rows = rows.size
+abbrev pub row_element_bytes : Rows → ℕ
+row_element_bytes rows = rows.size

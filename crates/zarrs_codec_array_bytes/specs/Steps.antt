@@ -1,8 +1,8 @@
 -- What the elements of a data type are, level by level.
 use Rattle.std.specs.Prelude.{ℕ, suc}
 use Rattle.zarr_model.specs.Element as model
-use Rattle.zarrs_data_type_names.specs.DataType.{type_of}
-use Rattle.zarrs_data_type_names.specs.declared.data_type.DataType as types
+use Rattle.zarrs_data_type.specs.DataType.{type_of}
+use Rattle.zarrs_data_type.specs.declared.data_type.DataType as types
 use Rattle.zarrs_codec_slices.specs.Picking.{size_in}
 use Rattle.zarrs_codec_array_bytes.specs.declared.array_bytes.step.Step.{Step}
 use Rattle.zarrs_codec_array_bytes.specs.declared.array_bytes.step.Step.TheVariants as steps

@@ -1,7 +1,7 @@
 //! Array bytes: the elements of an array in memory, with what they mean, when they are valid, and how elements
 //! are taken out of them.
 //!
-//! The module [`array_bytes`] is public so that `zarrs_codec_array_bytes_update` uses its checks.
+//! The module [`array_bytes`] is public so that `zarrs_codec_array_bytes_parts` uses its checks.
 //!
 //! See <https://zarr-specs.readthedocs.io/en/latest/v3/core/index.html#data-types>.
 #![tactic(auto)]

@@ -7,7 +7,9 @@ use Rattle.zarrs_storage.specs.declared.byte_range.ByteRangeFault.{ByteRangeFaul
 use Rattle.zarrs_storage.specs.declared.byte_range.ByteRangeFault.TheVariants as range
 use Rattle.zarrs_storage.specs.declared.store.StorageError.{StorageError}
 use Rattle.zarrs_storage.specs.declared.store.StorageError.TheVariants as store
-use Rattle.zarrs_codec_error.specs.declared.array_bytes_error.ArrayBytesFixedDisjointViewCreateError.{ArrayBytesFixedDisjointViewCreateError}
+use Rattle.zarrs_codec_error.specs.declared.array_bytes_error.ArrayBytesFixedDisjointViewCreateError.{
+  ArrayBytesFixedDisjointViewCreateError,
+}
 use Rattle.zarrs_codec_error.specs.declared.array_bytes_error.ArrayBytesFixedDisjointViewCreateError.TheVariants as view
 use Rattle.zarrs_codec_error.specs.declared.error.CodecError.{CodecError}
 use Rattle.zarrs_codec_error.specs.declared.error.CodecError.TheVariants as codec

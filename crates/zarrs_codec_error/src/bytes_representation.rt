@@ -1,7 +1,7 @@
 //! How many bytes a value has, as far as it is known before.
 
 ghost use Rattle.std.specs.Prelude.{◌≡◌, Some};
-ghost use Rattle.zarrs_codec_error.specs.BytesRepresentation.{size_of, text_of};
+ghost use Rattle.zarrs_codec_error.specs.BytesRepresentation.{size_bound_of, text_of};
 
 use std::fmt;
 
@@ -19,7 +19,7 @@ pub enum BytesRepresentation {
 impl BytesRepresentation {
     /// How many bytes there are at most, or None where there is no such number.
     pub fn size(&self) -> Option<u64>
-        ensures { result ≡ size_of self.now }
+        ensures { result ≡ size_bound_of self.now }
     {
         match self {
             BytesRepresentation::FixedSize(size) => Some(*size),

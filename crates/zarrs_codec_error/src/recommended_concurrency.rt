@@ -3,7 +3,7 @@
 ghost use Rattle.std.specs.Prelude.{◌≡◌};
 ghost use Rattle.std.specs.Range.Bound.{bound_map};
 ghost use Rattle.std.specs.declared.ops.Bound.TheVariants.{Included, Excluded, Unbounded};
-ghost use Rattle.zarrs_codec_error.specs.RecommendedConcurrency.{start_of, end_of, concurrency_of};
+ghost use Rattle.zarrs_codec_error.specs.RecommendedConcurrency.{start_of, bound_end, concurrency_of};
 
 use std::ops::{Bound, RangeBounds};
 
@@ -68,7 +68,7 @@ fn start_of(bound: Bound<&usize>) -> usize
 
 // The number past the last one of a range.
 fn end_of(bound: Bound<&usize>) -> usize
-    ensures { result ≡ end_of (bound_map (λ x. x.now) bound.entry) }
+    ensures { result ≡ bound_end (bound_map (λ x. x.now) bound.entry) }
 {
     match bound {
         Bound::Included(end) => end.saturating_add(1),

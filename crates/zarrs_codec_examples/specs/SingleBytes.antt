@@ -1,23 +1,19 @@
 -- Elements of one byte, and where they stand in a value.
-use Rattle.std.specs.Prelude.{◌≡◌, ◌==◌, ℕ, ◌+◌, ◌*◌, ◌<◌, ◌≤◌, if◌then◌else◌, Bool, true, false, List, [], ◌∷◌, length, map, Option, Some, None, option_and_then, refl}
+use Rattle.std.specs.Prelude.{◌≡◌, ◌==◌, ℕ, ◌+◌, ◌*◌, ◌<◌, ◌≤◌, if◌then◌else◌, Bool, true, false, List, [], ◌∷◌, length}
+use Rattle.std.specs.Prelude.{map, Option, Some, None, option_and_then, refl}
 use Rattle.std.proofs.Common.{sym, ap, ◌∙◌, subst, arith, eqb-true}
 use Rattle.std.proofs.lemmas.Bool.{le-leb}
-use Rattle.zarr_model.specs.Region.{Region, count_of, ends_within, tuples}
-use Rattle.zarr_model.specs.Element.{Element, DataType, Kind, fixed, variable, optional, kind_of}
-use Rattle.zarr_model.specs.ArrayBytes.{ArrayBytes, fixed_bytes, variable_bytes, optional_bytes, meaning}
-use Rattle.zarr_model.specs.Codec.{Level}
+use Rattle.zarrs_codec_traits.specs.Prelude.{Region, count_of, ends_within, tuples, Element, DataType, Kind, fixed}
+use Rattle.zarrs_codec_traits.specs.Prelude.{variable, optional, kind_of, ArrayBytes, fixed_bytes, variable_bytes}
+use Rattle.zarrs_codec_traits.specs.Prelude.{optional_bytes, meaning, Level, first_invalid, AllBelow, BytesAnswer, fine}
+use Rattle.zarrs_codec_traits.specs.Prelude.{wrong_length, then_answer, linear, list_at, taken}
 use Rattle.zarrs_chunk_grid_iterators.proofs.BoxFacts.{box_inside}
 use Rattle.zarrs_storage.specs.declared.byte_range.ByteRange.{ByteRange}
 use Rattle.zarrs_storage.specs.declared.byte_range.ByteRange.TheVariants.{FromStart}
-use Rattle.zarrs_storage.specs.ByteRange.{first_invalid}
 use Rattle.zarrs_data_type_bytes.specs.declared.codec_support.CodecName.TheVariants as names
-use Rattle.zarrs_codec_slices.specs.Picking.{AllBelow}
 use Rattle.zarrs_codec_slices.proofs.LeafLaws.{below_rest, fixed_long}
 use Rattle.zarrs_codec_slices.proofs.RowLaws.{indices_below}
-use Rattle.zarrs_codec_array_bytes.specs.Refusals.{Told, fine, wrong_length, then_answer}
-use Rattle.zarrs_codec_array_bytes.specs.Selection.{linear}
 use Rattle.zarrs_codec_traits.specs.Errors.{Unserved, unsupported}
-use Rattle.zarrs_codec_traits.specs.Words.{list_at, taken}
 
 -- whether elements of a kind have one byte
 abbrev pub is_byte : Kind → Bool
@@ -26,11 +22,11 @@ is_byte variable = false
 is_byte (optional kind) = false
 
 -- types of other elements are not served
-abbrev pub type_unserved : DataType → Option Unserved
-type_unserved t = if is_byte (kind_of t) then None else Some (unsupported names.Other)
+abbrev pub byte_type_unserved : DataType → Option Unserved
+byte_type_unserved t = if is_byte (kind_of t) then None else Some (unsupported names.Other)
 
 abbrev pub single_unserved : Option DataType → Option Unserved
-single_unserved t = option_and_then type_unserved t
+single_unserved t = option_and_then byte_type_unserved t
 
 -- a type that is served is so by a call that takes only some of a level
 pub single_serves : (t : DataType) (with_type : Bool) → single_unserved (Some t) ≡ None
@@ -50,10 +46,10 @@ abbrev pub single_list : Level → List ℕ → Option (List Element)
 single_list level value = list_at level (fixed_bytes value)
 
 -- what is told of parts that have one byte each: the first of another length
-abbrev pub single_answer : List ℕ → Told
+abbrev pub single_answer : List ℕ → BytesAnswer
 single_answer part = if length part == 1 then fine else wrong_length (length part) 1
 
-abbrev pub singles_answer : List (List ℕ) → Told
+abbrev pub singles_answer : List (List ℕ) → BytesAnswer
 singles_answer [] = fine
 singles_answer (part ∷ parts) = then_answer (single_answer part) (singles_answer parts)
 
@@ -68,7 +64,7 @@ pub record AreJoined (parts : List (List ℕ)) (bytes : ArrayBytes) : Type 0 whe
   pub each : map (λ byte. byte ∷ []) (data_in bytes) ≡ parts
 
 -- the kind of a type that is served
-pub served_kind : (t : DataType) → type_unserved t ≡ None → kind_of t ≡ fixed 1
+pub served_kind : (t : DataType) → byte_type_unserved t ≡ None → kind_of t ≡ fixed 1
 served_kind t served = go (kind_of t) served
   where
     go : (kind : Kind) → (if is_byte kind then None else Some (unsupported names.Other)) ≡ None
@@ -83,19 +79,19 @@ served_kind t served = go (kind_of t) served
     go (optional kind) served = cc
 
 -- places below a length have valid ranges
-all_valid : (n : ℕ) (places : List ℕ) → AllBelow n places
+places_valid : (n : ℕ) (places : List ℕ) → AllBelow n places
     → first_invalid n (map range_at places) ≡ None
-all_valid n [] all = refl
-all_valid n (place ∷ places) all =
+places_valid n [] all = refl
+places_valid n (place ∷ places) all =
     let here : place < n = all 0 (omega arith) in
     let fits : place + 1 ≤ n = omega (arith, here) in
     ap (λ (b : Bool). if b then first_invalid n (map range_at places) else Some (range_at place))
     (le-leb _ _ fits)
-    ∙ all_valid n places (below_rest n place places all)
+    ∙ places_valid n places (below_rest n place places all)
 
 -- so a value that leads to another answer has no elements
 pub single_asks : (level : Level) (region : Region) (value : List ℕ) (ranges : List ByteRange)
-    → type_unserved level.data_type ≡ None → ends_within region level.shape ≡ true
+    → byte_type_unserved level.data_type ≡ None → ends_within region level.shape ≡ true
     → Some (ranges_in level.shape region) ≡ Some ranges
     → ¬ (first_invalid (length value) ranges ≡ None) → single_list level value ≡ None
 single_asks level region value ranges served inside some invalid =
@@ -112,5 +108,5 @@ single_asks level region value ranges served inside some invalid =
         let many : length value ≡ count_of level.shape = omega (arith, long) in
         absurd (invalid (subst (λ (r : List ByteRange). first_invalid (length value) r ≡ None) same
         (subst (λ (n : ℕ). first_invalid n (ranges_in level.shape region) ≡ None) (sym many)
-        (all_valid (count_of level.shape) _
+        (places_valid (count_of level.shape) _
         (indices_below level.shape (tuples region) (box_inside region level.shape inside))))))

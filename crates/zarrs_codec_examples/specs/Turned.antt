@@ -1,12 +1,10 @@
 -- A list of elements that is turned round.
-use Rattle.std.specs.Prelude.{◌≡◌, ℕ, zero, suc, ◌-◌, List, [], ◌∷◌, ◌++◌, length, map, replicate, reverse, Option, Some, option_map, unwrap_or, refl}
+use Rattle.std.specs.Prelude.{◌≡◌, ℕ, zero, suc, ◌-◌, List, [], ◌∷◌, ◌++◌, length, map, replicate, reverse, Option}
+use Rattle.std.specs.Prelude.{Some, option_map, unwrap_or, refl}
 use Rattle.std.proofs.Common.{ap, sym, ◌∙◌}
 use Rattle.std.proofs.lemmas.Grind.{reverse_onto}
 use Rattle.std.proofs.lemmas.List.{length-reverse}
-use Rattle.zarr_model.specs.Region.{Region, whole}
-use Rattle.zarr_model.specs.Element.{Element}
-use Rattle.zarr_model.specs.Codec.{ArrayCodec}
-use Rattle.zarrs_codec_traits.specs.Words.{select}
+use Rattle.zarrs_codec_traits.specs.Prelude.{Region, whole, Element, ArrayCodec, select}
 
 -- the level below is the level itself, its list decodes to its reverse, and of a part all of it is
 -- needed

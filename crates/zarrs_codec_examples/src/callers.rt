@@ -2,34 +2,26 @@
 //! turned round.
 
 ghost use Rattle.std.specs.Prelude.{◌≡◌, ℕ, false, List, length, reverse, Some, None, IsSome, IfOk, OnOk};
-ghost use Rattle.zarr_model.specs.Element.{Element, kind_of, fill_element};
-ghost use Rattle.zarr_model.specs.ArrayBytes.{meaning};
-ghost use Rattle.zarr_model.specs.Prelude.{counted};
-ghost use Rattle.zarrs_storage.specs.Store.{value_bytes};
+ghost use Rattle.zarrs_codec.specs.Prelude.{Element, kind_of, fill_element, meaning, counted};
+ghost use Rattle.zarrs_codec.specs.Prelude.{value_bytes, type_of, raw_of, unserved_at, lengths};
+ghost use Rattle.zarrs_codec.specs.Prelude.{level_of, options_of, IsFit, through, AreFew, fills};
+ghost use Rattle.zarrs_codec.specs.Prelude.{chosen};
 ghost use Rattle.zarrs_data_type_bytes.specs.FillValue.{fill_bytes};
-ghost use Rattle.zarrs_data_type_names.specs.DataType.{type_of};
-ghost use Rattle.zarrs_codec_array_bytes.specs.Raw.{raw_of};
-ghost use Rattle.zarrs_codec_traits.specs.Errors.{unserved_at};
-ghost use Rattle.zarrs_codec_traits.specs.Views.{lengths, level_of, options_of};
-ghost use Rattle.zarrs_codec_traits.specs.Words.{IsFit};
-ghost use Rattle.zarrs_codec_held.specs.Through.{through};
-ghost use Rattle.zarrs_codec_partial_traits.specs.Lists.{AreFew, fills};
-ghost use Rattle.zarrs_codec_partial_traits.specs.Selects.{chosen};
 
 use crate::chunks::chunk_of;
 use crate::reversed_elements::ReversedElementsCodec;
 use std::alloc::Global;
 use zarrs_array_subset::ChunkShape;
 use zarrs_chunk_grid_indexer::Indexer;
+use zarrs_codec::{
+    ArrayPartialDecoderTraits, BytesPartialDecoderTraits, BytesToBytesCodecPartialDefault,
+    MemoryHandle, StoragePartialDecoder,
+};
 use zarrs_codec_array_bytes::ArrayBytes;
 use zarrs_codec_error::{BytesRepresentation, CodecError, CodecOptions};
-use zarrs_codec_partial_bytes::{
-    BytesToBytesCodecPartialDefault, MemoryHandle, StoragePartialDecoder,
-};
-use zarrs_codec_partial_traits::{ArrayPartialDecoderTraits, BytesPartialDecoderTraits};
 use zarrs_codec_traits::{ArrayToBytesCodecTraits, BytesToBytesCodecTraits};
+use zarrs_data_type::DataType;
 use zarrs_data_type_bytes::FillValue;
-use zarrs_data_type_names::DataType;
 use zarrs_storage::{Store, StoreKey};
 
 /// The value under a key, by one reading call.

@@ -1,22 +1,19 @@
 //! Handles on the elements of a chunk, over a handle on bytes.
 
 ghost use Rattle.std.specs.Prelude.{◌≡◌, IsSome, IfOk};
-ghost use Rattle.zarr_model.specs.Element.{kind_of, fill_element};
-ghost use Rattle.zarrs_data_type_bytes.specs.FillValue.{fill_bytes};
-ghost use Rattle.zarrs_data_type_names.specs.DataType.{type_of};
-ghost use Rattle.zarrs_codec_traits.specs.Views.{lengths, level_of};
-ghost use Rattle.zarrs_codec_traits.specs.Words.{IsFit};
-ghost use Rattle.zarrs_codec_partial_elements.specs.Level.{bottom_level, bottom_fill};
+ghost use Rattle.zarrs_codec_traits.specs.Prelude.{kind_of, fill_element, fill_bytes, type_of};
+ghost use Rattle.zarrs_codec_traits.specs.Prelude.{lengths, level_of, IsFit};
+ghost use Rattle.zarrs_codec_partial_elements.specs.Level.{level_of_bottom, bottom_fill};
 
 use std::alloc::Global;
 use zarrs_array_subset::ChunkShape;
+use zarrs_codec::BytesPartialDecoderTraits;
 use zarrs_codec_error::CodecError;
 use zarrs_codec_partial::ArrayToArrayCodecPartialDefault;
 use zarrs_codec_partial_elements::ArrayToBytesCodecPartialDefault;
-use zarrs_codec_partial_traits::BytesPartialDecoderTraits;
 use zarrs_codec_traits::{ArrayToArrayCodecTraits, ArrayToBytesCodecTraits};
+use zarrs_data_type::DataType;
 use zarrs_data_type_bytes::FillValue;
-use zarrs_data_type_names::DataType;
 
 /// A chunk through an array-to-array codec and an array-to-bytes codec.
 pub type Chunk<H, A, B> = ArrayToArrayCodecPartialDefault<ArrayToBytesCodecPartialDefault<H, B>, A>;
@@ -46,7 +43,7 @@ pub fn chunk_of<
       data_type = data_type;
       fill_value = fill_value;
     }) }
-    ensures below { IfOk result (λ c. bottom_level c.handle.level
+    ensures below { IfOk result (λ c. level_of_bottom c.handle.level
         ≡ (A.meaning array_codec).level_below (level_of shape.items data_type fill_value)) }
     ensures fill { IfOk result (λ c. bottom_fill c.handle.level
         ≡ A.fill_below array_codec (type_of data_type) (fill_bytes fill_value)) }

@@ -1,18 +1,11 @@
 //! Single bytes, where they stand in a value and out of the parts that hold them.
 
 ghost use Rattle.std.specs.Prelude.{◌≡◌, ◌∷◌, [], ◌<◌, ◌^◌, true, false, map, None, Some, IfOk, IfErr, option_map};
-ghost use Rattle.zarr_model.specs.Region.{count_of, ends_within};
-ghost use Rattle.zarr_model.specs.Command.{has_long_element};
-ghost use Rattle.zarrs_array_subset.specs.ArraySubset.{region as box_of};
-ghost use Rattle.zarrs_storage.specs.ByteRange.{parts_of};
-ghost use Rattle.zarrs_data_type_names.specs.DataType.{type_of};
+ghost use Rattle.zarrs_codec_traits.specs.Prelude.{count_of, ends_within, has_long_element};
+ghost use Rattle.zarrs_codec_traits.specs.Prelude.{region as box_of, parts_of, type_of, raw_of};
+ghost use Rattle.zarrs_codec_traits.specs.Prelude.{Answers, kind_seen, unserved_error, lengths};
 ghost use Rattle.zarrs_codec_error.specs.declared.error.CodecError.TheVariants as codec;
-ghost use Rattle.zarrs_codec_array_bytes.specs.Raw.{raw_of};
-ghost use Rattle.zarrs_codec_array_bytes.specs.Refusals.{Answers};
-ghost use Rattle.zarrs_codec_array_bytes.specs.Steps.{kind_seen};
-ghost use Rattle.zarrs_codec_traits.specs.Errors.{unserved_error};
-ghost use Rattle.zarrs_codec_traits.specs.Views.{lengths};
-ghost use Rattle.zarrs_codec_examples.specs.SingleBytes.{is_byte as has_one_byte, type_unserved, range_at, ranges_in, single_answer, singles_answer, AreJoined};
+ghost use Rattle.zarrs_codec_examples.specs.SingleBytes.{is_byte as has_one_byte, byte_type_unserved, range_at, ranges_in, single_answer, singles_answer, AreJoined};
 
 use std::alloc::{AllocError, Global};
 use std::borrow::CowSlice;
@@ -23,8 +16,8 @@ use zarrs_codec_array_bytes::array_bytes::extract::linear_indices;
 use zarrs_codec_array_bytes::array_bytes::step::{Step, step_of};
 use zarrs_codec_error::{CodecError, InvalidBytesLengthError};
 use zarrs_codec_traits::shape_numbers;
+use zarrs_data_type::DataType;
 use zarrs_data_type_bytes::{CodecName, DataTypeCodecError};
-use zarrs_data_type_names::DataType;
 use zarrs_storage::ByteRange;
 
 fn is_byte(data_type: &DataType) -> bool
@@ -42,9 +35,9 @@ fn is_byte(data_type: &DataType) -> bool
 /// # Errors
 /// [`CodecError::UnsupportedDataTypeCodec`] exactly where they have not.
 pub fn expect_byte(data_type: &DataType) -> Result<(), CodecError>
-    ensures served { IfOk result (λ _. type_unserved (type_of data_type.now) ≡ None) }
+    ensures served { IfOk result (λ _. byte_type_unserved (type_of data_type.now) ≡ None) }
     ensures refused { IfErr result (λ e. option_map unserved_error
-        (type_unserved (type_of data_type.now)) ≡ Some e) }
+        (byte_type_unserved (type_of data_type.now)) ≡ Some e) }
 {
     if is_byte(data_type) {
         return Ok(());

@@ -15,8 +15,8 @@ use zarrs_codec_error::{
 use zarrs_codec_traits::{
     ArrayCodecTraits, ArrayToArrayCodecTraits, CodecTraits, same_fill, same_shape, whole_box,
 };
+use zarrs_data_type::DataType;
 use zarrs_data_type_bytes::FillValue;
-use zarrs_data_type_names::DataType;
 use zarrs_metadata_parts::Configuration;
 use zarrs_plugin::{ExtensionName, ZarrVersion};
 
@@ -94,7 +94,7 @@ impl ArrayCodecTraits for ReversedElementsCodec {
 
 impl ArrayToArrayCodecTraits for ReversedElementsCodec {
     ghost use Rattle.std.proofs.Math.Nat.{le_refl};
-    ghost use Rattle.zarrs_codec_partial_traits.proofs.BoxLaws.{whole_inside};
+    ghost use Rattle.zarrs_codec.proofs.BoxLaws.{whole_inside};
     ghost use Rattle.zarrs_codec_examples.specs.Turned.{reversed_codec, reversed_counted, reversed_fills, same_above};
 
     ghost meaning = { λ _. reversed_codec };

@@ -1,18 +1,11 @@
 //! Elements of a list that is turned round.
 
 ghost use Rattle.std.specs.Prelude.{◌≡◌, ◌<◌, ◌^◌, true, false, reverse, IfOk, IfErr, option_map};
-ghost use Rattle.zarr_model.specs.Region.{count, count_of, tuples, ends_within};
-ghost use Rattle.zarr_model.specs.ArrayBytes.{meaning};
-ghost use Rattle.zarr_model.specs.Command.{has_long_element};
-ghost use Rattle.zarrs_array_subset.specs.ArraySubset.{region as box_of};
-ghost use Rattle.zarrs_data_type_names.specs.DataType.{type_of};
+ghost use Rattle.zarrs_codec_traits.specs.Prelude.{count, count_of, tuples, ends_within, meaning};
+ghost use Rattle.zarrs_codec_traits.specs.Prelude.{has_long_element, region as box_of, type_of};
+ghost use Rattle.zarrs_codec_traits.specs.Prelude.{raw_of, validity, Answers, linear, kind_seen};
+ghost use Rattle.zarrs_codec_traits.specs.Prelude.{lengths, Gives, IsFit};
 ghost use Rattle.zarrs_codec_error.specs.declared.error.CodecError.TheVariants as codec;
-ghost use Rattle.zarrs_codec_array_bytes.specs.Raw.{raw_of};
-ghost use Rattle.zarrs_codec_array_bytes.specs.Refusals.{validity, Answers};
-ghost use Rattle.zarrs_codec_array_bytes.specs.Selection.{linear};
-ghost use Rattle.zarrs_codec_array_bytes.specs.Steps.{kind_seen};
-ghost use Rattle.zarrs_codec_traits.specs.Views.{lengths};
-ghost use Rattle.zarrs_codec_traits.specs.Words.{Gives, IsFit};
 ghost use Rattle.zarrs_codec_examples.specs.Turned.{mirrored, turned_part};
 
 use std::alloc::{AllocError, Global};
@@ -24,7 +17,7 @@ use zarrs_codec_array_bytes::array_bytes::gather::select;
 use zarrs_codec_array_bytes::array_bytes::step::element_size;
 use zarrs_codec_error::CodecError;
 use zarrs_codec_traits::{num_elements, shape_numbers, whole_box};
-use zarrs_data_type_names::DataType;
+use zarrs_data_type::DataType;
 
 // Each place, counted from the other end of so many.
 fn mirror(alloc: Global, places: &[u64], count: u64) -> Result<Vec<u64>, AllocError>

@@ -1,66 +1,74 @@
 -- What is said of a level that is not served.
-use Rattle.std.proofs.Common.{◌≡◌, ◌⊎◌, ℕ, ◌*◌, Bool, true, List, Option, Some, None, IsSome, option_and_then, Result, Ok, Err, IfOk, refl, sym, ap, ap₂, subst, inl, inr, ⊎_elim}
-use Rattle.zarr_model.specs.Region.{count_of}
-use Rattle.zarr_model.specs.Element.{Element, Kind, fill_element, fixed_size, kind_of}
-use Rattle.zarr_model.specs.ArrayBytes.{ArrayBytes, meaning}
-use Rattle.zarr_model.specs.Codec.{Level, ArrayCodec, Options}
+use Rattle.std.proofs.Common.{◌≡◌, ◌⊎◌, ℕ, ◌*◌, Bool, true, List, Option, Some, None, IsSome, option_and_then, Result}
+use Rattle.std.proofs.Common.{Ok, Err, IfOk, refl, sym, ap, ap₂, subst, inl, inr, ⊎_elim}
+use Rattle.zarrs_codec_traits.specs.Prelude.{inner_length, RefusesBy}
+use Rattle.zarrs_codec.specs.Prelude.{count_of, Element, Kind, fill_element, fixed_size, kind_of, ArrayBytes, meaning}
+use Rattle.zarrs_codec.specs.Prelude.{Level, ArrayCodec, Options, bytes_refusal, size_in, Unserved, list_at, Refused}
+use Rattle.zarrs_codec.specs.Prelude.{RefusesFor, given_answer}
 use Rattle.zarr_model.specs.Command as model
-use Rattle.zarr_model.specs.Command.{bytes_refusal}
 use Rattle.zarr_model.proofs.BytesLaws.{refusal-meaning}
 use Rattle.zarr_model.proofs.Choices.{some_given}
-use Rattle.zarrs_codec_slices.specs.Picking.{size_in}
 use Rattle.zarrs_codec_error.specs.declared.error.CodecError.{CodecError}
 use Rattle.zarrs_codec_error.specs.declared.error.CodecError.TheVariants as codec
 use Rattle.zarrs_codec_array_bytes.specs.declared.array_bytes.ArrayBytes as code
-use Rattle.zarrs_codec_array_bytes.specs.Levels.{inner_length}
-use Rattle.zarrs_codec_array_bytes.specs.Refusals.{Told, fine, refused, other_fill, told_by, sized_answer, then_answer, first_answer, validity}
+use Rattle.zarrs_codec_array_bytes.specs.Refusals.{BytesAnswer, fine, refused, other_fill, told_by, sized_answer}
+use Rattle.zarrs_codec_array_bytes.specs.Refusals.{then_answer, first_answer, validity}
 use Rattle.zarrs_codec_array_bytes.proofs.ToldLaws.{first_fine}
-use Rattle.zarrs_codec_traits.specs.Errors.{Unserved, RefusesBy}
-use Rattle.zarrs_codec_traits.specs.Words.{list_at}
-use Rattle.zarrs_codec_partial_traits.specs.Lists.{Refused, RefusesFor}
-use Rattle.zarrs_codec_partial_traits.specs.ListWrites.{given_answer}
-use Rattle.zarrs_codec_partial_traits.proofs.NamedLaws.{refused_never, refused_memory}
+use Rattle.zarrs_codec.proofs.NamedLaws.{refused_never, refused_memory}
 use Rattle.zarrs_codec_partial.specs.Above.{HandsOn, first_unserved}
 
 -- the first reason is told: the fill value's, or the codec's
-pub named_fill : (T : Type 0) (own : Option Unserved) (below : Option Refused) (element : Option Element) (e : CodecError) → element ≡ None → told_by e ≡ other_fill → RefusesFor {T = T} (first_unserved own below element) (Err e)
+pub named_fill :
+    (T : Type 0) (own : Option Unserved) (below : Option Refused) (element : Option Element) (e : CodecError) →
+    element ≡ None → told_by e ≡ other_fill → RefusesFor {T = T} (first_unserved own below element) (Err e)
 named_fill T own below None e is told = inr told
 named_fill T own below (Some x) e is told = cc
 
-pub named_own : (T U : Type 0) (own : Option Unserved) (below : Option Refused) (element : Option Element) (e : CodecError) → IsSome element → RefusesBy {T = U} own (Err e) → (own ≡ None → e ≡ codec.OutOfMemory)
+pub named_own : (T U : Type 0) (own : Option Unserved) (below : Option Refused) (element : Option Element)
+    (e : CodecError) → IsSome element → RefusesBy {T = U} own (Err e) → (own ≡ None → e ≡ codec.OutOfMemory)
     → RefusesFor {T = T} (first_unserved own below element) (Err e)
 named_own T U own below None e there refuses memory = cc
 named_own T U None below (Some x) e there refuses memory = refused_memory T below e (memory refl)
 named_own T U (Some why) below (Some x) e there refuses memory = refuses
 
 -- the reason is that of what is below, where the codec serves a level whose fill value denotes an element
-pub named_above : {T : Type 0} (own : Option Unserved) (below : Option Refused) (element : Option Element) (r : Result T CodecError) → own ≡ None → IsSome element → RefusesFor below r → RefusesFor (first_unserved own below element) r
+pub named_above : {T : Type 0} (own : Option Unserved) (below : Option Refused) (element : Option Element) (r : Result T
+    CodecError) → own ≡ None → IsSome element → RefusesFor below r → RefusesFor (first_unserved own below element) r
 named_above own below None r is there refuses = cc
 named_above (Some why) below (Some x) r is there refuses = cc
 named_above None below (Some x) r is there refuses = refuses
 
 -- a first step that is Ok was not refused, or what it gives is valid
-pub valid_or : (why : Option Refused) (r : Result code.ArrayBytes CodecError) (Q : code.ArrayBytes → Type 0) → RefusesFor why r → IfOk r (λ v. RefusesFor why r ⊎ Q v)
+pub valid_or : (why : Option Refused) (r : Result code.ArrayBytes CodecError) (Q : code.ArrayBytes → Type 0) →
+    RefusesFor why r → IfOk r (λ v. RefusesFor why r ⊎ Q v)
 valid_or why (Ok v) Q refuses = inl refuses
 valid_or why (Err e) Q refuses = tt
 
-pub step_named : {U : Type 0} (old mid : Option Refused) (v : code.ArrayBytes) (Q : Type 0) (r : Result U CodecError) → mid ≡ old → RefusesFor old (Ok v) ⊎ Q → (Q → RefusesFor mid r) → RefusesFor old r
+pub step_named : {U : Type 0} (old mid : Option Refused) (v : code.ArrayBytes) (Q : Type 0) (r : Result U CodecError) →
+    mid ≡ old → RefusesFor old (Ok v) ⊎ Q → (Q → RefusesFor mid r) → RefusesFor old r
 step_named old mid v Q r same step next =
-    ⊎_elim (λ (no : RefusesFor old (Ok v)). refused_never old v r no) (λ (q : Q). subst (λ (o : Option Refused). RefusesFor o r) same (next q)) step
+    ⊎_elim (λ (no : RefusesFor old (Ok v)). refused_never old v r no)
+    (λ (q : Q). subst (λ (o : Option Refused). RefusesFor o r) same (next q)) step
 
-pub copied_valid : (level : Level) (number : ℕ) (raw copy : ArrayBytes) → number ≡ count_of level.shape → copy ≡ raw → IsSome (meaning (kind_of level.data_type) number raw) → IsSome (list_at level copy)
+pub copied_valid : (level : Level) (number : ℕ) (raw copy : ArrayBytes) → number ≡ count_of level.shape → copy ≡ raw →
+    IsSome (meaning (kind_of level.data_type) number raw) → IsSome (list_at level copy)
 copied_valid level number raw copy long same there =
-    subst (λ (r : ArrayBytes). IsSome (list_at level r)) (sym same) (subst (λ (n : ℕ). IsSome (meaning (kind_of level.data_type) n raw)) long there)
+    subst (λ (r : ArrayBytes). IsSome (list_at level r)) (sym same)
+    (subst (λ (n : ℕ). IsSome (meaning (kind_of level.data_type) n raw)) long there)
 
 -- what is handed on of elements is valid
-given_below : (decode : List Element → Option (List Element)) (o given : Option (List Element)) (list : List Element) → given ≡ o → option_and_then decode o ≡ Some list → IsSome given
+given_below : (decode : List Element → Option (List Element)) (o given : Option (List Element)) (list : List Element) →
+    given ≡ o → option_and_then decode o ≡ Some list → IsSome given
 given_below decode None given list same is = cc
 given_below decode (Some ys) given list same is = subst (λ (o : Option (List Element)). IsSome o) (sym same) refl
 
-pub hands_valid : (codec : ArrayCodec) (level : Level) (fill fill_below : List ℕ) (under : Options) (bytes encoded : ArrayBytes) (given : Option (List Element)) → IsSome (fill_element (kind_of level.data_type) fill)
-    → HandsOn codec level fill fill_below under bytes encoded → given ≡ list_at (codec.level_below level) encoded → IsSome (list_at level bytes) → IsSome given
+pub hands_valid : (codec : ArrayCodec) (level : Level) (fill fill_below : List ℕ) (under : Options) (bytes encoded :
+    ArrayBytes) (given : Option (List Element)) → IsSome (fill_element (kind_of level.data_type) fill)
+    → HandsOn codec level fill fill_below under bytes encoded → given ≡ list_at (codec.level_below level) encoded →
+    IsSome (list_at level bytes) → IsSome given
 hands_valid codec level fill fill_below under bytes encoded given filled hands same there =
-    some_given (list_at level bytes) there (λ list means. given_below (codec.decode_list level) (list_at (codec.level_below level) encoded) given list same (hands.decodes list filled means))
+    some_given (list_at level bytes) there (λ list means. given_below (codec.decode_list level)
+    (list_at (codec.level_below level) encoded) given list same (hands.decodes list filled means))
 
 -- elements and an indexer that are in order
 sized_fine : (len expected : ℕ) (why : Option model.Refusal) → sized_answer len expected why ≡ fine → why ≡ None
@@ -76,12 +84,16 @@ sized_fine len expected (Some model.unexpected_chunk_decoded_size) is = cc
 sized_fine len expected (Some model.invalid_variable_sized_array_offsets) is = cc
 sized_fine len expected (Some model.element_too_long) is = cc
 
-pub given_valid : (kind : Kind) (fits : Bool) (number : ℕ) (raw : ArrayBytes) → given_answer kind fits number raw ≡ fine → IsSome (meaning kind number raw)
+pub given_valid : (kind : Kind) (fits : Bool) (number : ℕ) (raw : ArrayBytes) →
+    given_answer kind fits number raw ≡ fine → IsSome (meaning kind number raw)
 given_valid kind fits number raw all =
-    (refusal-meaning kind number raw).0 (sized_fine (inner_length raw) (number * size_in (fixed_size kind)) (bytes_refusal kind number raw) (first_fine (validity kind number raw) (first_answer None fits fine) all))
+    (refusal-meaning kind number raw).0 (sized_fine (inner_length raw) (number * size_in (fixed_size kind))
+    (bytes_refusal kind number raw) (first_fine (validity kind number raw) (first_answer None fits fine) all))
 
-pub given_fine : (kind : Kind) (fits : Bool) (number : ℕ) (raw : ArrayBytes) → fits ≡ true → IsSome (meaning kind number raw) → given_answer kind fits number raw ≡ fine
+pub given_fine : (kind : Kind) (fits : Bool) (number : ℕ) (raw : ArrayBytes) → fits ≡ true →
+    IsSome (meaning kind number raw) → given_answer kind fits number raw ≡ fine
 given_fine kind fits number raw inside there =
     let none : bytes_refusal kind number raw ≡ None = (refusal-meaning kind number raw).1 there in
-    let valid : validity kind number raw ≡ fine = ap (sized_answer (inner_length raw) (number * size_in (fixed_size kind))) none in
-    ap₂ (λ (v : Told) (f : Bool). then_answer v (first_answer None f fine)) valid inside
+    let valid : validity kind number raw ≡ fine =
+    ap (sized_answer (inner_length raw) (number * size_in (fixed_size kind))) none in
+    ap₂ (λ (v : BytesAnswer) (f : Bool). then_answer v (first_answer None f fine)) valid inside

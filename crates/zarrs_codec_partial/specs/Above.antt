@@ -1,20 +1,13 @@
 -- An array-to-array codec with its level, over what a handle of elements holds.
 use Rattle.std.specs.Prelude.{◌≡◌, ◌&&◌, ℕ, true, false, List, replicate, Option, Some, None, IsSome, option_and_then}
-use Rattle.zarr_model.specs.Region.{Region, whole, count_of}
-use Rattle.zarr_model.specs.Element.{Element, DataType, fill_element, kind_of}
-use Rattle.zarr_model.specs.ArrayBytes.{ArrayBytes}
-use Rattle.zarr_model.specs.Codec.{Level, ArrayCodec, Options}
-use Rattle.zarr_model.specs.Command.{has_long_element}
+use Rattle.zarrs_codec.specs.Prelude.{Region, whole, count_of, Element, DataType, fill_element, kind_of, ArrayBytes}
+use Rattle.zarrs_codec.specs.Prelude.{Level, ArrayCodec, Options, has_long_element, Unserved, unserved_at, level_of}
+use Rattle.zarrs_codec.specs.Prelude.{list_at, IsFit, smaller_box, is_kept}
 use Rattle.zarrs_data_type_bytes.specs.FillValue.{fill_bytes}
 use Rattle.zarrs_codec_error.specs.declared.error.CodecError.{CodecError}
-use Rattle.zarrs_codec_traits.specs.Errors.{Unserved, unserved_at}
-use Rattle.zarrs_codec_traits.specs.Views.{level_of}
-use Rattle.zarrs_codec_traits.specs.Words.{list_at, IsFit}
 use Rattle.zarrs_codec_traits.specs.declared.codec_traits.ArrayCodecTraits as any
 use Rattle.zarrs_codec_traits.specs.declared.array_to_array.ArrayToArrayCodecTraits as array
-use Rattle.zarrs_codec_partial_traits.specs.Boxes.{smaller_box}
-use Rattle.zarrs_codec_partial_traits.specs.Lists.{Refused, by_codec, by_fill, ListSeen, is_short}
-use Rattle.zarrs_codec_partial_traits.specs.ListWrites.{is_kept}
+use Rattle.zarrs_codec.specs.Lists.{Refused, by_codec, by_fill, ListSeen, is_short}
 use Rattle.zarrs_codec_partial_elements.specs.Kinds.{kind_code}
 use Rattle.zarrs_codec_partial.specs.declared.level.ArrayLevel.{ArrayLevel}
 
@@ -47,8 +40,8 @@ abbrev pub box_for : (Region → Region) → Region → Option Region → Region
 box_for below all None = all
 box_for below all (Some box) = below box
 
-abbrev pub box_below : (List ℕ → Region → Region) → List ℕ → List ℕ → Option Region → Region
-box_below region_below shape shape_below asked =
+abbrev pub asked_box_below : (List ℕ → Region → Region) → List ℕ → List ℕ → Option Region → Region
+asked_box_below region_below shape shape_below asked =
     box_for (region_below shape) (whole shape_below) (smaller_box shape asked)
 
 -- why nothing is served: for a fill value that denotes no element, by the codec, or by what is
@@ -59,9 +52,9 @@ first_unserved (Some why) below (Some element) = Some (by_codec why)
 first_unserved None below (Some element) = below
 
 -- what is shown of the handle below
-abbrev pub raised : Level → List ℕ → Option Unserved → ArrayCodec → (List ℕ → Region → Region)
+abbrev pub list_raised : Level → List ℕ → Option Unserved → ArrayCodec → (List ℕ → Region → Region)
     → ListSeen → ListSeen
-raised level fill unserved codec region_below below = record {
+list_raised level fill unserved codec region_below below = record {
   level = level;
   fill = fill;
   short = is_short level fill && below.short;
@@ -73,9 +66,9 @@ raised level fill unserved codec region_below below = record {
   place = below.place;
   cost = below.cost;
   taking = λ asked. below.taking
-      (Some (box_below region_below level.shape (codec.level_below level).shape asked));
+      (Some (asked_box_below region_below level.shape (codec.level_below level).shape asked));
   whole = λ asked. below.whole
-      (Some (box_below region_below level.shape (codec.level_below level).shape asked));
+      (Some (asked_box_below region_below level.shape (codec.level_below level).shape asked));
   size = below.size;
 }
 
@@ -108,7 +101,7 @@ list_above at list = option_and_then (at.meaning.decode_list at.level) list
 
 abbrev pub seen_above : CodecSeen → ListSeen → ListSeen
 seen_above at below =
-    raised at.level at.fill at.unserved at.meaning at.region_below below
+    list_raised at.level at.fill at.unserved at.meaning at.region_below below
 
 -- the codec serves its level, which fits, and a handle is one of the level below
 pub record IsOver (seen : ListSeen) (at : CodecSeen) : Type 0 where

@@ -1,12 +1,11 @@
 -- What is decoded has an element for each place, and is the fill's where the value is absent.
-use Rattle.std.specs.Prelude.{◌≡◌, ℕ, false, List, length, replicate, Option, Some, None, IsSome, option_and_then, option_map}
+use Rattle.std.specs.Prelude.{◌≡◌, ℕ, false, List, length, replicate, Option, Some, None, IsSome, option_and_then}
+use Rattle.std.specs.Prelude.{option_map}
 use Rattle.std.proofs.Common.{refl, sym, ap, ◌∙◌}
-use Rattle.zarr_model.specs.Region.{count_of}
-use Rattle.zarr_model.specs.Element.{Element, DataType, fill_element, kind_of}
-use Rattle.zarr_model.specs.Codec.{Level, ArrayCodec, Options}
-use Rattle.zarrs_codec_traits.specs.Errors.{Unserved, unserved_at}
-use Rattle.zarrs_codec_partial_traits.specs.Lists.{Refused, by_codec, by_fill, ListSeen, fills}
-use Rattle.zarrs_codec_partial_traits.proofs.CountLaws.{no_list, no_reason, same_long}
+use Rattle.zarrs_codec_traits.specs.Prelude.{count_of, Element, DataType, fill_element, kind_of, Level, ArrayCodec}
+use Rattle.zarrs_codec_traits.specs.Prelude.{Options, Unserved, unserved_at}
+use Rattle.zarrs_codec.specs.Lists.{Refused, by_codec, by_fill, ListSeen, fills}
+use Rattle.zarrs_codec.proofs.CountLaws.{no_list, no_reason, same_long}
 use Rattle.zarrs_codec_partial_elements.proofs.AbsentLaws.{fills_raised}
 use Rattle.zarrs_codec_partial.specs.Above.{IsBelow, IsFilled, first_unserved}
 

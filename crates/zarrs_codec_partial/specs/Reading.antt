@@ -1,19 +1,14 @@
 -- What reading elements through a codec owes.
-use Rattle.std.specs.Prelude.{◌≡◌, ℕ, Bool, true, false, List, Option, Some, None, IsSome, Result, IfOk, IfErr, OnOk, OnErr}
-use Rattle.zarr_model.specs.Region.{Region, whole}
-use Rattle.zarr_model.specs.Element.{Element, fill_element, kind_of}
-use Rattle.zarr_model.specs.ArrayBytes.{meaning}
-use Rattle.zarr_model.specs.Codec.{Level, Options}
-use Rattle.zarr_model.specs.Command.{has_long_element}
+use Rattle.std.specs.Prelude.{◌≡◌, ℕ, Bool, true, false, List, Option, Some, None, IsSome, Result, IfOk, IfErr, OnOk}
+use Rattle.std.specs.Prelude.{OnErr}
+use Rattle.zarrs_codec.specs.Prelude.{Region, whole, Element, fill_element, kind_of, meaning, Level, Options}
+use Rattle.zarrs_codec.specs.Prelude.{has_long_element, raw_of, fine, first_answer, IfUnfit, IsNoFault, RefusesAs}
+use Rattle.zarrs_codec.specs.Prelude.{Refused, RefusesFor, ListSeen, IsListError, TellsFault, IsUnread, ReadsList}
 use Rattle.zarrs_array_subset.specs.declared.error.IndexerError.{IndexerError}
 use Rattle.zarrs_codec_error.specs.declared.error.CodecError.{CodecError}
 use Rattle.zarrs_codec_error.specs.declared.error.CodecError.TheVariants as codec
 use Rattle.zarrs_codec_array_bytes.specs.declared.array_bytes.ArrayBytes as code
-use Rattle.zarrs_codec_array_bytes.specs.Raw.{raw_of}
-use Rattle.zarrs_codec_array_bytes.specs.Refusals.{fine, first_answer, IfUnfit}
-use Rattle.zarrs_codec_traits.specs.Errors.{IsNoFault, RefusesAs}
-use Rattle.zarrs_codec_partial_traits.specs.Lists.{Refused, RefusesFor, ListSeen, IsListError, TellsFault, IsUnread, ReadsList}
-use Rattle.zarrs_codec_partial_traits.specs.declared.array_partial_decoder.ArrayPartialDecoderTraits as decoder
+use Rattle.zarrs_codec.specs.declared.array_partial_decoder.ArrayPartialDecoderTraits as decoder
 use Rattle.zarrs_codec_partial_elements.specs.Boxes.{Denotes, Choice, every, boxed, placed}
 use Rattle.zarrs_codec_partial.specs.Above.{CodecSeen, level_below, list_above, seen_above, box_for, first_unserved}
 

@@ -1,28 +1,21 @@
 -- What writing elements through a codec owes.
 use Rattle.std.specs.Prelude.{◌≡◌, true, false, not, replicate, Some, IsSome, Result, IfOk, IfErr, OnErr}
-use Rattle.zarr_model.specs.Region.{whole, count_of}
-use Rattle.zarr_model.specs.Element.{kind_of}
-use Rattle.zarr_model.specs.ArrayBytes.{ArrayBytes}
-use Rattle.zarr_model.specs.Codec.{Level, Options}
-use Rattle.zarr_model.specs.Command.{has_long_element}
+use Rattle.zarrs_codec.specs.Prelude.{whole, count_of, kind_of, ArrayBytes, Level, Options, has_long_element, raw_of}
+use Rattle.zarrs_codec.specs.Prelude.{BytesAnswer, fine, validity, IfUnfit, RefusesAs, list_at, RefusesFor, is_short}
 use Rattle.zarrs_array_subset.specs.declared.error.IndexerError.{IndexerError}
 use Rattle.zarrs_codec_error.specs.declared.error.CodecError.{CodecError}
 use Rattle.zarrs_codec_error.specs.declared.error.CodecError.TheVariants as codec
 use Rattle.zarrs_codec_array_bytes.specs.declared.array_bytes.ArrayBytes as code
-use Rattle.zarrs_codec_array_bytes.specs.Raw.{raw_of}
-use Rattle.zarrs_codec_array_bytes.specs.Refusals.{Told, fine, validity, IfUnfit}
-use Rattle.zarrs_codec_traits.specs.Errors.{RefusesAs}
-use Rattle.zarrs_codec_traits.specs.Words.{list_at}
-use Rattle.zarrs_codec_partial_traits.specs.Lists.{RefusesFor, is_short}
-use Rattle.zarrs_codec_partial_traits.specs.ListWrites.{given_answer, KeepsRest, IsUntouched}
-use Rattle.zarrs_codec_partial_traits.specs.Updates.{Change, given_by, ReadsListIf, GivesMade, Stores, Updates}
-use Rattle.zarrs_codec_partial_traits.specs.declared.array_partial_decoder.ArrayPartialDecoderTraits as decoder
-use Rattle.zarrs_codec_partial_traits.specs.declared.array_partial_encoder.ArrayPartialEncoderTraits as encoder
+use Rattle.zarrs_codec.specs.ListWrites.{given_answer, KeepsRest, IsUntouchedList}
+use Rattle.zarrs_codec.specs.Updates.{Change, given_by, ReadsListIf, GivesMade, Stores, Updates}
+use Rattle.zarrs_codec.specs.declared.array_partial_decoder.ArrayPartialDecoderTraits as decoder
+use Rattle.zarrs_codec.specs.declared.array_partial_encoder.ArrayPartialEncoderTraits as encoder
 use Rattle.zarrs_codec_partial_elements.specs.Boxes.{Denotes}
-use Rattle.zarrs_codec_partial.specs.Above.{CodecSeen, level_below, seen_above, HandsOn, IsUnencodedBelow, IsEncodedBelow}
+use Rattle.zarrs_codec_partial.specs.Above.{CodecSeen, level_below, seen_above, HandsOn, IsUnencodedBelow}
+use Rattle.zarrs_codec_partial.specs.Above.{IsEncodedBelow}
 
 -- what is said of the elements that are given, and then of their indexer
-abbrev pub change_answer : Level → Change → Told
+abbrev pub change_answer : Level → Change → BytesAnswer
 change_answer level change =
     given_answer (kind_of level.data_type) change.fits change.number change.bytes
 
@@ -62,7 +55,7 @@ pub record HandsBelow (at : CodecSeen) (under : Options) (bytes : ArrayBytes)
       → IfErr result (λ e. e ≡ codec.OutOfMemory)
 
 -- a step that stores all elements of some bytes
-pub record StoresElements {A T : Type 0} (H : decoder.Ghosts A) (W : encoder.Ghosts A)
+pub record StoresByCodec {A T : Type 0} (H : decoder.Ghosts A) (W : encoder.Ghosts A)
     (at : CodecSeen) (under : Options) (bytes : ArrayBytes) (old new : A)
     (result : Result T CodecError) : Type 0 where
   pub stores : Stores under bytes
@@ -101,7 +94,7 @@ pub record EncodesElements {A T : Type 0} (H : decoder.Ghosts A) (W : encoder.Gh
   pub given : RefusesAs (change_answer at.level change) result
   pub refusal : validity (kind_of at.level.data_type) change.number change.bytes ≡ fine
       → change.fits ≡ false → IfErr result (IfUnfit refuses)
-  pub untouched : IsUntouched (change_answer at.level change) (seen_above at (H.seen old))
+  pub untouched : IsUntouchedList (change_answer at.level change) (seen_above at (H.seen old))
       (seen_above at (H.seen new))
   pub named : change_answer at.level change ≡ fine
       → RefusesFor (seen_above at (H.seen old)).unserved result

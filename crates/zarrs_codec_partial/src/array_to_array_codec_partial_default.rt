@@ -2,12 +2,8 @@
 
 ghost use Rattle.std.specs.Prelude.{◌≡◌, true, nat_lt, None};
 ghost use Rattle.std.specs.List.{list_all};
-ghost use Rattle.zarr_model.specs.Element.{kind_of, fill_element};
-ghost use Rattle.zarrs_data_type_names.specs.DataType.{type_of};
-ghost use Rattle.zarrs_data_type_bytes.specs.FillValue.{fill_bytes};
-ghost use Rattle.zarrs_codec_traits.specs.Errors.{unserved_at};
-ghost use Rattle.zarrs_codec_traits.specs.Views.{lengths, level_of};
-ghost use Rattle.zarrs_codec_traits.specs.Words.{IsFit};
+ghost use Rattle.zarrs_codec_traits.specs.Prelude.{kind_of, fill_element, type_of, fill_bytes};
+ghost use Rattle.zarrs_codec_traits.specs.Prelude.{unserved_at, lengths, level_of, IsFit};
 ghost use Rattle.zarrs_codec_partial_elements.specs.Kinds.{kind_code};
 
 use crate::level::ArrayLevel;
@@ -15,12 +11,12 @@ use crate::write::are_fill_bytes;
 use std::alloc::Global;
 use zarrs_array_subset::ChunkShape;
 use zarrs_chunk_grid_indexer::Indexer;
+use zarrs_codec::{ArrayPartialDecoderTraits, ArrayPartialEncoderTraits};
 use zarrs_codec_array_bytes::ArrayBytes;
 use zarrs_codec_error::{CodecError, CodecOptions};
-use zarrs_codec_partial_traits::{ArrayPartialDecoderTraits, ArrayPartialEncoderTraits};
 use zarrs_codec_traits::ArrayToArrayCodecTraits;
+use zarrs_data_type::DataType;
 use zarrs_data_type_bytes::FillValue;
-use zarrs_data_type_names::DataType;
 use zarrs_storage::StorageError;
 
 /// The elements that those of a handle on the level below decode to, by an array-to-array codec.
@@ -111,14 +107,14 @@ impl<H: ArrayPartialDecoderTraits, C: ArrayToArrayCodecTraits> ArrayPartialDecod
     ghost use Rattle.zarr_model.proofs.ElementLaws.{denoted};
     ghost use Rattle.zarrs_codec_partial_elements.proofs.AbsentLaws.{tested_bytes};
     ghost use Rattle.zarrs_codec_partial.specs.Counted.{raised_count, raised_absent};
-    ghost use Rattle.zarrs_codec_partial.specs.Above.{array_level, array_fill, raised, box_below};
+    ghost use Rattle.zarrs_codec_partial.specs.Above.{array_level, array_fill, list_raised, asked_box_below};
 
-    ghost seen = { λ h. raised (array_level h.level) (array_fill h.level)
+    ghost seen = { λ h. list_raised (array_level h.level) (array_fill h.level)
         (unserved_at (C.unserved h.level.codec) (array_level h.level) (array_fill h.level))
         (C.meaning h.level.codec) (C.region_below h.level.codec) (H.seen h.handle) };
 
     ghost tells = { λ h under asked e. H.tells h.handle under
-        (Some (box_below (C.region_below h.level.codec) (array_level h.level).shape
+        (Some (asked_box_below (C.region_below h.level.codec) (array_level h.level).shape
         ((C.meaning h.level.codec).level_below (array_level h.level)).shape asked)) e };
 
     ghost same = { λ a b. (a.level ≡ b.level) × H.same a.handle b.handle };

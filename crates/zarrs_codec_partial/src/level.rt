@@ -1,8 +1,8 @@
 //! An array-to-array codec with its level.
 
 use zarrs_array_subset::ChunkShape;
+use zarrs_data_type::DataType;
 use zarrs_data_type_bytes::FillValue;
-use zarrs_data_type_names::DataType;
 
 /// An array-to-array codec, with the shape, the data type and the fill value of what it encodes.
 #[derive(Drop)]

@@ -1,13 +1,9 @@
 //! The elements of what a handle of elements of the level below holds, by an array-to-array codec.
 
 ghost use Rattle.std.specs.Prelude.{◌≡◌, true, None, MatchResult};
-ghost use Rattle.zarr_model.specs.Region.{whole, ends_within};
-ghost use Rattle.zarrs_array_subset.specs.ArraySubset.{region as box_of};
+ghost use Rattle.zarrs_codec.specs.Prelude.{whole, ends_within, region as box_of, unserved_at};
+ghost use Rattle.zarrs_codec.specs.Prelude.{options_of, IsFit, smaller_box as box_within};
 ghost use Rattle.zarrs_codec_error.specs.declared.error.CodecError.TheVariants as codec;
-ghost use Rattle.zarrs_codec_traits.specs.Errors.{unserved_at};
-ghost use Rattle.zarrs_codec_traits.specs.Views.{options_of};
-ghost use Rattle.zarrs_codec_traits.specs.Words.{IsFit};
-ghost use Rattle.zarrs_codec_partial_traits.specs.Boxes.{smaller_box as box_within};
 ghost use Rattle.zarrs_codec_partial.specs.Above.{IsBelowServed, IsOver};
 ghost use Rattle.zarrs_codec_partial.specs.Reading.{every_element, in_box, at_places, ReadsAsked, DecodesElements, TestsServed};
 
@@ -15,12 +11,12 @@ use crate::level::ArrayLevel;
 use std::alloc::Global;
 use zarrs_array_subset::ArraySubset;
 use zarrs_chunk_grid_indexer::Indexer;
+use zarrs_codec::ArrayPartialDecoderTraits;
 use zarrs_codec_array_bytes::ArrayBytes;
 use zarrs_codec_error::{CodecError, CodecOptions};
 use zarrs_codec_partial_elements::boxes::smaller_box;
 use zarrs_codec_partial_elements::fill::expect_denoted;
 use zarrs_codec_partial_elements::read::fitting_numbers;
-use zarrs_codec_partial_traits::ArrayPartialDecoderTraits;
 use zarrs_codec_traits::{ArrayToArrayCodecTraits, whole_box};
 
 impl<C: ArrayToArrayCodecTraits> ArrayLevel<C> {

@@ -2,36 +2,30 @@
 
 ghost use Rattle.std.specs.Prelude.{◌≡◌, ◌<◌, true, false, nat_lt, length, replicate, Some, None, IsSome, IfOk, IfErr};
 ghost use Rattle.std.specs.List.{AllByRecursion, list_all};
-ghost use Rattle.zarr_model.specs.Region.{whole, count_of};
-ghost use Rattle.zarr_model.specs.Element.{kind_of};
-ghost use Rattle.zarr_model.specs.Command.{has_long_element};
-ghost use Rattle.zarrs_array_subset.specs.ArraySubset.{region as box_of};
+ghost use Rattle.zarrs_codec.specs.Prelude.{whole, count_of, kind_of, has_long_element};
+ghost use Rattle.zarrs_codec.specs.Prelude.{region as box_of, raw_of, unserved_at, IsNoFault};
+ghost use Rattle.zarrs_codec.specs.Prelude.{options_of, list_at, IsFit, AreFew, is_short};
+ghost use Rattle.zarrs_codec.specs.Prelude.{change_of};
 ghost use Rattle.zarrs_data_type_bytes.specs.FillValue.{fill_bytes};
 ghost use Rattle.zarrs_codec_error.specs.declared.error.CodecError.TheVariants as codec;
-ghost use Rattle.zarrs_codec_array_bytes.specs.Raw.{raw_of};
-ghost use Rattle.zarrs_codec_traits.specs.Errors.{unserved_at, IsNoFault};
-ghost use Rattle.zarrs_codec_traits.specs.Views.{options_of};
-ghost use Rattle.zarrs_codec_traits.specs.Words.{list_at, IsFit};
 ghost use Rattle.zarrs_codec_partial_elements.specs.Boxes.{Denotes};
-ghost use Rattle.zarrs_codec_partial_traits.specs.Lists.{AreFew, is_short};
-ghost use Rattle.zarrs_codec_partial_traits.specs.Updates.{change_of};
 ghost use Rattle.zarrs_codec_partial.specs.Above.{IsAllBelow, IsBelowServed, IsOver};
-ghost use Rattle.zarrs_codec_partial.specs.Writing.{FillsBelow, HandsBelow, MakesElements, StoresElements, UpdatesElements, EncodesElements};
+ghost use Rattle.zarrs_codec_partial.specs.Writing.{FillsBelow, HandsBelow, MakesElements, StoresByCodec, UpdatesElements, EncodesElements};
 
 use crate::level::ArrayLevel;
 use std::alloc::Global;
 use zarrs_array_subset::ArraySubset;
 use zarrs_chunk_grid_indexer::Indexer;
+use zarrs_codec::{ArrayPartialDecoderTraits, ArrayPartialEncoderTraits};
 use zarrs_codec_array_bytes::ArrayBytes;
-use zarrs_codec_array_bytes_update::update_array_bytes;
+use zarrs_codec_array_bytes_parts::update_array_bytes;
 use zarrs_codec_error::{CodecError, CodecOptions};
 use zarrs_codec_partial_elements::boxes::covers;
 use zarrs_codec_partial_elements::fill::expect_denoted;
 use zarrs_codec_partial_elements::write::{expect_given, is_dropped};
-use zarrs_codec_partial_traits::{ArrayPartialDecoderTraits, ArrayPartialEncoderTraits};
 use zarrs_codec_traits::ArrayToArrayCodecTraits;
+use zarrs_data_type::type_size;
 use zarrs_data_type_bytes::{FillValue, are_bytes};
-use zarrs_data_type_names::type_size;
 
 // The numbers in a fill value are bytes, by a test.
 #[tactic(auto, using(crate::proofs::ByteLaws::bytes_tested))]
@@ -191,7 +185,7 @@ impl<C: ArrayToArrayCodecTraits> ArrayLevel<C> {
     ) -> Result<(), CodecError>
         requires over { IsOver (H.seen handle.old)
             (codec_seen C.ArrayCodecTraits.own C.ArrayToArrayCodecTraits.own self.now) }
-        ensures { StoresElements H.ArrayPartialDecoderTraits H.ArrayPartialEncoderTraits.own
+        ensures { StoresByCodec H.ArrayPartialDecoderTraits H.ArrayPartialEncoderTraits.own
             (codec_seen C.ArrayCodecTraits.own C.ArrayToArrayCodecTraits.own self.now)
             (options_of options.now) (raw_of bytes.entry) handle.old handle.new result }
     {

@@ -1,16 +1,10 @@
 -- What elements of a level are given.
 use Rattle.std.specs.Prelude.{◌≡◌, ℕ, ◌<◌, ◌^◌, false, List, length, Option, Some, IsSome, Result, IfOk}
-use Rattle.zarr_model.specs.Region.{Region, count, count_of}
-use Rattle.zarr_model.specs.Element.{Element, fill_element, kind_of}
-use Rattle.zarr_model.specs.ArrayBytes.{meaning}
-use Rattle.zarr_model.specs.Codec.{Level}
-use Rattle.zarr_model.specs.Command.{has_long_element}
-use Rattle.zarrs_codec_slices.specs.Filling.{innermost_fill}
+use Rattle.zarrs_codec_traits.specs.Prelude.{Region, count, count_of, Element, fill_element, kind_of, meaning, Level}
+use Rattle.zarrs_codec_traits.specs.Prelude.{has_long_element, innermost_fill, raw_of, select}
 use Rattle.zarrs_codec_array_bytes.specs.declared.array_bytes.ArrayBytes as code
-use Rattle.zarrs_codec_array_bytes.specs.Raw.{raw_of}
 use Rattle.zarrs_codec_error.specs.declared.error.CodecError.{CodecError}
-use Rattle.zarrs_codec_traits.specs.Words.{select}
-use Rattle.zarrs_codec_partial_traits.specs.Selects.{chosen}
+use Rattle.zarrs_codec.specs.Selects.{chosen}
 
 -- the fill value denotes an element, and is short
 abbrev pub Denotes : Level → List ℕ → Type 0

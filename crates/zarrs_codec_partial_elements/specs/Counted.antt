@@ -1,11 +1,7 @@
 -- What is held has an element for each place, and is the fill's where the value is absent.
 use Rattle.std.specs.Prelude.{◌≡◌, ℕ, Bool, true, false, is_some, List, length, Option, Some, None}
-use Rattle.zarr_model.specs.Region.{count_of}
-use Rattle.zarr_model.specs.Element.{Element}
-use Rattle.zarr_model.specs.Codec.{Level}
-use Rattle.zarrs_codec_held.specs.Held.{Held}
-use Rattle.zarrs_codec_partial_traits.specs.Lists.{fills}
-use Rattle.zarrs_codec_partial_traits.proofs.CountLaws.{no_list, fills_count, no_value, still_there}
+use Rattle.zarrs_codec.specs.Prelude.{count_of, Element, Level, Held, fills}
+use Rattle.zarrs_codec.proofs.CountLaws.{no_list, fills_count, no_value, still_there}
 use Rattle.zarrs_codec_partial_elements.specs.Level.{list_of, found}
 
 -- by what the value is: refused, absent, or some bytes

@@ -1,19 +1,15 @@
 -- What reading elements owes.
 use Rattle.std.specs.Prelude.{◌≡◌, ◌⊎◌, ℕ, Bool, true, List, Option, None, IsSome, Result, IfErr, OnOk}
-use Rattle.zarr_model.specs.Region.{Region}
-use Rattle.zarr_model.specs.Element.{Element, DataType}
-use Rattle.zarr_model.specs.Codec.{Level, Options}
+use Rattle.zarrs_codec_traits.specs.Prelude.{Region, Element, DataType, Level, Options, Unserved, Seen, ReadsRanges}
 use Rattle.zarrs_storage.specs.declared.byte_range.ByteRange.{ByteRange}
 use Rattle.zarrs_codec_array_bytes.specs.declared.array_bytes.ArrayBytes as code
 use Rattle.zarrs_codec_error.specs.declared.error.CodecError.{CodecError}
 use Rattle.zarrs_codec_error.specs.declared.error.CodecError.TheVariants as codec
-use Rattle.zarrs_codec_traits.specs.Errors.{Unserved}
-use Rattle.zarrs_codec_held.specs.Held.{Seen}
-use Rattle.zarrs_codec_held.specs.Reads.{Reads}
-use Rattle.zarrs_codec_partial_traits.specs.Lists.{fills, IsListError, TellsFault}
-use Rattle.zarrs_codec_partial_traits.specs.ListWrites.{IsUnfilled}
+use Rattle.zarrs_codec.specs.Lists.{fills, IsListError, TellsFault}
+use Rattle.zarrs_codec.specs.ListWrites.{IsUnfilled}
 use Rattle.zarrs_codec_partial_elements.specs.declared.level.BottomLevel.{BottomLevel}
-use Rattle.zarrs_codec_partial_elements.specs.Level.{bottom_level, bottom_fill, IsOtherFill, IsServed, list_in, says_in, seen_by}
+use Rattle.zarrs_codec_partial_elements.specs.Level.{level_of_bottom, bottom_fill, IsOtherFill, IsServedBottom}
+use Rattle.zarrs_codec_partial_elements.specs.Level.{bottom_list_in, says_in, seen_by}
 use Rattle.zarrs_codec_partial_elements.specs.Boxes.{Denotes, Choice, every, GivesElements}
 
 -- the elements that are asked for of the fill's, or why there are none
@@ -34,19 +30,19 @@ module _ {B X : Type 0}
       (asked : Option (List ByteRange)) (in_order : Bool) (under : Options) (old new : X)
       (result : Result code.ArrayBytes CodecError) : Type 0 where
     -- of a level that is served the elements, or why there are none
-    pub gives : IsServed unserved bottom → GivesElements (choice (bottom_level bottom))
-        (bottom_level bottom) (bottom_fill bottom) (list_in meaning bottom (seen old) under) result
-    pub failed : IsServed unserved bottom → in_order ≡ true → IfErr result
-        (IsListError (seen old).there (list_in meaning bottom (seen old) under)
+    pub gives : IsServedBottom unserved bottom → GivesElements (choice (level_of_bottom bottom))
+        (level_of_bottom bottom) (bottom_fill bottom) (bottom_list_in meaning bottom (seen old) under) result
+    pub failed : IsServedBottom unserved bottom → in_order ≡ true → IfErr result
+        (IsListError (seen old).there (bottom_list_in meaning bottom (seen old) under)
         (says_in meaning says bottom (Tells old) (seen old) under asked)
         (seen old).shown.faults (seen new).shown.faults)
     -- what is read as a whole has a list where it is there, or the fill value denotes an element
-    pub decodes : IsServed unserved bottom → asked ≡ None
-        → ((seen old).there ≡ true) ⊎ Denotes (bottom_level bottom) (bottom_fill bottom)
-        → OnOk result (IsSome (list_in meaning bottom (seen old) under))
+    pub decodes : IsServedBottom unserved bottom → asked ≡ None
+        → ((seen old).there ≡ true) ⊎ Denotes (level_of_bottom bottom) (bottom_fill bottom)
+        → OnOk result (IsSome (bottom_list_in meaning bottom (seen old) under))
     pub fault : IfErr result (TellsFault (seen old).shown.faults (seen new).shown.faults)
     -- what was read, and what stayed
-    pub reads : Reads asked (seen old) (seen new) result
+    pub reads : ReadsRanges asked (seen old) (seen new) result
     pub same : Same old new
     pub tells : (options : Options) (ranges : Option (List ByteRange)) (e : CodecError)
         → Tells new options ranges e → Tells old options ranges e
@@ -56,15 +52,15 @@ module _ {B X : Type 0}
       (bottom : BottomLevel B) (under : Options) (old new : X)
       (result : Result code.ArrayBytes CodecError) : Type 0 where
     -- of a level that is served the elements, or why there are none
-    pub gives : IsServed unserved bottom → GivesElements (every (bottom_level bottom))
-        (bottom_level bottom) (bottom_fill bottom) (list_in meaning bottom (seen old) under) result
-    pub failed : IsServed unserved bottom → IfErr result
-        (λ e. IsListError (seen old).there (list_in meaning bottom (seen old) under)
+    pub gives : IsServedBottom unserved bottom → GivesElements (every (level_of_bottom bottom))
+        (level_of_bottom bottom) (bottom_fill bottom) (bottom_list_in meaning bottom (seen old) under) result
+    pub failed : IsServedBottom unserved bottom → IfErr result
+        (λ e. IsListError (seen old).there (bottom_list_in meaning bottom (seen old) under)
         (says_in meaning says bottom (Tells old) (seen old) under None)
         (seen old).shown.faults (seen new).shown.faults e
         ⊎ IsUnfilled (seen_by unserved meaning request bottom (seen old)) e)
-    pub decodes : IsServed unserved bottom
-        → OnOk result (IsSome (list_in meaning bottom (seen old) under))
+    pub decodes : IsServedBottom unserved bottom
+        → OnOk result (IsSome (bottom_list_in meaning bottom (seen old) under))
     pub fault : IfErr result (TellsFault (seen old).shown.faults (seen new).shown.faults)
-    pub reads : Reads None (seen old) (seen new) result
+    pub reads : ReadsRanges None (seen old) (seen new) result
     pub same : Same old new

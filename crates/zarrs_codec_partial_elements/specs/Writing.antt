@@ -1,31 +1,24 @@
 -- What writing elements owes.
 use Rattle.std.specs.Prelude.{◌≡◌, ℕ, Bool, true, not, List, length, Option, None, Some, Vec, Result, IfOk, IfErr}
-use Rattle.zarr_model.specs.Region.{Region}
-use Rattle.zarr_model.specs.Element.{Element, DataType, kind_of}
-use Rattle.zarr_model.specs.ArrayBytes.{ArrayBytes}
-use Rattle.zarr_model.specs.Codec.{Level, Options}
+use Rattle.zarrs_codec.specs.Prelude.{Region, Element, DataType, kind_of, ArrayBytes, Level, Options, BytesAnswer, fine}
+use Rattle.zarrs_codec.specs.Prelude.{told_by, validity, Answers, IfUnfit, Unserved, list_at, Seen, given_answer}
 use Rattle.zarrs_storage.specs.declared.byte_range.ByteRange.{ByteRange}
 use Rattle.zarrs_array_subset.specs.declared.error.IndexerError.{IndexerError}
-use Rattle.zarrs_codec_array_bytes.specs.Refusals.{Told, fine, told_by, validity, Answers, IfUnfit}
 use Rattle.zarrs_codec_array_bytes.specs.declared.array_bytes.ArrayBytes as code
 use Rattle.zarrs_codec_error.specs.declared.error.CodecError.{CodecError}
-use Rattle.zarrs_codec_traits.specs.Errors.{Unserved}
-use Rattle.zarrs_codec_traits.specs.Words.{list_at}
-use Rattle.zarrs_codec_held.specs.Held.{Seen}
-use Rattle.zarrs_codec_partial_traits.specs.ListWrites.{given_answer}
-use Rattle.zarrs_codec_partial_traits.specs.Updates.{Change, change_of, ReadsListIf, GivesMade, Updates}
+use Rattle.zarrs_codec.specs.Updates.{Change, change_of, ReadsListIf, GivesMade, Updates}
 use Rattle.zarrs_codec_partial_elements.specs.declared.level.BottomLevel.{BottomLevel}
-use Rattle.zarrs_codec_partial_elements.specs.Level.{bottom_level, says_in, seen_by}
+use Rattle.zarrs_codec_partial_elements.specs.Level.{level_of_bottom, says_in, seen_by}
 
 -- array bytes of these elements are refused by what is beyond the codec
-pub record IsBeyond (beyond : ArrayBytes → Told) (level : Level) (list : List Element)
+pub record IsBeyond (beyond : ArrayBytes → BytesAnswer) (level : Level) (list : List Element)
     (e : CodecError) : Type 0 where
   pub bytes : ArrayBytes
   pub means : list_at level bytes ≡ Some list
   pub told : told_by e ≡ beyond bytes
 
 -- array bytes of these elements are not, so that they are encoded
-pub record IsTaken (beyond : ArrayBytes → Told) (level : Level) (list : List Element) : Type 0
+pub record IsTaken (beyond : ArrayBytes → BytesAnswer) (level : Level) (list : List Element) : Type 0
   where
     pub bytes : ArrayBytes
     pub means : list_at level bytes ≡ Some list
@@ -34,14 +27,14 @@ pub record IsTaken (beyond : ArrayBytes → Told) (level : Level) (list : List E
 -- the elements that array bytes are for an indexer
 abbrev pub change_by : {B I : Type 0} → (I → List ℕ → Bool) → (I → Option Region)
     → (I → List (List ℕ)) → BottomLevel B → I → ArrayBytes → Change
-change_by fits as_region places bottom indexer bytes = change_of (bottom_level bottom)
-    (fits indexer (bottom_level bottom).shape) (as_region indexer) (places indexer) bytes
+change_by fits as_region places bottom indexer bytes = change_of (level_of_bottom bottom)
+    (fits indexer (level_of_bottom bottom).shape) (as_region indexer) (places indexer) bytes
 
 -- what is said of them, and then of the indexer
 abbrev pub answer_by : {B I : Type 0} → (I → List ℕ → Bool) → (I → List (List ℕ))
-    → BottomLevel B → I → ArrayBytes → Told
+    → BottomLevel B → I → ArrayBytes → BytesAnswer
 answer_by fits places bottom indexer bytes = given_answer
-    (kind_of (bottom_level bottom).data_type) (fits indexer (bottom_level bottom).shape)
+    (kind_of (level_of_bottom bottom).data_type) (fits indexer (level_of_bottom bottom).shape)
     (length (places indexer)) bytes
 
 -- elements that are given were tested, and then the indexer that they are for
@@ -65,7 +58,7 @@ module _ {B X : Type 0}
     (Tells : X → Options → Option (List ByteRange) → CodecError → Type 0)
     (Same : X → X → Type 0) where
   -- New elements were made of what a handle holds and of those that are put in.
-  pub record MakesElements (bottom : BottomLevel B) (change : Change) (under : Options)
+  pub record MakesBottomElements (bottom : BottomLevel B) (change : Change) (under : Options)
       (old new : X) (result : Result code.ArrayBytes CodecError) : Type 0 where
     pub made : GivesMade under change
         (says_in meaning says bottom (Tells old) (seen old) under None)
@@ -77,14 +70,14 @@ module _ {B X : Type 0}
     pub same : Same old new
 
   -- They were made and then stored.
-  pub record PutsElements {T : Type 0} (beyond : B → Level → ArrayBytes → Told)
+  pub record PutsBottomElements {T : Type 0} (beyond : B → Level → ArrayBytes → BytesAnswer)
       (Takes : B → Level → Type 0) (bottom : BottomLevel B) (change : Change) (under : Options)
       (old new : X) (result : Result T CodecError) : Type 0 where
     pub updates : Updates under change
         (says_in meaning says bottom (Tells old) (seen old) under None)
-        (IsBeyond (beyond bottom.codec (bottom_level bottom)) (bottom_level bottom))
-        (IsTaken (beyond bottom.codec (bottom_level bottom)) (bottom_level bottom))
-        (Takes bottom.codec (bottom_level bottom))
+        (IsBeyond (beyond bottom.codec (level_of_bottom bottom)) (level_of_bottom bottom))
+        (IsTaken (beyond bottom.codec (level_of_bottom bottom)) (level_of_bottom bottom))
+        (Takes bottom.codec (level_of_bottom bottom))
         (seen_by unserved meaning request bottom (seen old))
         (seen_by unserved meaning request bottom (seen new)) result
     pub same : Same old new

@@ -1,23 +1,21 @@
 //! The elements of what a handle of bytes holds, by an array-to-bytes codec.
 
 ghost use Rattle.std.specs.Prelude.{◌≡◌};
-ghost use Rattle.zarrs_data_type_names.specs.DataType.{type_of};
-ghost use Rattle.zarrs_codec_traits.specs.Views.{lengths};
-ghost use Rattle.zarrs_codec_traits.specs.Words.{IsFit};
+ghost use Rattle.zarrs_codec_traits.specs.Prelude.{type_of, lengths, IsFit};
 
 use crate::level::BottomLevel;
 use std::alloc::Global;
 use zarrs_array_subset::ChunkShape;
 use zarrs_chunk_grid_indexer::Indexer;
-use zarrs_codec_array_bytes::ArrayBytes;
-use zarrs_codec_error::{CodecError, CodecOptions};
-use zarrs_codec_partial_traits::{
+use zarrs_codec::{
     ArrayPartialDecoderTraits, ArrayPartialEncoderTraits, BytesPartialDecoderTraits,
     BytesPartialEncoderTraits,
 };
+use zarrs_codec_array_bytes::ArrayBytes;
+use zarrs_codec_error::{CodecError, CodecOptions};
 use zarrs_codec_traits::ArrayToBytesCodecTraits;
+use zarrs_data_type::DataType;
 use zarrs_data_type_bytes::FillValue;
-use zarrs_data_type_names::DataType;
 use zarrs_storage::StorageError;
 
 /// The elements that the value of a handle on bytes decodes to, by an array-to-bytes codec.
@@ -74,8 +72,8 @@ impl<H: BytesPartialDecoderTraits, C: ArrayToBytesCodecTraits> ArrayPartialDecod
     ghost use Rattle.std.specs.Prelude.{◌&&◌};
     ghost use Rattle.std.proofs.Common.{refl, ◌∙◌};
     ghost use Rattle.zarrs_codec_partial_elements.specs.Counted.{listed_count, listed_absent};
-    ghost use Rattle.zarrs_codec_partial_traits.specs.Lists.{fills};
-    ghost use Rattle.zarrs_codec_partial_elements.specs.Level.{bottom_level, bottom_fill, held_in, says_in, request_for, seen_by};
+    ghost use Rattle.zarrs_codec.specs.Lists.{fills};
+    ghost use Rattle.zarrs_codec_partial_elements.specs.Level.{level_of_bottom, bottom_fill, held_in, says_in, request_for, seen_by};
 
     ghost seen = { λ h. seen_by C.unserved C.meaning C.request h.level (H.seen h.handle) };
 
@@ -85,13 +83,13 @@ impl<H: BytesPartialDecoderTraits, C: ArrayToBytesCodecTraits> ArrayPartialDecod
     ghost same = { λ a b. (a.level ≡ b.level) × H.same a.handle b.handle };
 
     ghost counted = { λ h under xs served is. listed_count
-        (C.meaning h.level.codec under (bottom_level h.level)) (bottom_level h.level)
+        (C.meaning h.level.codec under (level_of_bottom h.level)) (level_of_bottom h.level)
         (bottom_fill h.level) (held_in (H.seen h.handle) under) xs
-        (λ value given. C.counted h.level.codec under (bottom_level h.level) value xs given) is };
+        (λ value given. C.counted h.level.codec under (level_of_bottom h.level) value xs given) is };
 
     ghost absent = { λ h under served gone. listed_absent
-        (C.meaning h.level.codec under (bottom_level h.level))
-        (fills (bottom_level h.level) (bottom_fill h.level))
+        (C.meaning h.level.codec under (level_of_bottom h.level))
+        (fills (level_of_bottom h.level) (bottom_fill h.level))
         (H.seen h.handle).there ((H.seen h.handle).held under)
         (λ value is. (H.sound h.handle).all_there under value is) gone };
 
@@ -127,7 +125,7 @@ impl<H: BytesPartialDecoderTraits, C: ArrayToBytesCodecTraits> ArrayPartialDecod
             && self.handle.supports_partial_decode()
     }
 
-    #[tactic(auto, using(crate::proofs::HeldLaws::listed_reads, zarr_model::proofs::Choices::none_of, zarrs_codec_partial_traits::proofs::NamedLaws::codec_served))]
+    #[tactic(auto, using(crate::proofs::HeldLaws::listed_reads, zarr_model::proofs::Choices::none_of, zarrs_codec::proofs::NamedLaws::codec_served))]
     fn partial_decode<I: Indexer>(
         &mut self,
         alloc: Global,
@@ -143,27 +141,27 @@ impl<H: BytesPartialEncoderTraits, C: ArrayToBytesCodecTraits> ArrayPartialEncod
     for ArrayToBytesCodecPartialDefault<H, C> {
     ghost use Rattle.std.specs.Prelude.{◌&&◌};
     ghost use Rattle.std.proofs.Common.{subst, sym};
-    ghost use Rattle.zarrs_codec_partial_elements.specs.Level.{bottom_level};
+    ghost use Rattle.zarrs_codec_partial_elements.specs.Level.{level_of_bottom};
     ghost use Rattle.zarrs_codec_partial_elements.specs.Writing.{IsBeyond, IsTaken};
 
     ghost writes_parts = { λ h. (C.encodes_parts h.level.codec).partial_encode
         && H.writes_parts h.handle };
 
-    ghost unencoded = { λ h list e. IsBeyond (C.beyond h.level.codec (bottom_level h.level))
-        (bottom_level h.level) list e };
+    ghost unencoded = { λ h list e. IsBeyond (C.beyond h.level.codec (level_of_bottom h.level))
+        (level_of_bottom h.level) list e };
 
-    ghost encodes = { λ h list. IsTaken (C.beyond h.level.codec (bottom_level h.level))
-        (bottom_level h.level) list };
+    ghost encodes = { λ h list. IsTaken (C.beyond h.level.codec (level_of_bottom h.level))
+        (level_of_bottom h.level) list };
 
-    ghost encodes_short = { λ h. C.takes h.level.codec (bottom_level h.level) };
+    ghost encodes_short = { λ h. C.takes h.level.codec (level_of_bottom h.level) };
 
     ghost same_unencoded = { λ a b list e same told. subst (λ at. IsBeyond
-        (C.beyond at.codec (bottom_level at)) (bottom_level at) list e) (sym same.0) told };
+        (C.beyond at.codec (level_of_bottom at)) (level_of_bottom at) list e) (sym same.0) told };
 
     ghost same_encodes = { λ a b list same is. subst (λ at. IsTaken
-        (C.beyond at.codec (bottom_level at)) (bottom_level at) list) (sym same.0) is };
+        (C.beyond at.codec (level_of_bottom at)) (level_of_bottom at) list) (sym same.0) is };
 
-    ghost same_short = { λ a b same takes. subst (λ at. C.takes at.codec (bottom_level at))
+    ghost same_short = { λ a b same takes. subst (λ at. C.takes at.codec (level_of_bottom at))
         same.0 takes };
 
     #[tactic(auto, using(crate::proofs::WriteLaws::written_rest))]

@@ -2,7 +2,7 @@
 
 ghost use Rattle.std.specs.Prelude.{◌≡◌, Some, IfOk, option_map};
 ghost use Rattle.zarrs_array_subset.specs.ArraySubset.{region as box_of};
-ghost use Rattle.zarrs_codec_partial_traits.specs.Boxes.{same_lengths as have_same_lengths, is_smaller as is_smaller_box, is_all as is_whole, smaller_box as box_within};
+ghost use Rattle.zarrs_codec.specs.Boxes.{same_lengths as have_same_lengths, is_smaller as is_smaller_box, is_all as is_whole, smaller_box as box_within};
 
 use std::alloc::{AllocError, Global};
 use zarrs_array_subset::ArraySubset;

@@ -1,15 +1,13 @@
 //! Whether fill values denote elements.
 
 ghost use Rattle.std.specs.Prelude.{◌≡◌, ◌-◌, ◌<◌, is_some, None, IsSome, IfOk, IfErr, OnErr};
-ghost use Rattle.zarr_model.specs.Element.{fill_element};
-ghost use Rattle.zarrs_data_type_bytes.specs.FillValue.{fill_bytes};
-ghost use Rattle.zarrs_codec_array_bytes.specs.Steps.{kind_seen};
-ghost use Rattle.zarrs_codec_array_bytes.specs.Refusals.{told_by, other_fill};
+ghost use Rattle.zarrs_codec_traits.specs.Prelude.{fill_element, fill_bytes, kind_seen, told_by};
+ghost use Rattle.zarrs_codec_traits.specs.Prelude.{other_fill};
 
 use zarrs_codec_array_bytes::array_bytes::step::{Step, step_of};
 use zarrs_codec_error::CodecError;
+use zarrs_data_type::DataType;
 use zarrs_data_type_bytes::{DataTypeFillValueError, FillValue, ends_in_zero};
-use zarrs_data_type_names::DataType;
 
 // Whether the bytes of a fill value denote an element.
 #[tactic(auto, using(crate::proofs::DenotesLaws::no_bytes, crate::proofs::DenotesLaws::null_bytes, crate::proofs::DenotesLaws::some_bytes))]

@@ -1,14 +1,10 @@
 //! The elements of what a handle of bytes holds, by a codec with its level.
 
 ghost use Rattle.std.specs.Prelude.{◌≡◌, ◌∷◌, [], ◌+◌, ◌<◌, ◌^◌, true, false, None, Some, IsSome, IsOk, IfOk, IfErr, option_map};
-ghost use Rattle.zarrs_storage.specs.ByteRange.{parts_of};
-ghost use Rattle.zarr_model.specs.Region.{count_of, ends_within};
-ghost use Rattle.zarrs_array_subset.specs.ArraySubset.{region as box_of};
-ghost use Rattle.zarrs_codec_array_bytes.specs.Refusals.{fine, first_answer, Answers, IfUnfit};
-ghost use Rattle.zarrs_codec_traits.specs.Errors.{unserved_at, IsNoFault, RefusesAs};
-ghost use Rattle.zarrs_codec_traits.specs.Views.{lengths, options_of};
-ghost use Rattle.zarrs_codec_traits.specs.Words.{IsFit};
-ghost use Rattle.zarrs_codec_partial_traits.specs.Lists.{by_codec, IsUnread, RefusesFor};
+ghost use Rattle.zarrs_codec.specs.Prelude.{parts_of, count_of, ends_within, region as box_of};
+ghost use Rattle.zarrs_codec.specs.Prelude.{fine, first_answer, Answers, IfUnfit, unserved_at};
+ghost use Rattle.zarrs_codec.specs.Prelude.{IsNoFault, RefusesAs, lengths, options_of, IsFit};
+ghost use Rattle.zarrs_codec.specs.Prelude.{by_codec, IsUnread, RefusesFor};
 ghost use Rattle.zarrs_codec_partial_elements.specs.Boxes.{every, boxed, placed};
 ghost use Rattle.zarrs_codec_partial_elements.specs.Reading.{FillsElements, ReadsElements};
 
@@ -18,10 +14,10 @@ use std::alloc::{AllocError, Global};
 use std::num::NonZeroU64;
 use zarrs_array_subset::ArraySubset;
 use zarrs_chunk_grid_indexer::Indexer;
+use zarrs_codec::BytesPartialDecoderTraits;
 use zarrs_codec_array_bytes::ArrayBytes;
 use zarrs_codec_array_bytes::array_bytes::checks::expect_fit;
 use zarrs_codec_error::{CodecError, CodecOptions};
-use zarrs_codec_partial_traits::BytesPartialDecoderTraits;
 use zarrs_codec_traits::{ArrayToBytesCodecTraits, num_elements, shape_numbers};
 use zarrs_storage::ByteRange;
 
@@ -60,14 +56,14 @@ fn one(alloc: Global, value: Vec<u8>) -> Result<Vec<Vec<u8>>, AllocError>
 }
 
 impl<C: ArrayToBytesCodecTraits> BottomLevel<C> {
-    ghost use Rattle.zarrs_codec_partial_elements.specs.Level.{bottom_level, bottom_fill, IsServed, request_of};
+    ghost use Rattle.zarrs_codec_partial_elements.specs.Level.{level_of_bottom, bottom_fill, IsServedBottom, request_of};
 
     // Tests that the codec serves the shape, the data type and the fill value.
     pub(crate) fn expect_served(&self) -> Result<(), CodecError>
-        requires fits { IsFit (bottom_level self.now).shape (bottom_level self.now).data_type }
+        requires fits { IsFit (level_of_bottom self.now).shape (level_of_bottom self.now).data_type }
         ensures named { RefusesFor (option_map by_codec (unserved_at (C.unserved self.now.codec)
-            (bottom_level self.now) (bottom_fill self.now))) result }
-        ensures served { IsServed C.unserved self.now → IsOk result }
+            (level_of_bottom self.now) (bottom_fill self.now))) result }
+        ensures served { IsServedBottom C.unserved self.now → IsOk result }
         ensures no_fault { IfErr result IsNoFault }
     {
         match self
@@ -81,8 +77,8 @@ impl<C: ArrayToBytesCodecTraits> BottomLevel<C> {
 
     // The fill value for each element.
     pub(crate) fn fill_whole(&self, alloc: Global) -> Result<ArrayBytes<'static>, CodecError>
-        requires fits { IsFit (bottom_level self.now).shape (bottom_level self.now).data_type }
-        ensures { FillsElements every (bottom_level self.now) (bottom_fill self.now) result }
+        requires fits { IsFit (level_of_bottom self.now).shape (level_of_bottom self.now).data_type }
+        ensures { FillsElements every (level_of_bottom self.now) (bottom_fill self.now) result }
     {
         let number = num_elements(&self.shape);
         ArrayBytes::new_fill_value(alloc, &self.data_type, number, &self.fill_value)
@@ -94,9 +90,9 @@ impl<C: ArrayToBytesCodecTraits> BottomLevel<C> {
         alloc: Global,
         region: &ArraySubset,
     ) -> Result<ArrayBytes<'static>, CodecError>
-        requires fits { IsFit (bottom_level self.now).shape (bottom_level self.now).data_type }
-        requires inside { ends_within (box_of region.now) (bottom_level self.now).shape ≡ true }
-        ensures { FillsElements (boxed (box_of region.now)) (bottom_level self.now)
+        requires fits { IsFit (level_of_bottom self.now).shape (level_of_bottom self.now).data_type }
+        requires inside { ends_within (box_of region.now) (level_of_bottom self.now).shape ≡ true }
+        ensures { FillsElements (boxed (box_of region.now)) (level_of_bottom self.now)
             (bottom_fill self.now) result }
     {
         let number = region.num_elements();
@@ -113,7 +109,7 @@ impl<C: ArrayToBytesCodecTraits> BottomLevel<C> {
         handle: &mut H,
         options: &CodecOptions,
     ) -> Result<ArrayBytes<'static>, CodecError>
-        requires fits { IsFit (bottom_level self.now).shape (bottom_level self.now).data_type }
+        requires fits { IsFit (level_of_bottom self.now).shape (level_of_bottom self.now).data_type }
         ensures { ReadsElements C.unserved C.meaning C.says H.seen H.tells H.same self.now
             every None true (options_of options.now) handle.old handle.new result }
     {
@@ -139,8 +135,8 @@ impl<C: ArrayToBytesCodecTraits> BottomLevel<C> {
         region: &ArraySubset,
         options: &CodecOptions,
     ) -> Result<ArrayBytes<'static>, CodecError>
-        requires fits { IsFit (bottom_level self.now).shape (bottom_level self.now).data_type }
-        requires inside { ends_within (box_of region.now) (bottom_level self.now).shape ≡ true }
+        requires fits { IsFit (level_of_bottom self.now).shape (level_of_bottom self.now).data_type }
+        requires inside { ends_within (box_of region.now) (level_of_bottom self.now).shape ≡ true }
         requires whole { request_of C.request self.now (box_of region.now) ≡ None }
         ensures { ReadsElements C.unserved C.meaning C.says H.seen H.tells H.same self.now
             (boxed (box_of region.now)) (request_of C.request self.now (box_of region.now)) true
@@ -173,8 +169,8 @@ impl<C: ArrayToBytesCodecTraits> BottomLevel<C> {
         region: &ArraySubset,
         options: &CodecOptions,
     ) -> Result<ArrayBytes<'static>, CodecError>
-        requires fits { IsFit (bottom_level self.now).shape (bottom_level self.now).data_type }
-        requires inside { ends_within (box_of region.now) (bottom_level self.now).shape ≡ true }
+        requires fits { IsFit (level_of_bottom self.now).shape (level_of_bottom self.now).data_type }
+        requires inside { ends_within (box_of region.now) (level_of_bottom self.now).shape ≡ true }
         requires asked { request_of C.request self.now (box_of region.now) ≡ Some ranges.now }
         ensures { ReadsElements C.unserved C.meaning C.says H.seen H.tells H.same self.now
             (boxed (box_of region.now)) (request_of C.request self.now (box_of region.now)) true
@@ -207,8 +203,8 @@ impl<C: ArrayToBytesCodecTraits> BottomLevel<C> {
         region: &ArraySubset,
         options: &CodecOptions,
     ) -> Result<ArrayBytes<'static>, CodecError>
-        requires fits { IsFit (bottom_level self.now).shape (bottom_level self.now).data_type }
-        requires inside { ends_within (box_of region.now) (bottom_level self.now).shape ≡ true }
+        requires fits { IsFit (level_of_bottom self.now).shape (level_of_bottom self.now).data_type }
+        requires inside { ends_within (box_of region.now) (level_of_bottom self.now).shape ≡ true }
         ensures { ReadsElements C.unserved C.meaning C.says H.seen H.tells H.same self.now
             (boxed (box_of region.now)) (request_of C.request self.now (box_of region.now)) true
             (options_of options.now) handle.old handle.new result }
@@ -225,7 +221,7 @@ impl<C: ArrayToBytesCodecTraits> BottomLevel<C> {
 }
 
 impl<C: ArrayToBytesCodecTraits> BottomLevel<C> {
-    ghost use Rattle.zarrs_codec_partial_elements.specs.Level.{bottom_level, bottom_fill, request_for};
+    ghost use Rattle.zarrs_codec_partial_elements.specs.Level.{level_of_bottom, bottom_fill, request_for};
 
     // The elements at an indexer's indices, out of all elements.
     fn decode_listed<H: BytesPartialDecoderTraits, I: Indexer>(
@@ -236,8 +232,8 @@ impl<C: ArrayToBytesCodecTraits> BottomLevel<C> {
         numbers: &[u64],
         options: &CodecOptions,
     ) -> Result<ArrayBytes<'static>, CodecError>
-        requires fits { IsFit (bottom_level self.now).shape (bottom_level self.now).data_type }
-        requires shape { numbers.now ≡ (bottom_level self.now).shape }
+        requires fits { IsFit (level_of_bottom self.now).shape (level_of_bottom self.now).data_type }
+        requires shape { numbers.now ≡ (level_of_bottom self.now).shape }
         requires fit { I.fits indexer.now numbers.now ≡ true }
         ensures { ReadsElements C.unserved C.meaning C.says H.seen H.tells H.same self.now
             (placed (I.places indexer.now)) None true (options_of options.now)
@@ -258,8 +254,8 @@ impl<C: ArrayToBytesCodecTraits> BottomLevel<C> {
         numbers: &[u64],
         options: &CodecOptions,
     ) -> Result<ArrayBytes<'static>, CodecError>
-        requires fits { IsFit (bottom_level self.now).shape (bottom_level self.now).data_type }
-        requires shape { numbers.now ≡ (bottom_level self.now).shape }
+        requires fits { IsFit (level_of_bottom self.now).shape (level_of_bottom self.now).data_type }
+        requires shape { numbers.now ≡ (level_of_bottom self.now).shape }
         requires fit { I.fits indexer.now numbers.now ≡ true }
         ensures { ReadsElements C.unserved C.meaning C.says H.seen H.tells H.same self.now
             (placed (I.places indexer.now))
@@ -286,23 +282,23 @@ impl<C: ArrayToBytesCodecTraits> BottomLevel<C> {
         indexer: &I,
         options: &CodecOptions,
     ) -> Result<ArrayBytes<'static>, CodecError>
-        requires fits { IsFit (bottom_level self.now).shape (bottom_level self.now).data_type }
+        requires fits { IsFit (level_of_bottom self.now).shape (level_of_bottom self.now).data_type }
         ensures unfit { RefusesAs (first_answer None
-            (I.fits indexer.now (bottom_level self.now).shape) fine) result }
-        ensures refusal { I.fits indexer.now (bottom_level self.now).shape ≡ false
-            → IfErr result (IfUnfit (I.refuses indexer.now (bottom_level self.now).shape)) }
-        ensures unread { I.fits indexer.now (bottom_level self.now).shape ≡ false
+            (I.fits indexer.now (level_of_bottom self.now).shape) fine) result }
+        ensures refusal { I.fits indexer.now (level_of_bottom self.now).shape ≡ false
+            → IfErr result (IfUnfit (I.refuses indexer.now (level_of_bottom self.now).shape)) }
+        ensures unread { I.fits indexer.now (level_of_bottom self.now).shape ≡ false
             → IsUnread (H.seen handle.old).shown (H.seen handle.new).shown }
-        ensures named { I.fits indexer.now (bottom_level self.now).shape ≡ true
+        ensures named { I.fits indexer.now (level_of_bottom self.now).shape ≡ true
             → RefusesFor (option_map by_codec (unserved_at (C.unserved self.now.codec)
-            (bottom_level self.now) (bottom_fill self.now))) result }
+            (level_of_bottom self.now) (bottom_fill self.now))) result }
         ensures unserved { IsSome (unserved_at (C.unserved self.now.codec)
-            (bottom_level self.now) (bottom_fill self.now))
+            (level_of_bottom self.now) (bottom_fill self.now))
             → IsUnread (H.seen handle.old).shown (H.seen handle.new).shown }
         ensures read { ReadsElements C.unserved C.meaning C.says H.seen H.tells H.same self.now
             (placed (I.places indexer.now))
             (request_for C.request self.now (I.as_region indexer.now))
-            (I.fits indexer.now (bottom_level self.now).shape) (options_of options.now)
+            (I.fits indexer.now (level_of_bottom self.now).shape) (options_of options.now)
             handle.old handle.new result }
     {
         match fitting_numbers(alloc, indexer, &self.shape) {

@@ -1,20 +1,14 @@
 //! Elements put into what a handle of bytes holds, by a codec with its level.
 
 ghost use Rattle.std.specs.Prelude.{◌≡◌, ℕ, ◌<◌, true, false, not, List, length, Some, IsSome, IfErr, option_map};
-ghost use Rattle.zarr_model.specs.Element.{Element, kind_of, fill_element};
-ghost use Rattle.zarr_model.specs.ArrayBytes.{meaning};
-ghost use Rattle.zarrs_codec_array_bytes.specs.Raw.{raw_of};
-ghost use Rattle.zarrs_codec_array_bytes.specs.Refusals.{fine, validity, IfUnfit};
+ghost use Rattle.zarrs_codec.specs.Prelude.{Element, kind_of, fill_element, meaning, raw_of, fine};
+ghost use Rattle.zarrs_codec.specs.Prelude.{validity, IfUnfit, type_of, unserved_at, RefusesAs};
+ghost use Rattle.zarrs_codec.specs.Prelude.{lengths, options_of, IsFit, by_codec, AreFew, IsUnread};
+ghost use Rattle.zarrs_codec.specs.Prelude.{RefusesFor, Stores};
 ghost use Rattle.zarrs_data_type_bytes.specs.FillValue.{fill_bytes};
-ghost use Rattle.zarrs_data_type_names.specs.DataType.{type_of};
-ghost use Rattle.zarrs_codec_traits.specs.Errors.{unserved_at, RefusesAs};
-ghost use Rattle.zarrs_codec_traits.specs.Views.{lengths, options_of};
-ghost use Rattle.zarrs_codec_traits.specs.Words.{IsFit};
-ghost use Rattle.zarrs_codec_partial_traits.specs.Lists.{by_codec, AreFew, IsUnread, RefusesFor};
-ghost use Rattle.zarrs_codec_partial_traits.specs.ListWrites.{is_kept, IsUntouched};
-ghost use Rattle.zarrs_codec_partial_traits.specs.Updates.{Stores};
+ghost use Rattle.zarrs_codec.specs.ListWrites.{is_kept, IsUntouchedList};
 ghost use Rattle.zarrs_codec_partial_elements.specs.Reading.{ReadsOld};
-ghost use Rattle.zarrs_codec_partial_elements.specs.Writing.{IsBeyond, IsTaken, TestsGiven, answer_by, change_by, MakesElements, PutsElements};
+ghost use Rattle.zarrs_codec_partial_elements.specs.Writing.{IsBeyond, IsTaken, TestsGiven, answer_by, change_by, MakesBottomElements, PutsBottomElements};
 
 use crate::boxes::covers;
 use crate::fill::{expect_denoted, is_denoted};
@@ -23,13 +17,13 @@ use crate::read::fitting_numbers;
 use std::alloc::Global;
 use std::num::NonZeroU64;
 use zarrs_chunk_grid_indexer::Indexer;
+use zarrs_codec::{BytesPartialDecoderTraits, BytesPartialEncoderTraits};
 use zarrs_codec_array_bytes::ArrayBytes;
-use zarrs_codec_array_bytes_update::update_array_bytes;
+use zarrs_codec_array_bytes_parts::update_array_bytes;
 use zarrs_codec_error::{CodecError, CodecOptions};
-use zarrs_codec_partial_traits::{BytesPartialDecoderTraits, BytesPartialEncoderTraits};
 use zarrs_codec_traits::ArrayToBytesCodecTraits;
+use zarrs_data_type::{DataType, type_size};
 use zarrs_data_type_bytes::FillValue;
-use zarrs_data_type_names::{DataType, type_size};
 
 /// Tests elements that are given, and then the indexer that they are for; the lengths of the shape.
 ///
@@ -75,7 +69,7 @@ pub fn is_dropped(
 }
 
 impl<C: ArrayToBytesCodecTraits> BottomLevel<C> {
-    ghost use Rattle.zarrs_codec_partial_elements.specs.Level.{bottom_level, seen_by};
+    ghost use Rattle.zarrs_codec_partial_elements.specs.Level.{level_of_bottom, seen_by};
 
     // Tests the elements that are given, and then the indexer that they are for.
     fn expect_given<I: Indexer>(
@@ -84,11 +78,11 @@ impl<C: ArrayToBytesCodecTraits> BottomLevel<C> {
         indexer: &I,
         bytes: &ArrayBytes<'_>,
     ) -> Result<Vec<u64>, CodecError>
-        requires fits { IsFit (bottom_level self.now).shape (bottom_level self.now).data_type }
-        requires few { AreFew (kind_of (bottom_level self.now).data_type)
+        requires fits { IsFit (level_of_bottom self.now).shape (level_of_bottom self.now).data_type }
+        requires few { AreFew (kind_of (level_of_bottom self.now).data_type)
             (length (I.places indexer.now)) }
-        ensures { TestsGiven I.fits I.refuses I.places (bottom_level self.now).shape
-            (bottom_level self.now).data_type indexer.now (raw_of bytes.now) result }
+        ensures { TestsGiven I.fits I.refuses I.places (level_of_bottom self.now).shape
+            (level_of_bottom self.now).data_type indexer.now (raw_of bytes.now) result }
     {
         expect_given(alloc, indexer, bytes, &self.shape, &self.data_type)
     }
@@ -101,7 +95,7 @@ impl<C: ArrayToBytesCodecTraits> BottomLevel<C> {
         handle: &mut H,
         options: &CodecOptions,
     ) -> Result<ArrayBytes<'static>, CodecError>
-        requires fits { IsFit (bottom_level self.now).shape (bottom_level self.now).data_type }
+        requires fits { IsFit (level_of_bottom self.now).shape (level_of_bottom self.now).data_type }
         ensures { ReadsOld C.unserved C.meaning C.says H.seen H.tells H.same C.request self.now
             (options_of options.now) handle.old handle.new result }
     {
@@ -132,10 +126,10 @@ impl<C: ArrayToBytesCodecTraits> BottomLevel<C> {
         bytes: &ArrayBytes<'_>,
         options: &CodecOptions,
     ) -> Result<ArrayBytes<'static>, CodecError>
-        requires fits { IsFit (bottom_level self.now).shape (bottom_level self.now).data_type }
-        requires shape { numbers.now ≡ (bottom_level self.now).shape }
+        requires fits { IsFit (level_of_bottom self.now).shape (level_of_bottom self.now).data_type }
+        requires shape { numbers.now ≡ (level_of_bottom self.now).shape }
         requires fit { I.fits indexer.now numbers.now ≡ true }
-        ensures { MakesElements C.unserved C.meaning C.says C.request H.seen H.tells H.same
+        ensures { MakesBottomElements C.unserved C.meaning C.says C.request H.seen H.tells H.same
             self.now (record (change_by I.fits I.as_region I.places self.now indexer.now
             (raw_of bytes.now)) { all = false })
             (options_of options.now) handle.old handle.new result }
@@ -160,10 +154,10 @@ impl<C: ArrayToBytesCodecTraits> BottomLevel<C> {
         bytes: &ArrayBytes<'_>,
         options: &CodecOptions,
     ) -> Result<ArrayBytes<'static>, CodecError>
-        requires fits { IsFit (bottom_level self.now).shape (bottom_level self.now).data_type }
-        requires shape { numbers.now ≡ (bottom_level self.now).shape }
+        requires fits { IsFit (level_of_bottom self.now).shape (level_of_bottom self.now).data_type }
+        requires shape { numbers.now ≡ (level_of_bottom self.now).shape }
         requires fit { I.fits indexer.now numbers.now ≡ true }
-        ensures { MakesElements C.unserved C.meaning C.says C.request H.seen H.tells H.same
+        ensures { MakesBottomElements C.unserved C.meaning C.says C.request H.seen H.tells H.same
             self.now (change_by I.fits I.as_region I.places self.now indexer.now (raw_of bytes.now))
             (options_of options.now) handle.old handle.new result }
     {
@@ -186,8 +180,8 @@ impl<C: ArrayToBytesCodecTraits> BottomLevel<C> {
         bytes: ArrayBytes<'static>,
         options: &CodecOptions,
     ) -> Result<(), CodecError>
-        requires fits { IsFit (bottom_level self.now).shape (bottom_level self.now).data_type }
-        ensures stores { let level = bottom_level self.now in
+        requires fits { IsFit (level_of_bottom self.now).shape (level_of_bottom self.now).data_type }
+        ensures stores { let level = level_of_bottom self.now in
             let see = seen_by C.unserved C.meaning C.request self.now in
             Stores (options_of options.now) (raw_of bytes.entry)
             (IsBeyond (C.beyond self.now.codec level) level)
@@ -216,7 +210,7 @@ impl<C: ArrayToBytesCodecTraits> BottomLevel<C> {
 }
 
 impl<C: ArrayToBytesCodecTraits> BottomLevel<C> {
-    ghost use Rattle.zarrs_codec_partial_elements.specs.Level.{bottom_level, bottom_fill, seen_by};
+    ghost use Rattle.zarrs_codec_partial_elements.specs.Level.{level_of_bottom, bottom_fill, seen_by};
 
     // Puts valid elements at the indices of an indexer that fits.
     fn encode_fit<H: BytesPartialEncoderTraits, I: Indexer>(
@@ -228,10 +222,10 @@ impl<C: ArrayToBytesCodecTraits> BottomLevel<C> {
         bytes: &ArrayBytes<'_>,
         options: &CodecOptions,
     ) -> Result<(), CodecError>
-        requires fits { IsFit (bottom_level self.now).shape (bottom_level self.now).data_type }
-        requires shape { numbers.now ≡ (bottom_level self.now).shape }
+        requires fits { IsFit (level_of_bottom self.now).shape (level_of_bottom self.now).data_type }
+        requires shape { numbers.now ≡ (level_of_bottom self.now).shape }
         requires fit { I.fits indexer.now numbers.now ≡ true }
-        ensures { PutsElements C.unserved C.meaning C.says C.request H.seen H.tells H.same
+        ensures { PutsBottomElements C.unserved C.meaning C.says C.request H.seen H.tells H.same
             C.beyond C.takes self.now
             (change_by I.fits I.as_region I.places self.now indexer.now (raw_of bytes.now))
             (options_of options.now) handle.old handle.new result }
@@ -259,26 +253,26 @@ impl<C: ArrayToBytesCodecTraits> BottomLevel<C> {
         bytes: &ArrayBytes<'_>,
         options: &CodecOptions,
     ) -> Result<(), CodecError>
-        requires fits { IsFit (bottom_level self.now).shape (bottom_level self.now).data_type }
-        requires few { AreFew (kind_of (bottom_level self.now).data_type)
+        requires fits { IsFit (level_of_bottom self.now).shape (level_of_bottom self.now).data_type }
+        requires few { AreFew (kind_of (level_of_bottom self.now).data_type)
             (length (I.places indexer.now)) }
         ensures given { RefusesAs
             (answer_by I.fits I.places self.now indexer.now (raw_of bytes.now)) result }
-        ensures refusal { validity (kind_of (bottom_level self.now).data_type)
+        ensures refusal { validity (kind_of (level_of_bottom self.now).data_type)
             (length (I.places indexer.now)) (raw_of bytes.now) ≡ fine
-            → I.fits indexer.now (bottom_level self.now).shape ≡ false
-            → IfErr result (IfUnfit (I.refuses indexer.now (bottom_level self.now).shape)) }
+            → I.fits indexer.now (level_of_bottom self.now).shape ≡ false
+            → IfErr result (IfUnfit (I.refuses indexer.now (level_of_bottom self.now).shape)) }
         ensures untouched { let see = seen_by C.unserved C.meaning C.request self.now in
-            IsUntouched (answer_by I.fits I.places self.now indexer.now (raw_of bytes.now))
+            IsUntouchedList (answer_by I.fits I.places self.now indexer.now (raw_of bytes.now))
             (see (H.seen handle.old)) (see (H.seen handle.new)) }
         ensures named { answer_by I.fits I.places self.now indexer.now (raw_of bytes.now) ≡ fine
             → RefusesFor (option_map by_codec
-            (unserved_at (C.unserved self.now.codec) (bottom_level self.now)
+            (unserved_at (C.unserved self.now.codec) (level_of_bottom self.now)
             (bottom_fill self.now))) result }
         ensures unserved { IsSome (unserved_at (C.unserved self.now.codec)
-            (bottom_level self.now) (bottom_fill self.now))
+            (level_of_bottom self.now) (bottom_fill self.now))
             → IsUnread (H.seen handle.old).shown (H.seen handle.new).shown }
-        ensures puts { PutsElements C.unserved C.meaning C.says C.request H.seen H.tells H.same
+        ensures puts { PutsBottomElements C.unserved C.meaning C.says C.request H.seen H.tells H.same
             C.beyond C.takes self.now
             (change_by I.fits I.as_region I.places self.now indexer.now (raw_of bytes.now))
             (options_of options.now) handle.old handle.new result }

@@ -1,9 +1,12 @@
 -- A box that is filled in its place, as a copy of the fill again and again.
-use Rattle.std.proofs.Common.{◌≡◌, ℕ, zero, suc, ◌+◌, ◌-◌, ◌*◌, ◌/◌, ◌<◌, ◌≤◌, nat_le, ◌&&◌, Bool, true, false, if◌then◌else◌, List, [], ◌∷◌, ◌++◌, length, get_or, take, drop, replicate, refl, sym, ap, ap₂, ◌∙◌, subst, arith}
+use Rattle.std.proofs.Common.{◌≡◌, ℕ, zero, suc, ◌+◌, ◌-◌, ◌*◌, ◌/◌, ◌<◌, ◌≤◌, nat_le, ◌&&◌, Bool, true, false}
+use Rattle.std.proofs.Common.{if◌then◌else◌, List, [], ◌∷◌, ◌++◌, length, get_or, take, drop, replicate, refl, sym, ap}
+use Rattle.std.proofs.Common.{ap₂, ◌∙◌, subst, arith}
 use Rattle.std.proofs.lemmas.Bool.{and_parts, leb-true, cond-false}
 use Rattle.std.proofs.lemmas.List.{get_or-replicate}
 use Rattle.std.proofs.Math.Seq.{take-append_seam, drop-append_seam}
-use Rattle.std.proofs.Math.Nat.{add-mul, suc-mul, mul-le-mul_right, mul-le-mul_left, mul_comm, mul_assoc, mul-div_cancel}
+use Rattle.std.proofs.Math.Nat.{add-mul, suc-mul, mul-le-mul_right, mul-le-mul_left, mul_comm, mul_assoc}
+use Rattle.std.proofs.Math.Nat.{mul-div_cancel}
 use Rattle.zarr_model.specs.Prelude.{Span, Region, count, contains, place, tuple_at, of_bytes}
 use Rattle.zarr_model.proofs.RegionLaws.{place_below}
 use Rattle.zarrs_array_subset.specs.Boxes.{is_within}

@@ -9,10 +9,13 @@ pub record IsMasked (kind : Kind) (number : ℕ) (mask : List ℕ) (under : Arra
   pub inner : meaning kind number under ≡ Some list
   pub over : mask_over mask list ≡ xs
 
-pub masked_parts : (kind : Kind) (number : ℕ) (mask : List ℕ) (under : ArrayBytes) (xs : List Element) → meaning (optional kind) number (optional_bytes under mask) ≡ Some xs → IsMasked kind number mask under xs
+pub masked_parts : (kind : Kind) (number : ℕ) (mask : List ℕ) (under : ArrayBytes) (xs : List Element) →
+    meaning (optional kind) number (optional_bytes under mask) ≡ Some xs → IsMasked kind number mask under xs
 masked_parts kind number mask under xs e = go (is_mask number mask) refl (meaning kind number under) refl e
   where
-    go : (t : Bool) → is_mask number mask ≡ t → (o : Option (List Element)) → meaning kind number under ≡ o → (if t then option_map (mask_over mask) o else None) ≡ Some xs → IsMasked kind number mask under xs
+    go : (t : Bool) → is_mask number mask ≡ t → (o : Option (List Element)) → meaning kind number under ≡ o →
+        (if t then option_map (mask_over mask) o else None) ≡ Some xs → IsMasked kind number mask under xs
     go false t o is e = cc
     go true t None is e = cc
-    go true t (Some list) is e = record { list = list; mask_is = t; inner = is; over = (let same : mask_over mask list ≡ xs = cc in same) }
+    go true t (Some list) is e =
+        record { list = list; mask_is = t; inner = is; over = (let same : mask_over mask list ≡ xs = cc in same) }

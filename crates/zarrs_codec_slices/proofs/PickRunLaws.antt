@@ -1,8 +1,10 @@
 -- Runs of neighbouring picks.
-use Rattle.std.proofs.Common.{◌≡◌, ℕ, zero, suc, ◌+◌, ◌-◌, ◌<◌, ◌≤◌, List, [], ◌∷◌, ◌++◌, length, drop, get_or, set, sym, ap, ap₂, refl, ◌∙◌, subst, subst₂, arith, inl, inr, ◌⊎◌}
+use Rattle.std.proofs.Common.{◌≡◌, ℕ, zero, suc, ◌+◌, ◌-◌, ◌<◌, ◌≤◌, List, [], ◌∷◌, ◌++◌, length, drop, get_or, set}
+use Rattle.std.proofs.Common.{sym, ap, ap₂, refl, ◌∙◌, subst, subst₂, arith, inl, inr, ◌⊎◌}
 use Rattle.std.specs.List.{range_with_len}
 use Rattle.std.proofs.lemmas.Bool.{cases_lt}
-use Rattle.std.proofs.lemmas.List.{append_assoc, append-nil, drop_all, drop_more, length-append, get_or_append_left, get_or_at}
+use Rattle.std.proofs.lemmas.List.{append_assoc, append-nil, drop_all, drop_more, length-append, get_or_append_left}
+use Rattle.std.proofs.lemmas.List.{get_or_at}
 use Rattle.std.proofs.lemmas.Grind.{common_steps, flat_map-append}
 use Rattle.std.proofs.Math.Seq.{set-append_seam}
 use Rattle.zarrs_codec_slices.specs.Picking.{AllBelow, replaced}
@@ -16,9 +18,11 @@ range_split : (a n m : ℕ) → range_with_len a (n + m) ≡ range_with_len a n 
 range_split a zero m = ap₂ range_with_len (let e : a ≡ a + 0 = omega arith in e) (let e : 0 + m ≡ m = omega arith in e)
 range_split a (suc n) m =
     ap (range_with_len a) (let e : suc n + m ≡ suc (n + m) = omega arith in e)
-    ∙ ap (λ l. a ∷ l) (range_split (a + 1) n m ∙ ap (λ (b : ℕ). range_with_len (a + 1) n ++ range_with_len b m) (let e : a + 1 + n ≡ a + suc n = omega arith in e))
+    ∙ ap (λ l. a ∷ l) (range_split (a + 1) n m
+    ∙ ap (λ (b : ℕ). range_with_len (a + 1) n ++ range_with_len b m) (let e : a + 1 + n ≡ a + suc n = omega arith in e))
 
-replaced-append : {A : Type 0} (is js : List ℕ) (xs ys l : List A) → length is ≡ length xs → replaced (is ++ js) (xs ++ ys) l ≡ replaced js ys (replaced is xs l)
+replaced-append : {A : Type 0} (is js : List ℕ) (xs ys l : List A) → length is ≡ length xs →
+    replaced (is ++ js) (xs ++ ys) l ≡ replaced js ys (replaced is xs l)
 replaced-append [] js [] ys l e = refl
 replaced-append [] js (x ∷ xs) ys l e = absurd (omega (arith, e))
 replaced-append (i ∷ is) js [] ys l e = absurd (omega (arith, e))
@@ -32,18 +36,24 @@ replaced_part s front [] (y ∷ ys) back e f = absurd (omega (arith, f))
 replaced_part s front (x ∷ mid) [] back e f = absurd (omega (arith, f))
 replaced_part s front (x ∷ mid) (y ∷ ys) back e f =
     ap (replaced (range_with_len (s + 1) (length ys)) ys)
-    (ap (λ (i : ℕ). set (front ++ x ∷ (mid ++ back)) i y) (sym e) ∙ (set-append_seam front x (mid ++ back) y ∙ sym (append_assoc front (y ∷ []) (mid ++ back))))
-    ∙ (replaced_part (s + 1) (front ++ y ∷ []) mid ys back (length-append front (y ∷ []) ∙ ap (λ (n : ℕ). n + 1) e) (omega (arith, f))
+    (ap (λ (i : ℕ). set (front ++ x ∷ (mid ++ back)) i y) (sym e)
+    ∙ (set-append_seam front x (mid ++ back) y ∙ sym (append_assoc front (y ∷ []) (mid ++ back))))
+    ∙ (replaced_part (s + 1) (front ++ y ∷ []) mid ys back (length-append front (y ∷ []) ∙ ap (λ (n : ℕ). n + 1) e)
+    (omega (arith, f))
     ∙ append_assoc front (y ∷ []) (ys ++ back))
 
 replaced_run : (s n given : ℕ) (front back : List ℕ) → length front ≡ s →
-    replaced (range_with_len s n) (range_with_len given n) (front ++ (range_with_len s n ++ back)) ≡ front ++ (range_with_len given n ++ back)
+    replaced (range_with_len s n) (range_with_len given n) (front ++ (range_with_len s n ++ back)) ≡
+    front ++ (range_with_len given n ++ back)
 replaced_run s n given front back e =
-    ap (λ (m : ℕ). replaced (range_with_len s m) (range_with_len given n) (front ++ (range_with_len s n ++ back))) (sym (length_of_places given n))
-    ∙ replaced_part s front (range_with_len s n) (range_with_len given n) back e (length_of_places s n ∙ sym (length_of_places given n))
+    ap (λ (m : ℕ). replaced (range_with_len s m) (range_with_len given n)
+    (front ++ (range_with_len s n ++ back))) (sym (length_of_places given n))
+    ∙ replaced_part s front (range_with_len s n) (range_with_len given n) back e
+    (length_of_places s n ∙ sym (length_of_places given n))
 
 -- one more run is replaced
-module _ (runs out : List (ℕ × ℕ)) (i next given count s n : ℕ) (all : List ℕ) (h : i < length runs) (s_is : (get_or runs i (0, 0)).0 ≡ s) (n_is : (get_or runs i (0, 0)).1 ≡ n)
+module _ (runs out : List (ℕ × ℕ)) (i next given count s n : ℕ) (all : List ℕ) (h : i < length runs)
+    (s_is : (get_or runs i (0, 0)).0 ≡ s) (n_is : (get_or runs i (0, 0)).1 ≡ n)
     (behind : next ≤ s) (within : s + n ≤ count) (long : length (run_numbers out) ≡ next) where
   abbrev rest : List ℕ
   rest = run_numbers (drop (i + 1) runs)
@@ -55,22 +65,31 @@ module _ (runs out : List (ℕ × ℕ)) (i next given count s n : ℕ) (all : Li
   back = range_with_len (s + n) (count - (s + n))
 
   front_long : length front ≡ s
-  front_long = omega (arith, length-append (run_numbers out) (range_with_len next (s - next)), long, length_of_places next (s - next), behind)
+  front_long = omega (
+    arith,
+    length-append (run_numbers out) (range_with_len next (s - next)),
+    long,
+    length_of_places next (s - next),
+    behind,
+  )
 
   left : run_numbers out ++ range_with_len next (count - next) ≡ front ++ (range_with_len s n ++ back)
   left =
       ap (λ l. run_numbers out ++ l)
-      (ap (range_with_len next) (let e : count - next ≡ (s - next) + (n + (count - (s + n))) = omega (arith, behind, within) in e)
+      (ap (range_with_len next)
+      (let e : count - next ≡ (s - next) + (n + (count - (s + n))) = omega (arith, behind, within) in e)
       ∙ (range_split next (s - next) (n + (count - (s + n)))
       ∙ ap (λ l. range_with_len next (s - next) ++ l)
-      (ap (λ (b : ℕ). range_with_len b (n + (count - (s + n)))) (let e : next + (s - next) ≡ s = omega (arith, behind) in e) ∙ range_split s n (count - (s + n)))))
+      (ap (λ (b : ℕ). range_with_len b (n + (count - (s + n)))) (let e : next + (s - next) ≡ s =
+      omega (arith, behind) in e) ∙ range_split s n (count - (s + n)))))
       ∙ sym (append_assoc (run_numbers out) (range_with_len next (s - next)) (range_with_len s n ++ back))
 
   numbers : run_numbers (drop i runs) ≡ range_with_len s n ++ rest
   numbers = runs_more runs i h ∙ ap₂ (λ a b. range_with_len a b ++ rest) s_is n_is
 
   pub rest_long : length (run_numbers (drop i runs)) ≡ n + length rest
-  rest_long = ap length numbers ∙ (length-append (range_with_len s n) rest ∙ ap (λ (m : ℕ). m + length rest) (length_of_places s n))
+  rest_long = ap length numbers
+      ∙ (length-append (range_with_len s n) rest ∙ ap (λ (m : ℕ). m + length rest) (length_of_places s n))
 
   made : run_numbers (out ++ (next, s - next) ∷ (given, n) ∷ []) ≡ front ++ range_with_len given n
   made =
@@ -79,45 +98,58 @@ module _ (runs out : List (ℕ × ℕ)) (i next given count s n : ℕ) (all : Li
       ∙ sym (append_assoc (run_numbers out) (range_with_len next (s - next)) (range_with_len given n)))
 
   pub made_long : length (run_numbers (out ++ (next, s - next) ∷ (given, n) ∷ [])) ≡ s + n
-  made_long = ap length made ∙ omega (arith, length-append front (range_with_len given n), front_long, length_of_places given n)
+  made_long =
+      ap length made ∙ omega (arith, length-append front (range_with_len given n), front_long, length_of_places given n)
 
-  pub replaced_step : replaced (run_numbers (drop i runs)) (range_with_len given (length (run_numbers (drop i runs)))) (run_numbers out ++ range_with_len next (count - next)) ≡ all →
-      replaced rest (range_with_len (given + n) (length rest)) (run_numbers (out ++ (next, s - next) ∷ (given, n) ∷ []) ++ range_with_len (s + n) (count - (s + n))) ≡ all
+  pub replaced_step : replaced (run_numbers (drop i runs)) (range_with_len given (length (run_numbers (drop i runs))))
+      (run_numbers out ++ range_with_len next (count - next)) ≡ all →
+      replaced rest (range_with_len (given + n) (length rest))
+      (run_numbers (out ++ (next, s - next) ∷ (given, n) ∷ []) ++ range_with_len (s + n) (count - (s + n))) ≡ all
   replaced_step before =
       ap (replaced rest (range_with_len (given + n) (length rest)))
-      (ap (λ l. l ++ back) made ∙ (append_assoc front (range_with_len given n) back ∙ sym (replaced_run s n given front back front_long) ∙ ap (replaced (range_with_len s n) (range_with_len given n)) (sym left)))
-      ∙ (sym (replaced-append (range_with_len s n) rest (range_with_len given n) (range_with_len (given + n) (length rest)) (run_numbers out ++ range_with_len next (count - next)) (length_of_places s n ∙ sym (length_of_places given n)))
-      ∙ (ap₂ (λ js xs. replaced js xs (run_numbers out ++ range_with_len next (count - next))) (sym numbers) (sym (range_split given n (length rest)) ∙ ap (range_with_len given) (sym rest_long))
+      (ap (λ l. l ++ back) made ∙ (append_assoc front (range_with_len given n) back ∙ sym (replaced_run s n given front
+      back front_long) ∙ ap (replaced (range_with_len s n) (range_with_len given n)) (sym left)))
+      ∙ (sym (replaced-append (range_with_len s n) rest (range_with_len given n)
+      (range_with_len (given + n) (length rest))
+      (run_numbers out ++ range_with_len next (count - next)) (length_of_places s n ∙ sym (length_of_places given n)))
+      ∙ (ap₂ (λ js xs. replaced js xs (run_numbers out ++ range_with_len next (count - next))) (sym numbers)
+      (sym (range_split given n (length rest)) ∙ ap (range_with_len given) (sym rest_long))
       ∙ before))
 
 -- all are
 pub replaced_last : (runs out : List (ℕ × ℕ)) (i next given count : ℕ) (all : List ℕ) → length runs ≤ i →
-    replaced (run_numbers (drop i runs)) (range_with_len given (length (run_numbers (drop i runs)))) (run_numbers out ++ range_with_len next (count - next)) ≡ all →
+    replaced (run_numbers (drop i runs)) (range_with_len given (length (run_numbers (drop i runs))))
+    (run_numbers out ++ range_with_len next (count - next)) ≡ all →
     run_numbers (out ++ (next, count - next) ∷ []) ≡ all
 replaced_last runs out i next given count all end before =
     flat_map-append (λ run. range_with_len run.0 run.1) out ((next, count - next) ∷ [])
     ∙ (ap (λ l. run_numbers out ++ l) (append-nil (range_with_len next (count - next)))
-    ∙ (sym (ap (λ l. replaced (run_numbers l) (range_with_len given (length (run_numbers l))) (run_numbers out ++ range_with_len next (count - next))) (drop_all i runs end)) ∙ before))
+    ∙ (sym (ap (λ l. replaced (run_numbers l) (range_with_len given (length (run_numbers l)))
+    (run_numbers out ++ range_with_len next (count - next))) (drop_all i runs end)) ∙ before))
 
 -- one more run of two lists
 abbrev IsOf : ℕ → ℕ → ℕ × ℕ → Type 0
 IsOf number more run = (run.0 < number → run.0 + run.1 ≤ number) × (run.0 + run.1 ≤ number + more)
 
-pub one_more_of : (number more : ℕ) (runs : List (ℕ × ℕ)) (a n : ℕ) → AreRunsOf number more runs → (a < number → a + n ≤ number) → a + n ≤ number + more → AreRunsOf number more (runs ++ (a, n) ∷ [])
+pub one_more_of : (number more : ℕ) (runs : List (ℕ × ℕ)) (a n : ℕ) → AreRunsOf number more runs →
+    (a < number → a + n ≤ number) → a + n ≤ number + more → AreRunsOf number more (runs ++ (a, n) ∷ [])
 one_more_of number more runs a n before first within k h = go (cases_lt k (length runs))
   where
     go : (k < length runs) ⊎ (length runs ≤ k) → IsOf number more (get_or (runs ++ (a, n) ∷ []) k (0, 0))
     go (inl low) = subst (IsOf number more) (sym (get_or_append_left runs ((a, n) ∷ []) (0, 0) k low)) (before k low)
-    go (inr high) = subst (IsOf number more) (sym (get_or_at runs (a, n) [] (0, 0) k (omega (arith, high, h, length-append runs ((a, n) ∷ []))))) (first, within)
+    go (inr high) = subst (IsOf number more) (sym (get_or_at runs (a, n) [] (0, 0) k
+        (omega (arith, high, h, length-append runs ((a, n) ∷ []))))) (first, within)
 
--- the picks once the first i runs are replaced: all places before the next one are named, and the new element that comes next
+-- the picks once the first i runs are replaced: all places before the next one are named, and the new element that
+-- comes next
 pub record HasReplaced (runs : List (ℕ × ℕ)) (count i next given : ℕ) (out : List (ℕ × ℕ)) : Type 0 where
   pub low : next ≤ count
   pub long : length (run_numbers out) ≡ next
   pub given_is : given + length (run_numbers (drop i runs)) ≡ count + length (run_numbers runs)
   pub past : count ≤ given
   pub of_both : AreRunsOf count (length (run_numbers runs)) out
-  pub numbers : replaced (run_numbers (drop i runs)) (range_with_len given (length (run_numbers (drop i runs)))) (run_numbers out ++ range_with_len next (count - next))
+  pub numbers : replaced (run_numbers (drop i runs)) (range_with_len given (length (run_numbers (drop i runs))))
+      (run_numbers out ++ range_with_len next (count - next))
       ≡ replaced (run_numbers runs) (range_with_len count (length (run_numbers runs))) (range_with_len 0 count)
 
 pub none_replaced : (runs : List (ℕ × ℕ)) (count : ℕ) → HasReplaced runs count 0 0 count []
@@ -127,34 +159,44 @@ none_replaced runs count = record {
   given_is = refl;
   past = omega arith;
   of_both = λ k h. absurd (omega (arith, h));
-  numbers = ap (λ (n : ℕ). replaced (run_numbers runs) (range_with_len count (length (run_numbers runs))) (range_with_len 0 n)) (let e : count - 0 ≡ count = omega arith in e);
+  numbers = ap (λ (n : ℕ). replaced (run_numbers runs) (range_with_len count (length (run_numbers runs)))
+      (range_with_len 0 n)) (let e : count - 0 ≡ count = omega arith in e);
 }
 
-module _ (runs out more : List (ℕ × ℕ)) (count i next given behind s n : ℕ) (h : i < length runs) (s_is : (get_or runs i (0, 0)).0 ≡ s) (n_is : (get_or runs i (0, 0)).1 ≡ n)
-    (before : next ≤ s) (within : s + n ≤ count) (behind_is : behind ≡ given + n) (more_is : more ≡ out ++ (next, s - next) ∷ (given, n) ∷ []) (all : HasReplaced runs count i next given out) where
+module _ (runs out more : List (ℕ × ℕ)) (count i next given behind s n : ℕ) (h : i < length runs)
+    (s_is : (get_or runs i (0, 0)).0 ≡ s) (n_is : (get_or runs i (0, 0)).1 ≡ n)
+    (before : next ≤ s) (within : s + n ≤ count) (behind_is : behind ≡ given + n) (more_is : more ≡
+    out ++ (next, s - next) ∷ (given, n) ∷ []) (all : HasReplaced runs count i next given out) where
   pub one_replaced : HasReplaced runs count (i + 1) (s + n) behind more
-  one_replaced = subst₂ (λ (b : ℕ) (l : List (ℕ × ℕ)). HasReplaced runs count (i + 1) (s + n) b l) (sym behind_is) (sym more_is) (record {
-    low = within;
-    long = made_long runs out i next given count s n [] h s_is n_is before within all.long;
-    given_is = omega (arith, rest_is, all.given_is);
-    past = omega (arith, all.past);
-    of_both = subst (AreRunsOf count (length (run_numbers runs))) (append_assoc out ((next, s - next) ∷ []) ((given, n) ∷ []))
-        (one_more_of count (length (run_numbers runs)) (out ++ (next, s - next) ∷ []) given n
-        (one_more_of count (length (run_numbers runs)) out next (s - next) all.of_both (λ l. omega (arith, before, within)) (omega (arith, before, within)))
-        (λ l. absurd (omega (arith, l, all.past))) (omega (arith, rest_is, all.given_is)));
-    numbers = replaced_step runs out i next given count s n _ h s_is n_is before within all.long all.numbers;
-  })
+  one_replaced = subst₂ (λ (b : ℕ) (l : List (ℕ × ℕ)). HasReplaced runs count (i + 1) (s + n) b l) (sym behind_is)
+      (sym more_is) (record {
+        low = within;
+        long = made_long runs out i next given count s n [] h s_is n_is before within all.long;
+        given_is = omega (arith, rest_is, all.given_is);
+        past = omega (arith, all.past);
+        of_both =
+            subst (AreRunsOf count (length (run_numbers runs)))
+            (append_assoc out ((next, s - next) ∷ []) ((given, n) ∷ []))
+            (one_more_of count (length (run_numbers runs)) (out ++ (next, s - next) ∷ []) given n
+            (one_more_of count (length (run_numbers runs)) out next (s - next) all.of_both
+            (λ l. omega (arith, before, within)) (omega (arith, before, within)))
+            (λ l. absurd (omega (arith, l, all.past))) (omega (arith, rest_is, all.given_is)));
+        numbers = replaced_step runs out i next given count s n _ h s_is n_is before within all.long all.numbers;
+      })
     where
       rest_is : length (run_numbers (drop i runs)) ≡ n + length (run_numbers (drop (i + 1) runs))
       rest_is = rest_long runs out i next given count s n [] h s_is n_is before within all.long
 
-module _ (runs out more : List (ℕ × ℕ)) (count i next given : ℕ) (end : length runs ≤ i) (more_is : more ≡ out ++ (next, count - next) ∷ []) (all : HasReplaced runs count i next given out) where
-  pub all_replaced : run_numbers more ≡ replaced (run_numbers runs) (range_with_len count (length (run_numbers runs))) (range_with_len 0 count)
+module _ (runs out more : List (ℕ × ℕ)) (count i next given : ℕ) (end : length runs ≤ i) (more_is : more ≡
+    out ++ (next, count - next) ∷ []) (all : HasReplaced runs count i next given out) where
+  pub all_replaced : run_numbers more ≡
+      replaced (run_numbers runs) (range_with_len count (length (run_numbers runs))) (range_with_len 0 count)
   all_replaced = ap run_numbers more_is ∙ replaced_last runs out i next given count _ end all.numbers
 
   pub all_of_both : AreRunsOf count (length (run_numbers runs)) more
   all_of_both = subst (AreRunsOf count (length (run_numbers runs))) (sym more_is)
-      (one_more_of count (length (run_numbers runs)) out next (count - next) all.of_both (λ l. omega (arith, all.low)) (omega (arith, all.low)))
+      (one_more_of count (length (run_numbers runs)) out next (count - next) all.of_both (λ l. omega (arith, all.low))
+      (omega (arith, all.low)))
 
 -- the first i picks as runs, the last of which may still grow
 pub record HasJoined (picks : List ℕ) (count more i first len : ℕ) (runs : List (ℕ × ℕ)) : Type 0 where
@@ -165,17 +207,27 @@ pub record HasJoined (picks : List ℕ) (count more i first len : ℕ) (runs : L
   pub numbers : run_numbers runs ++ (range_with_len first len ++ drop i picks) ≡ picks
 
 pub none_joined : (picks : List ℕ) (count more : ℕ) → HasJoined picks count more 0 0 0 []
-none_joined picks count more = record { short = omega arith; in_first = λ h. omega arith; in_both = omega arith; of_both = λ k h. absurd (omega (arith, h)); numbers = refl }
+none_joined picks count more = record {
+  short = omega arith;
+  in_first = λ h. omega arith;
+  in_both = omega arith;
+  of_both = λ k h. absurd (omega (arith, h));
+  numbers = refl;
+}
 
-joined_one : (runs : List (ℕ × ℕ)) (first len : ℕ) → run_numbers (runs ++ (first, len) ∷ []) ≡ run_numbers runs ++ range_with_len first len
+joined_one : (runs : List (ℕ × ℕ)) (first len : ℕ) →
+    run_numbers (runs ++ (first, len) ∷ []) ≡ run_numbers runs ++ range_with_len first len
 joined_one runs first len =
-    flat_map-append (λ run. range_with_len run.0 run.1) runs ((first, len) ∷ []) ∙ ap (λ l. run_numbers runs ++ l) (append-nil (range_with_len first len))
+    flat_map-append (λ run. range_with_len run.0 run.1) runs ((first, len) ∷ [])
+    ∙ ap (λ l. run_numbers runs ++ l) (append-nil (range_with_len first len))
 
-module _ (picks : List ℕ) (count more i first len : ℕ) (runs : List (ℕ × ℕ)) (h : i < length picks) (below : AllBelow (count + more) picks) (all : HasJoined picks count more i first len runs) where
+module _ (picks : List ℕ) (count more i first len : ℕ) (runs : List (ℕ × ℕ)) (h : i < length picks)
+    (below : AllBelow (count + more) picks) (all : HasJoined picks count more i first len runs) where
   abbrev pick : ℕ
   pick = get_or picks i 0
 
-  pub one_grown : (pick ≡ count → ⊥) → first ≤ pick → pick - first ≡ len → HasJoined picks count more (i + 1) first (len + 1) runs
+  pub one_grown : (pick ≡ count → ⊥) → first ≤ pick → pick - first ≡ len →
+      HasJoined picks count more (i + 1) first (len + 1) runs
   one_grown other behind next =
       let pick_is : pick ≡ first + len = omega (arith, behind, next) in
       let low : pick < count + more = below i h in
@@ -185,11 +237,14 @@ module _ (picks : List ℕ) (count more i first len : ℕ) (runs : List (ℕ × 
         in_both = omega (arith, pick_is, low);
         of_both = all.of_both;
         numbers = ap (λ l. run_numbers runs ++ l)
-            (ap (λ l. l ++ drop (i + 1) picks) (range_split first len 1) ∙ (append_assoc (range_with_len first len) ((first + len) ∷ []) (drop (i + 1) picks)
-            ∙ ap (λ l. range_with_len first len ++ l) (ap (λ (p : ℕ). p ∷ drop (i + 1) picks) (sym pick_is) ∙ sym (drop_more picks i 0 h)))) ∙ all.numbers;
+            (ap (λ l. l ++ drop (i + 1) picks) (range_split first len 1)
+            ∙ (append_assoc (range_with_len first len) ((first + len) ∷ []) (drop (i + 1) picks)
+            ∙ ap (λ l. range_with_len first len ++ l) (ap (λ (p : ℕ). p ∷ drop (i + 1) picks) (sym pick_is)
+            ∙ sym (drop_more picks i 0 h)))) ∙ all.numbers;
       }
 
-  pub one_begun : (after : List (ℕ × ℕ)) → after ≡ runs ++ (first, len) ∷ [] → HasJoined picks count more (i + 1) pick 1 after
+  pub one_begun : (after : List (ℕ × ℕ)) → after ≡ runs ++ (first, len) ∷ [] →
+      HasJoined picks count more (i + 1) pick 1 after
   one_begun after is =
       let low : pick < count + more = below i h in
       subst (HasJoined picks count more (i + 1) pick 1) (sym is) (record {
@@ -197,34 +252,44 @@ module _ (picks : List ℕ) (count more i first len : ℕ) (runs : List (ℕ × 
         in_first = λ l. omega (arith, l);
         in_both = omega (arith, low);
         of_both = one_more_of count more runs first len all.of_both all.in_first all.in_both;
-        numbers = ap₂ (λ a b. a ++ b) (joined_one runs first len) (sym (drop_more picks i 0 h)) ∙ (append_assoc (run_numbers runs) (range_with_len first len) (drop i picks) ∙ all.numbers);
+        numbers = ap₂ (λ a b. a ++ b) (joined_one runs first len) (sym (drop_more picks i 0 h))
+            ∙ (append_assoc (run_numbers runs) (range_with_len first len) (drop i picks) ∙ all.numbers);
       })
 
-module _ (picks : List ℕ) (count more i first len : ℕ) (runs after : List (ℕ × ℕ)) (end : length picks ≤ i) (is : after ≡ runs ++ (first, len) ∷ []) (all : HasJoined picks count more i first len runs) where
+module _ (picks : List ℕ) (count more i first len : ℕ) (runs after : List (ℕ × ℕ)) (end : length picks
+    ≤ i) (is : after ≡ runs ++ (first, len) ∷ []) (all : HasJoined picks count more i first len runs) where
   pub all_joined : run_numbers after ≡ picks
   all_joined =
       ap run_numbers is ∙ (joined_one runs first len
-      ∙ (ap (λ l. run_numbers runs ++ l) (sym (ap (λ l. range_with_len first len ++ l) (drop_all i picks end) ∙ append-nil (range_with_len first len))) ∙ all.numbers))
+      ∙ (ap (λ l. run_numbers runs ++ l) (sym (ap (λ l. range_with_len first len ++ l) (drop_all i picks end)
+      ∙ append-nil (range_with_len first len))) ∙ all.numbers))
 
   pub joined_of_both : AreRunsOf count more after
-  joined_of_both = subst (AreRunsOf count more) (sym is) (one_more_of count more runs first len all.of_both all.in_first all.in_both)
+  joined_of_both =
+      subst (AreRunsOf count more) (sym is) (one_more_of count more runs first len all.of_both all.in_first all.in_both)
 
 -- the numbers of runs are below their limit, and the picks below both counts
 below_joined : (limit : ℕ) (xs ys : List ℕ) → AllBelow limit xs → AllBelow limit ys → AllBelow limit (xs ++ ys)
 below_joined limit [] ys a b = b
-below_joined limit (x ∷ xs) ys a b = below_first limit x (xs ++ ys) (a 0 (omega arith)) (below_joined limit xs ys (below_rest limit x xs a) b)
+below_joined limit (x ∷ xs) ys a b =
+    below_first limit x (xs ++ ys) (a 0 (omega arith)) (below_joined limit xs ys (below_rest limit x xs a) b)
 
 pub numbers_below : (limit : ℕ) (runs : List (ℕ × ℕ)) → AreRunsBelow limit runs → AllBelow limit (run_numbers runs)
 numbers_below limit [] all = λ k h. absurd (omega (arith, h))
 numbers_below limit (run ∷ runs) all =
-    below_joined limit (range_with_len run.0 run.1) (run_numbers runs) (range_below limit run.0 run.1 (all 0 (omega arith)))
+    below_joined limit (range_with_len run.0 run.1) (run_numbers runs)
+    (range_below limit run.0 run.1 (all 0 (omega arith)))
     (numbers_below limit runs (λ k h. all (suc k) (omega (arith, h))))
 
-pub picks_below_both : (number : ℕ) (indices picks : List ℕ) → picks ≡ replaced indices (range_with_len number (length indices)) (range_with_len 0 number) → AllBelow (number + length indices) picks
-picks_below_both number indices picks is = subst (AllBelow (number + length indices)) (sym is) (picks_below number (length indices) indices refl)
+pub picks_below_both : (number : ℕ) (indices picks : List ℕ) → picks ≡ replaced indices
+    (range_with_len number (length indices)) (range_with_len 0 number) → AllBelow (number + length indices) picks
+picks_below_both number indices picks is =
+    subst (AllBelow (number + length indices)) (sym is) (picks_below number (length indices) indices refl)
 
-pub numbers_step : (runs : List (ℕ × ℕ)) (i : ℕ) (numbers more all : List ℕ) → i < length runs → more ≡ numbers ++ range_with_len (get_or runs i (0, 0)).0 (get_or runs i (0, 0)).1 →
+pub numbers_step : (runs : List (ℕ × ℕ)) (i : ℕ) (numbers more all : List ℕ) → i < length runs →
+    more ≡ numbers ++ range_with_len (get_or runs i (0, 0)).0 (get_or runs i (0, 0)).1 →
     numbers ++ run_numbers (drop i runs) ≡ all → more ++ run_numbers (drop (i + 1) runs) ≡ all
 numbers_step runs i numbers more all h is before =
     ap (λ l. l ++ run_numbers (drop (i + 1) runs)) is
-    ∙ (append_assoc numbers (range_with_len (get_or runs i (0, 0)).0 (get_or runs i (0, 0)).1) (run_numbers (drop (i + 1) runs)) ∙ (ap (λ l. numbers ++ l) (sym (runs_more runs i h)) ∙ before))
+    ∙ (append_assoc numbers (range_with_len (get_or runs i (0, 0)).0 (get_or runs i (0, 0)).1)
+    (run_numbers (drop (i + 1) runs)) ∙ (ap (λ l. numbers ++ l) (sym (runs_more runs i h)) ∙ before))

@@ -1,11 +1,14 @@
 -- Runs of neighbouring elements that two boxes share.
-use Rattle.std.proofs.Common.{◌≡◌, ℕ, zero, suc, ◌+◌, ◌-◌, ◌*◌, ◌/◌, ◌%◌, ◌^◌, ◌<◌, ◌≤◌, ◌==◌, nat_le, nat_lt, ◌&&◌, true, false, if◌then◌else◌, List, [], ◌∷◌, length, get_or, drop, refl, sym, ap, ap₂, ◌∙◌, subst, subst₂, arith, ⊎_elim}
+use Rattle.std.proofs.Common.{◌≡◌, ℕ, zero, suc, ◌+◌, ◌-◌, ◌*◌, ◌/◌, ◌%◌, ◌^◌, ◌<◌, ◌≤◌, ◌==◌, nat_le, nat_lt, ◌&&◌}
+use Rattle.std.proofs.Common.{true, false, if◌then◌else◌, List, [], ◌∷◌, length, get_or, drop, refl, sym, ap, ap₂, ◌∙◌}
+use Rattle.std.proofs.Common.{subst, subst₂, arith, ⊎_elim}
 use Rattle.std.proofs.lemmas.Bool.{and_parts, cases_lt, cond-true, cond-false, false_from_ne_true, true≢false}
 use Rattle.std.proofs.lemmas.Bool.Decides.{nat_tests}
 use Rattle.std.proofs.lemmas.Nat.{div_below, mod_below}
 use Rattle.std.proofs.Math.Nat.{add-mul, div-add-mod', suc-mul, mul-le-mul_right, mul-le-mul_left, mul_comm, mul_assoc}
 use Rattle.zarr_model.specs.Prelude.{Span, Region, count, contains, is_in, tuple_at}
-use Rattle.zarr_model.proofs.RegionLaws.{positive_parts, positive_factor, place_below, in_span, span_in, contains-tuple_at, place-tuple_at, ends_of_span}
+use Rattle.zarr_model.proofs.RegionLaws.{positive_parts, positive_factor, place_below, in_span, span_in}
+use Rattle.zarr_model.proofs.RegionLaws.{contains-tuple_at, place-tuple_at, ends_of_span}
 use Rattle.zarrs_codec_slices.specs.Elements.{fixed_elements}
 use Rattle.zarrs_codec_slices.specs.Overlap.{Copied, in_bytes, span_at, shared_from, shared_size, with_run}
 use Rattle.zarrs_codec_slices.specs.Runs.{AreApart, IsRunAxis, IsSharedRun}

@@ -1,5 +1,6 @@
 -- Array bytes whose elements are all a fill value.
-use Rattle.std.specs.Prelude.{◌≡◌, ℕ, ◌+◌, ◌-◌, ◌<◌, ◌==◌, Bool, true, false, if◌then◌else◌, List, [], ◌∷◌, length, take, replicate}
+use Rattle.std.specs.Prelude.{◌≡◌, ℕ, ◌+◌, ◌-◌, ◌<◌, ◌==◌, Bool, true, false, if◌then◌else◌, List, [], ◌∷◌, length}
+use Rattle.std.specs.Prelude.{take, replicate}
 use Rattle.zarr_model.specs.Element.{Kind, fixed, variable, optional, fixed_size}
 use Rattle.zarr_model.specs.ArrayBytes.{ArrayBytes, fixed_bytes, variable_bytes, optional_bytes, ends_from}
 use Rattle.zarrs_data_type_bytes.specs.Pieces.{repeated, Repeats, ends_in_zero}
@@ -38,7 +39,7 @@ filled_with (optional kind) number fill =
     (replicate number (flag_of fill))
 
 -- there is an element between offsets, and each has these bytes
-pub record AreValues (fill value offsets : List ℕ) : Type 0 where
+pub record AreFilledValues (fill value offsets : List ℕ) : Type 0 where
   pub some : 1 < length offsets
   pub each : (k : ℕ) → k + 1 < length offsets → value_of value offsets k ≡ fill
 
@@ -51,6 +52,6 @@ MasksFill false mask Under = Repeats (1 ∷ []) mask × Under
 -- array bytes have an element, and each is the fill value
 abbrev pub AreFill : ArrayBytes → List ℕ → Type 0
 AreFill (fixed_bytes value) fill = Repeats fill value
-AreFill (variable_bytes value offsets) fill = AreValues fill value offsets
+AreFill (variable_bytes value offsets) fill = AreFilledValues fill value offsets
 AreFill (optional_bytes under mask) fill =
     MasksFill (ends_in_zero fill) mask (AreFill under (take (length fill - 1) fill))

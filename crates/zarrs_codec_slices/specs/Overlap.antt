@@ -1,5 +1,6 @@
 -- What a copy between two boxes does.
-use Rattle.std.specs.Prelude.{◌≡◌, ℕ, ◌+◌, ◌-◌, ◌<◌, max, min, if◌then◌else◌, List, ◌++◌, length, get_or, take, drop, [], ◌∷◌}
+use Rattle.std.specs.Prelude.{◌≡◌, ℕ, ◌+◌, ◌-◌, ◌<◌, max, min, if◌then◌else◌, List, ◌++◌, length, get_or, take, drop}
+use Rattle.std.specs.Prelude.{[], ◌∷◌}
 use Rattle.zarr_model.specs.Prelude.{Span, Region, count, contains, place, tuple_at}
 pub use Rattle.zarr_model.specs.Region.{span_at}
 

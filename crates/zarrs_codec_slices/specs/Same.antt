@@ -1,5 +1,6 @@
 -- When optional array bytes are equal.
-use Rattle.std.specs.Prelude.{◌≡◌, ℕ, zero, suc, ◌+◌, ◌/◌, ◌<◌, ◌==◌, Bool, true, false, not, ◌&&◌, nat_lt, if◌then◌else◌, List, length, get_or, bytes_eq, Option, Some, None}
+use Rattle.std.specs.Prelude.{◌≡◌, ℕ, zero, suc, ◌+◌, ◌/◌, ◌<◌, ◌==◌, Bool, true, false, not, ◌&&◌, nat_lt}
+use Rattle.std.specs.Prelude.{if◌then◌else◌, List, length, get_or, bytes_eq, Option, Some, None}
 use Rattle.zarr_model.specs.Element.{Element}
 use Rattle.std.specs.List.{list_all, range_with_len}
 use Rattle.zarr_model.specs.ArrayBytes.{ArrayBytes, fixed_bytes, variable_bytes, optional_bytes}
@@ -45,18 +46,18 @@ same_array_bytes _ _ = false
 
 -- what equality sees of an element: its bytes, or the mask byte and what is under it, or that there
 -- is none
-pub data Seen : Type 0 where
-  nothing : Seen
-  fixed_seen : List ℕ → Seen
-  variable_seen : Option (List ℕ) → Seen
-  flag_seen : Option ℕ → Seen → Seen
-  odd : Element → Seen
+pub data SeenBytes : Type 0 where
+  nothing : SeenBytes
+  fixed_seen : List ℕ → SeenBytes
+  variable_seen : Option (List ℕ) → SeenBytes
+  flag_seen : Option ℕ → SeenBytes → SeenBytes
+  odd : Element → SeenBytes
 
-abbrev pub flagged : ℕ → Seen → Seen
+abbrev pub flagged : ℕ → SeenBytes → SeenBytes
 flagged zero under = flag_seen (Some 0) nothing
 flagged (suc b) under = flag_seen (Some (suc b)) under
 
-abbrev pub seen_at : ℕ → ℕ → ArrayBytes → Seen
+abbrev pub seen_at : ℕ → ℕ → ArrayBytes → SeenBytes
 seen_at number i (fixed_bytes a) = fixed_seen (piece_of (length a / number) a i)
 seen_at number i (variable_bytes a p) =
     variable_seen (if nat_lt (i + 1) (length p) then Some (value_of a p i) else None)

@@ -5,7 +5,7 @@ ghost use Rattle.std.specs.List.{flat_map};
 ghost use Rattle.zarr_model.specs.ArrayBytes.{ends_from};
 ghost use Rattle.zarrs_data_type_bytes.specs.Pieces.{repeated};
 ghost use Rattle.zarrs_codec_slices.specs.Picking.{AllBelow, value_of, picked_value, are_within};
-ghost use Rattle.zarrs_codec_slices.specs.Filling.{AreValues};
+ghost use Rattle.zarrs_codec_slices.specs.Filling.{AreFilledValues};
 
 use std::alloc::{AllocError, Global};
 
@@ -121,7 +121,7 @@ fn is_value_at(bytes: &[u8], offsets: &[usize], place: usize, value: &[u8]) -> b
 /// Whether there is an element between the offsets, and each has these bytes.
 pub fn are_values(bytes: &[u8], offsets: &[usize], value: &[u8]) -> bool
     requires { are_within bytes.now offsets.now ≡ true }
-    ensures { IsTrue result ↔ AreValues value.now bytes.now offsets.now }
+    ensures { IsTrue result ↔ AreFilledValues value.now bytes.now offsets.now }
 {
     if offsets.len() < 2 {
         return false;

@@ -1,3 +1,8 @@
+pub mod PartLaws
+pub mod IntervalLaws
+pub mod ThroughLaws
+pub mod EditLaws
+pub mod HeldFaultLaws
 pub mod CountLaws
 pub mod FaultLaws
 pub mod FillLaws

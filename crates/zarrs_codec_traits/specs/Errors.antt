@@ -6,7 +6,7 @@ use Rattle.zarr_model.specs.Command.{expected_fixed_length_bytes, invalid_variab
 use Rattle.zarrs_storage.specs.declared.store.StorageError.{StorageError}
 use Rattle.zarrs_data_type_bytes.specs.declared.codec_support.CodecName.{CodecName}
 use Rattle.zarrs_data_type_bytes.specs.declared.codec_support.DataTypeCodecError.TheVariants as fault
-use Rattle.zarrs_codec_array_bytes.specs.Refusals.{Told, told_by, fine, refused, other_fill}
+use Rattle.zarrs_codec_array_bytes.specs.Refusals.{BytesAnswer, told_by, fine, refused, other_fill}
 use Rattle.zarrs_codec_error.specs.declared.error.CodecError.{CodecError}
 use Rattle.zarrs_codec_error.specs.declared.error.CodecError.TheVariants as codec
 
@@ -57,11 +57,11 @@ FillAnswers false (Ok v) = ⊥
 FillAnswers false (Err e) = (e ≡ codec.OutOfMemory) ⊎ (told_by e ≡ other_fill)
 
 -- a call is refused by what is told, or memory ran out
-abbrev pub RefusesAs : {T : Type 0} → Told → Result T CodecError → Type 0
+abbrev pub RefusesAs : {T : Type 0} → BytesAnswer → Result T CodecError → Type 0
 RefusesAs fine result = Unit {0}
 RefusesAs why (Ok v) = ⊥
 RefusesAs why (Err e) = (e ≡ codec.OutOfMemory) ⊎ (told_by e ≡ why)
 
 -- nothing is refused, or the form of variable-length elements is
-abbrev pub IsFormRefusal : Told → Type 0
+abbrev pub IsFormRefusal : BytesAnswer → Type 0
 IsFormRefusal told = (told ≡ fine) ⊎ (told ≡ refused invalid_variable_sized_array_offsets)

@@ -1,25 +1,30 @@
 -- What a value is decoded into.
-use Rattle.std.specs.Prelude.{◌≡◌, ◌⊎◌, ℕ, zero, suc, ◌*◌, Bool, true, false, List, ◌∷◌, length, Option, Some, None, Result, Ok, Err}
+use Rattle.std.specs.Prelude.{◌≡◌, ◌⊎◌, ℕ, zero, suc, ◌*◌, Bool, true, false, List, ◌∷◌, length, Option, Some, None}
+use Rattle.std.specs.Prelude.{Result, Ok, Err}
 use Rattle.zarr_model.specs.Region.{count}
 use Rattle.zarr_model.specs.Element.{Element, Kind, fixed, variable, optional}
 use Rattle.zarr_model.specs.ArrayBytes.{ArrayBytes, meaning}
 use Rattle.zarr_model.specs.Command.{expected_fixed_length_bytes, expected_optional_bytes}
 use Rattle.zarrs_array_subset.specs.ArraySubset.{region}
-use Rattle.zarrs_codec_array_bytes.specs.Refusals.{Told, fine, refused, then_answer, Answers}
+use Rattle.zarrs_codec_array_bytes.specs.Refusals.{BytesAnswer, fine, refused, then_answer, Answers}
 use Rattle.zarrs_codec_error.specs.declared.error.CodecError.{CodecError}
 use Rattle.zarrs_codec_error.specs.declared.error.CodecError.TheVariants as codec
 use Rattle.zarrs_codec_traits.specs.Words.{Gives}
-use Rattle.zarrs_codec_view.specs.Targets.{ArePut, view_answer}
-use Rattle.zarrs_codec_view.specs.TargetViews.{inner_view}
-use Rattle.zarrs_codec_view.specs.declared.array_bytes_fixed_disjoint_view.ArrayBytesFixedDisjointView.{ArrayBytesFixedDisjointView}
-use Rattle.zarrs_codec_view.specs.declared.decode_into_target.ArrayBytesDecodeIntoTarget.{ArrayBytesDecodeIntoTarget}
+use Rattle.zarrs_codec_array_bytes_parts.specs.Targets.{ArePut, view_answer}
+use Rattle.zarrs_codec_array_bytes_parts.specs.TargetViews.{inner_view}
+use Rattle.zarrs_codec_array_bytes_parts.specs.declared.array_bytes_fixed_disjoint_view.ArrayBytesFixedDisjointView.{
+  ArrayBytesFixedDisjointView,
+}
+use Rattle.zarrs_codec_array_bytes_parts.specs.declared.decode_into_target.ArrayBytesDecodeIntoTarget.{
+  ArrayBytesDecodeIntoTarget,
+}
 
 -- how many elements the innermost view of a target has
 abbrev pub num_elements_in : ArrayBytesDecodeIntoTarget → ℕ
 num_elements_in target = count (region (inner_view target).part.subset)
 
 -- elements of a kind have so many masks and then one size, tested from the outermost level on
-abbrev pub kind_answer : Kind → ℕ → Told
+abbrev pub kind_answer : Kind → ℕ → BytesAnswer
 kind_answer variable num_masks = refused expected_fixed_length_bytes
 kind_answer (fixed size) zero = fine
 kind_answer (fixed size) (suc num_masks) = refused expected_optional_bytes
@@ -28,7 +33,7 @@ kind_answer (optional kind) (suc num_masks) = kind_answer kind num_masks
 
 -- so many of them are those of the views' boxes: the masks from the outermost on, then the data
 abbrev pub views_answer : Kind → ℕ → List ArrayBytesFixedDisjointView
-    → ArrayBytesFixedDisjointView → Told
+    → ArrayBytesFixedDisjointView → BytesAnswer
 views_answer (optional kind) number (view ∷ views) inner =
     then_answer (view_answer number view) (views_answer kind number views inner)
 views_answer (fixed size) number views inner = view_answer (number * size) inner
@@ -36,7 +41,7 @@ views_answer _ number views inner = fine
 
 -- what a target answers to so many elements of a kind
 abbrev pub into_answer : Kind → ℕ → List ArrayBytesFixedDisjointView → ArrayBytesFixedDisjointView
-    → Told
+    → BytesAnswer
 into_answer kind number views inner =
     then_answer (kind_answer kind (length views)) (views_answer kind number views inner)
 
@@ -48,7 +53,7 @@ RefusesCount false num expected (Err e) = (e ≡ codec.OutOfMemory)
     ⊎ (e ≡ codec.InvalidNumberOfElements (record { num = num; expected = expected }))
 
 -- a value that does not decode is refused so, and else the target answers
-abbrev pub DecodesInto : {A T : Type 0} → Option A → (CodecError → Type 0) → Told
+abbrev pub DecodesInto : {A T : Type 0} → Option A → (CodecError → Type 0) → BytesAnswer
     → Result T CodecError → Type 0
 DecodesInto None says told (Ok v) = ⊥
 DecodesInto None says told (Err e) = (e ≡ codec.OutOfMemory) ⊎ says e

@@ -1,3 +1,8 @@
+pub mod Held
+pub mod Reads
+pub mod Writes
+pub mod Interval
+pub mod Through
 pub mod Views
 pub mod Words
 pub mod Parts
@@ -6,3 +11,4 @@ pub mod Into
 pub mod CodecMetadata
 pub mod CodecOf
 pub mod Making
+pub mod Prelude

@@ -6,8 +6,8 @@ use Rattle.zarr_model.specs.Element.{null, fill_element, kind_of}
 use Rattle.zarr_model.specs.Codec.{Level, Options}
 use Rattle.zarrs_data_type_bytes.specs.FillValue.{fill_bytes}
 use Rattle.zarrs_data_type_bytes.specs.declared.fill_value.FillValue.{FillValue}
-use Rattle.zarrs_data_type_names.specs.DataType.{type_of}
-use Rattle.zarrs_data_type_names.specs.declared.data_type.DataType.{DataType}
+use Rattle.zarrs_data_type.specs.DataType.{type_of}
+use Rattle.zarrs_data_type.specs.declared.data_type.DataType.{DataType}
 use Rattle.zarrs_storage.specs.declared.byte_range.ByteRange.{ByteRange}
 use Rattle.zarrs_codec_error.specs.declared.options.CodecOptions.{CodecOptions}
 
@@ -32,5 +32,5 @@ options_of options = record {
 }
 
 -- the ranges of an answer, if there are some
-abbrev pub ranges_of : {Z : Type 0} → Option (Vec ByteRange Z) → Option (List ByteRange)
-ranges_of ranges = option_map (λ v. v.items) ranges
+abbrev pub asked_ranges : {Z : Type 0} → Option (Vec ByteRange Z) → Option (List ByteRange)
+asked_ranges ranges = option_map (λ v. v.items) ranges

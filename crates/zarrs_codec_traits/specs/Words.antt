@@ -1,5 +1,6 @@
 -- Levels, lists of elements and regions of them.
-use Rattle.std.specs.Prelude.{◌≡◌, ℕ, ◌+◌, ◌*◌, ◌^◌, ◌<◌, Bool, true, false, List, map, get_or, Option, Some, None, IsSome}
+use Rattle.std.specs.Prelude.{◌≡◌, ℕ, ◌+◌, ◌*◌, ◌^◌, ◌<◌, Bool, true, false, List, map, get_or, Option, Some, None}
+use Rattle.std.specs.Prelude.{IsSome}
 use Rattle.std.specs.List.{AllByRecursion}
 use Rattle.zarr_model.specs.Region.{Region, whole, tuples, place, sizes, count_of}
 use Rattle.zarr_model.specs.Element.{Element, of_bytes, null, some, DataType, kind_of, fixed_size}

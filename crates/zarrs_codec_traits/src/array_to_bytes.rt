@@ -11,19 +11,19 @@ ghost use Rattle.zarrs_array_subset.specs.ArraySubset.{region as box_of};
 ghost use Rattle.zarrs_storage.specs.declared.byte_range.ByteRange.{ByteRange};
 ghost use Rattle.zarrs_storage.specs.ByteRange.{first_invalid, parts_of};
 ghost use Rattle.zarrs_data_type_bytes.specs.FillValue.{fill_bytes};
-ghost use Rattle.zarrs_data_type_names.specs.DataType.{type_of};
+ghost use Rattle.zarrs_data_type.specs.DataType.{type_of};
 ghost use Rattle.zarrs_codec_error.specs.declared.error.CodecError.{CodecError};
 ghost use Rattle.zarrs_codec_error.specs.declared.error.CodecError.TheVariants as codec;
 ghost use Rattle.zarrs_codec_array_bytes.specs.Raw.{raw_of};
-ghost use Rattle.zarrs_codec_array_bytes.specs.Refusals.{Told, fine, validity, then_answer, Answers};
+ghost use Rattle.zarrs_codec_array_bytes.specs.Refusals.{BytesAnswer, fine, validity, then_answer, Answers};
 ghost use Rattle.zarrs_codec_error.specs.declared.bytes_representation.BytesRepresentation.{BytesRepresentation};
 ghost use Rattle.zarrs_codec_traits.specs.Errors.{unserved_at, IsNoFault, RefusesBy, Serves, RefusesAs, IsDecodeError, IsFormRefusal};
-ghost use Rattle.zarrs_codec_view.specs.Held.{held_by, IsTargetOf};
-ghost use Rattle.zarrs_codec_view.specs.Targets.{LeftBehind};
-ghost use Rattle.zarrs_codec_view.specs.TargetViews.{inner_view, mask_views};
+ghost use Rattle.zarrs_codec_array_bytes_parts.specs.Held.{held_by, IsTargetOf};
+ghost use Rattle.zarrs_codec_array_bytes_parts.specs.Targets.{LeftBehind};
+ghost use Rattle.zarrs_codec_array_bytes_parts.specs.TargetViews.{inner_view, mask_views};
 ghost use Rattle.zarrs_codec_traits.specs.Into.{num_elements_in, into_answer, RefusesCount, DecodesInto, IsPut};
-ghost use Rattle.zarrs_codec_traits.specs.Parts.{AreParts, IsAnswer, request_answer};
-ghost use Rattle.zarrs_codec_traits.specs.Views.{lengths, level_of, options_of, ranges_of};
+ghost use Rattle.zarrs_codec_traits.specs.Parts.{ArePartsOf, IsAnswer, request_answer};
+ghost use Rattle.zarrs_codec_traits.specs.Views.{lengths, level_of, options_of, asked_ranges};
 ghost use Rattle.zarrs_codec_traits.specs.Words.{list_at, at_box, select, Gives, IsFit};
 
 use crate::codec_traits::ArrayCodecTraits;
@@ -32,10 +32,10 @@ use std::alloc::Global;
 use std::num::NonZeroU64;
 use zarrs_array_subset::ArraySubset;
 use zarrs_codec_array_bytes::ArrayBytes;
+use zarrs_codec_array_bytes_parts::ArrayBytesDecodeIntoTarget;
 use zarrs_codec_error::{BytesRepresentation, CodecError, CodecOptions, CodecSpecificOptions};
-use zarrs_codec_view::ArrayBytesDecodeIntoTarget;
+use zarrs_data_type::DataType;
 use zarrs_data_type_bytes::FillValue;
-use zarrs_data_type_names::DataType;
 use zarrs_storage::ByteRange;
 
 /// A codec that turns the elements of an array into bytes.
@@ -50,7 +50,7 @@ pub trait ArrayToBytesCodecTraits: ArrayCodecTraits + Sized {
     ghost says: { Self → Options → Level → List ℕ → CodecError → Type 0 };
 
     // What is refused of array bytes that are valid, and where nothing is of any that are short.
-    ghost beyond: { Self → Level → model.ArrayBytes → Told };
+    ghost beyond: { Self → Level → model.ArrayBytes → BytesAnswer };
 
     ghost takes: { Self → Level → Type 0 };
 
@@ -259,7 +259,7 @@ pub trait ArrayToBytesCodecTraits: ArrayCodecTraits + Sized {
             (Some (type_of data_type.now)) None) result }
         ensures value { Self.unserved self.now (Some (lengths shape.now))
             (Some (type_of data_type.now)) None ≡ None → MatchResult result
-            (λ r. ranges_of r ≡ request self.now (lengths shape.now) (type_of data_type.now)
+            (λ r. asked_ranges r ≡ request self.now (lengths shape.now) (type_of data_type.now)
             (box_of region.now)) (λ e. e ≡ codec.OutOfMemory) };
 
     /// The elements of a region, out of the parts of a value that `byte_request` names, or out of the whole value
@@ -292,14 +292,14 @@ pub trait ArrayToBytesCodecTraits: ArrayCodecTraits + Sized {
         ensures value { let level = level_of shape.now data_type.now fill_value.now in
             (value : List ℕ) (xs : List Element)
             → unserved_at (Self.unserved self.now) level (fill_bytes fill_value.now) ≡ None
-            → AreParts (request self.now level.shape level.data_type (box_of region.now)) value
+            → ArePartsOf (request self.now level.shape level.data_type (box_of region.now)) value
             (parts_of parts) → meaning self.now (options_of options.now) level value ≡ Some xs
             → MatchResult result (λ v. list_at (at_box (box_of region.now) level) (raw_of v)
             ≡ Some (select level.shape (box_of region.now) xs)) (λ e. e ≡ codec.OutOfMemory) }
         ensures cause { let level = level_of shape.now data_type.now fill_value.now in
             (value : List ℕ)
             → unserved_at (Self.unserved self.now) level (fill_bytes fill_value.now) ≡ None
-            → AreParts (request self.now level.shape level.data_type (box_of region.now)) value
+            → ArePartsOf (request self.now level.shape level.data_type (box_of region.now)) value
             (parts_of parts)
             → request_answer (request self.now level.shape level.data_type (box_of region.now))
             (parts_of parts) ≡ fine → IfErr result

@@ -11,7 +11,7 @@ ghost use Rattle.zarrs_plugin.specs.Making.{Unmade, Makes};
 ghost use Rattle.zarrs_plugin.specs.declared.error.PluginKind.TheVariants as kinds;
 ghost use Rattle.zarrs_plugin.specs.declared.zarr_version.ZarrVersion.{ZarrVersion};
 ghost use Rattle.zarrs_plugin.specs.declared.zarr_version.ZarrVersion.TheVariants as version;
-ghost use Rattle.zarrs_data_type_names.specs.DataType.{type_of};
+ghost use Rattle.zarrs_data_type.specs.DataType.{type_of};
 ghost use Rattle.zarrs_codec_error.specs.Options.{default_metadata_options};
 ghost use Rattle.zarrs_codec_error.specs.declared.options.CodecMetadataOptions.{CodecMetadataOptions};
 ghost use Rattle.zarrs_codec_error.specs.declared.capability.PartialDecoderCapability.{PartialDecoderCapability};
@@ -28,7 +28,7 @@ use zarrs_codec_error::{
     CodecError, CodecMetadataOptions, PartialDecoderCapability, PartialEncoderCapability,
     RecommendedConcurrency,
 };
-use zarrs_data_type_names::DataType;
+use zarrs_data_type::DataType;
 use zarrs_metadata_parts::{Configuration, MetadataV2, MetadataV3};
 use zarrs_plugin::{ExtensionName, PluginCreateError, ZarrVersion};
 

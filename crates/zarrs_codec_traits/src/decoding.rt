@@ -5,9 +5,9 @@ ghost use Rattle.zarr_model.specs.Region.{count, count_of};
 ghost use Rattle.zarr_model.specs.Element.{kind_of};
 ghost use Rattle.zarrs_array_subset.specs.ArraySubset.{region as box_of};
 ghost use Rattle.zarrs_data_type_bytes.specs.FillValue.{fill_bytes};
-ghost use Rattle.zarrs_data_type_names.specs.DataType.{type_of};
+ghost use Rattle.zarrs_data_type.specs.DataType.{type_of};
 ghost use Rattle.zarrs_codec_array_bytes.specs.Raw.{raw_of};
-ghost use Rattle.zarrs_codec_view.specs.Held.{held_by, IsTargetOf};
+ghost use Rattle.zarrs_codec_array_bytes_parts.specs.Held.{held_by, IsTargetOf};
 ghost use Rattle.zarrs_codec_traits.specs.Errors.{unserved_at, RefusesBy, IsDecodeError};
 ghost use Rattle.zarrs_codec_traits.specs.Views.{lengths, level_of, options_of};
 ghost use Rattle.zarrs_codec_traits.specs.Words.{list_at, Gives, IsFit};
@@ -19,10 +19,10 @@ use crate::shape::num_elements;
 use std::alloc::Global;
 use std::num::NonZeroU64;
 use zarrs_codec_array_bytes::ArrayBytes;
+use zarrs_codec_array_bytes_parts::ArrayBytesFixedDisjointView;
 use zarrs_codec_error::{CodecError, CodecOptions};
-use zarrs_codec_view::ArrayBytesFixedDisjointView;
+use zarrs_data_type::DataType;
 use zarrs_data_type_bytes::FillValue;
-use zarrs_data_type_names::DataType;
 
 // What a value decodes to, for a target of so many elements.
 fn decoded_for<C: ArrayToBytesCodecTraits>(

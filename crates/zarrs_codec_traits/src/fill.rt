@@ -11,8 +11,8 @@ ghost use Rattle.zarrs_codec_traits.specs.Errors.{FillAnswers};
 use std::alloc::Global;
 use zarrs_codec_array_bytes::ArrayBytes;
 use zarrs_codec_error::CodecError;
+use zarrs_data_type::DataType;
 use zarrs_data_type_bytes::FillValue;
-use zarrs_data_type_names::DataType;
 
 // Whether a fill value has the size of the type's.
 fn expect_size(

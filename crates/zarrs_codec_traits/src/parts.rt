@@ -7,7 +7,7 @@ ghost use Rattle.zarr_model.specs.ArrayBytes.{meaning};
 ghost use Rattle.zarr_model.specs.Command.{has_long_element};
 ghost use Rattle.zarrs_array_subset.specs.ArraySubset.{region as box_of};
 ghost use Rattle.zarrs_storage.specs.ByteRange.{parts_of};
-ghost use Rattle.zarrs_data_type_names.specs.DataType.{type_of};
+ghost use Rattle.zarrs_data_type.specs.DataType.{type_of};
 ghost use Rattle.zarrs_codec_array_bytes.specs.Raw.{raw_of};
 ghost use Rattle.zarrs_codec_error.specs.declared.error.CodecError.TheVariants as codec;
 ghost use Rattle.zarrs_codec_traits.specs.Errors.{IsNoFault};
@@ -20,7 +20,7 @@ use std::num::NonZeroU64;
 use zarrs_array_subset::ArraySubset;
 use zarrs_codec_array_bytes::ArrayBytes;
 use zarrs_codec_error::CodecError;
-use zarrs_data_type_names::DataType;
+use zarrs_data_type::DataType;
 
 /// The one part that there is.
 pub fn only_part(parts: Vec<Vec<u8>>) -> Vec<u8>

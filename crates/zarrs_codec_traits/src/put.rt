@@ -3,14 +3,14 @@
 ghost use Rattle.std.specs.Prelude.{◌≡◌, ◌==◌, [], true, false, IfOk, IfErr};
 ghost use Rattle.zarrs_codec_array_bytes.specs.Raw.{raw_of};
 ghost use Rattle.zarrs_codec_array_bytes.specs.Refusals.{told};
-ghost use Rattle.zarrs_codec_view.specs.Targets.{target_answer, ArePut};
+ghost use Rattle.zarrs_codec_array_bytes_parts.specs.Targets.{target_answer, ArePut};
 ghost use Rattle.zarrs_codec_traits.specs.Into.{RefusesCount};
 
 use zarrs_codec_array_bytes::ArrayBytes;
-use zarrs_codec_error::{CodecError, InvalidNumberOfElementsError};
-use zarrs_codec_view::{
+use zarrs_codec_array_bytes_parts::{
     ArrayBytesDecodeIntoTarget, ArrayBytesFixedDisjointView, decode_into_array_bytes_target,
 };
+use zarrs_codec_error::{CodecError, InvalidNumberOfElementsError};
 
 /// Tests that a target has as many elements as are expected.
 ///

@@ -10,7 +10,8 @@ is_text bytes a h = go (is_utf8 bytes) (is_utf8-from_IsUtf8 bytes h)
     go true e = refl
     go false e = cc
 
-pub is_no_text : {A : Type 0} (bytes : List ℕ) (a : A) → ¬ (IsUtf8 bytes) → (if is_utf8 bytes then Some a else None) ≡ None
+pub is_no_text : {A : Type 0} (bytes : List ℕ) (a : A) → ¬ (IsUtf8 bytes) →
+    (if is_utf8 bytes then Some a else None) ≡ None
 is_no_text bytes a h = go (is_utf8 bytes) refl
   where
     go : (t : Bool) → is_utf8 bytes ≡ t → (if t then Some a else None) ≡ None

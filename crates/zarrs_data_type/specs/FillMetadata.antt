@@ -1,12 +1,15 @@
 -- Which bytes a fill value in a document stands for, by the data type.
-use Rattle.std.specs.Prelude.{◌≡◌, ℕ, zero, suc, ℤ, pos, negsuc, ◌-◌, ◌*◌, ◌^◌, ◌==◌, nat_lt, if◌then◌else◌, Bool, true, false, List, [], ◌∷◌, ◌++◌, length, take, slice_index, Option, Some, None, option_map, option_and_then, Result, Ok, Err}
+use Rattle.std.specs.Prelude.{◌≡◌, ℕ, zero, suc, ℤ, pos, negsuc, ◌-◌, ◌*◌, ◌^◌, ◌==◌, nat_lt, if◌then◌else◌, Bool, true}
+use Rattle.std.specs.Prelude.{false, List, [], ◌∷◌, ◌++◌, length, take, slice_index, Option, Some, None, option_map}
+use Rattle.std.specs.Prelude.{option_and_then, Result, Ok, Err}
 use Rattle.std.specs.Int.{w64, cast_unsigned}
 use Rattle.std.specs.Str.{is_utf8}
 use Rattle.serde_json.specs.Data.{Data, null, boolean, number, string, array, unsigned, Items, no_items, item}
 use Rattle.serde_json.specs.Find.{as_bool, as_number, as_str, as_array, as_u64, as_i64, of_integer}
-use Rattle.zarr_model.specs.Element.{DataType, bool_type, int_type, uint_type, raw_type, string_type, bytes_type, optional_type}
+use Rattle.zarr_model.specs.Element.{DataType, bool_type, int_type, uint_type, raw_type, string_type, bytes_type}
+use Rattle.zarr_model.specs.Element.{optional_type}
 use Rattle.zarr_model.specs.Codec.{low_bytes, number_of_bytes}
-use Rattle.zarrs_metadata_values.specs.FillValueMetadata.{fill_view, bytes_in}
+use Rattle.zarrs_metadata_values.specs.FillValueMetadata.{fill_view, bytes_in_items}
 use Rattle.zarrs_metadata_values.specs.Writing.{numbers_data}
 use Rattle.zarrs_metadata_values.specs.declared.fill_value.FillValueMetadataV3.{FillValueMetadataV3}
 use Rattle.zarrs_data_type_bytes.specs.FillValue.{fill_bytes, bool_byte}
@@ -40,7 +43,7 @@ of_length n bytes = if length bytes == n then Some bytes else None
 -- a list of bytes, or the empty text
 abbrev pub listed_bytes : Data → Option (List ℕ)
 listed_bytes (string []) = Some []
-listed_bytes d = bytes_in (as_array d)
+listed_bytes d = bytes_in_items (as_array d)
 
 -- the only item of a list
 abbrev pub only_item : Option Items → Option Data
@@ -59,7 +62,7 @@ abbrev pub fill_of : DataType → Data → Option (List ℕ)
 fill_of bool_type d = option_map bool_bytes (as_bool d)
 fill_of (int_type n) d = option_and_then (signed_bytes n) (option_and_then as_i64 (as_number d))
 fill_of (uint_type n) d = option_and_then (unsigned_bytes n) (option_and_then as_u64 (as_number d))
-fill_of (raw_type n) d = option_and_then (of_length n) (bytes_in (as_array d))
+fill_of (raw_type n) d = option_and_then (of_length n) (bytes_in_items (as_array d))
 fill_of string_type d = as_str d
 fill_of bytes_type d = listed_bytes d
 fill_of (optional_type inner) null = Some (0 ∷ [])
@@ -89,9 +92,9 @@ abbrev pub bool_data : List ℕ → Option Data
 bool_data bytes = if length bytes == 1 then byte_as_bool (slice_index bytes 0) else None
 
 -- null where the last byte is 0, else a list of what the bytes before it denote
-abbrev pub optional_data : ℕ → Option Data → Option Data
-optional_data zero inner = Some null
-optional_data (suc last) inner = option_map (λ d. array (item d no_items)) inner
+abbrev pub optional_fill_data : ℕ → Option Data → Option Data
+optional_fill_data zero inner = Some null
+optional_fill_data (suc last) inner = option_map (λ d. array (item d no_items)) inner
 
 -- what a document says of the bytes of a fill value, if they denote an element of the type
 abbrev pub fill_metadata_of : DataType → List ℕ → Option Data
@@ -105,11 +108,11 @@ fill_metadata_of string_type bytes = if is_utf8 bytes then Some (string bytes) e
 fill_metadata_of bytes_type bytes = Some (numbers_data bytes)
 fill_metadata_of (optional_type inner) [] = None
 fill_metadata_of (optional_type inner) (b ∷ bytes) =
-    optional_data (slice_index (b ∷ bytes) (length bytes))
+    optional_fill_data (slice_index (b ∷ bytes) (length bytes))
     (fill_metadata_of inner (take (length bytes) (b ∷ bytes)))
 
 -- a call gave what a document says, or said that the bytes denote no element, or memory ran out
-abbrev pub Tells : Result FillValueMetadataV3 FillFault → Option Data → Type 0
-Tells (Ok metadata) expected = expected ≡ Some (fill_view metadata)
-Tells (Err (fault.Value error)) expected = expected ≡ None
-Tells (Err fault.OutOfMemory) expected = Unit {0}
+abbrev pub TellsFill : Result FillValueMetadataV3 FillFault → Option Data → Type 0
+TellsFill (Ok metadata) expected = expected ≡ Some (fill_view metadata)
+TellsFill (Err (fault.Value error)) expected = expected ≡ None
+TellsFill (Err fault.OutOfMemory) expected = Unit {0}

@@ -10,18 +10,18 @@ ghost use Rattle.zarrs_metadata_values.specs.FillValueMetadata.{fill_view};
 ghost use Rattle.zarrs_metadata_parts.specs.MetadataV3.{extension_seen};
 ghost use Rattle.zarrs_metadata_parts.specs.DataTypeV2.{data_type_v2_seen};
 ghost use Rattle.zarrs_data_type_bytes.specs.FillValue.{fill_bytes};
-ghost use Rattle.zarrs_data_type_names.specs.DataType.{type_of, size_of};
-ghost use Rattle.zarrs_data_type_names.specs.Naming.{type_name, type_configuration};
+ghost use Rattle.zarrs_data_type.specs.DataType.{type_of, size_of};
+ghost use Rattle.zarrs_data_type.specs.Naming.{type_name, type_configuration};
 ghost use Rattle.zarr_model.specs.DataTypeSize.{size_seen};
-ghost use Rattle.zarrs_data_type.specs.FillMetadata.{fill_of, Fills, fill_metadata_of, Tells};
-ghost use Rattle.zarrs_data_type_names.specs.Making.{Makes, type_by, type_by_v2};
+ghost use Rattle.zarrs_data_type.specs.FillMetadata.{fill_of, Fills, fill_metadata_of, TellsFill};
+ghost use Rattle.zarrs_data_type.specs.Making.{MakesType, type_by, type_by_v2};
 
 use crate::fill_metadata::{FillMetadataFault, fill_from_metadata};
 use crate::metadata_of_fill::{FillFault, metadata_of_fill};
+use crate::{DataType, DataTypeKind, DataTypeMetadata, type_members, type_size};
 use std::alloc::{AllocError, Global};
 use zarr_model::DataTypeSize;
 use zarrs_data_type_bytes::FillValue;
-use zarrs_data_type_names::{DataType, DataTypeKind, DataTypeMetadata, type_members, type_size};
 use zarrs_metadata_parts::{Configuration, DataTypeMetadataV2, FillValueMetadata, MetadataV3};
 use zarrs_plugin::{ExtensionName, PluginCreateError, Registry, ZarrVersion};
 
@@ -119,7 +119,7 @@ pub trait DataTypeTraits: ExtensionName {
         alloc: Global,
         fill_value: &FillValue,
     ) -> Result<FillValueMetadata, FillFault>
-        ensures { Tells result
+        ensures { TellsFill result
             (fill_metadata_of (type_seen self.now) (fill_bytes fill_value.now)) };
 
     /// Whether another type is the same.
@@ -145,7 +145,7 @@ pub trait DataTypeTraitsV3: Sized {
         metadata: &MetadataV3,
         registry: &Registry<DataTypeKind>,
     ) -> Result<Self, PluginCreateError>
-        ensures { Makes created_v3 result
+        ensures { MakesType created_v3 result
             (type_by (registry_of registry.now) (extension_seen metadata.now)) };
 }
 
@@ -163,7 +163,7 @@ pub trait DataTypeTraitsV2: Sized {
         metadata: &DataTypeMetadataV2,
         registry: &Registry<DataTypeKind>,
     ) -> Result<Self, PluginCreateError>
-        ensures { Makes created_v2 result
+        ensures { MakesType created_v2 result
             (type_by_v2 (registry_of registry.now) (data_type_v2_seen metadata.now)) };
 }
 
@@ -207,7 +207,7 @@ impl DataTypeTraits for DataType {
 }
 
 // Whether two types are the same, by their equality.
-#[tactic(auto, using(zarrs_data_type_names::proofs::SameTypeLaws::same_is))]
+#[tactic(auto, using(crate::proofs::SameTypeLaws::same_is))]
 pub(crate) fn are_equal(data_type: &DataType, other: &DataType) -> bool
     ensures { IsTrue result ↔ (type_of data_type.now ≡ type_of other.now) }
 {

@@ -6,13 +6,13 @@ ghost use Rattle.std.specs.Prelude.{Some, ◌<◌, ◌≡◌, ◌+◌, ◌≤◌
 ghost use Rattle.serde_json.specs.Find.{as_bool, as_str, as_array, as_u64, as_i64};
 ghost use Rattle.zarr_model.specs.Element.{int_type, uint_type, raw_type, bool_type, string_type, bytes_type, optional_type};
 ghost use Rattle.zarrs_metadata_values.specs.FillValueMetadata.{fill_view, fills_view};
-ghost use Rattle.zarrs_data_type_names.specs.DataType.{type_of};
+ghost use Rattle.zarrs_data_type.specs.DataType.{type_of};
 ghost use Rattle.zarrs_data_type.specs.FillMetadata.{only_item, fill_of, Fills, is_in_range};
 
+use crate::DataType;
 use std::alloc::{AllocError, AllocFailed, Global};
 use thiserror::Error;
 use zarrs_data_type_bytes::FillValue;
-use zarrs_data_type_names::DataType;
 use zarrs_metadata_values::FillValueMetadataV3;
 
 /// A fill value of a document is none of the data type.

@@ -5,12 +5,12 @@ ghost use Rattle.std.specs.List.{AllByRecursion};
 ghost use Rattle.serde_json.specs.Data.{Data};
 ghost use Rattle.zarr_model.specs.Element as Model;
 ghost use Rattle.zarr_model.specs.Element.{fixed, kind_of, fill_element};
-ghost use Rattle.zarrs_data_type_names.specs.DataType.{type_of};
+ghost use Rattle.zarrs_data_type.specs.DataType.{type_of};
 ghost use Rattle.zarrs_data_type.specs.FillMetadata.{fill_of, fill_metadata_of};
-ghost use Rattle.zarrs_data_type_names.specs.declared.data_type.DataType.{DataType};
+ghost use Rattle.zarrs_data_type.specs.declared.data_type.DataType.{DataType};
 
+pub use crate::naming_laws::{named_types, same_types};
 pub use zarrs_data_type_bytes::laws::{order_decodes, order_undone, rounding_settles};
-pub use zarrs_data_type_names::laws::{named_types, same_types};
 
 /// A fill value that a document gives denotes an element of the data type.
 pub fn fill_denotes()

@@ -7,13 +7,13 @@ ghost use Rattle.serde_json.specs.Data.{array, item, no_items};
 ghost use Rattle.zarr_model.specs.Codec.{number_of_bytes};
 ghost use Rattle.zarr_model.specs.Element.{int_type, uint_type, raw_type, bool_type, string_type, bytes_type, optional_type};
 ghost use Rattle.zarrs_metadata_values.specs.FillValueMetadata.{fill_view};
-ghost use Rattle.zarrs_data_type_names.specs.DataType.{type_of};
-ghost use Rattle.zarrs_data_type.specs.FillMetadata.{signed_number, fill_metadata_of, Tells};
+ghost use Rattle.zarrs_data_type.specs.DataType.{type_of};
+ghost use Rattle.zarrs_data_type.specs.FillMetadata.{signed_number, fill_metadata_of, TellsFill};
 
+use crate::DataType;
 use std::alloc::{AllocError, AllocFailed, Global};
 use thiserror::Error;
 use zarrs_data_type_bytes::DataTypeFillValueError;
-use zarrs_data_type_names::DataType;
 use zarrs_metadata_parts::FillValueMetadata;
 
 /// Why a fill value is not written to a document.
@@ -48,7 +48,7 @@ impl<T: Drop> From<AllocFailed<T>> for FillFault {
 }
 
 fn refused() -> FillFault
-    ensures { Tells (Err result) None }
+    ensures { TellsFill (Err result) None }
 {
     FillFault::Value(DataTypeFillValueError)
 }
@@ -89,7 +89,7 @@ fn signed_number(number: u64, size: usize, half: u64) -> i64
 }
 
 fn bool_metadata(bytes: &[u8]) -> Result<FillValueMetadata, FillFault>
-    ensures { Tells result (fill_metadata_of bool_type bytes.now) }
+    ensures { TellsFill result (fill_metadata_of bool_type bytes.now) }
 {
     if bytes.len() != 1 {
         return Err(refused());
@@ -106,7 +106,7 @@ fn signed_metadata(bytes: &[u8], size: usize, half: u64) -> Result<FillValueMeta
     requires half { half ≡ 2 ^ (8 * size - 1) }
     requires whole { 256 ^ size ≡ 2 * half }
     requires few { half ≤ 2 ^ 63 }
-    ensures { Tells result (fill_metadata_of (int_type size) bytes.now) }
+    ensures { TellsFill result (fill_metadata_of (int_type size) bytes.now) }
 {
     if bytes.len() != size {
         return Err(refused());
@@ -117,7 +117,7 @@ fn signed_metadata(bytes: &[u8], size: usize, half: u64) -> Result<FillValueMeta
 
 fn unsigned_metadata(bytes: &[u8], size: usize) -> Result<FillValueMetadata, FillFault>
     requires { size ≤ 8 }
-    ensures { Tells result (fill_metadata_of (uint_type size) bytes.now) }
+    ensures { TellsFill result (fill_metadata_of (uint_type size) bytes.now) }
 {
     if bytes.len() != size {
         return Err(refused());
@@ -126,7 +126,7 @@ fn unsigned_metadata(bytes: &[u8], size: usize) -> Result<FillValueMetadata, Fil
 }
 
 fn raw_metadata(alloc: Global, bytes: &[u8], size: usize) -> Result<FillValueMetadata, FillFault>
-    ensures { Tells result (fill_metadata_of (raw_type size) bytes.now) }
+    ensures { TellsFill result (fill_metadata_of (raw_type size) bytes.now) }
 {
     if bytes.len() != size {
         return Err(refused());
@@ -137,7 +137,7 @@ fn raw_metadata(alloc: Global, bytes: &[u8], size: usize) -> Result<FillValueMet
 
 #[tactic(auto, using(crate::proofs::TextLaws::is_text, crate::proofs::TextLaws::is_no_text))]
 fn text_metadata(alloc: Global, bytes: &[u8]) -> Result<FillValueMetadata, FillFault>
-    ensures { Tells result (fill_metadata_of string_type bytes.now) }
+    ensures { TellsFill result (fill_metadata_of string_type bytes.now) }
 {
     match str::from_utf8(bytes) {
         Ok(text) => {
@@ -149,7 +149,7 @@ fn text_metadata(alloc: Global, bytes: &[u8]) -> Result<FillValueMetadata, FillF
 }
 
 fn bytes_metadata(alloc: Global, bytes: &[u8]) -> Result<FillValueMetadata, FillFault>
-    ensures { Tells result (fill_metadata_of bytes_type bytes.now) }
+    ensures { TellsFill result (fill_metadata_of bytes_type bytes.now) }
 {
     let metadata = FillValueMetadata::from_bytes(alloc, bytes)?;
     Ok(metadata)
@@ -157,7 +157,7 @@ fn bytes_metadata(alloc: Global, bytes: &[u8]) -> Result<FillValueMetadata, Fill
 
 // A list of one item.
 fn only(alloc: Global, metadata: FillValueMetadata) -> Result<FillValueMetadata, FillFault>
-    ensures { Tells result (Some (array (item (fill_view metadata) no_items))) }
+    ensures { TellsFill result (Some (array (item (fill_view metadata) no_items))) }
 {
     let list = vec![in alloc; metadata]?;
     Ok(FillValueMetadata::Array(list))
@@ -170,7 +170,7 @@ pub(crate) fn metadata_of_fill(
     data_type: &DataType,
     bytes: &[u8],
 ) -> Result<FillValueMetadata, FillFault>
-    ensures { Tells result (fill_metadata_of (type_of data_type.now) bytes.now) }
+    ensures { TellsFill result (fill_metadata_of (type_of data_type.now) bytes.now) }
 {
     match data_type {
         DataType::Bool => bool_metadata(bytes),
@@ -196,7 +196,7 @@ pub(crate) fn optional_metadata(
     inner: &DataType,
     bytes: &[u8],
 ) -> Result<FillValueMetadata, FillFault>
-    ensures { Tells result (fill_metadata_of (optional_type (type_of inner.now)) bytes.now) }
+    ensures { TellsFill result (fill_metadata_of (optional_type (type_of inner.now)) bytes.now) }
 {
     match bytes {
         [] => Err(refused()),

@@ -6,19 +6,19 @@ ghost use Rattle.zarrs_metadata_values.specs.Configuration.{configuration_seen};
 ghost use Rattle.zarrs_metadata_values.specs.FillValueMetadata.{fill_view};
 ghost use Rattle.zarrs_data_type_bytes.specs.FillValue.{fill_bytes};
 ghost use Rattle.zarrs_data_type_bytes.specs.Pieces.{ends_in_zero};
-ghost use Rattle.zarrs_data_type_names.specs.DataType.{type_of, size_of};
-ghost use Rattle.zarrs_data_type_names.specs.Naming.{type_name, type_configuration};
+ghost use Rattle.zarrs_data_type.specs.DataType.{type_of, size_of};
+ghost use Rattle.zarrs_data_type.specs.Naming.{type_name, type_configuration};
 ghost use Rattle.zarr_model.specs.DataTypeSize.{size_seen};
 ghost use Rattle.zarrs_data_type.specs.FillMetadata.{fill_of, Fills};
-ghost use Rattle.zarrs_data_type.specs.Optional.{inner_type, optional_seen};
+ghost use Rattle.zarrs_data_type.specs.Optional.{inner_type, optional_type_seen};
 
 use crate::data_type_traits::{DataTypeTraits, are_equal};
 use crate::fill_metadata::{FillMetadataFault, fill_from_metadata, optional_fill};
 use crate::metadata_of_fill::{FillFault, optional_metadata};
+use crate::{DataType, optional_members, type_size};
 use std::alloc::{AllocError, Global};
 use zarr_model::DataTypeSize;
 use zarrs_data_type_bytes::FillValue;
-use zarrs_data_type_names::{DataType, optional_members, type_size};
 use zarrs_metadata_parts::{Configuration, FillValueMetadata};
 use zarrs_plugin::{ExtensionName, ZarrVersion};
 
@@ -66,14 +66,14 @@ impl OptionalDataType {
 
     /// Whether all elements of the type inside have one size.
     pub fn is_fixed(&self) -> bool
-        ensures { result ≡ is_some (size_of (optional_seen self.now)) }
+        ensures { result ≡ is_some (size_of (optional_type_seen self.now)) }
     {
         self.inner.is_fixed()
     }
 
     /// The size of the elements of the type inside in bytes, if all have the same.
     pub fn fixed_size(&self) -> Option<usize>
-        ensures { result ≡ size_of (optional_seen self.now) }
+        ensures { result ≡ size_of (optional_type_seen self.now) }
     {
         self.inner.fixed_size()
     }
@@ -104,7 +104,7 @@ impl OptionalDataType {
         version: ZarrVersion,
     ) -> Result<Configuration, AllocError>
         ensures { IfOk result (λ c. configuration_seen c
-            ≡ type_configuration version (optional_seen self.now)) }
+            ≡ type_configuration version (optional_type_seen self.now)) }
     {
         Ok(Configuration::new(optional_members(alloc, &self.inner, version)?))
     }
@@ -137,7 +137,7 @@ impl OptionalDataType {
 }
 
 impl ExtensionName for OptionalDataType {
-    ghost name_in = { λ o version. type_name version (optional_seen o) };
+    ghost name_in = { λ o version. type_name version (optional_type_seen o) };
 
     fn name(&self, alloc: Global, version: ZarrVersion) -> Result<Option<String>, AllocError> {
         optional_name(alloc, version)
@@ -153,7 +153,7 @@ fn optional_name(alloc: Global, _version: ZarrVersion) -> Result<Option<String>,
 }
 
 impl DataTypeTraits for OptionalDataType {
-    ghost type_seen = { optional_seen };
+    ghost type_seen = { optional_type_seen };
 
     ghost goes_by_name = { λ _ _. refl };
 

@@ -1,8 +1,12 @@
 -- Rounding: what a rounded number is, and that it is not rounded again.
-use Rattle.std.proofs.Common.{rules, ◌≡◌, ℕ, zero, suc, ◌+◌, ◌-◌, ◌*◌, ◌/◌, ◌%◌, ◌^◌, ◌<◌, ◌≤◌, min, nat_lt, Bool, true, false, if◌then◌else◌, List, [], ◌∷◌, ◌++◌, length, take, drop, refl, sym, ap, ap₂, ◌∙◌, subst, arith, ⊎_elim}
+use Rattle.std.proofs.Common.{rules, ◌≡◌, ℕ, zero, suc, ◌+◌, ◌-◌, ◌*◌, ◌/◌, ◌%◌, ◌^◌, ◌<◌, ◌≤◌, min, nat_lt, Bool, true}
+use Rattle.std.proofs.Common.{false, if◌then◌else◌, List, [], ◌∷◌, ◌++◌, length, take, drop, refl, sym, ap, ap₂, ◌∙◌}
+use Rattle.std.proofs.Common.{subst, arith, ⊎_elim}
 use Rattle.std.proofs.lemmas.Bool.{cases_lt, cond-true, cond-false, lt-ltb, ltb-true, false_from_ne_true}
-use Rattle.std.proofs.lemmas.Nat.{pow_pos, pow-add, pow_below, leading_length, div-mul-add, div_below, le-div, mod_below}
-use Rattle.std.proofs.Math.Nat.{pow-le-pow_right, pow-suc, mul_comm, mul_assoc, suc-mul, mul-le-mul_right, div-mul-le_self}
+use Rattle.std.proofs.lemmas.Nat.{pow_pos, pow-add, pow_below, leading_length, div-mul-add, div_below, le-div}
+use Rattle.std.proofs.lemmas.Nat.{mod_below}
+use Rattle.std.proofs.Math.Nat.{pow-le-pow_right, pow-suc, mul_comm, mul_assoc, suc-mul, mul-le-mul_right}
+use Rattle.std.proofs.Math.Nat.{div-mul-le_self}
 use Rattle.std.specs.Int.{w64, leading_zeros}
 use Rattle.std.specs.List.{AllByRecursion}
 use Rattle.std.proofs.lemmas.List.{length-take-le, length-drop}
@@ -35,12 +39,14 @@ not_fewer m n x hm hn h =
     absurd (omega (arith, hm.below, half, more, pow-suc 2 m))
   where
     powers : (i j : ℕ) → i ≤ j → 2 ^ i ≤ 2 ^ j
-    powers i j h = ⊎_elim (λ l. omega (arith, pow_below i j l)) (λ (e : j ≤ i). let same : i ≡ j = omega arith in let p : 2 ^ i ≡ 2 ^ j = ap (λ n. 2 ^ n) same in omega (arith, p)) (cases_lt i j)
+    powers i j h = ⊎_elim (λ l. omega (arith, pow_below i j l)) (λ (e : j ≤ i). let same : i ≡ j = omega arith in
+        let p : 2 ^ i ≡ 2 ^ j = ap (λ n. 2 ^ n) same in omega (arith, p)) (cases_lt i j)
 
 pub digits_are : (m x : ℕ) → x < 2 ^ 64 → HasDigits m x → binary_digits x ≡ m
 digits_are m x h has = ⊎_elim
     (λ (l : binary_digits x < m). absurd (not_fewer (binary_digits x) m x (digits-has x h) has l))
-    (λ (g : m ≤ binary_digits x). ⊎_elim (λ (l : m < binary_digits x). absurd (not_fewer m (binary_digits x) x has (digits-has x h) l)) (λ (e : binary_digits x ≤ m). omega arith) (cases_lt m (binary_digits x)))
+    (λ (g : m ≤ binary_digits x). ⊎_elim (λ (l : m < binary_digits x). absurd (not_fewer m (binary_digits x) x has
+    (digits-has x h) l)) (λ (e : binary_digits x ≤ m). omega arith) (cases_lt m (binary_digits x)))
     (cases_lt (binary_digits x) m)
 
 -- a power of two is twice the one before it
@@ -50,17 +56,20 @@ twice low h = ap (λ n. 2 ^ n) (let e : low ≡ suc (low - 1) = omega arith in e
 -- between a multiple and the next one
 pub cut_to : (q t n : ℕ) → 0 < q → t * q ≤ n → n < t * q + q → n / q * q ≡ t * q
 cut_to q t n some from below =
-    ap (λ m. m / q * q) (let e : n ≡ t * q + (n - t * q) = omega arith in e) ∙ ap (λ m. m * q) (div-mul-add t q (n - t * q) (omega arith))
+    ap (λ m. m / q * q) (let e : n ≡ t * q + (n - t * q) = omega arith in e)
+    ∙ ap (λ m. m * q) (div-mul-add t q (n - t * q) (omega arith))
 
 -- a multiple that is no greater than the greatest stays
-pub stays : (low greatest t : ℕ) → 0 < low → t * 2 ^ low ≤ greatest → without_low low greatest (t * 2 ^ low) ≡ t * 2 ^ low
+pub stays : (low greatest t : ℕ) → 0 < low → t * 2 ^ low ≤ greatest →
+    without_low low greatest (t * 2 ^ low) ≡ t * 2 ^ low
 stays low greatest t some small =
     let odd : t * 2 ^ low / 2 ^ low % 2 < 2 = mod_below (t * 2 ^ low / 2 ^ low) 2 (omega arith) in
     cut_to (2 ^ low) t (min greatest (t * 2 ^ low + (2 ^ (low - 1) - 1 + t * 2 ^ low / 2 ^ low % 2))) (pow_pos low)
     (omega (arith, small)) (omega (arith, odd, twice low some, pow_pos (low - 1)))
 
 -- the multiple that a number is rounded to
-module _ (low keep greatest x : ℕ) (some : 0 < low) (keeps : 0 < keep) (small : x ≤ greatest) (below : x < 2 ^ (keep + low)) (above : 2 ^ (keep + low) ≤ 2 * x + 1) where
+module _ (low keep greatest x : ℕ) (some : 0 < low) (keeps : 0 < keep) (small : x ≤ greatest) (below : x
+    < 2 ^ (keep + low)) (above : 2 ^ (keep + low) ≤ 2 * x + 1) where
   abbrev pub multiple : ℕ
   multiple = min greatest (x + (2 ^ (low - 1) - 1 + x / 2 ^ low % 2)) / 2 ^ low
 
@@ -68,8 +77,10 @@ module _ (low keep greatest x : ℕ) (some : 0 < low) (keeps : 0 < keep) (small 
   whole = pow-add 2 keep low
 
   pub multiple_least : 2 ^ (keep - 1) ≤ multiple
-  multiple_least = le-div (2 ^ (keep - 1)) (min greatest (x + (2 ^ (low - 1) - 1 + x / 2 ^ low % 2))) (2 ^ low) (pow_pos low)
-      (let half : 2 ^ keep * 2 ^ low ≡ 2 * (2 ^ (keep - 1) * 2 ^ low) = ap (λ n. n * 2 ^ low) (twice keep keeps) ∙ assoc (2 ^ (keep - 1)) (2 ^ low) in
+  multiple_least =
+      le-div (2 ^ (keep - 1)) (min greatest (x + (2 ^ (low - 1) - 1 + x / 2 ^ low % 2))) (2 ^ low) (pow_pos low)
+      (let half : 2 ^ keep * 2 ^ low ≡ 2 * (2 ^ (keep - 1) * 2 ^ low) =
+      ap (λ n. n * 2 ^ low) (twice keep keeps) ∙ assoc (2 ^ (keep - 1)) (2 ^ low) in
       omega (arith, half, whole, above, small))
     where
       assoc : (a b : ℕ) → 2 * a * b ≡ 2 * (a * b)
@@ -79,20 +90,24 @@ module _ (low keep greatest x : ℕ) (some : 0 < low) (keeps : 0 < keep) (small 
   multiple_most =
       let odd : x / 2 ^ low % 2 < 2 = mod_below (x / 2 ^ low) 2 (omega arith) in
       let next : suc (2 ^ keep) * 2 ^ low ≡ 2 ^ keep * 2 ^ low + 2 ^ low = suc-mul (2 ^ keep) (2 ^ low) ∙ omega arith in
-      let less : multiple < suc (2 ^ keep) = div_below (min greatest (x + (2 ^ (low - 1) - 1 + x / 2 ^ low % 2))) (2 ^ low) (suc (2 ^ keep)) (pow_pos low)
+      let less : multiple < suc (2 ^ keep) =
+      div_below (min greatest (x + (2 ^ (low - 1) - 1 + x / 2 ^ low % 2))) (2 ^ low) (suc (2 ^ keep)) (pow_pos low)
       (omega (arith, next, whole, below, odd, twice low some, pow_pos (low - 1))) in
       omega arith
 
   pub multiple_small : multiple * 2 ^ low ≤ greatest
   multiple_small =
-      let cut : multiple * 2 ^ low ≤ min greatest (x + (2 ^ (low - 1) - 1 + x / 2 ^ low % 2)) = div-mul-le_self (min greatest (x + (2 ^ (low - 1) - 1 + x / 2 ^ low % 2))) (2 ^ low) in
+      let cut : multiple * 2 ^ low ≤ min greatest (x + (2 ^ (low - 1) - 1 + x / 2 ^ low % 2)) =
+      div-mul-le_self (min greatest (x + (2 ^ (low - 1) - 1 + x / 2 ^ low % 2))) (2 ^ low) in
       omega (arith, cut)
 
 -- what a number is rounded to is not rounded again
-pub settles : (keep size x : ℕ) → 0 < keep → size ≤ 8 → x < 256 ^ size → rounded keep size (rounded keep size x) ≡ rounded keep size x
+pub settles : (keep size x : ℕ) → 0 < keep → size ≤ 8 → x < 256 ^ size →
+    rounded keep size (rounded keep size x) ≡ rounded keep size x
 settles keep size x keeps few fits = ⊎_elim
     (λ (more : keep < binary_digits x). dropped more)
-    (λ (enough : binary_digits x ≤ keep). let as_is : rounded keep size x ≡ x = kept (binary_digits x) enough in ap (rounded keep size) as_is)
+    (λ (enough : binary_digits x ≤ keep). let as_is : rounded keep size x ≡ x = kept (binary_digits x) enough in
+    ap (rounded keep size) as_is)
     (cases_lt keep (binary_digits x))
   where
     greatest : ℕ
@@ -107,14 +122,20 @@ settles keep size x keeps few fits = ⊎_elim
     small : x < 2 ^ 64
     small = omega (arith, fits, in_words)
 
-    kept : (digits : ℕ) → digits ≤ keep → (if nat_lt keep digits then without_low (digits - keep) (256 ^ size - 1) x else x) ≡ x
-    kept digits h = cond-false (nat_lt keep digits) (without_low (digits - keep) (256 ^ size - 1) x) x (false_from_ne_true (nat_lt keep digits) (λ l. let less : keep < digits = ltb-true keep digits l in absurd (omega arith)))
+    kept : (digits : ℕ) → digits ≤ keep →
+        (if nat_lt keep digits then without_low (digits - keep) (256 ^ size - 1) x else x) ≡ x
+    kept digits h = cond-false (nat_lt keep digits) (without_low (digits - keep) (256 ^ size - 1) x) x
+        (false_from_ne_true (nat_lt keep digits)
+        (λ l. let less : keep < digits = ltb-true keep digits l in absurd (omega arith)))
 
-    again : (low t : ℕ) → 0 < low → t * 2 ^ low ≤ greatest → binary_digits (t * 2 ^ low) ≡ keep + low → rounded keep size (t * 2 ^ low) ≡ t * 2 ^ low
+    again : (low t : ℕ) → 0 < low → t * 2 ^ low ≤ greatest → binary_digits (t * 2 ^ low) ≡ keep + low →
+        rounded keep size (t * 2 ^ low) ≡ t * 2 ^ low
     again low t some within digits =
         ap (λ d. if nat_lt keep d then without_low (d - keep) greatest (t * 2 ^ low) else t * 2 ^ low) digits
-        ∙ (cond-true (nat_lt keep (keep + low)) (without_low (keep + low - keep) greatest (t * 2 ^ low)) (t * 2 ^ low) (lt-ltb keep (keep + low) (omega arith))
-        ∙ (ap (λ d. without_low d greatest (t * 2 ^ low)) (let e : keep + low - keep ≡ low = omega arith in e) ∙ stays low greatest t some within))
+        ∙ (cond-true (nat_lt keep (keep + low)) (without_low (keep + low - keep) greatest
+        (t * 2 ^ low)) (t * 2 ^ low) (lt-ltb keep (keep + low) (omega arith))
+        ∙ (ap (λ d. without_low d greatest (t * 2 ^ low)) (let e : keep + low - keep ≡ low = omega arith in e)
+        ∙ stays low greatest t some within))
 
     dropped : keep < binary_digits x → rounded keep size (rounded keep size x) ≡ rounded keep size x
     dropped more =
@@ -136,7 +157,8 @@ settles keep size x keeps few fits = ⊎_elim
         t = multiple low keep greatest x some keeps (omega (arith, fits)) has.below has.above
 
         first : rounded keep size x ≡ t * 2 ^ low
-        first = cond-true (nat_lt keep (binary_digits x)) (without_low low greatest x) x (lt-ltb keep (binary_digits x) more)
+        first = cond-true (nat_lt keep (binary_digits x)) (without_low low greatest x) x
+            (lt-ltb keep (binary_digits x) more)
 
         within : t * 2 ^ low ≤ greatest
         within = multiple_small low keep greatest x some keeps (omega (arith, fits)) has.below has.above
@@ -155,23 +177,37 @@ settles keep size x keeps few fits = ⊎_elim
 
         below_top : t < 2 ^ keep → rounded keep size (t * 2 ^ low) ≡ t * 2 ^ low
         below_top less = again low t some within (digits_are (keep + low) (t * 2 ^ low) word (record {
-          below = let rows : suc t * 2 ^ low ≤ 2 ^ keep * 2 ^ low = mul-le-mul_right (2 ^ low) (let one : suc t ≤ 2 ^ keep = omega arith in one) in
+          below = let rows : suc t * 2 ^ low ≤ 2 ^ keep * 2 ^ low =
+              mul-le-mul_right (2 ^ low) (let one : suc t ≤ 2 ^ keep = omega arith in one) in
               omega (arith, rows, suc-mul t (2 ^ low), pow-add 2 keep low, pow_pos low);
           above = let rows : 2 ^ (keep - 1) * 2 ^ low ≤ t * 2 ^ low = mul-le-mul_right (2 ^ low) least in
-              omega (arith, rows, pow-add 2 keep low, ap (λ n. n * 2 ^ low) (twice keep keeps) ∙ assoc (2 ^ (keep - 1)) (2 ^ low));
+              omega (
+                arith,
+                rows,
+                pow-add 2 keep low,
+                ap (λ n. n * 2 ^ low) (twice keep keeps) ∙ assoc (2 ^ (keep - 1)) (2 ^ low),
+              );
         }))
 
         at_top : 2 ^ keep ≤ t → rounded keep size (t * 2 ^ low) ≡ t * 2 ^ low
         at_top high =
             let all : t ≡ 2 ^ keep = omega (arith, most) in
             let top : t * 2 ^ low ≡ 2 ^ (keep - 1) * 2 ^ (low + 1) =
-            ap (λ n. n * 2 ^ low) (all ∙ twice keep keeps) ∙ (assoc (2 ^ (keep - 1)) (2 ^ low) ∙ (mul_left 2 (2 ^ (keep - 1)) (2 ^ low) ∙ ap (λ n. 2 ^ (keep - 1) * n) (sym (twice (low + 1) (omega arith) ∙ ap (λ n. 2 * 2 ^ n) (let e : low + 1 - 1 ≡ low = omega arith in e))))) in
-            let power : 2 ^ (keep - 1) * 2 ^ (low + 1) ≡ 2 ^ (keep + low) = sym (pow-add 2 (keep - 1) (low + 1)) ∙ ap (λ n. 2 ^ n) (let e : keep - 1 + (low + 1) ≡ keep + low = omega arith in e) in
+            ap (λ n. n * 2 ^ low) (all ∙ twice keep keeps) ∙ (assoc (2 ^ (keep - 1)) (2 ^ low)
+            ∙ (mul_left 2 (2 ^ (keep - 1)) (2 ^ low) ∙ ap (λ n. 2 ^ (keep - 1) * n) (sym (twice (low + 1) (omega arith)
+            ∙ ap (λ n. 2 * 2 ^ n) (let e : low + 1 - 1 ≡ low = omega arith in e))))) in
+            let power : 2 ^ (keep - 1) * 2 ^ (low + 1) ≡ 2 ^ (keep + low) = sym (pow-add 2 (keep - 1) (low + 1))
+            ∙ ap (λ n. 2 ^ n) (let e : keep - 1 + (low + 1) ≡ keep + low = omega arith in e) in
             subst (λ n. rounded keep size n ≡ n) (sym top)
             (again (low + 1) (2 ^ (keep - 1)) (omega arith) (subst (λ n. n ≤ greatest) top within)
             (digits_are (keep + (low + 1)) (2 ^ (keep - 1) * 2 ^ (low + 1)) (subst (λ n. n < 2 ^ 64) top word) (record {
               below = omega (arith, power, pow_below (keep + low) (keep + (low + 1)) (omega arith));
-              above = omega (arith, power, ap (λ n. 2 ^ n) (let e : keep + (low + 1) ≡ suc (keep + low) = omega arith in e) ∙ pow-suc 2 (keep + low));
+              above = omega (
+                arith,
+                power,
+                ap (λ n. 2 ^ n) (let e : keep + (low + 1) ≡ suc (keep + low) = omega arith in
+                    e) ∙ pow-suc 2 (keep + low),
+              );
             })))
           where
             mul_left : (a b c : ℕ) → a * (b * c) ≡ b * (a * c)
@@ -193,24 +229,31 @@ rounded_fits keep size x h = go (nat_lt keep (binary_digits x))
     go false = h
     go true =
         let low = binary_digits x - keep in
-        let cut : without_low low (256 ^ size - 1) x ≤ min (256 ^ size - 1) (x + (2 ^ (low - 1) - 1 + x / 2 ^ low % 2)) = div-mul-le_self (min (256 ^ size - 1) (x + (2 ^ (low - 1) - 1 + x / 2 ^ low % 2))) (2 ^ low) in
+        let cut : without_low low (256 ^ size - 1) x ≤ min (256 ^ size - 1) (x + (2 ^ (low - 1) - 1 + x / 2 ^ low
+        % 2)) = div-mul-le_self (min (256 ^ size - 1) (x + (2 ^ (low - 1) - 1 + x / 2 ^ low % 2))) (2 ^ low) in
         omega (arith, cut, h)
 
-pub piece_settles : (keep size : ℕ) (piece : List ℕ) → 0 < keep → size ≤ 8 → length piece ≡ size → AllByRecursion (λ b. b < 256) piece →
+pub piece_settles : (keep size : ℕ) (piece : List ℕ) → 0 < keep → size ≤ 8 → length piece ≡ size →
+    AllByRecursion (λ b. b < 256) piece →
     rounded_bytes keep size (rounded_bytes keep size piece) ≡ rounded_bytes keep size piece
 piece_settles keep size piece keeps few long all =
-    let fits : number_of_bytes piece < 256 ^ size = subst (λ n. number_of_bytes piece < 256 ^ n) long (number_below piece all) in
-    ap (λ n. low_bytes size (rounded keep size n)) (number_of_bytes-low_bytes size (rounded keep size (number_of_bytes piece)) (rounded_fits keep size (number_of_bytes piece) fits))
+    let fits : number_of_bytes piece < 256 ^ size =
+    subst (λ n. number_of_bytes piece < 256 ^ n) long (number_below piece all) in
+    ap (λ n. low_bytes size (rounded keep size n)) (number_of_bytes-low_bytes size
+    (rounded keep size (number_of_bytes piece)) (rounded_fits keep size (number_of_bytes piece) fits))
     ∙ ap (low_bytes size) (settles keep size (number_of_bytes piece) keeps few fits)
 
 -- and so in all pieces
-bytes_drop : (n : ℕ) (bytes : List ℕ) → AllByRecursion (λ b. b < 256) bytes → AllByRecursion (λ b. b < 256) (drop n bytes)
+bytes_drop : (n : ℕ) (bytes : List ℕ) → AllByRecursion (λ b. b < 256) bytes →
+    AllByRecursion (λ b. b < 256) (drop n bytes)
 bytes_drop zero bytes all = all
 bytes_drop (suc n) [] all = tt
 bytes_drop (suc n) (b ∷ bytes) all = bytes_drop n bytes all.1
 
-pub pieces_settle : (keep size k : ℕ) (bytes : List ℕ) → 0 < keep → size ≤ 8 → k * size ≤ length bytes → AllByRecursion (λ b. b < 256) bytes →
-    in_pieces (rounded_bytes keep size) k size (in_pieces (rounded_bytes keep size) k size bytes) ≡ in_pieces (rounded_bytes keep size) k size bytes
+pub pieces_settle : (keep size k : ℕ) (bytes : List ℕ) → 0 < keep → size ≤ 8 → k * size ≤ length bytes →
+    AllByRecursion (λ b. b < 256) bytes →
+    in_pieces (rounded_bytes keep size) k size (in_pieces (rounded_bytes keep size) k size bytes) ≡
+    in_pieces (rounded_bytes keep size) k size bytes
 pieces_settle keep size zero bytes keeps few room all = refl
 pieces_settle keep size (suc k) bytes keeps few room all =
     let piece = rounded_bytes keep size (take size bytes) in
@@ -218,9 +261,12 @@ pieces_settle keep size (suc k) bytes keeps few room all =
     let long : length piece ≡ size = length-low_bytes size (rounded keep size (number_of_bytes (take size bytes))) in
     ap₂ (λ a b. a ++ b)
     (ap (rounded_bytes keep size) (subst (λ m. take m (piece ++ rest) ≡ piece) long (take-append_seam piece rest))
-    ∙ piece_settles keep size (take size bytes) keeps few (length-take-le size bytes (omega (arith, room, suc-mul k size))) (bytes-take size bytes all))
-    (ap (in_pieces (rounded_bytes keep size) k size) (subst (λ m. drop m (piece ++ rest) ≡ rest) long (drop-append_seam piece rest))
-    ∙ pieces_settle keep size k (drop size bytes) keeps few (omega (arith, room, suc-mul k size, length-drop size bytes)) (bytes_drop size bytes all))
+    ∙ piece_settles keep size (take size bytes) keeps few
+    (length-take-le size bytes (omega (arith, room, suc-mul k size))) (bytes-take size bytes all))
+    (ap (in_pieces (rounded_bytes keep size) k size)
+    (subst (λ m. drop m (piece ++ rest) ≡ rest) long (drop-append_seam piece rest))
+    ∙ pieces_settle keep size k (drop size bytes) keeps few
+    (omega (arith, room, suc-mul k size, length-drop size bytes)) (bytes_drop size bytes all))
 
 pub rounding_keeps : (keep size : ℕ) → Keeps (rounded_bytes keep size) size
 rounding_keeps keep size piece e = length-low_bytes size (rounded keep size (number_of_bytes piece))
@@ -229,5 +275,6 @@ pub settled : (keep size : ℕ) (bytes : List ℕ) → 0 < keep → size ≤ 8 �
     elements_rounded keep size (elements_rounded keep size bytes) ≡ elements_rounded keep size bytes
 settled keep size bytes keeps few all =
     ap (λ m. in_pieces (rounded_bytes keep size) (m / size) size (elements_rounded keep size bytes))
-    (length-in_pieces (rounded_bytes keep size) size (rounding_keeps keep size) (length bytes / size) bytes (whole_pieces size bytes))
+    (length-in_pieces (rounded_bytes keep size) size (rounding_keeps keep size) (length bytes / size) bytes
+    (whole_pieces size bytes))
     ∙ pieces_settle keep size (length bytes / size) bytes keeps few (whole_pieces size bytes) all

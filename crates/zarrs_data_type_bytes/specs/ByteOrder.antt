@@ -7,9 +7,12 @@ use Rattle.std.specs.declared.vec.Vec.{Vec}
 use Rattle.zarr_model.specs.declared.endianness.Endianness.{Endianness}
 use Rattle.zarr_model.specs.declared.endianness.Endianness.TheVariants.{Little, Big}
 use Rattle.zarrs_data_type_bytes.specs.Pieces.{components_reversed}
-use Rattle.zarrs_data_type_bytes.specs.declared.codec_traits.bytes.BytesCodecEndiannessMissingError.{BytesCodecEndiannessMissingError}
+use Rattle.zarrs_data_type_bytes.specs.declared.codec_traits.bytes.BytesCodecEndiannessMissingError.{
+  BytesCodecEndiannessMissingError,
+}
 use Rattle.zarrs_data_type_bytes.specs.declared.codec_traits.bytes.BytesCodecFault.{BytesCodecFault}
-use Rattle.zarrs_data_type_bytes.specs.declared.codec_traits.bytes.BytesCodecFault.TheVariants.{EndiannessMissing, OutOfMemory}
+use Rattle.zarrs_data_type_bytes.specs.declared.codec_traits.bytes.BytesCodecFault.TheVariants.{EndiannessMissing}
+use Rattle.zarrs_data_type_bytes.specs.declared.codec_traits.bytes.BytesCodecFault.TheVariants.{OutOfMemory}
 
 -- bytes in an order of their components, which may be missing: each component of n bytes is
 -- reversed where the order is big
@@ -40,5 +43,5 @@ abbrev pub OrdersBytes : Result (Vec ℕ Global) BytesCodecEndiannessMissingErro
 OrdersBytes (Ok ordered) expected = expected ≡ Some ordered.items
 OrdersBytes (Err error) expected = expected ≡ None
 
-abbrev pub out_of_memory : BytesCodecFault
-out_of_memory = OutOfMemory
+abbrev pub bytes_out_of_memory : BytesCodecFault
+bytes_out_of_memory = OutOfMemory

@@ -1,5 +1,6 @@
 -- Which data types codecs serve, and as what.
-use Rattle.std.specs.Prelude.{◌≡◌, ℕ, zero, suc, ◌==◌, if◌then◌else◌, Bool, true, false, Option, Some, None, option_map, Result, Ok, Err}
+use Rattle.std.specs.Prelude.{◌≡◌, ℕ, zero, suc, ◌==◌, if◌then◌else◌, Bool, true, false, Option, Some, None, option_map}
+use Rattle.std.specs.Prelude.{Result, Ok, Err}
 use Rattle.zarr_model.specs.Element.{DataType, bool_type, int_type, uint_type}
 use Rattle.zarr_model.specs.Codec.{component_size}
 use Rattle.zarrs_data_type_bytes.specs.declared.codec_support.CodecName.{CodecName}
@@ -8,11 +9,17 @@ use Rattle.zarrs_data_type_bytes.specs.declared.codec_support.DataTypeCodecError
 use Rattle.zarrs_data_type_bytes.specs.declared.codec_traits.bitround.BitroundElementType.{BitroundElementType}
 use Rattle.zarrs_data_type_bytes.specs.declared.codec_traits.bitround.BitroundElementType.TheVariants as bitround
 use Rattle.zarrs_data_type_bytes.specs.declared.codec_traits.bitround.BitroundSupport.{BitroundSupport}
-use Rattle.zarrs_data_type_bytes.specs.declared.codec_traits.fixedscaleoffset.FixedScaleOffsetElementType.{FixedScaleOffsetElementType}
+use Rattle.zarrs_data_type_bytes.specs.declared.codec_traits.fixedscaleoffset.FixedScaleOffsetElementType.{
+  FixedScaleOffsetElementType,
+}
 use Rattle.zarrs_data_type_bytes.specs.declared.codec_traits.fixedscaleoffset.FixedScaleOffsetElementType.TheVariants as scaled
-use Rattle.zarrs_data_type_bytes.specs.declared.codec_traits.fixedscaleoffset.FixedScaleOffsetFloatType.{FixedScaleOffsetFloatType}
+use Rattle.zarrs_data_type_bytes.specs.declared.codec_traits.fixedscaleoffset.FixedScaleOffsetFloatType.{
+  FixedScaleOffsetFloatType,
+}
 use Rattle.zarrs_data_type_bytes.specs.declared.codec_traits.fixedscaleoffset.FixedScaleOffsetFloatType.TheVariants as float
-use Rattle.zarrs_data_type_bytes.specs.declared.codec_traits.fixedscaleoffset.FixedScaleOffsetSupport.{FixedScaleOffsetSupport}
+use Rattle.zarrs_data_type_bytes.specs.declared.codec_traits.fixedscaleoffset.FixedScaleOffsetSupport.{
+  FixedScaleOffsetSupport,
+}
 use Rattle.zarrs_data_type_bytes.specs.declared.codec_traits.packbits.PackBitsSupport.{PackBitsSupport}
 use Rattle.zarrs_data_type_bytes.specs.declared.codec_traits.pcodec.PcodecElementType.{PcodecElementType}
 use Rattle.zarrs_data_type_bytes.specs.declared.codec_traits.pcodec.PcodecElementType.TheVariants as pcodec

@@ -1,5 +1,6 @@
 -- Bytes piece by piece.
-use Rattle.std.specs.Prelude.{◌≡◌, ◌<◌, ◌==◌, ℕ, zero, suc, ◌/◌, Bool, false, List, [], ◌∷◌, ◌++◌, length, take, drop, reverse, slice_index}
+use Rattle.std.specs.Prelude.{◌≡◌, ◌<◌, ◌==◌, ℕ, zero, suc, ◌/◌, Bool, false, List, [], ◌∷◌, ◌++◌, length, take, drop}
+use Rattle.std.specs.Prelude.{reverse, slice_index}
 
 -- a list so many times, one after another
 abbrev pub repeated : ℕ → List ℕ → List ℕ

@@ -6,17 +6,20 @@ use Rattle.serde_json.proofs.Views.{get_member-put}
 use Rattle.zarrs_metadata_values.specs.Reading.{is_number}
 use Rattle.zarrs_metadata_parts.specs.AdditionalFields.{put_fields}
 use Rattle.zarrs_metadata_parts.specs.declared.v3.additional_fields.NodeKind.TheVariants.{Group}
-use Rattle.zarrs_metadata.specs.ArrayMetadata.{is_array, array_members, array_of}
+use Rattle.zarrs_metadata.specs.ArrayMetadata.{is_array, array_members, array_fields_of}
 use Rattle.zarrs_metadata.specs.GroupMetadata.{GroupFields, group_members, group_of, group_data}
 use Rattle.zarrs_metadata.proofs.GroupBack.{group_format, group_reads_back}
 use Rattle.zarrs_metadata.proofs.ArrayBack.{array_reads_back, group_is_no_array}
-use Rattle.zarrs_metadata_v2.specs.ArrayMetadataV2.{ArrayV2, array_v2_members, array_v2_of, array_v2_data, required_data_v2, optional_data_v2}
+use Rattle.zarrs_metadata_v2.specs.ArrayMetadataV2.{ArrayV2, array_v2_members, array_v2_of, array_v2_data}
+use Rattle.zarrs_metadata_v2.specs.ArrayMetadataV2.{required_data_v2, optional_data_v2}
 use Rattle.zarrs_metadata_v2.specs.GroupMetadataV2.{with_format_v2, group_v2_data}
 use Rattle.zarrs_metadata_v2.proofs.ArrayBack.{array_v2_reads_back}
 use Rattle.zarrs_metadata_v2.proofs.GroupBack.{group_v2_reads_back}
-use Rattle.zarrs_metadata.specs.AnyArray.{AnyArray, array_3, array_2, any_array_of, any_array_data, normal_any_array, HasAnyChunks}
+use Rattle.zarrs_metadata.specs.AnyArray.{AnyArray, array_3, array_2, any_array_of, any_array_data, normal_any_array}
+use Rattle.zarrs_metadata.specs.AnyArray.{HasAnyChunks}
 use Rattle.zarrs_metadata.specs.AnyGroup.{AnyGroup, group_3, group_2, any_group_of, any_group_data, normal_any_group}
-use Rattle.zarrs_metadata.specs.AnyNode.{AnyNode, any_array, any_group, any_node_of, any_node_data, normal_any_node, StaysItsKind}
+use Rattle.zarrs_metadata.specs.AnyNode.{AnyNode, any_array, any_group, any_node_of, any_node_data, normal_any_node}
+use Rattle.zarrs_metadata.specs.AnyNode.{StaysItsKind}
 
 -- ---- a document of one version is none of the other
 
@@ -28,22 +31,27 @@ no_group : (ms : Members) → get_member (codes "zarr_format") ms ≡ Some (numb
 unfolding group_members is_number
 no_group ms h = rw h refl
 
-no_array_v2 : (ms : Members) → get_member (codes "zarr_format") ms ≡ Some (number (unsigned 3)) → array_v2_members ms ≡ None
+no_array_v2 : (ms : Members) → get_member (codes "zarr_format") ms ≡ Some (number (unsigned 3)) →
+    array_v2_members ms ≡ None
 unfolding array_v2_members is_number
 no_array_v2 ms h = rw h refl
 
-array_v2_format : (f : ArrayV2) (ms : Members) → get_member (codes "zarr_format") (required_data_v2 f ms) ≡ Some (number (unsigned 2))
+array_v2_format : (f : ArrayV2) (ms : Members) →
+    get_member (codes "zarr_format") (required_data_v2 f ms) ≡ Some (number (unsigned 2))
 unfolding required_data_v2
 array_v2_format f ms = rw get_member-put refl
 
-array_v2_no_array : (f : ArrayV2) → array_of (array_v2_data f) ≡ None
-array_v2_no_array f = no_array (required_data_v2 f (optional_data_v2 f no_members)) (array_v2_format f (optional_data_v2 f no_members))
+array_v2_no_array : (f : ArrayV2) → array_fields_of (array_v2_data f) ≡ None
+array_v2_no_array f =
+    no_array (required_data_v2 f (optional_data_v2 f no_members)) (array_v2_format f (optional_data_v2 f no_members))
 
-pub group_v2_no_array : (attributes : Members) → array_of (group_v2_data attributes) ≡ None
-group_v2_no_array attributes = no_array (with_format_v2 attributes) (get_member-put (codes "zarr_format") (number (unsigned 2)) attributes)
+pub group_v2_no_array : (attributes : Members) → array_fields_of (group_v2_data attributes) ≡ None
+group_v2_no_array attributes =
+    no_array (with_format_v2 attributes) (get_member-put (codes "zarr_format") (number (unsigned 2)) attributes)
 
 group_v2_no_group : (attributes : Members) → group_of (group_v2_data attributes) ≡ None
-group_v2_no_group attributes = no_group (with_format_v2 attributes) (get_member-put (codes "zarr_format") (number (unsigned 2)) attributes)
+group_v2_no_group attributes =
+    no_group (with_format_v2 attributes) (get_member-put (codes "zarr_format") (number (unsigned 2)) attributes)
 
 group_no_array_v2 : (g : GroupFields) → array_v2_of (group_data g) ≡ None
 group_no_array_v2 g = no_array_v2 _ (group_format g (put_fields Group g.additional_fields no_members))
@@ -60,5 +68,7 @@ any_group_reads_back (group_2 attributes) = rw (group_v2_no_group attributes, gr
 
 pub any_node_reads_back : (n : AnyNode) → StaysItsKind n → any_node_of (any_node_data n) ≡ Some (normal_any_node n)
 any_node_reads_back (any_array a) h = rw (any_array_reads_back a h) refl
-any_node_reads_back (any_group (group_3 g)) h = rw (group_is_no_array g, group_no_array_v2 g, any_group_reads_back (group_3 g)) refl
-any_node_reads_back (any_group (group_2 attributes)) h = rw (group_v2_no_array attributes, h, any_group_reads_back (group_2 attributes)) refl
+any_node_reads_back (any_group (group_3 g)) h =
+    rw (group_is_no_array g, group_no_array_v2 g, any_group_reads_back (group_3 g)) refl
+any_node_reads_back (any_group (group_2 attributes)) h =
+    rw (group_v2_no_array attributes, h, any_group_reads_back (group_2 attributes)) refl

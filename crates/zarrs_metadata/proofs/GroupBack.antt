@@ -2,35 +2,45 @@
 use Rattle.std.proofs.Common.{◌≡◌, ℕ, List, Some, None, codes, true, refl}
 use Rattle.serde_json.specs.Data.{unsigned, number, string, object, Members, no_members, member}
 use Rattle.serde_json.specs.Find.{get_member}
-use Rattle.zarrs_metadata_parts.specs.Reading.{from_data, unless_float, is_number, is_text}
-use Rattle.zarrs_metadata_parts.specs.Writing.{put_object}
+use Rattle.zarrs_metadata_values.specs.Reading.{from_data, unless_float, is_number, is_text}
+use Rattle.zarrs_metadata_values.specs.Writing.{put_object}
 use Rattle.zarrs_metadata_values.proofs.PutLemmas.{look}
 use Rattle.zarrs_metadata_values.proofs.PutObject.{object_found, look_object, object_back}
 use Rattle.zarrs_metadata_parts.specs.AdditionalFields.{is_group_key, is_named_key, additional_fields_of, put_fields}
-use Rattle.zarrs_metadata.specs.GroupMetadata.{GroupFields, group_members, group_of, group_data_members, group_data, normal_group}
+use Rattle.zarrs_metadata.specs.GroupMetadata.{GroupFields, group_members, group_of, group_data_members, group_data}
+use Rattle.zarrs_metadata.specs.GroupMetadata.{normal_group}
 use Rattle.zarrs_metadata_parts.specs.declared.v3.additional_fields.NodeKind.{NodeKind}
 use Rattle.zarrs_metadata_parts.specs.declared.v3.additional_fields.NodeKind.TheVariants.{Group}
 use Rattle.zarrs_metadata_parts.proofs.FieldsBack.{fields-put_named, fields_beside, look-put_fields}
 
-pub fields_object : (kind : NodeKind) (k : List ℕ) (ns ms : Members) → is_named_key kind k ≡ true → additional_fields_of kind (put_object k ns ms) ≡ additional_fields_of kind ms
+pub fields_object : (kind : NodeKind) (k : List ℕ) (ns ms : Members) → is_named_key kind k ≡ true →
+    additional_fields_of kind (put_object k ns ms) ≡ additional_fields_of kind ms
 fields_object kind k no_members ms named = refl
 fields_object kind k (member l e ns) ms named = fields-put_named kind k (object (member l e ns)) ms named
 
-group_attributes : (g : GroupFields) (ms : Members) → get_member (codes "attributes") (group_data_members g ms) ≡ object_found g.attributes (get_member (codes "attributes") ms)
+group_attributes : (g : GroupFields) (ms : Members) → get_member (codes "attributes") (group_data_members g ms) ≡
+    object_found g.attributes (get_member (codes "attributes") ms)
 unfolding group_data_members
 group_attributes g ms = simp (look, look_object)
 
-pub group_format : (g : GroupFields) (ms : Members) → get_member (codes "zarr_format") (group_data_members g ms) ≡ Some (number (unsigned 3))
+pub group_format : (g : GroupFields) (ms : Members) →
+    get_member (codes "zarr_format") (group_data_members g ms) ≡ Some (number (unsigned 3))
 unfolding group_data_members
 group_format g ms = simp look
 
-pub group_type : (g : GroupFields) (ms : Members) → get_member (codes "node_type") (group_data_members g ms) ≡ Some (string (codes "group"))
+pub group_type : (g : GroupFields) (ms : Members) →
+    get_member (codes "node_type") (group_data_members g ms) ≡ Some (string (codes "group"))
 unfolding group_data_members
 group_type g ms = simp look
 
-group_fields : (g : GroupFields) (ms : Members) → additional_fields_of Group (group_data_members g ms) ≡ additional_fields_of Group ms
+group_fields : (g : GroupFields) (ms : Members) →
+    additional_fields_of Group (group_data_members g ms) ≡ additional_fields_of Group ms
 unfolding group_data_members is_group_key
-group_fields g ms = rw (fields_beside Group (codes "zarr_format") refl, fields_beside Group (codes "node_type") refl, fields_object Group (codes "attributes") g.attributes ms refl)
+group_fields g ms = rw (
+  fields_beside Group (codes "zarr_format") refl,
+  fields_beside Group (codes "node_type") refl,
+  fields_object Group (codes "attributes") g.attributes ms refl,
+)
 
 no_group_attributes : (fs : _) → get_member (codes "attributes") (put_fields Group fs no_members) ≡ None
 unfolding is_group_key
@@ -40,7 +50,15 @@ pub group_reads_back : (g : GroupFields) → group_of (group_data g) ≡ Some (n
 unfolding group_members is_number is_text
 group_reads_back g =
     let ms : Members = put_fields Group g.additional_fields no_members in
-    rw (group_format g ms, group_type g ms, group_attributes g ms, no_group_attributes g.additional_fields, object_back g.attributes, group_fields g ms)
+    rw (
+      group_format g ms,
+      group_type g ms,
+      group_attributes g ms,
+      no_group_attributes g.additional_fields,
+      object_back g.attributes,
+      group_fields g ms,
+    )
 
-pub group_again_by_value : (g : GroupFields) → from_data group_of (group_data g) ≡ unless_float (group_data g) (normal_group g)
+pub group_again_by_value : (g : GroupFields) →
+    from_data group_of (group_data g) ≡ unless_float (group_data g) (normal_group g)
 group_again_by_value g = rw (group_reads_back g)

@@ -2,21 +2,25 @@
 use Rattle.std.proofs.Common.{◌≡◌, Option, Some, None, Result, Ok, Err, IfOk, codes, refl, ◌∙◌}
 use Rattle.serde_json.specs.Data.{Data, null, boolean, number, string, array, object, Members}
 use Rattle.serde_json.specs.Find.{get_member}
-use Rattle.zarrs_metadata_parts.specs.Reading.{object_or_empty, Reads}
+use Rattle.zarrs_metadata_values.specs.Reading.{object_or_empty, Reads}
 use Rattle.zarrs_metadata_values.specs.declared.error.MetadataError.{MetadataError}
-use Rattle.zarrs_metadata_parts.specs.Rising.{Rises}
+use Rattle.zarrs_metadata_values.specs.Rising.{Rises}
 use Rattle.zarrs_metadata_values.proofs.EachLemmas.{bind_some}
 use Rattle.zarrs_metadata_parts.specs.AdditionalFields.{additional_fields_of, normal_fields}
 use Rattle.zarrs_metadata_parts.specs.DimensionNames.{dimension_names}
-use Rattle.zarrs_metadata.specs.ArrayMetadata.{ArrayFields, OptionalFields, extensions_or_none, is_array, required_fields, optional_fields, with_optional_fields, array_members, array_of, array_seen, KeepsFields}
+use Rattle.zarrs_metadata.specs.ArrayMetadata.{ArrayFields, OptionalFields, extensions_or_none, is_array}
+use Rattle.zarrs_metadata.specs.ArrayMetadata.{required_fields, optional_fields, with_optional_fields, array_members}
+use Rattle.zarrs_metadata.specs.ArrayMetadata.{array_fields_of, array_seen, KeepsFields}
 use Rattle.zarrs_metadata.specs.GroupMetadata.{group_of}
-use Rattle.zarrs_metadata.specs.Node.{NodeFields, array_node, group_node, node_seen, node_of, array_node_or, group_node_of, KeepsNodeFields}
+use Rattle.zarrs_metadata.specs.Node.{NodeFields, array_node, group_node, node_seen, node_of, array_node_or}
+use Rattle.zarrs_metadata.specs.Node.{group_node_of, KeepsNodeFields}
 use Rattle.zarrs_metadata_parts.specs.declared.v3.additional_fields.NodeKind.TheVariants.{Array}
 use Rattle.zarrs_metadata.specs.declared.v3.array.ArrayMetadataV3.{ArrayMetadataV3}
 use Rattle.zarrs_metadata.specs.declared.v3.node.NodeMetadataV3.{NodeMetadataV3}
 use Rattle.zarrs_metadata.proofs.GroupFields.{fields_kept, group_again}
 
-optional_parts : (ms : Members) (o : OptionalFields) → optional_fields ms ≡ Some o → o.additional_fields ≡ additional_fields_of Array ms
+optional_parts : (ms : Members) (o : OptionalFields) → optional_fields ms ≡ Some o →
+    o.additional_fields ≡ additional_fields_of Array ms
 unfolding optional_fields
 optional_parts ms o e =
     let a = bind_some (object_or_empty (get_member (codes "attributes") ms)) _ o e in
@@ -25,7 +29,8 @@ optional_parts ms o e =
     let same = c.2 in
     cc
 
-with_optional_parts : (ms : Members) (fields f : ArrayFields) → with_optional_fields ms fields ≡ Some f → f.additional_fields ≡ additional_fields_of Array ms
+with_optional_parts : (ms : Members) (fields f : ArrayFields) → with_optional_fields ms fields ≡ Some f →
+    f.additional_fields ≡ additional_fields_of Array ms
 unfolding with_optional_fields
 with_optional_parts ms fields f e =
     let a = bind_some (optional_fields ms) _ f e in
@@ -33,7 +38,8 @@ with_optional_parts ms fields f e =
     let is : f.additional_fields ≡ (a.0).additional_fields = cc in
     is ∙ optional_parts ms a.0 a.1
 
-array_fields : (ms : Members) (f : ArrayFields) → array_members ms ≡ Some f → f.additional_fields ≡ additional_fields_of Array ms
+array_fields : (ms : Members) (f : ArrayFields) → array_members ms ≡ Some f →
+    f.additional_fields ≡ additional_fields_of Array ms
 unfolding array_members
 array_fields ms f e =
     let a = bind_some (is_array ms) _ f e in
@@ -41,7 +47,8 @@ array_fields ms f e =
     with_optional_parts ms b.0 f b.2
 
 -- an array that was read keeps its additional fields
-pub array_kept : (d : Data) (f : ArrayFields) → Rises d → array_of d ≡ Some f → normal_fields Array f.additional_fields ≡ f.additional_fields
+pub array_kept : (d : Data) (f : ArrayFields) → Rises d → array_fields_of d ≡ Some f →
+    normal_fields Array f.additional_fields ≡ f.additional_fields
 array_kept null f h e = absurd cc
 array_kept (boolean b) f h e = absurd cc
 array_kept (number n) f h e = absurd cc
@@ -49,7 +56,8 @@ array_kept (string s) f h e = absurd cc
 array_kept (array ds) f h e = absurd cc
 array_kept (object ms) f h e = let is = array_fields ms f e in rw is (fields_kept Array ms h)
 
-array_or_group : (o : Option ArrayFields) (d : Data) (n : NodeFields) → Rises d → array_of d ≡ o → array_node_or (group_node_of d) o ≡ Some n → KeepsNodeFields n
+array_or_group : (o : Option ArrayFields) (d : Data) (n : NodeFields) → Rises d → array_fields_of d ≡ o →
+    array_node_or (group_node_of d) o ≡ Some n → KeepsNodeFields n
 array_or_group (Some a) d n h is e = let same : array_node a ≡ n = cc in rw (← same) (array_kept d a h is)
 array_or_group None d n h is e =
     let g = bind_some (group_of d) _ n e in
@@ -57,14 +65,16 @@ array_or_group None d n h is e =
     rw (← same) (group_again d g.0 h g.1)
 
 node_kept : (d : Data) (n : NodeFields) → Rises d → node_of d ≡ Some n → KeepsNodeFields n
-node_kept d n h e = array_or_group (array_of d) d n h refl e
+node_kept d n h e = array_or_group (array_fields_of d) d n h refl e
 
 -- ---- what a reader returned
 
-pub read_array_kept : (d : Data) (r : Result ArrayMetadataV3 MetadataError) → Rises d → Reads array_seen r (array_of d) → IfOk r (λ a. KeepsFields (array_seen a))
+pub read_array_kept : (d : Data) (r : Result ArrayMetadataV3 MetadataError) → Rises d →
+    Reads array_seen r (array_fields_of d) → IfOk r (λ a. KeepsFields (array_seen a))
 read_array_kept d (Ok a) h e = array_kept d (array_seen a) h e
 read_array_kept d (Err e) h is = tt
 
-pub read_node_kept : (d : Data) (r : Result NodeMetadataV3 MetadataError) → Rises d → Reads node_seen r (node_of d) → IfOk r (λ n. KeepsNodeFields (node_seen n))
+pub read_node_kept : (d : Data) (r : Result NodeMetadataV3 MetadataError) → Rises d → Reads node_seen r (node_of d) →
+    IfOk r (λ n. KeepsNodeFields (node_seen n))
 read_node_kept d (Ok n) h e = node_kept d (node_seen n) h e
 read_node_kept d (Err e) h is = tt

@@ -2,8 +2,9 @@
 use Rattle.std.specs.Prelude.{Option, Some, None}
 use Rattle.serde_json.specs.Data.{Data}
 use Rattle.zarrs_metadata_values.specs.Reading.{◌>>=◌}
-use Rattle.zarrs_metadata.specs.ArrayMetadata.{ArrayFields, array_seen, array_of, array_data, normal_array}
-use Rattle.zarrs_metadata_v2.specs.ArrayMetadataV2.{ArrayV2, array_v2_seen, array_v2_of, array_v2_data, normal_array_v2, HasChunks}
+use Rattle.zarrs_metadata.specs.ArrayMetadata.{ArrayFields, array_seen, array_fields_of, array_data, normal_array}
+use Rattle.zarrs_metadata_v2.specs.ArrayMetadataV2.{ArrayV2, array_v2_seen, array_v2_of, array_v2_data, normal_array_v2}
+use Rattle.zarrs_metadata_v2.specs.ArrayMetadataV2.{HasChunks}
 use Rattle.zarrs_metadata.specs.declared.array.ArrayMetadata.{ArrayMetadata}
 use Rattle.zarrs_metadata.specs.declared.array.ArrayMetadata.TheVariants.{V3, V2}
 
@@ -24,7 +25,7 @@ array_3_or other None = other
 
 -- version 3, else version 2
 abbrev pub any_array_of : Data → Option AnyArray
-any_array_of d = array_3_or (only_array_v2 d) (array_of d)
+any_array_of d = array_3_or (only_array_v2 d) (array_fields_of d)
 
 abbrev pub any_array_data : AnyArray → Data
 any_array_data (array_3 f) = array_data f

@@ -4,8 +4,10 @@ use Rattle.serde_json.specs.Data.{Data}
 use Rattle.zarrs_metadata_values.specs.Reading.{◌>>=◌}
 use Rattle.zarrs_metadata_v2.specs.ArrayMetadataV2.{array_v2_of}
 use Rattle.zarrs_metadata_v2.specs.GroupMetadataV2.{group_v2_data}
-use Rattle.zarrs_metadata.specs.AnyArray.{AnyArray, any_array_seen, any_array_of, any_array_data, normal_any_array, HasAnyChunks}
-use Rattle.zarrs_metadata.specs.AnyGroup.{AnyGroup, group_3, group_2, any_group_seen, any_group_of, any_group_data, normal_any_group}
+use Rattle.zarrs_metadata.specs.AnyArray.{AnyArray, any_array_seen, any_array_of, any_array_data, normal_any_array}
+use Rattle.zarrs_metadata.specs.AnyArray.{HasAnyChunks}
+use Rattle.zarrs_metadata.specs.AnyGroup.{AnyGroup, group_3, group_2, any_group_seen, any_group_of, any_group_data}
+use Rattle.zarrs_metadata.specs.AnyGroup.{normal_any_group}
 use Rattle.zarrs_metadata.specs.declared.node.NodeMetadata.{NodeMetadata}
 use Rattle.zarrs_metadata.specs.declared.node.NodeMetadata.TheVariants.{Array, Group}
 

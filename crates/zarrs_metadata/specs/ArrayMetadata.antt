@@ -3,13 +3,15 @@ use Rattle.std.specs.Prelude.{◌≡◌, ℕ, ⊤, true, List, [], map, Option, 
 use Rattle.serde_json.specs.Data.{unsigned, Data, number, string, array, object, Members, no_members, member, put}
 use Rattle.serde_json.specs.Find.{get_member, as_object}
 use Rattle.serde_json.specs.View.{items_of, members_view}
-use Rattle.zarrs_metadata_parts.specs.Reading.{◌>>=◌, is_number, is_text, whole_numbers, object_or_empty}
-use Rattle.zarrs_metadata_parts.specs.Writing.{numbers_data, put_object, put_list}
-use Rattle.zarrs_metadata_parts.specs.MetadataV3.{Extension, extension_of, extensions_of, extension_seen, extensions_seen, extension_data, normal_form}
+use Rattle.zarrs_metadata_values.specs.Reading.{◌>>=◌, is_number, is_text, whole_numbers, object_or_empty}
+use Rattle.zarrs_metadata_values.specs.Writing.{numbers_data, put_object, put_list}
+use Rattle.zarrs_metadata_parts.specs.MetadataV3.{Extension, extension_of, extensions_of, extension_seen}
+use Rattle.zarrs_metadata_parts.specs.MetadataV3.{extensions_seen, extension_data, normal_form}
 use Rattle.zarrs_metadata_parts.specs.AdditionalField.{AdditionalField}
 use Rattle.zarrs_metadata_parts.specs.DimensionNames.{dimension_names_seen, dimension_names, dimension_name_data}
-use Rattle.zarrs_metadata_parts.specs.FillValueMetadata.{fill_view}
-use Rattle.zarrs_metadata_parts.specs.AdditionalFields.{additional_fields_seen, additional_fields_of, put_fields, normal_fields}
+use Rattle.zarrs_metadata_values.specs.FillValueMetadata.{fill_view}
+use Rattle.zarrs_metadata_parts.specs.AdditionalFields.{additional_fields_seen, additional_fields_of, put_fields}
+use Rattle.zarrs_metadata_parts.specs.AdditionalFields.{normal_fields}
 use Rattle.zarrs_metadata_parts.specs.declared.v3.additional_fields.NodeKind.TheVariants.{Array}
 use Rattle.zarrs_metadata.specs.declared.v3.array.ArrayMetadataV3.{ArrayMetadataV3}
 use Rattle.zarrs_metadata.specs.declared.v3.named_parts.NamedParts.{NamedParts}
@@ -157,8 +159,8 @@ array_members ms = do
   fields ← required_fields ms
   with_optional_fields ms fields
 
-abbrev pub array_of : Data → Option ArrayFields
-array_of d = as_object d >>= array_members
+abbrev pub array_fields_of : Data → Option ArrayFields
+array_fields_of d = as_object d >>= array_members
 
 -- only where it is a list
 abbrev pub put_names : Option (List (Option (List ℕ))) → Members → Members

@@ -3,10 +3,11 @@ use Rattle.std.specs.Prelude.{ℕ, List, Option, Some, codes}
 use Rattle.serde_json.specs.Data.{unsigned, Data, number, string, object, Members, no_members, put}
 use Rattle.serde_json.specs.Find.{get_member, as_object}
 use Rattle.serde_json.specs.View.{members_view}
-use Rattle.zarrs_metadata_parts.specs.Reading.{◌>>=◌, is_number, is_text, object_or_empty}
-use Rattle.zarrs_metadata_parts.specs.Writing.{put_object}
+use Rattle.zarrs_metadata_values.specs.Reading.{◌>>=◌, is_number, is_text, object_or_empty}
+use Rattle.zarrs_metadata_values.specs.Writing.{put_object}
 use Rattle.zarrs_metadata_parts.specs.AdditionalField.{AdditionalField}
-use Rattle.zarrs_metadata_parts.specs.AdditionalFields.{additional_fields_seen, additional_fields_of, put_fields, normal_fields}
+use Rattle.zarrs_metadata_parts.specs.AdditionalFields.{additional_fields_seen, additional_fields_of, put_fields}
+use Rattle.zarrs_metadata_parts.specs.AdditionalFields.{normal_fields}
 use Rattle.zarrs_metadata_parts.specs.declared.v3.additional_fields.NodeKind.TheVariants.{Group}
 use Rattle.zarrs_metadata.specs.declared.v3.group.GroupMetadataV3.{GroupMetadataV3}
 

@@ -1,8 +1,9 @@
 -- The document of an array, or of a group.
 use Rattle.std.specs.Prelude.{◌≡◌, Option, Some, None}
 use Rattle.serde_json.specs.Data.{Data}
-use Rattle.zarrs_metadata_parts.specs.Reading.{◌>>=◌}
-use Rattle.zarrs_metadata.specs.ArrayMetadata.{ArrayFields, array_seen, array_of, array_data, normal_array, KeepsFields}
+use Rattle.zarrs_metadata_values.specs.Reading.{◌>>=◌}
+use Rattle.zarrs_metadata.specs.ArrayMetadata.{ArrayFields, array_seen, array_fields_of, array_data, normal_array}
+use Rattle.zarrs_metadata.specs.ArrayMetadata.{KeepsFields}
 use Rattle.zarrs_metadata.specs.GroupMetadata.{GroupFields, group_seen, group_of, group_data, normal_group}
 use Rattle.zarrs_metadata.specs.declared.v3.node.NodeMetadataV3.{NodeMetadataV3}
 use Rattle.zarrs_metadata.specs.declared.v3.node.NodeMetadataV3.TheVariants.{Array, Group}
@@ -24,7 +25,7 @@ array_node_or other (Some a) = Some (array_node a)
 array_node_or other None = other
 
 abbrev pub node_of : Data → Option NodeFields
-node_of d = array_node_or (group_node_of d) (array_of d)
+node_of d = array_node_or (group_node_of d) (array_fields_of d)
 
 abbrev pub node_data : NodeFields → Data
 node_data (array_node a) = array_data a

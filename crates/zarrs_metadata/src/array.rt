@@ -4,7 +4,7 @@ ghost use Rattle.std.specs.Prelude.{◌≡◌, ◌≤◌, Some, IfOk, string_byt
 ghost use Rattle.serde_json.specs.Data.{depth};
 ghost use Rattle.serde_json.specs.Read.{read, max_depth};
 ghost use Rattle.serde_json.specs.View.{view};
-ghost use Rattle.zarrs_metadata_values.specs.Reading.{Reads, Gives, from_data, from_json};
+ghost use Rattle.zarrs_metadata_values.specs.Reading.{Reads, GivesRead, from_data, from_json};
 ghost use Rattle.zarrs_metadata.specs.AnyArray.{any_array_seen, only_array_v2, any_array_of, any_array_data};
 
 use crate::v3::array::ArrayMetadataV3;
@@ -31,7 +31,7 @@ impl ArrayMetadata {
     /// `FloatNumber` exactly where the value holds a float, attributes included, else `InvalidMetadata` exactly where it
     /// is an array document of neither version.
     pub fn from_value(alloc: Global, value: &Value) -> Result<Self, MetadataError>
-        ensures { Gives any_array_seen result (from_data any_array_of (view value.now)) }
+        ensures { GivesRead any_array_seen result (from_data any_array_of (view value.now)) }
     {
         match ArrayMetadataV3::from_value(alloc, value) {
             Ok(array) => Ok(ArrayMetadata::V3(array)),
@@ -55,7 +55,7 @@ impl ArrayMetadata {
     /// # Errors
     /// `InvalidJson` exactly where the text is not JSON, else as for the value.
     pub fn try_from_text(alloc: Global, text: &str) -> Result<Self, MetadataError>
-        ensures { Gives any_array_seen result (from_json any_array_of (read text.now)) }
+        ensures { GivesRead any_array_seen result (from_json any_array_of (read text.now)) }
     {
         let value = read_value(alloc, text)?;
         ArrayMetadata::from_value(alloc, &value)

@@ -4,7 +4,7 @@ ghost use Rattle.std.specs.Prelude.{◌≡◌, ◌≤◌, Some, IfOk, string_byt
 ghost use Rattle.serde_json.specs.Data.{depth};
 ghost use Rattle.serde_json.specs.Read.{read, max_depth};
 ghost use Rattle.serde_json.specs.View.{view};
-ghost use Rattle.zarrs_metadata_values.specs.Reading.{Reads, Gives, from_data, from_json};
+ghost use Rattle.zarrs_metadata_values.specs.Reading.{Reads, GivesRead, from_data, from_json};
 ghost use Rattle.zarrs_metadata.specs.AnyGroup.{any_group_seen, only_group_v2, any_group_of, any_group_data};
 
 use crate::v3::group::GroupMetadataV3;
@@ -31,7 +31,7 @@ impl GroupMetadata {
     /// `FloatNumber` exactly where the value holds a float, attributes included, else `InvalidMetadata` exactly where it
     /// is a group document of neither version.
     pub fn from_value(alloc: Global, value: &Value) -> Result<Self, MetadataError>
-        ensures { Gives any_group_seen result (from_data any_group_of (view value.now)) }
+        ensures { GivesRead any_group_seen result (from_data any_group_of (view value.now)) }
     {
         match GroupMetadataV3::from_value(alloc, value) {
             Ok(group) => Ok(GroupMetadata::V3(group)),
@@ -55,7 +55,7 @@ impl GroupMetadata {
     /// # Errors
     /// `InvalidJson` exactly where the text is not JSON, else as for the value.
     pub fn try_from_text(alloc: Global, text: &str) -> Result<Self, MetadataError>
-        ensures { Gives any_group_seen result (from_json any_group_of (read text.now)) }
+        ensures { GivesRead any_group_seen result (from_json any_group_of (read text.now)) }
     {
         let value = read_value(alloc, text)?;
         GroupMetadata::from_value(alloc, &value)

@@ -4,7 +4,7 @@ ghost use Rattle.std.specs.Prelude.{◌≡◌, ◌≤◌, Some, IfOk, string_byt
 ghost use Rattle.serde_json.specs.Data.{depth};
 ghost use Rattle.serde_json.specs.Read.{read, max_depth};
 ghost use Rattle.serde_json.specs.View.{view};
-ghost use Rattle.zarrs_metadata_values.specs.Reading.{Gives, from_data, from_json};
+ghost use Rattle.zarrs_metadata_values.specs.Reading.{GivesRead, from_data, from_json};
 ghost use Rattle.zarrs_metadata.specs.AnyNode.{any_node_seen, only_group, any_node_of, any_node_data};
 
 use crate::array::ArrayMetadata;
@@ -32,7 +32,7 @@ impl NodeMetadata {
     /// `FloatNumber` exactly where the value holds a float, attributes included, else `InvalidMetadata` exactly where it
     /// is none of the four.
     pub fn from_value(alloc: Global, value: &Value) -> Result<Self, MetadataError>
-        ensures { Gives any_node_seen result (from_data any_node_of (view value.now)) }
+        ensures { GivesRead any_node_seen result (from_data any_node_of (view value.now)) }
     {
         match ArrayMetadata::from_value(alloc, value) {
             Ok(array) => Ok(NodeMetadata::Array(array)),
@@ -56,7 +56,7 @@ impl NodeMetadata {
     /// # Errors
     /// `InvalidJson` exactly where the text is not JSON, else as for the value.
     pub fn try_from_text(alloc: Global, text: &str) -> Result<Self, MetadataError>
-        ensures { Gives any_node_seen result (from_json any_node_of (read text.now)) }
+        ensures { GivesRead any_node_seen result (from_json any_node_of (read text.now)) }
     {
         let value = read_value(alloc, text)?;
         NodeMetadata::from_value(alloc, &value)
@@ -86,7 +86,7 @@ impl NodeMetadata {
 
 // The group that a value is, of either version.
 fn read_only_group(alloc: Global, value: &Value) -> Result<NodeMetadata, MetadataError>
-    ensures { Gives any_node_seen result (from_data only_group (view value.now)) }
+    ensures { GivesRead any_node_seen result (from_data only_group (view value.now)) }
 {
     match GroupMetadata::from_value(alloc, value) {
         Ok(group) => Ok(NodeMetadata::Group(group)),

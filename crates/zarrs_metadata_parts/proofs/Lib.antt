@@ -1,7 +1,7 @@
-pub mod ReadBackV2
-pub mod RisingLemmasV2
 pub use Rattle.zarrs_metadata_values.proofs.EachLemmas
 pub use Rattle.zarrs_metadata_values.proofs.PutLemmas
+pub mod ReadBackV2
+pub mod RisingLemmasV2
 pub mod ExtensionLemmas
 pub mod ReadBack
 pub mod RisingLemmas

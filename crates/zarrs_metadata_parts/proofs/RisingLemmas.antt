@@ -15,7 +15,8 @@ no_mark (string s) h = refl
 no_mark (array ds) h = refl
 no_mark (object ms) h = gone (codes "must_understand") ms h
 
-pub unmarked : (d : Data) (a : AdditionalField) → Rises d → a ≡ additional_field_of d → get (codes "must_understand") a.value ≡ None
+pub unmarked : (d : Data) (a : AdditionalField) → Rises d → a ≡ additional_field_of d →
+    get (codes "must_understand") a.value ≡ None
 unmarked d a rises is = rw is (no_mark d rises)
 
 -- an additional field that was read is in its normal form

@@ -10,7 +10,8 @@ use Rattle.zarrs_metadata_values.proofs.RisingLemmas.{gone}
 use Rattle.zarrs_metadata_parts.specs.MetadataV2.{CodecV2, codec_v2_seen, codec_v2_members, codec_v2_of}
 use Rattle.zarrs_metadata_parts.specs.declared.metadata_v2.MetadataV2.{MetadataV2}
 
-members_without_id : (ms : Members) (c : CodecV2) → MembersRise ms → codec_v2_members ms ≡ Some c → get_member (codes "id") c.configuration ≡ None
+members_without_id : (ms : Members) (c : CodecV2) → MembersRise ms → codec_v2_members ms ≡ Some c →
+    get_member (codes "id") c.configuration ≡ None
 unfolding codec_v2_members
 members_without_id ms c h e =
     let a = bind_some (get_member (codes "id") ms >>= as_str) _ c e in
@@ -18,7 +19,8 @@ members_without_id ms c h e =
     let is : c.configuration ≡ without (codes "id") ms = cc in
     rw is (gone (codes "id") ms h)
 
-codec_without_id : (d : Data) (c : CodecV2) → Rises d → codec_v2_of d ≡ Some c → get_member (codes "id") c.configuration ≡ None
+codec_without_id : (d : Data) (c : CodecV2) → Rises d → codec_v2_of d ≡ Some c →
+    get_member (codes "id") c.configuration ≡ None
 codec_without_id null c h e = absurd cc
 codec_without_id (boolean b) c h e = absurd cc
 codec_without_id (number n) c h e = absurd cc
@@ -27,6 +29,7 @@ codec_without_id (array ds) c h e = absurd cc
 codec_without_id (object ms) c h e = members_without_id ms c h e
 
 -- the configuration of a codec that was read holds no `id`
-pub read_without_id : (d : Data) (r : Result MetadataV2 MetadataError) → Rises d → Reads codec_v2_seen r (codec_v2_of d) → IfOk r (λ c. get_member (codes "id") (codec_v2_seen c).configuration ≡ None)
+pub read_without_id : (d : Data) (r : Result MetadataV2 MetadataError) → Rises d →
+    Reads codec_v2_seen r (codec_v2_of d) → IfOk r (λ c. get_member (codes "id") (codec_v2_seen c).configuration ≡ None)
 read_without_id d (Ok c) h e = codec_without_id d (codec_v2_seen c) h e
 read_without_id d (Err e) h is = tt

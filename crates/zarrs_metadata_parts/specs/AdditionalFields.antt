@@ -1,5 +1,6 @@
 -- The keys that a document names, and the fields under all others.
-use Rattle.std.specs.Prelude.{◌≡◌, ℕ, Bool, true, false, ◌||◌, ◌&&◌, if◌then◌else◌, List, [], ◌∷◌, map, None, String, string_bytes, codes}
+use Rattle.std.specs.Prelude.{◌≡◌, ℕ, Bool, true, false, ◌||◌, ◌&&◌, if◌then◌else◌, List, [], ◌∷◌, map, None, String}
+use Rattle.std.specs.Prelude.{string_bytes, codes}
 use Rattle.std.specs.Str.{bytes_eq}
 use Rattle.std.specs.Ordering.{nat_cmp}
 use Rattle.std.specs.declared.cmp.Ordering.TheVariants.{Less}
@@ -7,7 +8,8 @@ use Rattle.std.specs.Cmp.Lexicographic.{slice_cmp}
 use Rattle.std.specs.declared.alloc.Global.{Global}
 use Rattle.serde_json.specs.Data.{Data, null, Members, no_members, member, put}
 use Rattle.serde_json.specs.Find.{get}
-use Rattle.zarrs_metadata_parts.specs.AdditionalField.{AdditionalField, additional_field_seen, additional_field_of, additional_field_data, normal_field}
+use Rattle.zarrs_metadata_parts.specs.AdditionalField.{AdditionalField, additional_field_seen, additional_field_of}
+use Rattle.zarrs_metadata_parts.specs.AdditionalField.{additional_field_data, normal_field}
 use Rattle.zarrs_metadata_parts.specs.declared.v3.additional_field.AdditionalFieldV3.{AdditionalFieldV3}
 use Rattle.zarrs_metadata_parts.specs.declared.v3.additional_fields.NodeKind.{NodeKind}
 use Rattle.zarrs_metadata_parts.specs.declared.v3.additional_fields.NodeKind.TheVariants.{Array, Group}
@@ -41,12 +43,12 @@ is_null null = true
 is_null _ = false
 
 -- A null under `consolidated_metadata` stands for nothing in a group.
-abbrev pub is_dropped : NodeKind → List ℕ → Data → Bool
-is_dropped Array key d = false
-is_dropped Group key d = bytes_eq key (codes "consolidated_metadata") && is_null d
+abbrev pub is_field_dropped : NodeKind → List ℕ → Data → Bool
+is_field_dropped Array key d = false
+is_field_dropped Group key d = bytes_eq key (codes "consolidated_metadata") && is_null d
 
 abbrev pub is_no_field : NodeKind → List ℕ → Data → Bool
-is_no_field kind key d = is_named_key kind key || is_dropped kind key d
+is_no_field kind key d = is_named_key kind key || is_field_dropped kind key d
 
 -- every other key is an additional field
 abbrev pub additional_fields_of : NodeKind → Members → List (List ℕ × AdditionalField)
@@ -70,9 +72,9 @@ abbrev pub normal_fields : NodeKind → List (List ℕ × AdditionalField)
 normal_fields kind fs = additional_fields_of kind (put_fields kind fs no_members)
 
 -- a key comes before those of the fields
-abbrev pub IsBelow : List ℕ → List (List ℕ × AdditionalField) → Type 0
-IsBelow key [] = Unit {0}
-IsBelow key (f ∷ fs) = (slice_cmp nat_cmp key f.0 ≡ Less) × IsBelow key fs
+abbrev pub IsKeyBelow : List ℕ → List (List ℕ × AdditionalField) → Type 0
+IsKeyBelow key [] = Unit {0}
+IsKeyBelow key (f ∷ fs) = (slice_cmp nat_cmp key f.0 ≡ Less) × IsKeyBelow key fs
 
 -- Fields as a document that was read has them: their keys rise, the document names and drops none
 -- of them, and none has a
@@ -82,7 +84,7 @@ AreOrderly kind [] = Unit {0}
 AreOrderly kind (f ∷ fs) =
     (is_no_field kind f.0 (additional_field_data f.1) ≡ false)
     × (get (codes "must_understand") f.1.value ≡ None)
-    × IsBelow f.0 fs
+    × IsKeyBelow f.0 fs
     × AreOrderly kind fs
 
 -- each field in its own normal form

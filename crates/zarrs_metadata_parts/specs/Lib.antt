@@ -1,10 +1,10 @@
-pub mod MetadataV2
-pub mod DataTypeV2
 pub use Rattle.zarrs_metadata_values.specs.Reading
 pub use Rattle.zarrs_metadata_values.specs.Writing
 pub use Rattle.zarrs_metadata_values.specs.Rising
 pub use Rattle.zarrs_metadata_values.specs.Configuration
 pub use Rattle.zarrs_metadata_values.specs.FillValueMetadata
+pub mod MetadataV2
+pub mod DataTypeV2
 pub mod MetadataV3
 pub mod AdditionalField
 pub mod AdditionalFields

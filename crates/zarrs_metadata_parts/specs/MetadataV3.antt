@@ -1,5 +1,6 @@
 -- A named extension: what it says, how it is read and how it is written.
-use Rattle.std.specs.Prelude.{ℕ, Bool, true, false, ◌||◌, ◌&&◌, ◌++◌, if◌then◌else◌, List, map, Option, Some, None, option_map, codes, string_bytes}
+use Rattle.std.specs.Prelude.{ℕ, Bool, true, false, ◌||◌, ◌&&◌, ◌++◌, if◌then◌else◌, List, map, Option, Some, None}
+use Rattle.std.specs.Prelude.{option_map, codes, string_bytes}
 use Rattle.std.specs.Str.{bytes_eq}
 use Rattle.serde_json.specs.Data.{Data, boolean, string, object, Members, no_members, member}
 use Rattle.serde_json.specs.Find.{get_member, as_str, as_array}

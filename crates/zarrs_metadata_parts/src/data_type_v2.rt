@@ -7,7 +7,7 @@ ghost use Rattle.serde_json.specs.Data.{item};
 ghost use Rattle.serde_json.specs.Read.{read};
 ghost use Rattle.serde_json.specs.View.{view, items_of, items_view};
 ghost use Rattle.zarrs_metadata_parts.specs.DataTypeV2.{data_type_v2_seen, data_type_v2_of, data_type_v2_data, field_v2_seen, field_v2_of, field_v2_data, field_items, named_field, last_shape, optional_numbers};
-ghost use Rattle.zarrs_metadata_values.specs.Reading.{Reads, Gives, from_data, from_json, each};
+ghost use Rattle.zarrs_metadata_values.specs.Reading.{Reads, GivesRead, from_data, from_json, each};
 
 use serde_json::Value;
 use std::alloc::{AllocError, Global};
@@ -49,7 +49,7 @@ impl DataTypeMetadataV2 {
     /// # Errors
     /// `FloatNumber` exactly where the value holds a float, else `InvalidMetadata` exactly where it is neither.
     pub fn from_value(alloc: Global, value: &Value) -> Result<Self, MetadataError>
-        ensures { Gives data_type_v2_seen result (from_data data_type_v2_of (view value.now)) }
+        ensures { GivesRead data_type_v2_seen result (from_data data_type_v2_of (view value.now)) }
     {
         refuse_floats(value)?;
         read_data_type_v2(alloc, value)
@@ -73,7 +73,7 @@ impl DataTypeMetadataV2 {
     /// # Errors
     /// `InvalidJson` exactly where the text is not JSON, else as for the value.
     pub fn try_from_text(alloc: Global, text: &str) -> Result<Self, MetadataError>
-        ensures { Gives data_type_v2_seen result (from_json data_type_v2_of (read text.now)) }
+        ensures { GivesRead data_type_v2_seen result (from_json data_type_v2_of (read text.now)) }
     {
         let value = read_value(alloc, text)?;
         read_data_type_v2(alloc, &value)

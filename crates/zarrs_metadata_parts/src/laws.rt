@@ -6,7 +6,7 @@ ghost use Rattle.serde_json.specs.Find.{get};
 ghost use Rattle.zarrs_metadata_parts.specs.AdditionalField.{AdditionalField, additional_field_of, additional_field_data, normal_field};
 ghost use Rattle.zarrs_metadata_parts.specs.AdditionalFields.{normal_fields, normal_each, AreOrderly};
 ghost use Rattle.zarrs_metadata_parts.specs.MetadataV3.{Extension, extension_seen, extension_of, extension_data, normal_form};
-ghost use Rattle.zarrs_metadata_values.specs.Reading.{Gives, unless_float};
+ghost use Rattle.zarrs_metadata_values.specs.Reading.{GivesRead, unless_float};
 ghost use Rattle.zarrs_metadata_parts.specs.declared.v3.additional_fields.NodeKind.{NodeKind};
 ghost use Rattle.zarrs_metadata_values.specs.Rising.{Rises};
 
@@ -31,7 +31,7 @@ pub fn normal_form_once()
 /// # Errors
 /// `FloatNumber` exactly where the value that is written holds a float.
 pub fn read_again(alloc: Global, metadata: &MetadataV3) -> Result<MetadataV3, MetadataError>
-    ensures { Gives extension_seen result
+    ensures { GivesRead extension_seen result
         (unless_float (extension_data (extension_seen metadata.now))
         (normal_form (extension_seen metadata.now))) }
 {

@@ -8,7 +8,7 @@ ghost use Rattle.serde_json.specs.Read.{read};
 ghost use Rattle.serde_json.specs.View.{view, members_view};
 ghost use Rattle.zarrs_metadata_values.specs.Configuration.{configuration_seen, Typed};
 ghost use Rattle.zarrs_metadata_parts.specs.MetadataV2.{codec_v2_seen, codec_v2_of, codec_v2_members, codec_v2_data};
-ghost use Rattle.zarrs_metadata_values.specs.Reading.{Reads, Gives, from_data, from_json};
+ghost use Rattle.zarrs_metadata_values.specs.Reading.{Reads, GivesRead, from_data, from_json};
 
 use serde_json::{Map, Value};
 use std::alloc::{AllocError, Global};
@@ -79,7 +79,7 @@ impl MetadataV2 {
     /// `FloatNumber` exactly where the value holds a float, else `InvalidMetadata` exactly where it is no such object.
     #[tactic(auto, using(crate::proofs::RisingLemmasV2::read_without_id))]
     pub fn from_value(alloc: Global, value: &Value) -> Result<Self, MetadataError>
-        ensures gives { Gives codec_v2_seen result (from_data codec_v2_of (view value.now)) }
+        ensures gives { GivesRead codec_v2_seen result (from_data codec_v2_of (view value.now)) }
         ensures without_id { IfOk result
             (λ c. get_member (codes "id") (codec_v2_seen c).configuration ≡ None) }
     {
@@ -103,7 +103,7 @@ impl MetadataV2 {
     /// `InvalidJson` exactly where the text is not JSON, else as for the value.
     #[tactic(auto, using(crate::proofs::RisingLemmasV2::read_without_id))]
     pub fn try_from_text(alloc: Global, text: &str) -> Result<Self, MetadataError>
-        ensures gives { Gives codec_v2_seen result (from_json codec_v2_of (read text.now)) }
+        ensures gives { GivesRead codec_v2_seen result (from_json codec_v2_of (read text.now)) }
         ensures without_id { IfOk result
             (λ c. get_member (codes "id") (codec_v2_seen c).configuration ≡ None) }
     {

@@ -1,8 +1,10 @@
 -- A version 2 document that was read is the same when it is written and read again.
-use Rattle.std.proofs.Common.{◌≡◌, ℕ, List, [], ◌∷◌, map, Ordering, Less, Equal, Greater, Option, Some, None, Result, Ok, Err, IfOk, codes, nat_cmp, refl, ap}
+use Rattle.std.proofs.Common.{◌≡◌, ℕ, List, [], ◌∷◌, map, Ordering, Less, Equal, Greater, Option, Some, None, Result}
+use Rattle.std.proofs.Common.{Ok, Err, IfOk, codes, nat_cmp, refl, ap}
 use Rattle.std.specs.Cmp.Lexicographic.{slice_cmp}
 use Rattle.std.specs.Ordering.{match_ordering}
-use Rattle.serde_json.specs.Data.{Data, null, boolean, number, string, array, object, unsigned, Items, no_items, item, Members, no_members, member}
+use Rattle.serde_json.specs.Data.{Data, null, boolean, number, string, array, object, unsigned, Items, no_items, item}
+use Rattle.serde_json.specs.Data.{Members, no_members, member}
 use Rattle.serde_json.specs.Find.{get_member, as_str}
 use Rattle.zarrs_metadata_values.specs.Reading.{◌>>=◌, each, without, is_number, object_or_empty, Reads}
 use Rattle.zarrs_metadata_values.specs.Rising.{Rises, ItemsRise, MembersRise}
@@ -11,8 +13,11 @@ use Rattle.zarrs_metadata_values.proofs.EachLemmas.{bind_some}
 use Rattle.zarrs_metadata_values.proofs.PutLemmas.{without-put}
 use Rattle.zarrs_metadata_values.proofs.RisingLemmas.{gone}
 use Rattle.zarrs_metadata_parts.specs.MetadataV2.{CodecV2, codec_v2_of, codec_v2_members}
-use Rattle.zarrs_metadata_v2.specs.CodecsV2.{unless_empty, compressor_of, filters_of, normal_codec_v2, normal_compressor, normal_filters}
-use Rattle.zarrs_metadata_v2.specs.ArrayMetadataV2.{ArrayV2, OptionalV2, array_v2_seen, dimension_separator_of, required_v2, optional_v2, with_optional_fields_v2, array_v2_members, array_v2_of, normal_array_v2}
+use Rattle.zarrs_metadata_v2.specs.CodecsV2.{unless_empty, compressor_of, filters_of, normal_codec_v2}
+use Rattle.zarrs_metadata_v2.specs.CodecsV2.{normal_compressor, normal_filters}
+use Rattle.zarrs_metadata_v2.specs.ArrayMetadataV2.{ArrayV2, OptionalV2, array_v2_seen, dimension_separator_of}
+use Rattle.zarrs_metadata_v2.specs.ArrayMetadataV2.{required_v2, optional_v2, with_optional_fields_v2, array_v2_members}
+use Rattle.zarrs_metadata_v2.specs.ArrayMetadataV2.{array_v2_of, normal_array_v2}
 use Rattle.zarrs_metadata_v2.specs.GroupMetadataV2.{group_v2_seen, group_v2_of, group_v2_members, normal_group_v2}
 use Rattle.zarrs_metadata_v2.specs.declared.array.ArrayMetadataV2.{ArrayMetadataV2}
 use Rattle.zarrs_metadata_v2.specs.declared.group.GroupMetadataV2.{GroupMetadataV2}
@@ -23,7 +28,8 @@ abbrev IfRises : Option Data → Type 0
 IfRises None = Unit {0}
 IfRises (Some d) = Rises d
 
-found_at : (o : Ordering) (e : Data) (rest : Option Data) → Rises e → IfRises rest → IfRises (match_ordering o rest (Some e) rest)
+found_at : (o : Ordering) (e : Data) (rest : Option Data) → Rises e → IfRises rest →
+    IfRises (match_ordering o rest (Some e) rest)
 found_at Less e rest h later = later
 found_at Equal e rest h later = h
 found_at Greater e rest h later = later
@@ -51,7 +57,8 @@ codec_stays (string s) c h e = absurd cc
 codec_stays (array ds) c h e = absurd cc
 codec_stays (object ms) c h e = codec_same ms c h e
 
-codecs_stay : (ds : Items) (cs : List CodecV2) → ItemsRise ds → each codec_v2_of ds ≡ Some cs → map normal_codec_v2 cs ≡ cs
+codecs_stay : (ds : Items) (cs : List CodecV2) → ItemsRise ds → each codec_v2_of ds ≡ Some cs →
+    map normal_codec_v2 cs ≡ cs
 codecs_stay no_items cs h e = let is : [] ≡ cs = cc in rw (← is) refl
 codecs_stay (item d ds) cs h e =
     let a = bind_some (codec_v2_of d) _ cs e in
@@ -59,7 +66,8 @@ codecs_stay (item d ds) cs h e =
     let is : a.0 ∷ b.0 ≡ cs = cc in
     rw (← is, codec_stays d a.0 h.0 a.1, codecs_stay ds b.0 h.1 b.1) refl
 
-compressor_stays : (o : Option Data) (c : Option CodecV2) → IfRises o → compressor_of o ≡ Some c → normal_compressor c ≡ c
+compressor_stays : (o : Option Data) (c : Option CodecV2) → IfRises o → compressor_of o ≡ Some c →
+    normal_compressor c ≡ c
 unfolding compressor_of
 compressor_stays None c h e = let is : None ≡ c = cc in rw (← is) refl
 compressor_stays (Some null) c h e = let is : None ≡ c = cc in rw (← is) refl
@@ -91,7 +99,8 @@ filters_stay (Some (object ms)) c h e = absurd cc
 
 -- ---- arrays
 
-optional_stay : (ms : Members) (o : OptionalV2) → MembersRise ms → optional_v2 ms ≡ Some o → (normal_compressor o.compressor ≡ o.compressor) × (normal_filters o.filters ≡ o.filters)
+optional_stay : (ms : Members) (o : OptionalV2) → MembersRise ms → optional_v2 ms ≡ Some o →
+    (normal_compressor o.compressor ≡ o.compressor) × (normal_filters o.filters ≡ o.filters)
 unfolding optional_v2
 optional_stay ms o h e =
     let a = bind_some (dimension_separator_of (get_member (codes "dimension_separator") ms)) _ o e in
@@ -101,11 +110,13 @@ optional_stay ms o h e =
     let same = d.2 in
     let compressor : o.compressor ≡ b.0 = cc in
     let filters : o.filters ≡ c.0 = cc in (
-      rw compressor (compressor_stays (get_member (codes "compressor") ms) b.0 (found_rises (codes "compressor") ms h) b.1),
+      rw compressor
+          (compressor_stays (get_member (codes "compressor") ms) b.0 (found_rises (codes "compressor") ms h) b.1),
       rw filters (filters_stay (get_member (codes "filters") ms) c.0 (found_rises (codes "filters") ms h) c.1),
     )
 
-with_stays : (ms : Members) (fields f : ArrayV2) → MembersRise ms → with_optional_fields_v2 ms fields ≡ Some f → normal_array_v2 f ≡ f
+with_stays : (ms : Members) (fields f : ArrayV2) → MembersRise ms → with_optional_fields_v2 ms fields ≡ Some f →
+    normal_array_v2 f ≡ f
 unfolding with_optional_fields_v2
 with_stays ms fields f h e =
     let a = bind_some (optional_v2 ms) _ f e in
@@ -135,15 +146,18 @@ array_v2_stays (object ms) f h e = array_same ms f h e
 
 -- ---- groups
 
-group_same : (ms attributes : Members) → MembersRise ms → group_v2_members ms ≡ Some attributes → normal_group_v2 attributes ≡ attributes
+group_same : (ms attributes : Members) → MembersRise ms → group_v2_members ms ≡ Some attributes →
+    normal_group_v2 attributes ≡ attributes
 unfolding group_v2_members
 group_same ms attributes h e =
     let a = bind_some (get_member (codes "zarr_format") ms >>= is_number 2) _ attributes e in
     let is : without (codes "zarr_format") ms ≡ attributes = cc in
-    rw (← is) (without-put (codes "zarr_format") (number (unsigned 2)) (without (codes "zarr_format") ms) (gone (codes "zarr_format") ms h))
+    rw (← is) (without-put (codes "zarr_format") (number (unsigned 2)) (without (codes "zarr_format") ms)
+    (gone (codes "zarr_format") ms h))
 
 -- a group that was read
-pub group_v2_stays : (d : Data) (attributes : Members) → Rises d → group_v2_of d ≡ Some attributes → normal_group_v2 attributes ≡ attributes
+pub group_v2_stays : (d : Data) (attributes : Members) → Rises d → group_v2_of d ≡ Some attributes →
+    normal_group_v2 attributes ≡ attributes
 group_v2_stays null attributes h e = absurd cc
 group_v2_stays (boolean b) attributes h e = absurd cc
 group_v2_stays (number n) attributes h e = absurd cc
@@ -153,10 +167,12 @@ group_v2_stays (object ms) attributes h e = group_same ms attributes h e
 
 -- ---- what a reader returned
 
-pub read_array_stays : (d : Data) (r : Result ArrayMetadataV2 MetadataError) → Rises d → Reads array_v2_seen r (array_v2_of d) → IfOk r (λ a. normal_array_v2 (array_v2_seen a) ≡ array_v2_seen a)
+pub read_array_stays : (d : Data) (r : Result ArrayMetadataV2 MetadataError) → Rises d →
+    Reads array_v2_seen r (array_v2_of d) → IfOk r (λ a. normal_array_v2 (array_v2_seen a) ≡ array_v2_seen a)
 read_array_stays d (Ok a) h e = array_v2_stays d (array_v2_seen a) h e
 read_array_stays d (Err e) h is = tt
 
-pub read_group_stays : (d : Data) (r : Result GroupMetadataV2 MetadataError) → Rises d → Reads group_v2_seen r (group_v2_of d) → IfOk r (λ g. normal_group_v2 (group_v2_seen g) ≡ group_v2_seen g)
+pub read_group_stays : (d : Data) (r : Result GroupMetadataV2 MetadataError) → Rises d →
+    Reads group_v2_seen r (group_v2_of d) → IfOk r (λ g. normal_group_v2 (group_v2_seen g) ≡ group_v2_seen g)
 read_group_stays d (Ok g) h e = group_v2_stays d (group_v2_seen g) h e
 read_group_stays d (Err e) h is = tt

@@ -10,15 +10,20 @@ use Rattle.zarrs_metadata_v2.proofs.GroupBack.{group_v2_reads_back}
 use Rattle.zarrs_metadata_v2.proofs.Stays.{array_v2_stays, group_v2_stays}
 
 -- where the keys of what is written rise
-pub written_array_once : (f : ArrayV2) → HasChunks f → Rises (array_v2_data f) → normal_array_v2 (normal_array_v2 f) ≡ normal_array_v2 f
+pub written_array_once : (f : ArrayV2) → HasChunks f → Rises (array_v2_data f) →
+    normal_array_v2 (normal_array_v2 f) ≡ normal_array_v2 f
 written_array_once f h rises = array_v2_stays (array_v2_data f) (normal_array_v2 f) rises (array_v2_reads_back f h)
 
-pub written_group_once : (attributes : Members) → Rises (group_v2_data attributes) → normal_group_v2 (normal_group_v2 attributes) ≡ normal_group_v2 attributes
-written_group_once attributes rises = group_v2_stays (group_v2_data attributes) (normal_group_v2 attributes) rises (group_v2_reads_back attributes)
+pub written_group_once : (attributes : Members) → Rises (group_v2_data attributes) →
+    normal_group_v2 (normal_group_v2 attributes) ≡ normal_group_v2 attributes
+written_group_once attributes rises =
+    group_v2_stays (group_v2_data attributes) (normal_group_v2 attributes) rises (group_v2_reads_back attributes)
 
 -- by a value
-pub array_again_by_value : (f : ArrayV2) → HasChunks f → from_data array_v2_of (array_v2_data f) ≡ unless_float (array_v2_data f) (normal_array_v2 f)
+pub array_again_by_value : (f : ArrayV2) → HasChunks f →
+    from_data array_v2_of (array_v2_data f) ≡ unless_float (array_v2_data f) (normal_array_v2 f)
 array_again_by_value f h = rw (array_v2_reads_back f h)
 
-pub group_again_by_value : (attributes : Members) → from_data group_v2_of (group_v2_data attributes) ≡ unless_float (group_v2_data attributes) (normal_group_v2 attributes)
+pub group_again_by_value : (attributes : Members) → from_data group_v2_of (group_v2_data attributes) ≡
+    unless_float (group_v2_data attributes) (normal_group_v2 attributes)
 group_again_by_value attributes = rw (group_v2_reads_back attributes)

@@ -1,5 +1,6 @@
 -- A version 2 array document: what it says, how it is read and how it is written.
-use Rattle.std.specs.Prelude.{◌≡◌, ℕ, ◌==◌, nat_le, true, if◌then◌else◌, List, map, Option, Some, None, option_map, codes}
+use Rattle.std.specs.Prelude.{◌≡◌, ℕ, ◌==◌, nat_le, true, if◌then◌else◌, List, map, Option, Some, None, option_map}
+use Rattle.std.specs.Prelude.{codes}
 use Rattle.std.specs.Str.{bytes_eq}
 use Rattle.std.specs.List.{list_all}
 use Rattle.std.specs.Int.NonZero.{non_zero_u64_get}
@@ -14,7 +15,8 @@ use Rattle.zarrs_metadata_parts.specs.DataTypeV2.{DataTypeV2, data_type_v2_seen,
 use Rattle.zarrs_metadata_parts.specs.Names.{separator_text}
 use Rattle.zarrs_metadata_parts.specs.declared.array.chunk_key_separator.ChunkKeySeparator.{ChunkKeySeparator}
 use Rattle.zarrs_metadata_parts.specs.declared.array.chunk_key_separator.ChunkKeySeparator.TheVariants.{Slash, Dot}
-use Rattle.zarrs_metadata_v2.specs.CodecsV2.{codecs_v2_seen, compressor_of, filters_of, compressor_data, filters_data, normal_compressor, normal_filters}
+use Rattle.zarrs_metadata_v2.specs.CodecsV2.{codecs_v2_seen, compressor_of, filters_of, compressor_data, filters_data}
+use Rattle.zarrs_metadata_v2.specs.CodecsV2.{normal_compressor, normal_filters}
 use Rattle.zarrs_metadata_v2.specs.declared.array.ArrayMetadataV2.{ArrayMetadataV2}
 use Rattle.zarrs_metadata_v2.specs.declared.array.order.ArrayMetadataV2Order.{ArrayMetadataV2Order}
 use Rattle.zarrs_metadata_v2.specs.declared.array.order.ArrayMetadataV2Order.TheVariants.{C, F}
@@ -60,8 +62,8 @@ array_v2_seen a = record {
 }
 
 -- `C` or `F`
-unfoldable pub order_of : List ℕ → Option ArrayMetadataV2Order
-order_of s =
+unfoldable pub array_order_of : List ℕ → Option ArrayMetadataV2Order
+array_order_of s =
     if bytes_eq s (codes "C") then Some C
     else if bytes_eq s (codes "F") then Some F
     else None
@@ -94,7 +96,7 @@ text_under key grammar ms = get_member key ms >>= as_str >>= grammar
 -- the fields that must be there, with the others as a new array has them
 unfoldable pub required_v2 : Members → Option ArrayV2
 required_v2 ms = do
-  order ← text_under (codes "order") order_of ms
+  order ← text_under (codes "order") array_order_of ms
   shape ← read_under (codes "shape") whole_numbers ms
   chunks ← read_under (codes "chunks") positive_numbers ms
   dtype ← read_under (codes "dtype") data_type_v2_of ms

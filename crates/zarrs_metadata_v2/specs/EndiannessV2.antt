@@ -21,6 +21,6 @@ endianness_v2 (simple s) = order_of_text s
 endianness_v2 (structured fs) = None
 
 -- what a call answered, if it wasn't an error
-abbrev pub answer_of : {X E : Type 0} → Result X E → Option X
-answer_of (Ok x) = Some x
-answer_of (Err e) = None
+abbrev pub if_ok : {X E : Type 0} → Result X E → Option X
+if_ok (Ok x) = Some x
+if_ok (Err e) = None

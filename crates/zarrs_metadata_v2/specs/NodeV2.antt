@@ -2,7 +2,8 @@
 use Rattle.std.specs.Prelude.{◌≡◌, Option, Some, None}
 use Rattle.serde_json.specs.Data.{Data, Members}
 use Rattle.zarrs_metadata_values.specs.Reading.{◌>>=◌}
-use Rattle.zarrs_metadata_v2.specs.ArrayMetadataV2.{ArrayV2, array_v2_seen, array_v2_of, array_v2_data, normal_array_v2, HasChunks}
+use Rattle.zarrs_metadata_v2.specs.ArrayMetadataV2.{ArrayV2, array_v2_seen, array_v2_of, array_v2_data, normal_array_v2}
+use Rattle.zarrs_metadata_v2.specs.ArrayMetadataV2.{HasChunks}
 use Rattle.zarrs_metadata_v2.specs.GroupMetadataV2.{group_v2_seen, group_v2_of, group_v2_data, normal_group_v2}
 use Rattle.zarrs_metadata_v2.specs.declared.node.NodeMetadataV2.{NodeMetadataV2}
 use Rattle.zarrs_metadata_v2.specs.declared.node.NodeMetadataV2.TheVariants.{Array, Group}
@@ -36,6 +37,6 @@ normal_node_v2 (array_node_v2 a) = array_node_v2 (normal_array_v2 a)
 normal_node_v2 (group_node_v2 attributes) = group_node_v2 (normal_group_v2 attributes)
 
 -- An array has chunks, and a group's attributes are not the fields of an array.
-abbrev pub StaysItsKind : NodeV2 → Type 0
-StaysItsKind (array_node_v2 a) = HasChunks a
-StaysItsKind (group_node_v2 attributes) = array_v2_of (group_v2_data attributes) ≡ None
+abbrev pub StaysItsKindV2 : NodeV2 → Type 0
+StaysItsKindV2 (array_node_v2 a) = HasChunks a
+StaysItsKindV2 (group_node_v2 attributes) = array_v2_of (group_v2_data attributes) ≡ None

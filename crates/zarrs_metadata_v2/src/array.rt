@@ -7,7 +7,7 @@ ghost use Rattle.std.specs.Int.NonZero.{non_zero_u64_get};
 ghost use Rattle.serde_json.specs.Data.{no_members, depth};
 ghost use Rattle.serde_json.specs.Read.{read, max_depth};
 ghost use Rattle.serde_json.specs.View.{view, members_view};
-ghost use Rattle.zarrs_metadata_values.specs.Reading.{Gives, from_data, from_json};
+ghost use Rattle.zarrs_metadata_values.specs.Reading.{GivesRead, from_data, from_json};
 ghost use Rattle.zarrs_metadata_values.specs.FillValueMetadata.{fill_view};
 ghost use Rattle.zarrs_metadata_parts.specs.MetadataV2.{codec_v2_seen};
 ghost use Rattle.zarrs_metadata_parts.specs.DataTypeV2.{data_type_v2_seen};
@@ -131,7 +131,7 @@ impl ArrayMetadataV2 {
     /// is no version 2 array document.
     #[tactic(auto, using(crate::proofs::Stays::read_array_stays))]
     pub fn from_value(alloc: Global, value: &Value) -> Result<Self, MetadataError>
-        ensures gives { Gives array_v2_seen result (from_data array_v2_of (view value.now)) }
+        ensures gives { GivesRead array_v2_seen result (from_data array_v2_of (view value.now)) }
         ensures stays { IfOk result
             (λ a. normal_array_v2 (array_v2_seen a) ≡ array_v2_seen a) }
     {
@@ -153,7 +153,7 @@ impl ArrayMetadataV2 {
     /// `InvalidJson` exactly where the text is not JSON, else as for the value.
     #[tactic(auto, using(crate::proofs::Stays::read_array_stays))]
     pub fn try_from_text(alloc: Global, text: &str) -> Result<Self, MetadataError>
-        ensures gives { Gives array_v2_seen result (from_json array_v2_of (read text.now)) }
+        ensures gives { GivesRead array_v2_seen result (from_json array_v2_of (read text.now)) }
         ensures stays { IfOk result
             (λ a. normal_array_v2 (array_v2_seen a) ≡ array_v2_seen a) }
     {

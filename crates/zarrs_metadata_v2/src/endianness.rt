@@ -4,7 +4,7 @@
 
 ghost use Rattle.std.specs.Prelude.{◌≡◌};
 ghost use Rattle.zarrs_metadata_parts.specs.DataTypeV2.{data_type_v2_seen};
-ghost use Rattle.zarrs_metadata_v2.specs.EndiannessV2.{answer_of, endianness_v2, order_of_text, order_of_byte};
+ghost use Rattle.zarrs_metadata_v2.specs.EndiannessV2.{if_ok, endianness_v2, order_of_text, order_of_byte};
 
 use zarr_model::Endianness;
 use zarrs_metadata_parts::{DataTypeMetadataV2, DataTypeMetadataV2EndiannessError};
@@ -17,7 +17,7 @@ use zarrs_metadata_parts::{DataTypeMetadataV2, DataTypeMetadataV2EndiannessError
 pub fn data_type_metadata_v2_to_endianness(
     data_type: &DataTypeMetadataV2,
 ) -> Result<Option<Endianness>, DataTypeMetadataV2EndiannessError>
-    ensures { answer_of result ≡ endianness_v2 (data_type_v2_seen data_type.now) }
+    ensures { if_ok result ≡ endianness_v2 (data_type_v2_seen data_type.now) }
 {
     match data_type {
         DataTypeMetadataV2::Simple(text) => order_of_text(text.as_str()),
@@ -26,7 +26,7 @@ pub fn data_type_metadata_v2_to_endianness(
 }
 
 fn order_of_text(text: &str) -> Result<Option<Endianness>, DataTypeMetadataV2EndiannessError>
-    ensures { answer_of result ≡ order_of_text text.now }
+    ensures { if_ok result ≡ order_of_text text.now }
 {
     match text.as_bytes() {
         [] => Err(DataTypeMetadataV2EndiannessError),
@@ -35,7 +35,7 @@ fn order_of_text(text: &str) -> Result<Option<Endianness>, DataTypeMetadataV2End
 }
 
 fn order_of_byte(byte: u8) -> Result<Option<Endianness>, DataTypeMetadataV2EndiannessError>
-    ensures { answer_of result ≡ order_of_byte byte }
+    ensures { if_ok result ≡ order_of_byte byte }
 {
     match byte {
         b'|' => Ok(None),

@@ -6,7 +6,7 @@ ghost use Rattle.std.specs.Prelude.{◌≡◌, ◌≤◌, Some, IfOk, string_byt
 ghost use Rattle.serde_json.specs.Data.{no_members, depth};
 ghost use Rattle.serde_json.specs.Read.{read, max_depth};
 ghost use Rattle.serde_json.specs.View.{view, members_view};
-ghost use Rattle.zarrs_metadata_values.specs.Reading.{Reads, Gives, from_data, from_json};
+ghost use Rattle.zarrs_metadata_values.specs.Reading.{Reads, GivesRead, from_data, from_json};
 ghost use Rattle.zarrs_metadata_v2.specs.GroupMetadataV2.{group_v2_seen, group_v2_of, group_v2_members, group_v2_data, normal_group_v2};
 
 use serde_json::{Map, Value};
@@ -48,7 +48,7 @@ impl GroupMetadataV2 {
     /// `zarr_format` 2.
     #[tactic(auto, using(crate::proofs::Stays::read_group_stays))]
     pub fn from_value(alloc: Global, value: &Value) -> Result<Self, MetadataError>
-        ensures gives { Gives group_v2_seen result (from_data group_v2_of (view value.now)) }
+        ensures gives { GivesRead group_v2_seen result (from_data group_v2_of (view value.now)) }
         ensures stays { IfOk result
             (λ g. normal_group_v2 (group_v2_seen g) ≡ group_v2_seen g) }
     {
@@ -71,7 +71,7 @@ impl GroupMetadataV2 {
     /// `InvalidJson` exactly where the text is not JSON, else as for the value.
     #[tactic(auto, using(crate::proofs::Stays::read_group_stays))]
     pub fn try_from_text(alloc: Global, text: &str) -> Result<Self, MetadataError>
-        ensures gives { Gives group_v2_seen result (from_json group_v2_of (read text.now)) }
+        ensures gives { GivesRead group_v2_seen result (from_json group_v2_of (read text.now)) }
         ensures stays { IfOk result
             (λ g. normal_group_v2 (group_v2_seen g) ≡ group_v2_seen g) }
     {

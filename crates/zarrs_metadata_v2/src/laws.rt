@@ -2,11 +2,11 @@
 
 ghost use Rattle.std.specs.Prelude.{◌≡◌, Some, IfOk};
 ghost use Rattle.serde_json.specs.Data.{Data, Members};
-ghost use Rattle.zarrs_metadata_values.specs.Reading.{Gives, unless_float};
+ghost use Rattle.zarrs_metadata_values.specs.Reading.{GivesRead, unless_float};
 ghost use Rattle.zarrs_metadata_values.specs.Rising.{Rises};
 ghost use Rattle.zarrs_metadata_v2.specs.ArrayMetadataV2.{ArrayV2, array_v2_seen, array_v2_of, array_v2_data, normal_array_v2, HasChunks};
 ghost use Rattle.zarrs_metadata_v2.specs.GroupMetadataV2.{group_v2_seen, group_v2_of, group_v2_data, normal_group_v2};
-ghost use Rattle.zarrs_metadata_v2.specs.NodeV2.{NodeV2, node_v2_of, node_v2_data, normal_node_v2, StaysItsKind};
+ghost use Rattle.zarrs_metadata_v2.specs.NodeV2.{NodeV2, node_v2_of, node_v2_data, normal_node_v2, StaysItsKindV2};
 
 use crate::array::ArrayMetadataV2;
 use crate::group::GroupMetadataV2;
@@ -32,7 +32,7 @@ pub fn group_v2_reads_back()
 /// an array.
 #[tactic(auto, using(crate::proofs::GroupBack::node_v2_reads_back))]
 pub fn node_v2_reads_back()
-    ensures { (n : NodeV2) → StaysItsKind n
+    ensures { (n : NodeV2) → StaysItsKindV2 n
         → node_v2_of (node_v2_data n) ≡ Some (normal_node_v2 n) }
 {}
 
@@ -63,7 +63,7 @@ pub fn read_array_v2_again(
     alloc: Global,
     metadata: &ArrayMetadataV2,
 ) -> Result<ArrayMetadataV2, MetadataError>
-    ensures again { Gives array_v2_seen result
+    ensures again { GivesRead array_v2_seen result
         (unless_float (array_v2_data (array_v2_seen metadata.now))
         (normal_array_v2 (array_v2_seen metadata.now))) }
     ensures stays { IfOk result (λ a. normal_array_v2 (array_v2_seen a) ≡ array_v2_seen a) }
@@ -80,7 +80,7 @@ pub fn read_group_v2_again(
     alloc: Global,
     metadata: &GroupMetadataV2,
 ) -> Result<GroupMetadataV2, MetadataError>
-    ensures again { Gives group_v2_seen result
+    ensures again { GivesRead group_v2_seen result
         (unless_float (group_v2_data (group_v2_seen metadata.now))
         (normal_group_v2 (group_v2_seen metadata.now))) }
     ensures stays { IfOk result

@@ -4,7 +4,7 @@ ghost use Rattle.std.specs.Prelude.{◌≡◌, ◌≤◌, Some, IfOk, string_byt
 ghost use Rattle.serde_json.specs.Data.{depth};
 ghost use Rattle.serde_json.specs.Read.{read, max_depth};
 ghost use Rattle.serde_json.specs.View.{view};
-ghost use Rattle.zarrs_metadata_values.specs.Reading.{Reads, Gives, from_data, from_json};
+ghost use Rattle.zarrs_metadata_values.specs.Reading.{Reads, GivesRead, from_data, from_json};
 ghost use Rattle.zarrs_metadata_v2.specs.NodeV2.{node_v2_seen, node_v2_of, group_node_v2_of, node_v2_data};
 
 use crate::array::ArrayMetadataV2;
@@ -32,7 +32,7 @@ impl NodeMetadataV2 {
     /// `FloatNumber` exactly where the value holds a float, attributes included, else `InvalidMetadata` exactly where it
     /// is neither.
     pub fn from_value(alloc: Global, value: &Value) -> Result<Self, MetadataError>
-        ensures { Gives node_v2_seen result (from_data node_v2_of (view value.now)) }
+        ensures { GivesRead node_v2_seen result (from_data node_v2_of (view value.now)) }
     {
         refuse_floats(value)?;
         read_node(alloc, value)
@@ -53,7 +53,7 @@ impl NodeMetadataV2 {
     /// # Errors
     /// `InvalidJson` exactly where the text is not JSON, else as for the value.
     pub fn try_from_text(alloc: Global, text: &str) -> Result<Self, MetadataError>
-        ensures { Gives node_v2_seen result (from_json node_v2_of (read text.now)) }
+        ensures { GivesRead node_v2_seen result (from_json node_v2_of (read text.now)) }
     {
         let value = read_value(alloc, text)?;
         read_node(alloc, &value)

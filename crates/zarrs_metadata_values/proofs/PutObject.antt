@@ -19,7 +19,8 @@ abbrev pub object_found : Members → Option Data → Option Data
 object_found no_members before = before
 object_found (member k d ms) before = Some (object (member k d ms))
 
-pub look_object : (q k : List ℕ) (ns ms : Members) → get_member q (put_object k ns ms) ≡ match_ordering (slice_cmp nat_cmp q k) (get_member q ms) (object_found ns (get_member q ms)) (get_member q ms)
+pub look_object : (q k : List ℕ) (ns ms : Members) → get_member q (put_object k ns ms) ≡
+    match_ordering (slice_cmp nat_cmp q k) (get_member q ms) (object_found ns (get_member q ms)) (get_member q ms)
 look_object q k no_members ms = sym (either_way (slice_cmp nat_cmp q k) (get_member q ms))
 look_object q k (member l e ns) ms = look q k (object (member l e ns)) ms
 

@@ -5,7 +5,8 @@ use Rattle.serde_json.specs.Data.{Data, null, boolean, number, string, array, ob
 use Rattle.serde_json.specs.Find.{as_number, as_u64}
 use Rattle.serde_json.specs.View.{number_view, items_of, members_of}
 use Rattle.zarrs_metadata_values.specs.Reading.{◌>>=◌, each}
-use Rattle.zarrs_metadata_values.specs.declared.fill_value.FillValueMetadataV3.{FillValueMetadataV3, fold-FillValueMetadataV3}
+use Rattle.zarrs_metadata_values.specs.declared.fill_value.FillValueMetadataV3.{FillValueMetadataV3}
+use Rattle.zarrs_metadata_values.specs.declared.fill_value.FillValueMetadataV3.{fold-FillValueMetadataV3}
 use Rattle.zarrs_metadata_values.specs.declared.fill_value.FillValueMetadataV3.TheOpen.{FillValueMetadataV3-F}
 
 abbrev pub fill_step : FillValueMetadataV3-F Data → Data
@@ -29,6 +30,6 @@ fields_view ms = members_of (map (λ m. (m.0, fill_view m.1)) ms)
 abbrev pub byte : Data → Option ℕ
 byte d = as_number d >>= as_u64 >>= λ n. if nat_lt n 256 then Some n else None
 
-abbrev pub bytes_in : Option Items → Option (List ℕ)
-bytes_in None = None
-bytes_in (Some ds) = each byte ds
+abbrev pub bytes_in_items : Option Items → Option (List ℕ)
+bytes_in_items None = None
+bytes_in_items (Some ds) = each byte ds

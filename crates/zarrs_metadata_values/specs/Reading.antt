@@ -7,7 +7,8 @@ use Rattle.serde_json.specs.Data.{Data, null, boolean, object, Items, no_items, 
 use Rattle.serde_json.specs.Find.{as_str, as_array, as_object, as_number, as_u64}
 use Rattle.serde_json.specs.Written.{has_float}
 use Rattle.zarrs_metadata_values.specs.declared.error.MetadataError.{MetadataError}
-use Rattle.zarrs_metadata_values.specs.declared.error.MetadataError.TheVariants.{InvalidJson, FloatNumber, InvalidMetadata, OutOfMemory}
+use Rattle.zarrs_metadata_values.specs.declared.error.MetadataError.TheVariants.{InvalidJson, FloatNumber}
+use Rattle.zarrs_metadata_values.specs.declared.error.MetadataError.TheVariants.{InvalidMetadata, OutOfMemory}
 
 -- A grammar is a function from values to what they denote; None: the value isn't of the grammar.
 infixl 10 ◌>>=◌
@@ -27,16 +28,16 @@ Reads seen (Ok x) read = read ≡ Some (seen x)
 Reads seen (Err e) read = Fails e read
 
 -- The same for a call that names the refusal.
-abbrev pub FailsBy : {Y : Type 0} → MetadataError → Result Y MetadataError → Type 0
-FailsBy OutOfMemory expected = Unit {0}
-FailsBy InvalidMetadata expected = expected ≡ Err InvalidMetadata
-FailsBy InvalidJson expected = expected ≡ Err InvalidJson
-FailsBy FloatNumber expected = expected ≡ Err FloatNumber
+abbrev pub FailsReading : {Y : Type 0} → MetadataError → Result Y MetadataError → Type 0
+FailsReading OutOfMemory expected = Unit {0}
+FailsReading InvalidMetadata expected = expected ≡ Err InvalidMetadata
+FailsReading InvalidJson expected = expected ≡ Err InvalidJson
+FailsReading FloatNumber expected = expected ≡ Err FloatNumber
 
-abbrev pub Gives : {X Y : Type 0} → (X → Y) → Result X MetadataError → Result Y MetadataError
+abbrev pub GivesRead : {X Y : Type 0} → (X → Y) → Result X MetadataError → Result Y MetadataError
     → Type 0
-Gives seen (Ok x) expected = expected ≡ Ok (seen x)
-Gives seen (Err e) expected = FailsBy e expected
+GivesRead seen (Ok x) expected = expected ≡ Ok (seen x)
+GivesRead seen (Err e) expected = FailsReading e expected
 
 abbrev pub or_invalid : {Y : Type 0} → Option Y → Result Y MetadataError
 or_invalid None = Err InvalidMetadata

@@ -1,6 +1,7 @@
 -- Values that documents are written with.
 use Rattle.std.specs.Prelude.{ℕ, List, map}
-use Rattle.serde_json.specs.Data.{Data, number, array, object, unsigned, Items, no_items, item, Members, no_members, member, put}
+use Rattle.serde_json.specs.Data.{Data, number, array, object, unsigned, Items, no_items, item, Members, no_members}
+use Rattle.serde_json.specs.Data.{member, put}
 use Rattle.serde_json.specs.View.{items_of}
 
 abbrev pub number_data : ℕ → Data

@@ -8,8 +8,8 @@ ghost use Rattle.serde_json.specs.Find.{as_null, as_bool, as_number, as_str, as_
 ghost use Rattle.serde_json.specs.Read.{read};
 ghost use Rattle.serde_json.specs.View.{view};
 ghost use Rattle.zarrs_metadata_values.specs.Configuration.{TypedIf};
-ghost use Rattle.zarrs_metadata_values.specs.FillValueMetadata.{fill_view, fills_view, fields_view, byte, bytes_in};
-ghost use Rattle.zarrs_metadata_values.specs.Reading.{Gives, from_data, from_json, each};
+ghost use Rattle.zarrs_metadata_values.specs.FillValueMetadata.{fill_view, fills_view, fields_view, byte, bytes_in_items};
+ghost use Rattle.zarrs_metadata_values.specs.Reading.{GivesRead, from_data, from_json, each};
 ghost use Rattle.zarrs_metadata_values.specs.Writing.{numbers_data};
 
 use crate::configuration::{Configuration, FromConfiguration};
@@ -123,7 +123,7 @@ impl FillValueMetadataV3 {
     /// The bytes that it lists: [`Some`] exactly for a list of whole numbers from 0 to 255.
     pub fn as_bytes(&self, alloc: Global) -> Result<Option<Vec<u8>>, AllocError>
         ensures { IfOk result (λ bytes. option_map (λ v. v.items) bytes
-            ≡ bytes_in (as_array (fill_view self.now))) }
+            ≡ bytes_in_items (as_array (fill_view self.now))) }
     {
         match self.as_array() {
             Some(fills) => bytes_of(alloc, fills),
@@ -164,7 +164,7 @@ impl FillValueMetadataV3 {
     /// # Errors
     /// `FloatNumber` exactly where the value holds a float.
     pub fn from_value(alloc: Global, value: &Value) -> Result<Self, MetadataError>
-        ensures { Gives fill_view result (from_data Some (view value.now)) }
+        ensures { GivesRead fill_view result (from_data Some (view value.now)) }
     {
         refuse_floats(value)?;
         Ok(fill_from_value(alloc, value)?)
@@ -182,7 +182,7 @@ impl FillValueMetadataV3 {
     /// # Errors
     /// `InvalidJson` exactly where the text is not JSON, else `FloatNumber` exactly where its value holds a float.
     pub fn try_from_text(alloc: Global, text: &str) -> Result<Self, MetadataError>
-        ensures { Gives fill_view result (from_json Some (read text.now)) }
+        ensures { GivesRead fill_view result (from_json Some (read text.now)) }
     {
         let value = read_value(alloc, text)?;
         Ok(fill_from_value(alloc, &value)?)

@@ -3,7 +3,7 @@
 ghost use Rattle.std.specs.Prelude.{Some, IfOk};
 ghost use Rattle.serde_json.specs.Read.{read};
 ghost use Rattle.serde_json.specs.View.{view};
-ghost use Rattle.zarrs_metadata_values.specs.Reading.{Gives, from_data, from_json};
+ghost use Rattle.zarrs_metadata_values.specs.Reading.{GivesRead, from_data, from_json};
 ghost use Rattle.zarrs_metadata_values.specs.Rising.{Rises};
 
 use crate::error::MetadataError;
@@ -16,7 +16,7 @@ use std::alloc::Global;
 /// # Errors
 /// `FloatNumber` exactly where the value holds a float.
 pub fn refuse_floats(value: &Value) -> Result<(), MetadataError>
-    ensures gives { Gives (λ _. view value.now) result (from_data Some (view value.now)) }
+    ensures gives { GivesRead (λ _. view value.now) result (from_data Some (view value.now)) }
     ensures rises { IfOk result (λ _. Rises (view value.now)) }
 {
     if holds_float(value) {
@@ -30,7 +30,7 @@ pub fn refuse_floats(value: &Value) -> Result<(), MetadataError>
 /// # Errors
 /// `InvalidJson` exactly where the text is not JSON, else `FloatNumber` exactly where its value holds a float.
 pub fn read_value(alloc: Global, text: &str) -> Result<Value, MetadataError>
-    ensures gives { Gives view result (from_json Some (read text.now)) }
+    ensures gives { GivesRead view result (from_json Some (read text.now)) }
     ensures rises { IfOk result (λ v. Rises (view v)) }
 {
     match Value::from_str(alloc, text) {

@@ -1,5 +1,6 @@
 -- A registry, and what its names find.
-use Rattle.std.specs.Prelude.{ℕ, zero, suc, Bool, true, false, if◌then◌else◌, List, [], ◌∷◌, ◌++◌, map, Option, Some, None, option_map}
+use Rattle.std.specs.Prelude.{ℕ, zero, suc, Bool, true, false, if◌then◌else◌, List, [], ◌∷◌, ◌++◌, map, Option, Some}
+use Rattle.std.specs.Prelude.{None, option_map}
 use Rattle.zarrs_plugin.specs.NamePattern.{Pattern, pattern_of, patterns_of, matches, matches_any}
 use Rattle.zarrs_plugin.specs.declared.name_pattern.NamePattern.{NamePattern}
 use Rattle.zarrs_plugin.specs.declared.registry.Entry.{Entry}

@@ -1,5 +1,6 @@
 -- Parts of a value, one after another.
-use Rattle.std.proofs.Common.{◌≡◌, ◌∙◌, ap, ℕ, ◌+◌, ◌<◌, List, [], ◌∷◌, ◌++◌, length, take, get_or, sym, min, ◌-◌, ◌^◌, Some, arith}
+use Rattle.std.proofs.Common.{◌≡◌, ◌∙◌, ap, ℕ, ◌+◌, ◌<◌, List, [], ◌∷◌, ◌++◌, length, take, get_or, sym, min, ◌-◌, ◌^◌}
+use Rattle.std.proofs.Common.{Some, arith}
 use Rattle.std.specs.List.{concat}
 use Rattle.std.proofs.lemmas.List.{append-nil, map_more, length-append}
 use Rattle.std.proofs.lemmas.List.Folds.{concat-append}
@@ -15,7 +16,8 @@ concat_more parts part = concat-append parts (part ∷ []) ∙ ap (λ xs. concat
 
 -- and so does the slice of one more range
 pub slices_more : (ranges : List ByteRange) (value : List ℕ) (i : ℕ) (d : ByteRange) → i < length ranges →
-    concat (slices_of (take (i + 1) ranges) value) ≡ concat (slices_of (take i ranges) value) ++ slice_of (get_or ranges i d) value
+    concat (slices_of (take (i + 1) ranges) value) ≡
+    concat (slices_of (take i ranges) value) ++ slice_of (get_or ranges i d) value
 slices_more ranges value i d h =
     ap concat (map_more (λ range. slice_of range value) ranges i d h)
     ∙ concat_more (slices_of (take i ranges) value) (slice_of (get_or ranges i d) value)
@@ -25,7 +27,8 @@ least_more n m k = omega arith
 
 -- the room of one more range
 pub room_more : (ranges : List ByteRange) (value : List ℕ) (i : ℕ) (d : ByteRange) → i < length ranges →
-    min (room_of (take i ranges) value + length (slice_of (get_or ranges i d) value)) (2 ^ 64 - 1) ≡ room_of (take (i + 1) ranges) value
+    min (room_of (take i ranges) value + length (slice_of (get_or ranges i d) value)) (2 ^ 64 - 1) ≡
+    room_of (take (i + 1) ranges) value
 room_more ranges value i d h =
     let before = concat (slices_of (take i ranges) value) in
     let part = slice_of (get_or ranges i d) value in
@@ -34,6 +37,7 @@ room_more ranges value i d h =
 
 -- a fault of ranges as an error of a store that holds the value
 pub range_error : (ranges : List ByteRange) (value : List ℕ) (fault : ByteRangeFault) →
-    IsFirstInvalid (first_invalid (length value) ranges) (length value) fault → IsRangeError ranges (Some value) (range_fault fault)
+    IsFirstInvalid (first_invalid (length value) ranges) (length value) fault →
+    IsRangeError ranges (Some value) (range_fault fault)
 range_error ranges value (Invalid error) told = told
 range_error ranges value OutOfMemory told = tt

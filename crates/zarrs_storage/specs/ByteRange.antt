@@ -1,5 +1,6 @@
 -- Ranges of bytes in a value.
-use Rattle.std.specs.Prelude.{◌≡◌, ℕ, ◌+◌, ◌-◌, ◌^◌, min, Bool, false, nat_le, if◌then◌else◌, List, [], ◌∷◌, length, take, drop, map, Option, Some, None, Vec}
+use Rattle.std.specs.Prelude.{◌≡◌, ℕ, ◌+◌, ◌-◌, ◌^◌, min, Bool, false, nat_le, if◌then◌else◌, List, [], ◌∷◌, length}
+use Rattle.std.specs.Prelude.{take, drop, map, Option, Some, None, Vec}
 use Rattle.std.specs.List.{concat}
 use Rattle.zarrs_storage.specs.declared.byte_range.ByteRange.{ByteRange}
 use Rattle.zarrs_storage.specs.declared.byte_range.ByteRange.TheVariants.{FromStart, Suffix}
@@ -61,6 +62,6 @@ IsFirstInvalid first size (Invalid error) = TellsRange first size error
 IsFirstInvalid first size OutOfMemory = Unit {0}
 
 -- the fault is that of this range, which is not valid, or want of memory
-abbrev pub IsRefusal : ByteRange → ℕ → ByteRangeFault → Type 0
-IsRefusal range size fault =
+abbrev pub IsInvalidRange : ByteRange → ℕ → ByteRangeFault → Type 0
+IsInvalidRange range size fault =
     (is_valid range size ≡ false) × IsFirstInvalid (Some range) size fault

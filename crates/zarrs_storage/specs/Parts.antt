@@ -1,5 +1,6 @@
 -- Bytes put into a value at their places.
-use Rattle.std.specs.Prelude.{ℕ, ◌+◌, ◌-◌, ◌^◌, ◌≤◌, max, List, [], ◌∷◌, ◌++◌, length, take, drop, replicate, Option, Some, None}
+use Rattle.std.specs.Prelude.{ℕ, ◌+◌, ◌-◌, ◌^◌, ◌≤◌, max, List, [], ◌∷◌, ◌++◌, length, take, drop, replicate, Option}
+use Rattle.std.specs.Prelude.{Some, None}
 use Rattle.zarrs_storage.specs.declared.byte_range.OffsetBytes.{OffsetBytes}
 
 -- the bytes of a value, none where it is absent

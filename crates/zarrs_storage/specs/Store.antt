@@ -1,5 +1,6 @@
 -- What the calls of a store answer.
-use Rattle.std.specs.Prelude.{◌≡◌, ℕ, ◌↔◌, List, length, Vec, Option, Some, None, IsSome, option_map, Result, IfOk, IfErr, OnOk, OnErr, IsErrOf}
+use Rattle.std.specs.Prelude.{◌≡◌, ℕ, ◌↔◌, List, length, Vec, Option, Some, None, IsSome, option_map, Result, IfOk}
+use Rattle.std.specs.Prelude.{IfErr, OnOk, OnErr, IsErrOf}
 use Rattle.std.specs.declared.alloc.Global.{Global}
 use Rattle.std.specs.Ordering.{nat_cmp}
 use Rattle.std.specs.Cmp.Lexicographic.{slice_cmp}

@@ -2,7 +2,7 @@
 
 ghost use Rattle.std.specs.Prelude.{◌≡◌, ◌-◌, ◌≤◌, true, length, None, IfOk, IfErr};
 ghost use Rattle.std.specs.List.{concat};
-ghost use Rattle.zarrs_storage.specs.ByteRange.{is_valid, start_in, end_in, slice_of, slices_of, first_invalid, parts_of, IsFirstInvalid, IsRefusal, room_of};
+ghost use Rattle.zarrs_storage.specs.ByteRange.{is_valid, start_in, end_in, slice_of, slices_of, first_invalid, parts_of, IsFirstInvalid, IsInvalidRange, room_of};
 
 use std::alloc::{AllocError, AllocFailed, Global};
 use thiserror::Error;
@@ -126,7 +126,7 @@ impl ByteRange {
 fn part_of(bytes: &[u8], range: ByteRange) -> Result<&[u8], ByteRangeFault>
     ensures valid { IfOk result (λ part. is_valid range (length bytes.now) ≡ true) }
     ensures value { IfOk result (λ part. part.now ≡ slice_of range bytes.now) }
-    ensures refused { IfErr result (IsRefusal range (length bytes.now)) }
+    ensures refused { IfErr result (IsInvalidRange range (length bytes.now)) }
 {
     let size = bytes.len() as u64;
     if range.is_valid(size) {

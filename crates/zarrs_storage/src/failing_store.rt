@@ -103,14 +103,14 @@ impl FailingStore {
 
 impl Store for FailingStore {
     ghost use Rattle.std.proofs.Common.{refl, ap, ◌∙◌};
-    ghost use Rattle.zarrs_storage.specs.Calls.{count_of, count_of-fits};
+    ghost use Rattle.zarrs_storage.specs.Calls.{capped_count, count_of-fits};
     ghost use Rattle.zarrs_storage.specs.Parts.{PartsFit, with_parts, held_bytes};
     ghost use Rattle.zarrs_storage.specs.Store.{Gets, GetsParts, Sizes, Lists, Puts};
-    ghost use Rattle.zarrs_storage.specs.FailingStore.{shows, IsNumbered, KeepsPuts};
+    ghost use Rattle.zarrs_storage.specs.FailingStore.{shows, IsNumbered, KeepsFailingPuts};
 
     ghost shown = { shows };
 
-    ghost kept = { KeepsPuts };
+    ghost kept = { KeepsFailingPuts };
 
     ghost gets_parts = { λ _. true };
 
@@ -118,7 +118,7 @@ impl Store for FailingStore {
 
     fn get(&mut self, alloc: Global, key: &StoreKey) -> Result<Option<Vec<u8>>, StorageError>
         ensures reads { Gets key.now (shows self.old) (shows self.new) result }
-        ensures kept { KeepsPuts self.old self.new }
+        ensures kept { KeepsFailingPuts self.old self.new }
         ensures numbered { IsNumbered self.old self.new result }
     {
         self.asks = self.asks.saturating_add(1);
@@ -139,7 +139,7 @@ impl Store for FailingStore {
         ranges: &[ByteRange],
     ) -> Result<Option<Vec<Vec<u8>>>, StorageError>
         ensures reads { GetsParts key.now ranges.now (shows self.old) (shows self.new) result }
-        ensures kept { KeepsPuts self.old self.new }
+        ensures kept { KeepsFailingPuts self.old self.new }
         ensures numbered { IsNumbered self.old self.new result }
     {
         self.asks = self.asks.saturating_add(1);
@@ -155,7 +155,7 @@ impl Store for FailingStore {
 
     fn size_key(&mut self, key: &StoreKey) -> Result<Option<u64>, StorageError>
         ensures reads { Sizes key.now (shows self.old) (shows self.new) result }
-        ensures kept { KeepsPuts self.old self.new }
+        ensures kept { KeepsFailingPuts self.old self.new }
         ensures numbered { IsNumbered self.old self.new result }
     {
         self.asks = self.asks.saturating_add(1);
@@ -167,7 +167,7 @@ impl Store for FailingStore {
 
     fn list(&mut self, alloc: Global) -> Result<Vec<StoreKey>, StorageError>
         ensures reads { Lists (shows self.old) (shows self.new) result }
-        ensures kept { KeepsPuts self.old self.new }
+        ensures kept { KeepsFailingPuts self.old self.new }
         ensures numbered { IsNumbered self.old self.new result }
     {
         self.asks = self.asks.saturating_add(1);
@@ -250,7 +250,7 @@ impl Store for FailingStore {
       count_of-fits s.puts,
     ) };
 
-    ghost kept_puts = { λ _ _ same. ap count_of same };
+    ghost kept_puts = { λ _ _ same. ap capped_count same };
 
     ghost kept_self = { λ _. refl };
 

@@ -1,6 +1,6 @@
 //! A store in memory.
 ghost use Rattle.std.specs.Prelude.{◌≡◌, ◌+◌, IfOk};
-ghost use Rattle.zarrs_storage.specs.Calls.{count_of};
+ghost use Rattle.zarrs_storage.specs.Calls.{capped_count};
 ghost use Rattle.zarrs_storage.specs.Store.{ListsKeys, total_of};
 
 use crate::byte_range::{ByteRange, OffsetBytes, extract_byte_ranges};
@@ -59,7 +59,7 @@ impl MemoryStore {
 
 // A count with the lengths of parts, which stops at the last value.
 pub(crate) fn with_lengths(count: u64, parts: &[Vec<u8>]) -> u64
-    ensures { result ≡ count_of (count + total_of parts.now) }
+    ensures { result ≡ capped_count (count + total_of parts.now) }
 {
     let mut sum = count;
     for part in parts {
@@ -183,7 +183,7 @@ impl Store for MemoryStore {
       count_of-fits s.puts,
     ) };
 
-    ghost kept_puts = { λ _ _ same. ap count_of same };
+    ghost kept_puts = { λ _ _ same. ap capped_count same };
 
     ghost kept_self = { λ _. refl };
 

@@ -4,8 +4,8 @@ ghost use Rattle.std.specs.Prelude.{◌≡◌, Some, Ok, IfOk, length, option_an
 ghost use Rattle.serde_json.specs.Data.{Data};
 ghost use Rattle.serde_json.specs.Find.{as_number, as_u64};
 ghost use Rattle.serde_json.specs.Read.{read};
-ghost use Rattle.zarrs_metadata.specs.ArrayMetadata.{ArrayFields, array_of};
-ghost use Rattle.zarrs_metadata.specs.Reading.{from_json};
+ghost use Rattle.zarrs_metadata.specs.ArrayMetadata.{ArrayFields, array_fields_of};
+ghost use Rattle.zarrs_metadata_parts.specs.Reading.{from_json};
 ghost use Rattle.zarrs_metadata_parts.specs.MetadataV3.{Extension, extension_of};
 ghost use Rattle.zarrs_plugin.specs.Registry.{registry_of, find};
 
@@ -38,7 +38,7 @@ fn must_be_understood(alloc: Global, text: &str) -> Result<bool, MetadataError>
 // How many dimensions the array has that a text describes.
 fn dimensionality(alloc: Global, text: &str) -> Result<usize, MetadataError>
     ensures { IfOk result (λ n.
-        (f : ArrayFields) × (from_json array_of (read text.now) ≡ Ok f)
+        (f : ArrayFields) × (from_json array_fields_of (read text.now) ≡ Ok f)
         × (n ≡ length f.shape)) }
 {
     let array = ArrayMetadataV3::try_from_text(alloc, text)?;

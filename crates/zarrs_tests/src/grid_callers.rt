@@ -2,9 +2,9 @@
 
 ghost use Rattle.std.specs.Prelude.{◌≡◌, ℕ, ◌<◌, ◌^◌, ◌∷◌, ◌++◌, List, [], map, IfOk, MatchOption};
 ghost use Rattle.zarrs_chunk_grid.specs.ArraySubset.{region};
-ghost use Rattle.zarrs_chunk_grid.specs.Cover.{linear_indices};
+ghost use Rattle.zarr_model.specs.Cover.{linear_indices};
 ghost use Rattle.zarrs_chunk_grid.specs.Iterators.{linear_of};
-ghost use Rattle.zarrs_chunk_grid.specs.Region.{count_of, linear_index};
+ghost use Rattle.zarr_model.specs.Region.{count_of, linear_index};
 
 use std::alloc::{AllocError, Global};
 use zarrs_chunk_grid::{ArraySubset, Indexer, IndexerError, LinearisedIndices};

@@ -1,9 +1,10 @@
 //! Each kind of indexer, through its bound.
 
 ghost use Rattle.std.specs.Prelude.{◌*◌, ◌<◌, ◌^◌};
-ghost use Rattle.zarrs_chunk_grid.specs.Region.{count_of};
+ghost use Rattle.zarr_model.specs.Region.{count_of};
 
-use crate::indexer_texts::{gives, is_text, says};
+use crate::regions::{are_regions, has_lengths};
+use crate::texts::{gives, is_text};
 use std::alloc::{AllocError, Global};
 use std::ops::Range;
 use std::process::Abort;
@@ -84,6 +85,8 @@ fn boxes_and_ranges(rt: HostRuntime) -> Result<(), Fail> {
     let ranges = Vec::from_array(rt.alloc(), [1..3, 1..3])?;
     let inner = ranges.to_array_subset(rt.alloc())?;
     are_inner(&rt, rt.alloc(), &inner, &ranges);
+    are_regions(&rt, rt.alloc(), &inner, &ranges);
+    has_lengths(&rt, rt.alloc(), &inner);
     Ok(())
 }
 
@@ -134,27 +137,6 @@ fn lists_of_boxes(rt: HostRuntime) -> Result<(), Fail> {
     Ok(())
 }
 
-// The error is written so.
-fn is_written(rt: &impl Abort, alloc: Global, error: IndexerError, want: &str) {
-    is_text(rt, format!(in alloc; "{error}"), want);
-}
-
-// An index out of bounds.
-fn out_of_bounds(alloc: Global) -> Result<IndexerError, AllocError> {
-    let index = Vec::from_array(alloc, [1, 4])?;
-    let shape = Vec::from_array(alloc, [2, 4])?;
-    Ok(IndexerError::new_oob(index, shape))
-}
-
-#[test]
-fn refusals(rt: HostRuntime) -> Result<(), Fail> {
-    let error = IndexerError::new_incompatible_dimensionality(1, 2);
-    is_written(&rt, rt.alloc(), error, "got dimensionality 1, expected 2");
-    let want = "indices [1, 4] are out of bounds of array shape [2, 4]";
-    is_written(&rt, rt.alloc(), out_of_bounds(rt.alloc())?, want);
-    Ok(())
-}
-
 // The number of runs of the inner box as ranges of bytes, the last one and the first, or why there are none.
 fn byte_runs(alloc: Global, shape: &[u64], size: usize) -> Result<String, AllocError>
     requires elements { count_of shape.now < 2 ^ 64 }
@@ -178,23 +160,6 @@ fn byte_ranges(rt: HostRuntime) {
     is_text(&rt, byte_runs(alloc, &[4, 4], 1), one);
     let refused = "indices [3, 3] are out of bounds of array shape [1, 1]";
     is_text(&rt, byte_runs(alloc, &[1, 1], 1), refused);
-}
-
-#[test]
-fn indices_and_runs(rt: HostRuntime) {
-    let alloc = rt.alloc();
-    match [1..3, 1..3].iter_indices(alloc) {
-        Ok(mut indices) => {
-            let seen = (indices.next(), indices.next_back());
-            says(&rt, alloc, &seen, "(Some(Ok([1, 1])), Some(Ok([2, 2])))");
-        }
-        Err(_) => assert!(rt; false, "no indices"),
-    }
-    match [1..3, 1..3].iter_contiguous_linearised_indices(alloc, &[4, 4]) {
-        Ok(mut runs) => {
-            let seen = (runs.next(), runs.next_back());
-            says(&rt, alloc, &seen, "(Some((5, 2)), Some((9, 2)))");
-        }
-        Err(_) => assert!(rt; false, "no runs"),
-    }
+    let other = "got dimensionality 2, expected 1";
+    is_text(&rt, byte_runs(alloc, &[4], 1), other);
 }

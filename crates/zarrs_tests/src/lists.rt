@@ -1,7 +1,7 @@
 //! The four lists of a region, from both ends and in loops.
 
 use crate::grid_callers::owned_indices;
-use crate::indexer_texts::{gives, says};
+use crate::texts::{gives, says};
 use std::alloc::Global;
 use std::process::Abort;
 use zarrs_chunk_grid::{
@@ -90,20 +90,16 @@ fn lists_of_numbers(rt: HostRuntime) {
     }
 }
 
-// The first of the runs of a box whose runs go over several axes, and the first linear index of a box of three axes.
+// The last tuple of a box of five axes.
 #[test]
 fn lists_of_more_axes(rt: HostRuntime) {
-    match [1..3, 0..1, 0..2, 0..2].contiguous_indices(rt.alloc(), &[3, 1, 2, 2]) {
-        Ok(runs) => says(
+    match [3..4, 1..2, 0..1, 0..1, 4..6].indices(rt.alloc()) {
+        Ok(indices) => says(
             &rt,
             rt.alloc(),
-            &runs.iter().next(),
-            "Some(Ok(([1, 0, 0, 0], 8)))",
+            &indices.iter().next_back(),
+            "Some(Ok([3, 1, 0, 0, 5]))",
         ),
-        Err(_) => assert!(rt; false, "no list"),
-    }
-    match [3..6, 4..7, 0..1].linearised_indices(rt.alloc(), &[6, 7, 1]) {
-        Ok(indices) => says(&rt, rt.alloc(), &indices.iter().next(), "Some(25)"),
         Err(_) => assert!(rt; false, "no list"),
     }
 }

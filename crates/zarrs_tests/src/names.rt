@@ -1,6 +1,6 @@
 //! Names of dimensions.
 
-use crate::texts::{is_text, owned};
+use crate::texts::{owned, says};
 use std::alloc::Global;
 use std::process::Abort;
 use zarrs_metadata_parts::IntoDimensionName;
@@ -8,8 +8,7 @@ use zarrs_metadata_parts::IntoDimensionName;
 // That a value names a dimension `x`.
 fn is_x<N: IntoDimensionName>(rt: &impl Abort, alloc: Global, what: &str, name: N) {
     let name = name.into_dimension_name(alloc).expect(rt, what);
-    let text = format!(in alloc; "{name:?}").expect(rt, what);
-    is_text(rt, what, text, "Some(\"x\")");
+    says(rt, alloc, &name, "Some(\"x\")");
 }
 
 #[test]

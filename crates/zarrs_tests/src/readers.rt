@@ -1,9 +1,12 @@
-//! Each reader of a document, once.
+//! Readers of documents of version 2 and of either version, and what is read again.
 
+use crate::texts::is_text;
+use std::alloc::Global;
+use std::process::Abort;
+use zarrs_metadata::laws::read_array_again;
 use zarrs_metadata::{
-    ArrayMetadata, ArrayMetadataV2, GroupMetadata, GroupMetadataV2, NodeMetadataV2,
+    ArrayMetadata, ArrayMetadataV3, GroupMetadata, GroupMetadataV2, NodeMetadataV2,
 };
-use zarrs_metadata_values::MetadataError;
 
 const ARRAY: &str =
     r#"{"zarr_format":2,"shape":[2],"chunks":[1],"dtype":"|u1","fill_value":0,"order":"F"}"#;
@@ -11,9 +14,8 @@ const ARRAY: &str =
 const GROUP: &str = r#"{"zarr_format":2,"title":"height"}"#;
 
 #[test]
-fn arrays_are_read(rt: HostRuntime) {
+fn documents_are_read(rt: HostRuntime) {
     let alloc = rt.alloc();
-    assert!(rt; matches!(ArrayMetadataV2::try_from_text(alloc, ARRAY), Ok(_)));
     assert!(rt;
         matches!(
             ArrayMetadata::try_from_text(alloc, ARRAY),
@@ -22,32 +24,38 @@ fn arrays_are_read(rt: HostRuntime) {
     );
     assert!(rt;
         matches!(
-            NodeMetadataV2::try_from_text(alloc, ARRAY),
-            Ok(NodeMetadataV2::Array(_))
-        )
-    );
-    assert!(rt;
-        matches!(
-            ArrayMetadataV2::try_from_text(alloc, GROUP),
-            Err(MetadataError::InvalidMetadata)
-        )
-    );
-}
-
-#[test]
-fn groups_are_read(rt: HostRuntime) {
-    let alloc = rt.alloc();
-    assert!(rt; matches!(GroupMetadataV2::try_from_text(alloc, GROUP), Ok(_)));
-    assert!(rt;
-        matches!(
             GroupMetadata::try_from_text(alloc, GROUP),
             Ok(GroupMetadata::V2(_))
         )
     );
-    assert!(rt;
-        matches!(
-            NodeMetadataV2::try_from_text(alloc, GROUP),
-            Ok(NodeMetadataV2::Group(_))
-        )
-    );
+    assert!(rt; GroupMetadataV2::try_from_text(alloc, GROUP).is_ok());
+}
+
+const PRETTY: &str = r#"{
+  "title": "height",
+  "zarr_format": 2
+}"#;
+
+#[test]
+fn nodes_are_written(rt: HostRuntime) {
+    let alloc = rt.alloc();
+    match NodeMetadataV2::try_from_text(alloc, GROUP) {
+        Ok(node) => is_text(&rt, node.to_string_pretty(alloc), PRETTY),
+        Err(_) => assert!(rt; false, "a node"),
+    }
+}
+
+const MADE: &str =
+    r#"{"zarr_format":3,"node_type":"array","shape":[1000,700],"data_type":"int32","chunk_grid":"g","chunk_key_encoding":"v2","fill_value":0,"codecs":["bytes"],"late":{"must_understand":false}}"#;
+
+// Whether the array is as it was once it is written and read again.
+fn stays(rt: &impl Abort, alloc: Global, text: &str) -> bool {
+    let array = ArrayMetadataV3::try_from_text(alloc, text).expect(rt, "an array");
+    let again = read_array_again(alloc, &array).expect(rt, "an array");
+    again == array
+}
+
+#[test]
+fn arrays_stay(rt: HostRuntime) {
+    assert!(rt; stays(&rt, rt.alloc(), MADE));
 }

@@ -5,7 +5,7 @@ ghost use Rattle.std.specs.List.{list_all, list_any};
 ghost use Rattle.std.specs.Option.{SomeIff};
 ghost use Rattle.std.specs.Int.NonZero.{non_zero_u64_get};
 ghost use Rattle.zarr_model.specs.Region.{count_of};
-ghost use Rattle.zarrs_array_subset.specs.Boxes.{is_box, sums_up, differences, maxes, mins, are_in, box_in, can_move, end_in, is_rising, is_rising_inc, lengths_to};
+ghost use Rattle.zarrs_array_subset.specs.Boxes.{is_box, sums_up, differences, maxes, mins, are_in, box_in, can_move, ends_in_bounds, is_rising, is_rising_inc, lengths_to};
 
 use std::alloc::{AllocError, Global};
 use std::num::NonZeroU64;
@@ -89,9 +89,9 @@ pub(crate) fn are_within(start: &[u64], shape: &[u64], indices: &[u64]) -> bool
 }
 
 // Whether each end is within its length.
-#[tactic(auto, unfolding(crate::specs::Boxes::end_in))]
+#[tactic(auto, unfolding(crate::specs::Boxes::ends_in_bounds))]
 pub(crate) fn are_ends_within(start: &[u64], shape: &[u64], bounds: &[u64]) -> bool
-    ensures { result ≡ end_in start.now shape.now bounds.now }
+    ensures { result ≡ ends_in_bounds start.now shape.now bounds.now }
 {
     start
         .iter()

@@ -5,7 +5,7 @@ ghost use Rattle.zarr_model.specs.Region.{count_of};
 ghost use Rattle.zarr_model.specs.Command.{expected_fixed_length_bytes, expected_variable_length_bytes, expected_optional_bytes};
 ghost use Rattle.zarrs_codec_array_bytes.specs.Steps.{kind_seen};
 ghost use Rattle.zarrs_codec_array_bytes.specs.Raw.{raw_of};
-ghost use Rattle.zarrs_codec_array_bytes.specs.Refusals.{told, told_by, refused, fine, answer_of, Answers, first_answer, IfUnfit, kind_refusal, lengths_refusal, lengths_answer, holds_fixed};
+ghost use Rattle.zarrs_codec_array_bytes.specs.Refusals.{told, told_by, refused, fine, refusal_answer, Answers, first_answer, IfUnfit, kind_refusal, lengths_refusal, lengths_answer, holds_fixed};
 
 use super::step::{Step, step_of};
 use super::{ArrayBytes, bytes_in};
@@ -15,7 +15,7 @@ use zarrs_codec_error::{
     CodecError, ExpectedFixedLengthBytesError, ExpectedOptionalBytesError,
     ExpectedVariableLengthBytesError, InvalidBytesLengthError,
 };
-use zarrs_data_type_names::DataType;
+use zarrs_data_type::DataType;
 
 /// The refusal of bytes that are not of one size.
 pub fn not_fixed() -> CodecError
@@ -44,7 +44,7 @@ pub fn not_optional() -> CodecError
 /// [`CodecError`] with the name of the kind that is expected.
 pub fn expect_kind(bytes: &ArrayBytes<'_>, data_type: &DataType) -> Result<(), CodecError>
     ensures { told result
-        ≡ answer_of (kind_refusal (kind_seen data_type.now) (raw_of bytes.now)) }
+        ≡ refusal_answer (kind_refusal (kind_seen data_type.now) (raw_of bytes.now)) }
 {
     match step_of(data_type) {
         Step::Fixed(_) => match bytes {

@@ -10,7 +10,7 @@ ghost use Rattle.zarrs_codec_slices.specs.PickedRuns.{run_numbers, AreRunsBelow}
 ghost use Rattle.zarrs_codec_array_bytes.specs.Steps.{kind_seen, bytes_seen};
 ghost use Rattle.zarrs_codec_array_bytes.specs.Raw.{raw_of};
 ghost use Rattle.zarrs_codec_array_bytes.specs.Selection.{linear};
-ghost use Rattle.zarrs_codec_array_bytes.specs.Rows.{outer_box, inner_box, element_bytes};
+ghost use Rattle.zarrs_codec_array_bytes.specs.Rows.{outer_box, inner_box, row_element_bytes};
 ghost use Rattle.zarrs_codec_array_bytes.specs.Refusals.{Answers, fine, first_answer, extract_answer, lengths_answer, IfUnfit, holds_fixed};
 
 use super::ArrayBytes;
@@ -24,7 +24,7 @@ use zarrs_chunk_grid_indexer::{
     Indexer, append_contiguous_linearised_indices, append_linearised_indices,
 };
 use zarrs_codec_error::CodecError;
-use zarrs_data_type_names::DataType;
+use zarrs_data_type::DataType;
 
 /// The linear indices of an indexer in a shape.
 ///
@@ -106,10 +106,10 @@ fn extract_rows<I: Indexer>(
     requires places { I.places indexer.now ≡ tuples (inner_box rows.now) }
     requires outer { outer_box rows.now ≡ whole shape.now }
     ensures answer { Answers (first_answer None (I.fits indexer.now shape.now)
-        (lengths_answer (element_bytes rows.now) (count_of shape.now) (raw_of bytes.now))) result }
+        (lengths_answer (row_element_bytes rows.now) (count_of shape.now) (raw_of bytes.now))) result }
     ensures unfit { IfErr result (IfUnfit (I.refuses indexer.now shape.now)) }
     ensures value { IfOk result (λ v. raw_of v
-        ≡ gathered (element_bytes rows.now) (count_of shape.now)
+        ≡ gathered (row_element_bytes rows.now) (count_of shape.now)
         (linear shape.now (I.places indexer.now)) (raw_of bytes.now) (raw_of bytes.now)) }
 {
     expect_fit(alloc, indexer, shape)?;

@@ -21,8 +21,8 @@ use std::borrow::CowSlice;
 use zarrs_codec_error::{CodecError, DataTypeFillValueError};
 use zarrs_codec_slices::fill::filled;
 use zarrs_codec_slices::values::{are_values, repeated_values};
+use zarrs_data_type::DataType;
 use zarrs_data_type_bytes::{FillValue, ends_in_zero, repeats};
-use zarrs_data_type_names::DataType;
 
 // The fill value inside one that is not null: all bytes but the last, and none where there are none.
 fn without_last(fill: &[u8]) -> &[u8]

@@ -31,7 +31,7 @@ pub struct Rows {
 }
 
 impl Rows {
-    ghost use Rattle.zarrs_codec_array_bytes.specs.Rows.{outer_box, inner_box, element_bytes};
+    ghost use Rattle.zarrs_codec_array_bytes.specs.Rows.{outer_box, inner_box, row_element_bytes};
 
     /// The number of elements of the box.
     pub fn num_elements(&self) -> u64
@@ -57,8 +57,8 @@ impl Rows {
 
     /// The size of an element in bytes.
     pub fn element_size(&self) -> usize
-        ensures value { result ≡ element_bytes self.now }
-        ensures some { 0 < element_bytes self.now }
+        ensures value { result ≡ row_element_bytes self.now }
+        ensures some { 0 < row_element_bytes self.now }
     {
         self.size
     }
@@ -73,7 +73,7 @@ impl Rows {
         requires { 0 < size }
         ensures subset { IfOk result (λ o. IfSome o (λ rows. inner_box rows ≡ region subset)) }
         ensures outer { IfOk result (λ o. IfSome o (λ rows. outer_box rows ≡ whole shape.now)) }
-        ensures size { IfOk result (λ o. IfSome o (λ rows. element_bytes rows ≡ size)) }
+        ensures size { IfOk result (λ o. IfSome o (λ rows. row_element_bytes rows ≡ size)) }
     {
         let outer = ArraySubset::new_with_shape(alloc, Vec::from_slice(alloc, shape)?)?;
         if subset.dimensionality() != outer.dimensionality() {
@@ -106,7 +106,7 @@ impl Rows {
         ensures places { IfOk result
             (λ o. IfSome o (λ rows. I.places indexer.now ≡ tuples (inner_box rows))) }
         ensures outer { IfOk result (λ o. IfSome o (λ rows. outer_box rows ≡ whole shape.now)) }
-        ensures size { IfOk result (λ o. IfSome o (λ rows. element_bytes rows ≡ size)) }
+        ensures size { IfOk result (λ o. IfSome o (λ rows. row_element_bytes rows ≡ size)) }
     {
         if size == 0 {
             return Ok(None);
@@ -131,10 +131,10 @@ impl Rows {
         requires fixed { holds_fixed (raw_of bytes.now) ≡ true }
         requires inside { AllByRecursion (λ tuple. contains (outer_box self.now) tuple ≡ true)
             (tuples (inner_box self.now)) }
-        requires long { lengths_refusal (element_bytes self.now) (count (outer_box self.now))
+        requires long { lengths_refusal (row_element_bytes self.now) (count (outer_box self.now))
             (raw_of bytes.now) ≡ None }
         ensures value { IfOk result (λ v. raw_of v
-            ≡ gathered (element_bytes self.now) (count (outer_box self.now))
+            ≡ gathered (row_element_bytes self.now) (count (outer_box self.now))
             (map (place (outer_box self.now)) (tuples (inner_box self.now)))
             (raw_of bytes.now) (raw_of bytes.now)) }
         ensures memory { IfErr result (λ e. e ≡ codec.OutOfMemory) }

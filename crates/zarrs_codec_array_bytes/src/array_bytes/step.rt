@@ -6,7 +6,7 @@ ghost use Rattle.zarrs_codec_array_bytes.specs.Steps.{kind_seen, bytes_seen, ste
 ghost use Rattle.zarr_model.specs.DataTypeSize.{size_seen};
 
 use zarr_model::DataTypeSize;
-use zarrs_data_type_names::DataType;
+use zarrs_data_type::DataType;
 
 /// The outermost level of a data type.
 pub enum Step<'t> {

@@ -11,7 +11,7 @@ use super::checks::{not_fixed, not_optional, not_variable};
 use super::step::{Step, step_of};
 use super::{ArrayBytes, bytes_in};
 use zarrs_codec_error::{CodecError, InvalidBytesLengthError};
-use zarrs_data_type_names::DataType;
+use zarrs_data_type::DataType;
 
 // Whether each byte is 0 or 1.
 fn are_flags(mask: &[u8]) -> bool

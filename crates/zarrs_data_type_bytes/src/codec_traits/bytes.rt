@@ -28,9 +28,9 @@ pub enum BytesCodecFault {
 }
 
 impl From<AllocError> for BytesCodecFault {
-    ghost use Rattle.zarrs_data_type_bytes.specs.ByteOrder.{out_of_memory};
+    ghost use Rattle.zarrs_data_type_bytes.specs.ByteOrder.{bytes_out_of_memory};
 
-    ghost from_gives = { λ _ e. e ≡ out_of_memory };
+    ghost from_gives = { λ _ e. e ≡ bytes_out_of_memory };
 
     fn from(_error: AllocError) -> BytesCodecFault {
         BytesCodecFault::OutOfMemory

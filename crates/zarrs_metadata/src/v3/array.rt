@@ -6,12 +6,12 @@ ghost use Rattle.std.specs.Prelude.{◌≡◌, ◌≤◌, Some, None, [], IfOk, 
 ghost use Rattle.serde_json.specs.Data.{no_members, depth};
 ghost use Rattle.serde_json.specs.Read.{read, max_depth};
 ghost use Rattle.serde_json.specs.View.{view, members_view};
-ghost use Rattle.zarrs_metadata_parts.specs.Reading.{Gives, from_data, from_json};
+ghost use Rattle.zarrs_metadata_values.specs.Reading.{GivesRead, from_data, from_json};
 ghost use Rattle.zarrs_metadata_parts.specs.MetadataV3.{extension_seen, extensions_seen};
 ghost use Rattle.zarrs_metadata_parts.specs.DimensionNames.{dimension_names_seen};
-ghost use Rattle.zarrs_metadata_parts.specs.FillValueMetadata.{fill_view};
+ghost use Rattle.zarrs_metadata_values.specs.FillValueMetadata.{fill_view};
 ghost use Rattle.zarrs_metadata_parts.specs.AdditionalFields.{additional_fields_seen};
-ghost use Rattle.zarrs_metadata.specs.ArrayMetadata.{array_seen, array_of, array_data, default_keys, KeepsFields};
+ghost use Rattle.zarrs_metadata.specs.ArrayMetadata.{array_seen, array_fields_of, array_data, default_keys, KeepsFields};
 
 use crate::v3::copying::copy_array;
 use crate::v3::reading::read_array;
@@ -153,7 +153,7 @@ impl ArrayMetadataV3 {
     /// is no version 3 array document.
     #[tactic(auto, using(crate::proofs::ReadFields::read_array_kept))]
     pub fn from_value(alloc: Global, value: &Value) -> Result<Self, MetadataError>
-        ensures gives { Gives array_seen result (from_data array_of (view value.now)) }
+        ensures gives { GivesRead array_seen result (from_data array_fields_of (view value.now)) }
         ensures kept { IfOk result (λ a. KeepsFields (array_seen a)) }
     {
         refuse_floats(value)?;
@@ -174,7 +174,7 @@ impl ArrayMetadataV3 {
     /// `InvalidJson` exactly where the text is not JSON, else as for the value.
     #[tactic(auto, using(crate::proofs::ReadFields::read_array_kept))]
     pub fn try_from_text(alloc: Global, text: &str) -> Result<Self, MetadataError>
-        ensures gives { Gives array_seen result (from_json array_of (read text.now)) }
+        ensures gives { GivesRead array_seen result (from_json array_fields_of (read text.now)) }
         ensures kept { IfOk result (λ a. KeepsFields (array_seen a)) }
     {
         let value = read_value(alloc, text)?;

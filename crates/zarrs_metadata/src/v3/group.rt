@@ -6,7 +6,7 @@ ghost use Rattle.std.specs.Prelude.{◌≡◌, ◌≤◌, Some, [], IfOk, OnOk, 
 ghost use Rattle.serde_json.specs.Data.{no_members, depth};
 ghost use Rattle.serde_json.specs.Read.{read, max_depth};
 ghost use Rattle.serde_json.specs.View.{view, members_view};
-ghost use Rattle.zarrs_metadata_parts.specs.Reading.{Reads, Gives, from_data, from_json};
+ghost use Rattle.zarrs_metadata_values.specs.Reading.{Reads, GivesRead, from_data, from_json};
 ghost use Rattle.zarrs_metadata_parts.specs.AdditionalFields.{additional_fields_seen};
 ghost use Rattle.zarrs_metadata.specs.GroupMetadata.{group_seen, group_of, group_members, group_data, group_data_members, normal_group};
 
@@ -72,7 +72,7 @@ impl GroupMetadataV3 {
     /// is no version 3 group document.
     #[tactic(auto, using(crate::proofs::GroupFields::read_group_stays))]
     pub fn from_value(alloc: Global, value: &Value) -> Result<Self, MetadataError>
-        ensures gives { Gives group_seen result (from_data group_of (view value.now)) }
+        ensures gives { GivesRead group_seen result (from_data group_of (view value.now)) }
         ensures stays { IfOk result (λ g. normal_group (group_seen g) ≡ group_seen g) }
     {
         refuse_floats(value)?;
@@ -93,7 +93,7 @@ impl GroupMetadataV3 {
     /// `InvalidJson` exactly where the text is not JSON, else as for the value.
     #[tactic(auto, using(crate::proofs::GroupFields::read_group_stays))]
     pub fn try_from_text(alloc: Global, text: &str) -> Result<Self, MetadataError>
-        ensures gives { Gives group_seen result (from_json group_of (read text.now)) }
+        ensures gives { GivesRead group_seen result (from_json group_of (read text.now)) }
         ensures stays { IfOk result (λ g. normal_group (group_seen g) ≡ group_seen g) }
     {
         let value = read_value(alloc, text)?;

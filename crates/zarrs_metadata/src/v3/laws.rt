@@ -2,10 +2,10 @@
 
 ghost use Rattle.std.specs.Prelude.{◌≡◌, Some, IfOk};
 ghost use Rattle.serde_json.specs.Data.{Data};
-ghost use Rattle.zarrs_metadata_parts.specs.Reading.{Gives, unless_float};
-ghost use Rattle.zarrs_metadata_parts.specs.Rising.{Rises};
+ghost use Rattle.zarrs_metadata_values.specs.Reading.{GivesRead, unless_float};
+ghost use Rattle.zarrs_metadata_values.specs.Rising.{Rises};
 ghost use Rattle.zarrs_metadata_parts.specs.AdditionalFields.{normal_fields, AreOrderly};
-ghost use Rattle.zarrs_metadata.specs.ArrayMetadata.{ArrayFields, array_seen, array_of, array_data, normal_array};
+ghost use Rattle.zarrs_metadata.specs.ArrayMetadata.{ArrayFields, array_seen, array_fields_of, array_data, normal_array};
 ghost use Rattle.zarrs_metadata.specs.GroupMetadata.{GroupFields, group_seen, group_of, group_data, normal_group};
 ghost use Rattle.zarrs_metadata.specs.Node.{NodeFields, node_of, node_data, normal_node};
 ghost use Rattle.zarrs_metadata_parts.specs.declared.v3.additional_fields.NodeKind.TheVariants.{Array, Group};
@@ -46,7 +46,7 @@ pub fn read_group_again(
     alloc: Global,
     metadata: &GroupMetadataV3,
 ) -> Result<GroupMetadataV3, MetadataError>
-    ensures again { Gives group_seen result
+    ensures again { GivesRead group_seen result
         (unless_float (group_data (group_seen metadata.now))
         (normal_group (group_seen metadata.now))) }
     ensures stays { IfOk result (λ g. normal_group (group_seen g) ≡ group_seen g) }
@@ -59,7 +59,7 @@ pub fn read_group_again(
 /// fields as `orderly_fields_read_back` says.
 #[tactic(auto, using(crate::proofs::ArrayBack::array_reads_back))]
 pub fn array_reads_back()
-    ensures { (f : ArrayFields) → array_of (array_data f) ≡ Some (normal_array f) }
+    ensures { (f : ArrayFields) → array_fields_of (array_data f) ≡ Some (normal_array f) }
 {}
 
 /// What is written for an array reads back as an array, and for a group as a group.
@@ -72,7 +72,7 @@ pub fn node_reads_back()
 /// when it is written and read again.
 #[tactic(auto, using(crate::proofs::ReadFields::array_kept))]
 pub fn read_array_keeps_fields()
-    ensures { (d : Data) (f : ArrayFields) → Rises d → array_of d ≡ Some f
+    ensures { (d : Data) (f : ArrayFields) → Rises d → array_fields_of d ≡ Some f
         → normal_fields Array f.additional_fields ≡ f.additional_fields }
 {}
 
@@ -94,7 +94,7 @@ pub fn read_array_again(
     alloc: Global,
     metadata: &ArrayMetadataV3,
 ) -> Result<ArrayMetadataV3, MetadataError>
-    ensures again { Gives array_seen result
+    ensures again { GivesRead array_seen result
         (unless_float (array_data (array_seen metadata.now))
         (normal_array (array_seen metadata.now))) }
     ensures stays { IfOk result (λ a. normal_array (array_seen a) ≡ array_seen a) }

@@ -3,7 +3,7 @@
 ghost use Rattle.std.specs.Prelude.{◌≡◌, IfOk};
 ghost use Rattle.serde_json.specs.View.{members_view};
 ghost use Rattle.zarrs_metadata_parts.specs.MetadataV3.{extension_seen, extension_of};
-ghost use Rattle.zarrs_metadata_parts.specs.Reading.{Reads};
+ghost use Rattle.zarrs_metadata_values.specs.Reading.{Reads};
 ghost use Rattle.zarrs_metadata.specs.ArrayMetadata.{array_seen, named_seen, named_fields, read_under};
 
 use crate::v3::array::ArrayMetadataV3;

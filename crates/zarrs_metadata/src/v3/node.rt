@@ -4,7 +4,7 @@ ghost use Rattle.std.specs.Prelude.{◌≡◌, ◌≤◌, Some, IfOk, string_byt
 ghost use Rattle.serde_json.specs.Data.{depth};
 ghost use Rattle.serde_json.specs.Read.{read, max_depth};
 ghost use Rattle.serde_json.specs.View.{view};
-ghost use Rattle.zarrs_metadata_parts.specs.Reading.{Reads, Gives, from_data, from_json};
+ghost use Rattle.zarrs_metadata_values.specs.Reading.{Reads, GivesRead, from_data, from_json};
 ghost use Rattle.zarrs_metadata.specs.Node.{node_seen, node_of, group_node_of, node_data, KeepsNodeFields};
 
 use crate::v3::array::ArrayMetadataV3;
@@ -33,7 +33,7 @@ impl NodeMetadataV3 {
     /// is neither.
     #[tactic(auto, using(crate::proofs::ReadFields::read_node_kept))]
     pub fn from_value(alloc: Global, value: &Value) -> Result<Self, MetadataError>
-        ensures gives { Gives node_seen result (from_data node_of (view value.now)) }
+        ensures gives { GivesRead node_seen result (from_data node_of (view value.now)) }
         ensures kept { IfOk result (λ n. KeepsNodeFields (node_seen n)) }
     {
         refuse_floats(value)?;
@@ -56,7 +56,7 @@ impl NodeMetadataV3 {
     /// `InvalidJson` exactly where the text is not JSON, else as for the value.
     #[tactic(auto, using(crate::proofs::ReadFields::read_node_kept))]
     pub fn try_from_text(alloc: Global, text: &str) -> Result<Self, MetadataError>
-        ensures gives { Gives node_seen result (from_json node_of (read text.now)) }
+        ensures gives { GivesRead node_seen result (from_json node_of (read text.now)) }
         ensures kept { IfOk result (λ n. KeepsNodeFields (node_seen n)) }
     {
         let value = read_value(alloc, text)?;

@@ -3,7 +3,7 @@
 ghost use Rattle.std.specs.Prelude.{◌≡◌, IfOk, option_map};
 ghost use Rattle.serde_json.specs.View.{view, members_view};
 ghost use Rattle.zarrs_metadata_parts.specs.MetadataV3.{extensions_seen};
-ghost use Rattle.zarrs_metadata_parts.specs.Reading.{Reads};
+ghost use Rattle.zarrs_metadata_values.specs.Reading.{Reads};
 ghost use Rattle.zarrs_metadata.specs.ArrayMetadata.{array_seen, optional_seen, optional_fields, optional_part, with_optional, extensions_or_none};
 
 use crate::v3::array::ArrayMetadataV3;

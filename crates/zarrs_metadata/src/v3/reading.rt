@@ -3,10 +3,10 @@
 ghost use Rattle.std.specs.Prelude.{codes};
 ghost use Rattle.serde_json.specs.Find.{get_member};
 ghost use Rattle.serde_json.specs.View.{view, members_view};
-ghost use Rattle.zarrs_metadata_parts.specs.FillValueMetadata.{fill_view};
-ghost use Rattle.zarrs_metadata_parts.specs.Reading.{Reads, whole_numbers};
+ghost use Rattle.zarrs_metadata_values.specs.FillValueMetadata.{fill_view};
+ghost use Rattle.zarrs_metadata_values.specs.Reading.{Reads, whole_numbers};
 ghost use Rattle.zarrs_metadata_parts.specs.MetadataV3.{extensions_of, extensions_seen};
-ghost use Rattle.zarrs_metadata.specs.ArrayMetadata.{array_seen, array_of, array_members, is_array, required_fields, with_optional_fields, read_under};
+ghost use Rattle.zarrs_metadata.specs.ArrayMetadata.{array_seen, array_fields_of, array_members, is_array, required_fields, with_optional_fields, read_under};
 
 use crate::v3::array::ArrayMetadataV3;
 use crate::v3::named_parts::read_named_parts;
@@ -108,7 +108,7 @@ fn read_array_members(
 
 // The array document that a value is.
 pub(crate) fn read_array(alloc: Global, value: &Value) -> Result<ArrayMetadataV3, MetadataError>
-    ensures { Reads array_seen result (array_of (view value.now)) }
+    ensures { Reads array_seen result (array_fields_of (view value.now)) }
 {
     read_array_members(alloc, read_object(value)?)
 }

@@ -8,7 +8,7 @@ ghost use Rattle.serde_json.specs.Find.{get};
 ghost use Rattle.serde_json.specs.Read.{read};
 ghost use Rattle.serde_json.specs.View.{view, members_view};
 ghost use Rattle.zarrs_metadata_parts.specs.AdditionalField.{additional_field_seen, additional_field_of, additional_field_data, some_field, unless_false, with_must_understand};
-ghost use Rattle.zarrs_metadata_values.specs.Reading.{Gives, from_data, from_json};
+ghost use Rattle.zarrs_metadata_values.specs.Reading.{GivesRead, from_data, from_json};
 
 use serde_json::{Map, Value};
 use std::alloc::{AllocError, Global};
@@ -61,7 +61,7 @@ impl AdditionalFieldV3 {
     /// # Errors
     /// `FloatNumber` exactly where the value holds a float.
     pub fn from_value(_alloc: Global, value: &Value) -> Result<Self, MetadataError>
-        ensures gives { Gives additional_field_seen result (from_data some_field (view value.now)) }
+        ensures gives { GivesRead additional_field_seen result (from_data some_field (view value.now)) }
         ensures unmarked { IfOk result (λ a. get (codes "must_understand")
             (additional_field_seen a).value ≡ None) }
     {
@@ -82,7 +82,7 @@ impl AdditionalFieldV3 {
     /// # Errors
     /// `InvalidJson` exactly where the text is not JSON, else as for the value.
     pub fn try_from_text(alloc: Global, text: &str) -> Result<Self, MetadataError>
-        ensures gives { Gives additional_field_seen result (from_json some_field (read text.now)) }
+        ensures gives { GivesRead additional_field_seen result (from_json some_field (read text.now)) }
         ensures unmarked { IfOk result (λ a. get (codes "must_understand")
             (additional_field_seen a).value ≡ None) }
     {

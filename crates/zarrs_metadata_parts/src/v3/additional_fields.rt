@@ -4,7 +4,7 @@
 
 ghost use Rattle.std.specs.Prelude.{◌≡◌, IfOk, OnOk};
 ghost use Rattle.serde_json.specs.View.{view, members_view};
-ghost use Rattle.zarrs_metadata_parts.specs.AdditionalFields.{additional_fields_seen, additional_fields_of, is_array_key, is_group_key, is_named_key, is_null, is_dropped, is_no_field, put_fields};
+ghost use Rattle.zarrs_metadata_parts.specs.AdditionalFields.{additional_fields_seen, additional_fields_of, is_array_key, is_group_key, is_named_key, is_null, is_field_dropped, is_no_field, put_fields};
 
 use crate::v3::additional_field::{AdditionalFieldV3, AdditionalFieldsV3, read_additional_field};
 use serde_json::{Map, Value};
@@ -62,7 +62,7 @@ fn is_named_key(kind: NodeKind, key: &str) -> bool
 
 // Whether the value stands for nothing under the key.
 fn is_dropped(kind: NodeKind, key: &str, value: &Value) -> bool
-    ensures { result ≡ is_dropped kind key.now (view value.now) }
+    ensures { result ≡ is_field_dropped kind key.now (view value.now) }
 {
     match kind {
         NodeKind::Array => false,

@@ -7,7 +7,7 @@ ghost use Rattle.serde_json.specs.Read.{read};
 ghost use Rattle.serde_json.specs.View.{view, items_of, items_view, members_view};
 ghost use Rattle.serde_json.specs.Data.{object};
 ghost use Rattle.serde_json.specs.Written.{members_have_float, compact_text};
-ghost use Rattle.zarrs_metadata_values.specs.Reading.{Reads, Gives, from_data, from_json, each};
+ghost use Rattle.zarrs_metadata_values.specs.Reading.{Reads, GivesRead, from_data, from_json, each};
 ghost use Rattle.zarrs_metadata_values.specs.Configuration.{configuration_seen, members_or_none, is_none_or_empty, Typed, TypedOf};
 ghost use Rattle.zarrs_metadata_parts.specs.MetadataV3.{extension_seen, extensions_seen, extension_of, extensions_of, object_extension, is_extension_key, has_only_extension_keys, extension_data, configured, display_text};
 
@@ -208,7 +208,7 @@ impl MetadataV3 {
     /// # Errors
     /// `FloatNumber` exactly where the value holds a float, else `InvalidMetadata` exactly where it is no extension.
     pub fn from_value(alloc: Global, value: &Value) -> Result<Self, MetadataError>
-        ensures { Gives extension_seen result (from_data extension_of (view value.now)) }
+        ensures { GivesRead extension_seen result (from_data extension_of (view value.now)) }
     {
         refuse_floats(value)?;
         read_extension(alloc, value)
@@ -236,7 +236,7 @@ impl MetadataV3 {
     /// # Errors
     /// `InvalidJson` exactly where the text is not JSON, else as for the value.
     pub fn try_from_text(alloc: Global, text: &str) -> Result<Self, MetadataError>
-        ensures { Gives extension_seen result (from_json extension_of (read text.now)) }
+        ensures { GivesRead extension_seen result (from_json extension_of (read text.now)) }
     {
         let value = read_value(alloc, text)?;
         read_extension(alloc, &value)

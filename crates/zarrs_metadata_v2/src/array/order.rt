@@ -2,7 +2,7 @@
 
 ghost use Rattle.std.specs.Prelude.{◌≡◌};
 ghost use Rattle.zarrs_metadata_values.specs.Reading.{Reads};
-ghost use Rattle.zarrs_metadata_v2.specs.ArrayMetadataV2.{order_of, order_text};
+ghost use Rattle.zarrs_metadata_v2.specs.ArrayMetadataV2.{array_order_of, order_text};
 
 use zarrs_metadata_values::MetadataError;
 
@@ -16,9 +16,9 @@ pub enum ArrayMetadataV2Order {
 }
 
 // The order that a text names.
-#[tactic(auto, unfolding(crate::specs::ArrayMetadataV2::order_of))]
+#[tactic(auto, unfolding(crate::specs::ArrayMetadataV2::array_order_of))]
 pub(crate) fn order_of(text: &str) -> Result<ArrayMetadataV2Order, MetadataError>
-    ensures { Reads (λ o. o) result (order_of text.now) }
+    ensures { Reads (λ o. o) result (array_order_of text.now) }
 {
     match text {
         "C" => Ok(ArrayMetadataV2Order::C),

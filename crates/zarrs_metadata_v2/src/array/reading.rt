@@ -7,7 +7,7 @@ ghost use Rattle.serde_json.specs.View.{view, items_view, members_view};
 ghost use Rattle.zarrs_metadata_values.specs.FillValueMetadata.{fill_view};
 ghost use Rattle.zarrs_metadata_values.specs.Reading.{Reads, each, whole_numbers};
 ghost use Rattle.zarrs_metadata_parts.specs.DataTypeV2.{data_type_v2_seen, data_type_v2_of};
-ghost use Rattle.zarrs_metadata_v2.specs.ArrayMetadataV2.{array_v2_seen, array_v2_of, array_v2_members, required_v2, with_optional_fields_v2, read_under, text_under, order_of, positive_number, positive_numbers};
+ghost use Rattle.zarrs_metadata_v2.specs.ArrayMetadataV2.{array_v2_seen, array_v2_of, array_v2_members, required_v2, with_optional_fields_v2, read_under, text_under, array_order_of, positive_number, positive_numbers};
 
 use crate::array::ArrayMetadataV2;
 use crate::array::optional_parts::{read_optional_parts, with_optional_parts};
@@ -68,7 +68,7 @@ fn required_shape(alloc: Global, members: &Map<String, Value>) -> Result<Vec<u64
 
 fn required_order(members: &Map<String, Value>) -> Result<ArrayMetadataV2Order, MetadataError>
     ensures { Reads (λ o. o) result
-        (text_under (codes "order") order_of (members_view members.now.entries)) }
+        (text_under (codes "order") array_order_of (members_view members.now.entries)) }
 {
     order_of(read_text(required(members, "order")?)?)
 }

@@ -8,4 +8,5 @@ use Rattle.zarr_basics.proofs.chunk_key_encoding.v2_chunk_key.Goals as goal
 
 pub unreachable-requires : goal.unreachable-requires
 unreachable-requires c =
-    true≢false (sym (ap is_store_key c.in_ok-text.ensures ∙ v2_key_text (separator_code c.args.separator) c.args.chunk_indices.now (are_indices c.args.chunk_indices.now c.type_inv.chunk_indices)) ∙ c.in-Err.ensures)
+    true≢false (sym (ap is_store_key c.in_ok-text.ensures ∙ v2_key_text (separator_code c.args.separator)
+    c.args.chunk_indices.now (are_indices c.args.chunk_indices.now c.type_inv.chunk_indices)) ∙ c.in-Err.ensures)

@@ -6,7 +6,8 @@ use Rattle.zarr_cli_lines.proofs.indices.parse_numbers.Given as goal
 
 abbrev pub invariant-parts : goal.invariant-parts
 invariant-parts l =
-    option_map (λ numbers. l.numbers.items ++ numbers) (all_some (map number_of (option_map_or (λ rest. split_at 44 rest.now) l.left [])))
+    option_map (λ numbers.
+    l.numbers.items ++ numbers) (all_some (map number_of (option_map_or (λ rest. split_at 44 rest.now) l.left [])))
     ≡ all_some (map number_of (split_at 44 l.fn.text))
 
 abbrev pub decreases-parts : goal.decreases-parts

@@ -1,6 +1,6 @@
 use Rattle.std.proofs.Common.{take}
 use Rattle.zarrs_codec_array_bytes.specs.Steps.{kind_seen}
-use Rattle.zarr_cli_made.specs.lines.Parts.{IsTextOf}
+use Rattle.zarr_cli_lines.specs.Parts.{IsTextOf}
 use Rattle.zarr_cli_runs.proofs.commands.text_of_replies.Given as goal
 
 abbrev pub invariant-loop-reply : goal.invariant-loop-reply

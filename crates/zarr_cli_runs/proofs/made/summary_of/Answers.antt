@@ -1,6 +1,6 @@
 use Rattle.std.proofs.Common.{sym, subst}
 use Rattle.zarr_model.specs.Prelude.{fixed}
-use Rattle.zarr_cli_made.specs.lines.Parts.{IsTextOf}
+use Rattle.zarr_cli_lines.specs.Parts.{IsTextOf}
 use Rattle.zarr_cli_runs.proofs.made.summary_of.Goals as goal
 
 pub push_summary-requires-clause-lines : goal.push_summary-requires-clause-lines

@@ -1,9 +1,4 @@
-use Rattle.zarr_model.specs.Region.{count_of, sizes}
-use Rattle.zarr_model.specs.Element.{kind_of}
-use Rattle.zarrs_array_subset.specs.ArraySubset.{region as box_of}
-use Rattle.zarrs_codec_array_bytes.specs.Raw.{raw_of}
-use Rattle.zarrs_codec_traits.specs.Views.{level_of}
-use Rattle.zarrs_codec_traits.specs.Words.{select}
+use Rattle.zarrs_codec_traits.specs.Prelude.{count_of, sizes, kind_of, region as box_of, raw_of, level_of, select}
 use Rattle.zarr_promises.proofs.LevelLaws.{valid_fine, only_memory}
 use Rattle.zarr_promises.proofs.levels.region_of_decoded.Goals as goal
 
@@ -13,5 +8,6 @@ returns g c = λ list xs served long whole chosen.
     let below = (g.C.ArrayToArrayCodecTraits.meaning c.args.codec.now).level_below level in
     let inner = g.C.ArrayToArrayCodecTraits.region_below c.args.codec.now level.shape (box_of c.args.region.now) in
     only_memory c.decode_region.result _ _
-    (valid_fine (kind_of below.data_type) (count_of (sizes inner)) (raw_of c.args.bytes) (select below.shape inner list) chosen)
+    (valid_fine (kind_of below.data_type) (count_of (sizes inner)) (raw_of c.args.bytes) (select below.shape inner list)
+    chosen)
     (c.decode_region.ensures.exact served) (c.decode_region.ensures.value list xs served long whole chosen)

@@ -1,8 +1,7 @@
 use Rattle.std.proofs.Common.{[], ◌∷◌, map, ap, subst, ◌∙◌, ◌<◌}
 use Rattle.std.specs.List.{range_with_len}
 use Rattle.std.proofs.lemmas.List.{map-append}
-use Rattle.zarrs_array_subset.specs.ArraySubset.{region}
-use Rattle.zarr_model.specs.Grid.{CoversShape}
+use Rattle.zarrs_codec_traits.specs.Prelude.{region, CoversShape}
 use Rattle.zarr_rechunk.specs.Bands.{band, first_length}
 use Rattle.zarr_rechunk.proofs.SpanLaws.{first_chunk, more_bands}
 use Rattle.zarr_rechunk.proofs.bands.bands_along.Goals as goal
@@ -21,7 +20,9 @@ loop-first-preserved g c =
     let grid = g.G.ChunkGridTraits.grid c.args.grid.now in
     let f = band grid c.args.extent c.args.shape.now in
     let count = first_length grid.grid_shape in
-    more_bands f c.loop-first.first count (map region c.loop-first.list.items) (map region c.push.new.self.items) (map f (range_with_len 0 count)) (region c.in_ok-band.band)
-    (subst (λ n. c.loop-first.first < n) (c.first_of-first-end.ensures ∙ ap first_length c.grid_shape.ensures) c.loop-first-test.true)
+    more_bands f c.loop-first.first count (map region c.loop-first.list.items) (map region c.push.new.self.items)
+    (map f (range_with_len 0 count)) (region c.in_ok-band.band)
+    (subst (λ n. c.loop-first.first < n) (c.first_of-first-end.ensures ∙ ap first_length c.grid_shape.ensures)
+    c.loop-first-test.true)
     (ap (map region) c.in_ok-push.ensures.items ∙ map-append region c.loop-first.list.items (c.in_ok-band.band ∷ []))
     c.in_ok-band.ensures c.loop-first.invariant

@@ -1,7 +1,5 @@
 use Rattle.std.proofs.Common.{◌≡◌, None, length, arith, ap, ap₂, sym, subst, ◌∙◌}
-use Rattle.zarr_model.specs.ArrayBytes.{optional_bytes}
-use Rattle.zarrs_codec_array_bytes.specs.Raw.{raw_of}
-use Rattle.zarrs_codec_array_bytes.specs.Refusals.{lengths_refusal}
+use Rattle.zarrs_codec_traits.specs.Prelude.{optional_bytes, raw_of, lengths_refusal}
 use Rattle.zarr_rechunk.specs.Cleared.{levels}
 use Rattle.zarr_rechunk.proofs.MaskLaws.{inner_fits}
 use Rattle.zarr_rechunk.proofs.clear.+clear_under.Goals as goal

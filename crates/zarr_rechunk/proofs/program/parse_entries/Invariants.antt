@@ -10,6 +10,7 @@ decreases-lines l = length (into_iter_items l.left)
 
 abbrev pub invariant-lines : goal.invariant-lines
 invariant-lines l = record {
-  parsed : map entry_view l.entries.items ++ first_entries (map string_bytes (into_iter_items l.left)) ≡ first_entries (key_lines l.fn.lines.items);
+  parsed : map entry_view l.entries.items ++ first_entries (map string_bytes (into_iter_items l.left)) ≡
+      first_entries (key_lines l.fn.lines.items);
   all : length l.entries.items + length (into_iter_items l.left) ≡ length (key_lines l.fn.lines.items);
 }

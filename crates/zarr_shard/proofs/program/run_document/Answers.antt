@@ -2,15 +2,15 @@ use Rattle.std.proofs.Common.{◌≡◌, refl, sym, ap, ◌∙◌, subst}
 use Rattle.zarr_model.specs.Prelude.{Rose}
 use Rattle.zarr_cli_runs.specs.Status.{ending_of}
 use Rattle.zarr_cli_runs.specs.lines.Text.{input_lines}
-use Rattle.zarr_cli_parts.specs.Lines.{first_line, document_line}
-use Rattle.zarr_cli_parts.specs.Answers.{AnswersLines, outside}
-use Rattle.zarr_cli_parts.specs.Seen.{seen}
-use Rattle.zarr_cli_parts.specs.Status.{settings_view}
-use Rattle.zarr_shard_open.specs.Opening.{open_builtin_sharded, opened}
+use Rattle.zarr_cli.specs.Lines.{first_line, document_line}
+use Rattle.zarr_cli.specs.Answers.{AnswersLines, outside}
+use Rattle.zarr_cli.specs.Seen.{seen}
+use Rattle.zarr_cli.specs.Status.{settings_view}
+use Rattle.zarr_array_open.specs.ShardOpening.{open_builtin_sharded, opened}
 use Rattle.zarr_shard.specs.Costs.{shard_costs}
 use Rattle.zarr_shard.specs.Says.{answer_says}
-use Rattle.zarr_shard.specs.ShardArray.{documented, described}
-use Rattle.zarr_shard.specs.Steps.{IsOpenFault}
+use Rattle.zarr_shard.specs.ShardArray.{documented_shards, described_shards}
+use Rattle.zarr_shard.specs.Steps.{IsShardOpenFault}
 use Rattle.zarr_shard.proofs.LinesLaws.{answers_of_lines}
 use Rattle.zarr_shard.proofs.EarlyLaws.{answers_ended, said, open_early}
 use Rattle.zarr_shard.proofs.program.run_document.Goals as goal
@@ -19,13 +19,17 @@ pub returns-in-Ok-clause-told : goal.returns-in-Ok-clause-told
 returns-in-Ok-clause-told g c = λ input within utf8 same before now whole.
     let settings = settings_view c.args.words.now in
     let array = c.in-Ok.array in
-    let opens : open_builtin_sharded (document_line input) ≡ opened (documented array) = ap open_builtin_sharded (sym (c.first_line.ensures ∙ ap first_line same)) ∙ c.in-Ok.ensures in
-    answers_of_lines settings input (documented array) (said input within utf8 ∙ ap (answer_says (input_lines input)) opens)
+    let opens : open_builtin_sharded (document_line input) ≡ opened (documented_shards array) =
+    ap open_builtin_sharded (sym (c.first_line.ensures ∙ ap first_line same)) ∙ c.in-Ok.ensures in
+    answers_of_lines settings input (documented_shards array)
+    (said input within utf8 ∙ ap (answer_says (input_lines input)) opens)
     (seen before (g.W.Sink.shown c.args.sink.now) (g.S.Store.shown c.args.store.now))
-    (seen now (g.W.Sink.shown c.run_lines.new.sink) (g.S.Store.shown c.run_lines.new.store)) (ending_of c.run_lines.result) whole
-    (subst (λ lines. AnswersLines (shard_costs (documented array)) (described array) settings lines
+    (seen now (g.W.Sink.shown c.run_lines.new.sink) (g.S.Store.shown c.run_lines.new.store))
+    (ending_of c.run_lines.result) whole
+    (subst (λ lines. AnswersLines (shard_costs (documented_shards array)) (described_shards array) settings lines
     (outside (g.W.Sink.shown c.args.sink.now) (g.S.Store.shown c.args.store.now))
-    (outside (g.W.Sink.shown c.run_lines.new.sink) (g.S.Store.shown c.run_lines.new.store)) (ending_of c.run_lines.result)) same c.run_lines.ensures.answers)
+    (outside (g.W.Sink.shown c.run_lines.new.sink) (g.S.Store.shown c.run_lines.new.store))
+    (ending_of c.run_lines.result)) same c.run_lines.ensures.answers)
 
 pub returns-in-Err-clause-told : goal.returns-in-Err-clause-told
 returns-in-Err-clause-told g c = λ input within utf8 same before now whole.
@@ -33,4 +37,5 @@ returns-in-Err-clause-told g c = λ input within utf8 same before now whole.
     answers_ended (settings_view c.args.words.now) input (seen before (g.W.Sink.shown c.args.sink.now) store)
     (seen now (g.W.Sink.shown c.end_with.new.sink) store) c.in-Err.status c.end_with.result c.end_with.ensures
     (open_early input within utf8 (Rose before.faults now.faults) c.in-Err.status
-    (subst (λ line. IsOpenFault c.in-Err.status (open_builtin_sharded line)) (c.first_line.ensures ∙ ap first_line same) c.in-Err.ensures)) refl
+    (subst (λ line. IsShardOpenFault c.in-Err.status (open_builtin_sharded line))
+    (c.first_line.ensures ∙ ap first_line same) c.in-Err.ensures)) refl

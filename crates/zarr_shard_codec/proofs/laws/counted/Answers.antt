@@ -1,5 +1,5 @@
-use Rattle.zarr_shard_codec.specs.Counted.{counted}
+use Rattle.zarr_shard_codec.specs.Counted.{shard_counted}
 use Rattle.zarr_shard_codec.proofs.laws.counted.Goals as goal
 
 pub returns : goal.returns
-returns c = counted
+returns c = shard_counted

@@ -1,6 +1,5 @@
 use Rattle.std.proofs.Common.{◌++◌, ap, ap₂, ◌∙◌}
-use Rattle.zarr_model.specs.Prelude.{tuple_at}
-use Rattle.zarrs_array_subset.specs.Boxes.{region_of}
+use Rattle.zarrs_codec_traits.specs.Prelude.{tuple_at, region_of}
 use Rattle.zarr_shard_codec.proofs.MetLaws.{parts_box}
 use Rattle.zarr_shard_codec.proofs.met_inner.indices_at.Goals as goal
 
@@ -8,5 +7,7 @@ pub returns : goal.returns
 returns c =
     let s = c.args.subset.now in
     c.in_ok-push_tuple.ensures.tuple
-    ∙ (ap (λ front. front ++ tuple_at (region_of c.start.result.now c.shape.result.now) c.args.place) c.new-indices.ensures.items
-    ∙ ap (λ box. tuple_at box c.args.place) (ap₂ region_of c.start.ensures c.shape.ensures.value ∙ (parts_box s.start.items s.shape.items s.is_box).1))
+    ∙ (ap (λ front. front ++ tuple_at (region_of c.start.result.now c.shape.result.now) c.args.place)
+    c.new-indices.ensures.items
+    ∙ ap (λ box. tuple_at box c.args.place)
+    (ap₂ region_of c.start.ensures c.shape.ensures.value ∙ (parts_box s.start.items s.shape.items s.is_box).1))

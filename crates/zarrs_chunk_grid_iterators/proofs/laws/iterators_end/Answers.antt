@@ -1,7 +1,9 @@
 use Rattle.std.proofs.Common.{refl}
 use Rattle.zarrs_chunk_grid_iterators.specs.Places.{IsRun, IsTuple}
 use Rattle.zarrs_chunk_grid_iterators.specs.Runs.{span_of}
-use Rattle.zarrs_chunk_grid_iterators.specs.Iterators.{tuples_lent, first_lent, tuples_left, first_left, linear_lent, linear_left, runs_lent, runs_left, tuple_runs_lent, first_run_lent, tuple_runs_left, first_run_left}
+use Rattle.zarrs_chunk_grid_iterators.specs.Iterators.{tuples_lent, first_lent, tuples_left, first_left, linear_lent}
+use Rattle.zarrs_chunk_grid_iterators.specs.Iterators.{linear_left, runs_lent, runs_left, tuple_runs_lent}
+use Rattle.zarrs_chunk_grid_iterators.specs.Iterators.{first_run_lent, tuple_runs_left, first_run_left}
 use Rattle.zarrs_chunk_grid_iterators.proofs.Always.{always_yields, always_gives}
 use Rattle.zarrs_chunk_grid_iterators.proofs.laws.iterators_end.Goals as goal
 

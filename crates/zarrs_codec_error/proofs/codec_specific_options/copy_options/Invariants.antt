@@ -7,4 +7,5 @@ abbrev pub invariant-loop-name : goal.invariant-loop-name
 invariant-loop-name l =
     (goal.iterator-loop-name).can_next l.name-iterator ×
     (goal.iterator-loop-name).is_finite l.name-iterator ×
-    ((done : List Entry) × (l.options.entries ≡ done ++ l.name-iterator) × (entries_seen l.copies.entries ≡ entries_seen done))
+    ((done : List Entry) × (l.options.entries ≡ done ++ l.name-iterator) ×
+    (entries_seen l.copies.entries ≡ entries_seen done))

@@ -8,7 +8,10 @@ pub returns : goal.returns
 returns g c = λ xs served means.
     let chunk = c.in_ok-chunk.ensures in
     let bottom = c.in_ok-chunk.chunk.handle.level in
-    let held : value_bytes c.in_ok-chunk.chunk.handle.handle.value ≡ Some c.args.value.items = ap (λ h. value_bytes h.value) chunk.handle ∙ c.new-handle.ensures in
+    let held : value_bytes c.in_ok-chunk.chunk.handle.handle.value ≡ Some c.args.value.items =
+    ap (λ h. value_bytes h.value) chunk.handle ∙ c.new-handle.ensures in
     (rw chunk.level at c.partial_decode.ensures.value) (reverse xs)
-    (served_below g.B.ArrayCodecTraits.unserved bottom c.args.codec _ _ _ chunk.below chunk.fill chunk.codec c.requires.denotes served)
-    (ap (option_map reverse) (list_below g.B.ArrayToBytesCodecTraits.meaning bottom c.args.codec _ _ _ _ xs chunk.below chunk.codec held means))
+    (served_below g.B.ArrayCodecTraits.unserved bottom c.args.codec _ _ _ chunk.below chunk.fill chunk.codec
+    c.requires.denotes served)
+    (ap (option_map reverse)
+    (list_below g.B.ArrayToBytesCodecTraits.meaning bottom c.args.codec _ _ _ _ xs chunk.below chunk.codec held means))

@@ -1,10 +1,6 @@
 use Rattle.std.proofs.Common.{◌≡◌, true, sym, subst}
-use Rattle.zarr_model.specs.Region.{Region, ends_within}
-use Rattle.zarrs_array_subset.specs.ArraySubset.{region as box_of}
-use Rattle.zarrs_codec_array_bytes.specs.Raw.{raw_of}
-use Rattle.zarrs_codec_array_bytes.specs.Steps.{kind_seen}
-use Rattle.zarrs_codec_traits.specs.Views.{lengths}
-use Rattle.zarrs_codec_partial_traits.proofs.BoxLaws.{whole_inside}
+use Rattle.zarrs_codec_traits.specs.Prelude.{Region, ends_within, region as box_of, raw_of, kind_seen, lengths}
+use Rattle.zarrs_codec.proofs.BoxLaws.{whole_inside}
 use Rattle.zarrs_codec_examples.proofs.MirrorLaws.{all_turned}
 use Rattle.zarrs_codec_examples.proofs.turning.turned.Goals as goal
 
@@ -15,4 +11,5 @@ turned_region-requires-clause-inside c =
 
 pub returns-in-Ok-clause-value : goal.returns-in-Ok-clause-value
 returns-in-Ok-clause-value c =
-    all_turned raw_of (kind_seen c.args.data_type.now) (lengths c.args.shape.now) (box_of c.in-Ok.all) (raw_of c.args.bytes.now) c.turned_region.result c.in-Ok.ensures c.turned_region.ensures.value
+    all_turned raw_of (kind_seen c.args.data_type.now) (lengths c.args.shape.now) (box_of c.in-Ok.all)
+    (raw_of c.args.bytes.now) c.turned_region.result c.in-Ok.ensures c.turned_region.ensures.value

@@ -2,7 +2,8 @@ use Rattle.std.proofs.Common.{◌<◌, ◌+◌, ◌*◌, ◌/◌, length, arith,
 use Rattle.zarrs_array_subset.specs.ArraySubset.{region}
 use Rattle.zarrs_codec_slices.specs.Overlap.{span_at, in_bytes}
 use Rattle.zarrs_codec_slices.proofs.CopyLaws.{drop-span, row_part}
-use Rattle.zarrs_codec_slices.proofs.FillBoxLaws.{fill_none, fill_start, fill_end, fill_step, fill_run_room, fill_run_done}
+use Rattle.zarrs_codec_slices.proofs.FillBoxLaws.{fill_none, fill_start, fill_end, fill_step, fill_run_room}
+use Rattle.zarrs_codec_slices.proofs.FillBoxLaws.{fill_run_done}
 use Rattle.zarrs_codec_slices.proofs.fill_box.+fill_shared.Goals as goal
 
 pub fill_elements_run-requires-clause-within : goal.fill_elements_run-requires-clause-within

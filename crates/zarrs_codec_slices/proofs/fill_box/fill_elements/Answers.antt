@@ -6,7 +6,8 @@ use Rattle.zarrs_codec_slices.specs.Filled.{Filled}
 use Rattle.zarrs_codec_slices.proofs.ElementLaws.{count-in_bytes}
 use Rattle.zarrs_codec_slices.proofs.FillBoxLaws.{within_rank, inside_fewer, apart_filled, of_fill, fill_one}
 use Rattle.zarrs_codec_slices.proofs.RunLaws.{apart_none, apart_nothing, counts_some, counts_none, count_fits}
-use Rattle.zarrs_codec_slices.proofs.fill_box.fill_elements.Goals.{then-is_empty-via-then-is_empty, then-is_empty-via-else-is_empty+then-is_empty-2}
+use Rattle.zarrs_codec_slices.proofs.fill_box.fill_elements.Goals.{then-is_empty-via-then-is_empty}
+use Rattle.zarrs_codec_slices.proofs.fill_box.fill_elements.Goals.{then-is_empty-via-else-is_empty+then-is_empty-2}
 use Rattle.zarrs_codec_slices.proofs.fill_box.fill_elements.Goals as goal
 
 pub returns-then-is_empty-clause-filled : goal.returns-then-is_empty-clause-filled

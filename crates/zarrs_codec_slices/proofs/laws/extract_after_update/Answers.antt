@@ -7,5 +7,6 @@ use Rattle.zarrs_codec_slices.proofs.laws.extract_after_update.Goals as goal
 
 pub returns : goal.returns
 returns c = λ indices places given list all.
-    map_below (λ place. get_or (replaced indices given list) place null) (λ place. last_given place indices given (get_or list place null)) (length list) places
+    map_below (λ place. get_or (replaced indices given list) place null)
+    (λ place. last_given place indices given (get_or list place null)) (length list) places
     (λ place h. get_or-replaced null place indices given list h) all

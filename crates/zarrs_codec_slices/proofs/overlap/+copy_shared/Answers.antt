@@ -91,7 +91,8 @@ copy_shared-requires t c = (
           row_part _ _ _ c.args.source.now
               (c.shared_span-shared.result.source_at + c.loop-i.i) c.row_len-source_row.result
               ((c.shared_span-shared.result.source_at + c.loop-i.i) * c.row_len-source_row.result)
-              (bytes-span (region c.args.source_subset.now) c.args.axis c.args.size (omega arith)) c.requires.source_count
+              (bytes-span (region c.args.source_subset.now) c.args.axis c.args.size (omega arith))
+              c.requires.source_count
               c.row_len-source_row.ensures (omega (
                 arith,
                 c.shared_span-shared.ensures.len,

@@ -4,8 +4,10 @@ use Rattle.zarrs_codec_slices.specs.Overlap.{Copied}
 use Rattle.zarr_model.specs.Prelude.{count}
 use Rattle.zarrs_array_subset.specs.ArraySubset.{region}
 use Rattle.zarrs_codec_slices.proofs.ElementLaws.{count-in_bytes, of_elements}
-use Rattle.zarrs_codec_slices.proofs.RunLaws.{apart_none, apart_nothing, apart_copied, one_copied, counts_some, counts_none, count_fits}
-use Rattle.zarrs_codec_slices.proofs.overlap.copy_elements.Goals.{then-is_empty-via-then-is_empty, then-is_empty-via-else-is_empty+then-is_empty-2}
+use Rattle.zarrs_codec_slices.proofs.RunLaws.{apart_none, apart_nothing, apart_copied, one_copied, counts_some}
+use Rattle.zarrs_codec_slices.proofs.RunLaws.{counts_none, count_fits}
+use Rattle.zarrs_codec_slices.proofs.overlap.copy_elements.Goals.{then-is_empty-via-then-is_empty}
+use Rattle.zarrs_codec_slices.proofs.overlap.copy_elements.Goals.{then-is_empty-via-else-is_empty+then-is_empty-2}
 use Rattle.zarrs_codec_slices.proofs.overlap.copy_elements.Goals as goal
 
 pub copy_shared-requires-clause-target_count : goal.copy_shared-requires-clause-target_count

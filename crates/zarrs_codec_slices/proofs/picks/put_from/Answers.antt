@@ -7,5 +7,6 @@ pub loop-index-preserved : goal.loop-index-preserved
 loop-index-preserved c = (
   omega (arith, c.loop-index.invariant.0),
   length-set _ _ _ ∙ c.loop-index.invariant.1,
-  sym (put_step c.args.indices.now c.loop-index.picks c.loop-index.index-index c.loop-index.next c.loop-index-test.true) ∙ c.loop-index.invariant.2,
+  sym (put_step c.args.indices.now c.loop-index.picks c.loop-index.index-index c.loop-index.next c.loop-index-test.true)
+      ∙ c.loop-index.invariant.2,
 )

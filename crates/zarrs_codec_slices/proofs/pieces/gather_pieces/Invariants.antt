@@ -5,4 +5,5 @@ use Rattle.zarrs_codec_slices.proofs.pieces.gather_pieces.Given as goal
 
 abbrev pub invariant-loop-pick : goal.invariant-loop-pick
 invariant-loop-pick l =
-    l.out.items ++ flat_map (picked_piece l.size l.count l.old l.new) (drop l.pick-index l.picks) ≡ flat_map (picked_piece l.size l.count l.old l.new) l.picks
+    l.out.items ++ flat_map (picked_piece l.size l.count l.old l.new) (drop l.pick-index l.picks) ≡
+    flat_map (picked_piece l.size l.count l.old l.new) l.picks

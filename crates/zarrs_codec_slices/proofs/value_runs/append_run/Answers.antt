@@ -11,12 +11,15 @@ pub returns-clause-values : goal.returns-clause-values
 returns-clause-values c =
     always_ok c.append_ends.result
     (c.in_ok-extend_from_slice.ensures.items
-    ∙ ap (λ l. c.args.bytes.now.items ++ l) (sym (values_run c.args.from.now c.args.from_offsets.now c.requires.offsets_within c.args.start c.args.len c.requires.within)))
+    ∙ ap (λ l. c.args.bytes.now.items ++ l) (sym (values_run c.args.from.now c.args.from_offsets.now
+    c.requires.offsets_within c.args.start c.args.len c.requires.within)))
 
 pub returns-clause-offsets : goal.returns-clause-offsets
 returns-clause-offsets c =
     on_ok_weaker c.append_ends.result
     (λ e. e ∙ ap (λ l. c.args.offsets.now.items ++ l)
-    (ends_run c.args.from.now c.args.from_offsets.now c.requires.offsets_within c.len-place.result c.args.start c.args.len c.requires.within
-    ∙ ap (λ place. ends_from place (map (value_of c.args.from.now c.args.from_offsets.now) (range_with_len c.args.start c.args.len))) (let same : c.len-place.result ≡ length c.args.bytes.now.items = search rules in same)))
+    (ends_run c.args.from.now c.args.from_offsets.now c.requires.offsets_within c.len-place.result c.args.start
+    c.args.len c.requires.within
+    ∙ ap (λ place. ends_from place (map (value_of c.args.from.now c.args.from_offsets.now) (range_with_len c.args.start
+    c.args.len))) (let same : c.len-place.result ≡ length c.args.bytes.now.items = search rules in same)))
     c.append_ends.ensures

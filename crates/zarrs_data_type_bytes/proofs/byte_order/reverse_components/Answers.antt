@@ -4,6 +4,8 @@ use Rattle.zarrs_data_type_bytes.proofs.byte_order.reverse_components.Goals as g
 
 pub loop-k-preserved : goal.loop-k-preserved
 loop-k-preserved c =
-    more_pieces reverse c.args.size c.loop-k.k (length c.args.bytes.now / c.args.size) (c.loop-k.k * c.args.size + c.args.size - c.loop-k.k * c.args.size)
-    c.args.bytes.now c.loop-k.bytes c.reverse.new.self (reverse_keeps c.args.size) c.loop-k-test.true (whole_pieces c.args.size c.args.bytes.now)
+    more_pieces reverse c.args.size c.loop-k.k
+    (length c.args.bytes.now / c.args.size) (c.loop-k.k * c.args.size + c.args.size - c.loop-k.k * c.args.size)
+    c.args.bytes.now c.loop-k.bytes c.reverse.new.self (reverse_keeps c.args.size) c.loop-k-test.true
+    (whole_pieces c.args.size c.args.bytes.now)
     c.loop-k.invariant (omega arith) c.reverse.ensures.after

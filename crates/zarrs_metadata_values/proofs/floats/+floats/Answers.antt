@@ -16,7 +16,8 @@ members_hold_float-loop-name-preserved t c =
     let left = c.next.new.self in
     let steps : l._name-iterator ≡ e ∷ left = c.in-Some.ensures.steps in
     let sorted = subst (λ es. IsStrictlySortedBy string_cmp (keys_of es)) steps l.invariant.sorted in
-    let whole = subst (λ es. MembersRise (members_view es) → MembersRise (members_view c.args.members.now.entries)) steps l.invariant.rises in
+    let whole = subst (λ es. MembersRise (members_view es) → MembersRise (members_view c.args.members.now.entries))
+    steps l.invariant.rises in
     let none : has_float (view e.1) ≡ false = sym c.holds_float.ensures.found ∙ c.if-holds_float.false in record {
       can_next = tt;
       is_finite = tt;

@@ -4,4 +4,5 @@ use Rattle.serde_json.proofs.Views.{view-lookup, view_of_ref}
 use Rattle.zarrs_metadata_values.proofs.json.member.Goals as goal
 
 pub returns : goal.returns
-returns c = view_of_ref c.get.result ∙ ap (option_map view) c.get.ensures.value ∙ view-lookup c.args.name.now c.args.members.now.entries
+returns c = view_of_ref c.get.result ∙ ap (option_map view) c.get.ensures.value
+    ∙ view-lookup c.args.name.now c.args.members.now.entries

@@ -10,17 +10,21 @@ returns-then-starts_with c =
 
 pub returns-then-text-eq1 : goal.returns-then-text-eq1
 returns-then-text-eq1 c =
-    let first = starts_char 48 c.args.text.now c.starts_with-2.result c.starts_with-2.ensures.cases (lit< tt) (lit< tt) in
+    let first =
+    starts_char 48 c.args.text.now c.starts_with-2.result c.starts_with-2.ensures.cases (lit< tt) (lit< tt) in
     number_of-zero c.args.text.now (first.0 c.if-starts_with-2.true) c.if-text-eq1.true
 
 pub returns-else-text-eq1 : goal.returns-else-text-eq1
 returns-else-text-eq1 c =
-    let first = starts_char 48 c.args.text.now c.starts_with-2.result c.starts_with-2.ensures.cases (lit< tt) (lit< tt) in
+    let first =
+    starts_char 48 c.args.text.now c.starts_with-2.result c.starts_with-2.ensures.cases (lit< tt) (lit< tt) in
     number_of-zeros c.args.text.now (first.0 c.if-starts_with-2.true) c.if-text-eq1.false
 
 pub returns : goal.returns
 returns c =
     let plus = starts_char 43 c.args.text.now c.starts_with.result c.starts_with.ensures.cases (lit< tt) (lit< tt) in
-    let first = starts_char 48 c.args.text.now c.starts_with-2.result c.starts_with-2.ensures.cases (lit< tt) (lit< tt) in
+    let first =
+    starts_char 48 c.args.text.now c.starts_with-2.result c.starts_with-2.ensures.cases (lit< tt) (lit< tt) in
     c.ok.ensures.value ∙ number_of-parse c.args.text.now c.parse.result c.parse.ensures.value.0
-    (λ e. true≢false (sym (plus.1 e) ∙ c.if-starts_with.false)) (λ e. true≢false (sym (first.1 e) ∙ c.if-starts_with-2.false))
+    (λ e. true≢false (sym (plus.1 e) ∙ c.if-starts_with.false)) (λ e.
+    true≢false (sym (first.1 e) ∙ c.if-starts_with-2.false))

@@ -13,5 +13,6 @@ loop-range-preserved c =
       joined = c.in_ok-extend_from_slice.ensures.items
           ∙ ap (λ l. l ++ c.in_ok-part.part.now) c.loop-range.invariant.joined
           ∙ ap (λ l. before ++ l) c.in_ok-part.ensures.value
-          ∙ sym (slices_more c.args.ranges.now c.args.bytes.now c.loop-range.range-index _ (omega (c.loop-range-test.true, arith)));
+          ∙ sym (slices_more c.args.ranges.now c.args.bytes.now c.loop-range.range-index _
+          (omega (c.loop-range-test.true, arith)));
     }

@@ -12,5 +12,6 @@ loop-range-preserved c =
       room = c.saturating_add-room.ensures
           ∙ ap (λ n. min (n + length c.in_ok-part.part.now) (2 ^ 64 - 1)) c.loop-range.invariant.room
           ∙ ap (λ xs. min (before + length xs) (2 ^ 64 - 1)) c.in_ok-part.ensures.value
-          ∙ room_more c.args.ranges.now c.args.bytes.now c.loop-range.range-index _ (omega (c.loop-range-test.true, arith));
+          ∙ room_more c.args.ranges.now c.args.bytes.now c.loop-range.range-index _
+          (omega (c.loop-range-test.true, arith));
     }

@@ -15,4 +15,5 @@ loop-part-preserved c =
     let long : c.len.result ≡ length c.part-item.result.bytes.items = omega (arith, c.len.ensures) in
     c.max-end.ensures
     ∙ ap (λ n. max c.loop-part.end (c.part-item.result.offset + n)) long
-    ∙ item_more c.args.parts.now c.loop-part.part-index c.loop-part.end c.part-item.result c.loop-part-test.true c.part-item.is c.loop-part.invariant
+    ∙ item_more c.args.parts.now c.loop-part.part-index c.loop-part.end c.part-item.result c.loop-part-test.true
+    c.part-item.is c.loop-part.invariant

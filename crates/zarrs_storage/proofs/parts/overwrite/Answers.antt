@@ -14,12 +14,19 @@ put_bytes-requires c = omega (
 
 pub loop-part-preserved : goal.loop-part-preserved
 loop-part-preserved c =
-    let put = c.put_bytes.ensures ∙ ap (λ bytes. replaced_at c.part-item.result.offset bytes c.loop-part.value.items) c.deref.ensures.value in
+    let put = c.put_bytes.ensures
+    ∙ ap (λ bytes. replaced_at c.part-item.result.offset bytes c.loop-part.value.items) c.deref.ensures.value in
     record {
       long = ap length put
           ∙ length-replaced c.part-item.result.offset c.part-item.result.bytes.items c.loop-part.value.items
-          (omega (arith, c.requires, c.loop-part.invariant.long, item_end c.args.parts.now c.loop-part.part-index c.part-item.result c.loop-part-test.true c.part-item.is))
+          (omega (
+            arith,
+            c.requires,
+            c.loop-part.invariant.long,
+            item_end c.args.parts.now c.loop-part.part-index c.part-item.result c.loop-part-test.true c.part-item.is,
+          ))
           ∙ c.loop-part.invariant.long;
-      value = put ∙ item_put c.args.parts.now c.args.value.now.items c.loop-part.value.items c.loop-part.part-index c.part-item.result
+      value = put ∙ item_put c.args.parts.now c.args.value.now.items c.loop-part.value.items c.loop-part.part-index
+          c.part-item.result
           c.loop-part-test.true c.part-item.is c.requires c.loop-part.invariant.value;
     }

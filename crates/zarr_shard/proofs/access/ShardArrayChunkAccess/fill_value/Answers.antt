@@ -1,9 +1,7 @@
 use Rattle.std.proofs.Common.{◌≡◌, false, ℕ, List, subst}
-use Rattle.zarr_model.specs.Prelude.{kind, IsChunk, has_long_element}
-use Rattle.zarrs_data_type_bytes.specs.FillValue.{fill_bytes}
-use Rattle.zarrs_codec_slices.specs.Filling.{filled_with}
-use Rattle.zarr_array_parts.specs.Parts.{described}
-use Rattle.zarr_array_parts.specs.declared.parts.ArrayParts.{ArrayParts}
+use Rattle.zarrs_codec_traits.specs.Prelude.{kind, IsChunk, has_long_element, fill_bytes, filled_with}
+use Rattle.zarr_array_open.specs.Parts.{described_parts}
+use Rattle.zarr_array_open.specs.declared.parts.ArrayParts.{ArrayParts}
 use Rattle.zarr_shard_codec.specs.Placing.{indices_at}
 use Rattle.zarr_shard_codec.proofs.CodecFacts.{has_inner, is_inner}
 use Rattle.zarr_shard.proofs.access.ShardArrayChunkAccess.fill_value.Goals as goal
@@ -11,6 +9,7 @@ use Rattle.zarr_shard.proofs.access.ShardArrayChunkAccess.fill_value.Goals as go
 pub returns-clause-short : goal.returns-clause-short
 returns-clause-short c = λ chunk is_chunk.
     let codec = c.args.self.now.codec in
-    let short = subst (λ (inner : ArrayParts). (chunk : List ℕ) → IsChunk (described inner).grid chunk → has_long_element (filled_with (kind (described inner)) 1 (fill_bytes c.fill_value.result.now)) ≡ false)
+    let short = subst (λ (inner : ArrayParts). (chunk : List ℕ) → IsChunk (described_parts inner).grid chunk →
+    has_long_element (filled_with (kind (described_parts inner)) 1 (fill_bytes c.fill_value.result.now)) ≡ false)
     c.inner.ensures c.fill_value.ensures.short in
     short (indices_at codec 0) (is_inner codec 0 (has_inner codec))

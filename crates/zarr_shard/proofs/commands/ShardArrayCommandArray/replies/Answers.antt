@@ -1,12 +1,12 @@
 use Rattle.std.proofs.Common.{map}
-use Rattle.zarr_array_regions.specs.Access.{by_part}
-use Rattle.zarr_cli_runs.specs.array.Command.{command_of}
+use Rattle.zarr_array.specs.Access.{by_part}
+use Rattle.zarr_array.specs.boxes.Command.{command_of}
 use Rattle.zarr_cli_runs.specs.Commands.{CostsRun}
 use Rattle.zarrs_codec_traits.specs.Views.{options_of}
-use Rattle.zarr_cli_parts.proofs.RunLemmas.{array_did}
+use Rattle.zarr_cli.proofs.RunLemmas.{array_did}
 use Rattle.zarr_shard.specs.Access.{shard_cost}
 use Rattle.zarr_shard.specs.Costs.{shard_costs}
-use Rattle.zarr_shard.specs.ShardArray.{documented, described}
+use Rattle.zarr_shard.specs.ShardArray.{documented_shards, described_shards}
 use Rattle.zarr_shard.proofs.commands.ShardArrayCommandArray.replies.Goals as goal
 
 pub returns-clause-did : goal.returns-clause-did
@@ -16,7 +16,11 @@ returns-clause-did g c =
     let commands = map command_of c.args.commands.now in
     let before = g.S.Store.shown c.args.store.now in
     let now = g.S.Store.shown c.replies_of.new.store in
-    array_did (shard_costs (documented array)) (described array) options commands before now (g.met.S.Store.counts_fit c.args.store.now).3
-    (CostsRun (by_part (shard_cost (documented array))) (described array) options commands before now)
-    (λ paid puts. record { puts = puts; reads = λ reads. record { asks = (paid reads).asks; taken = (paid reads).taken } })
-    c.replies_of.result c.replies_of.ensures.ran c.replies_of.ensures.costs c.replies_of.ensures.refused c.replies_of.ensures.unchanged c.replies_of.ensures.later c.replies_of.ensures.fault c.replies_of.ensures.between c.replies_of.ensures.complete
+    array_did (shard_costs (documented_shards array)) (described_shards array) options commands before now
+    (g.met.S.Store.counts_fit c.args.store.now).3
+    (CostsRun (by_part (shard_cost (documented_shards array))) (described_shards array) options commands before now)
+    (λ paid puts.
+    record { puts = puts; reads = λ reads. record { asks = (paid reads).asks; taken = (paid reads).taken } })
+    c.replies_of.result c.replies_of.ensures.ran c.replies_of.ensures.costs c.replies_of.ensures.refused
+    c.replies_of.ensures.unchanged c.replies_of.ensures.later c.replies_of.ensures.fault c.replies_of.ensures.between
+    c.replies_of.ensures.complete

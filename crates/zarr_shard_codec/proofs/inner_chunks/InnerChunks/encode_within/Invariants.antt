@@ -1,8 +1,5 @@
 use Rattle.std.proofs.Common.{◌≡◌, List, Some}
-use Rattle.zarr_model.specs.Prelude.{Element}
-use Rattle.zarrs_codec_array_bytes.specs.Raw.{raw_of}
-use Rattle.zarrs_codec_traits.specs.Views.{options_of}
-use Rattle.zarrs_codec_traits.specs.Words.{list_at}
+use Rattle.zarrs_codec_traits.specs.Prelude.{Element, raw_of, options_of, list_at}
 use Rattle.zarr_shard_codec.specs.ShardCodec.{own_level}
 use Rattle.zarr_shard_codec.proofs.EncodeLaws.{HasWritten}
 use Rattle.zarr_shard_codec.proofs.inner_chunks.InnerChunks.encode_within.Given as goal

@@ -1,6 +1,5 @@
-use Rattle.zarr_model.specs.Prelude.{whole}
-use Rattle.zarrs_codec_traits.specs.Views.{options_of}
-use Rattle.zarr_array_elements.specs.BoxElements.{list_held}
+use Rattle.zarrs_codec_traits.specs.Prelude.{whole, options_of}
+use Rattle.zarr_array_boxes.specs.BoxElements.{list_held}
 use Rattle.zarr_shard_codec.specs.ShardCodec.{inner_of}
 use Rattle.zarr_shard_codec.specs.Whole.{HoldsOver}
 use Rattle.zarr_shard_codec.proofs.WholeLaws.{HasPutSome}

@@ -1,28 +1,31 @@
 use Rattle.std.proofs.Common.{◌≡◌, ◌+◌, ◌*◌, ◌^◌, ◌<◌, length, IsSome, sym, ap, ◌∙◌, subst, subst₂}
-use Rattle.zarr_model.specs.Prelude.{count, count_of, fixed_size, meaning}
-use Rattle.zarrs_array_subset.specs.ArraySubset.{region}
-use Rattle.zarrs_codec_slices.specs.Picking.{size_in}
-use Rattle.zarrs_codec_array_bytes.specs.Raw.{raw_of}
-use Rattle.zarr_shard_codec.specs.MetInner.{codec_of}
+use Rattle.zarrs_codec_traits.specs.Prelude.{count, count_of, fixed_size, meaning, region, size_in, raw_of}
+use Rattle.zarr_shard_codec.specs.MetInner.{met_codec}
 use Rattle.zarr_shard_codec.specs.ShardCodec.{inner_dims}
 use Rattle.zarr_shard_codec.proofs.CodecFacts.{chunk_dims, dims_fit}
 use Rattle.zarr_shard_codec.proofs.MetLaws.{its_rank}
 use Rattle.zarr_shard_codec.proofs.met_inner.MetInner.put.Goals as goal
 
 pub put-requires-clause-rank : goal.put-requires-clause-rank
-put-requires-clause-rank c = ap length c.requires.holds.over ∙ (its_rank c.args.self.now c.requires.met c.args.indices.now c.requires.chunk ∙ sym (ap length c.in_ok-subset.ensures))
+put-requires-clause-rank c = ap length c.requires.holds.over ∙ (its_rank c.args.self.now c.requires.met
+    c.args.indices.now c.requires.chunk ∙ sym (ap length c.in_ok-subset.ensures))
 
 pub put-requires-clause-means : goal.put-requires-clause-means
 put-requires-clause-means c =
-    let counted : count (region c.in_ok-subset.subset) ≡ count_of (inner_dims (codec_of c.args.self.now)) = ap count c.in_ok-subset.ensures ∙ ap count_of (chunk_dims (codec_of c.args.self.now) c.args.indices.now c.requires.chunk) in
-    subst₂ (λ k n. IsSome (meaning k n (raw_of c.args.bytes.now))) (sym c.requires.holds.of_kind) (sym counted) c.requires.means
+    let counted : count (region c.in_ok-subset.subset) ≡ count_of (inner_dims (met_codec c.args.self.now)) = ap count
+    c.in_ok-subset.ensures ∙ ap count_of (chunk_dims (met_codec c.args.self.now) c.args.indices.now c.requires.chunk) in
+    subst₂ (λ k n. IsSome (meaning k n (raw_of c.args.bytes.now))) (sym c.requires.holds.of_kind) (sym counted)
+    c.requires.means
 
 pub put-requires-clause-count : goal.put-requires-clause-count
 put-requires-clause-count c =
-    let counted : count (region c.in_ok-subset.subset) ≡ count_of (inner_dims (codec_of c.args.self.now)) = ap count c.in_ok-subset.ensures ∙ ap count_of (chunk_dims (codec_of c.args.self.now) c.args.indices.now c.requires.chunk) in
-    subst (λ n. n + 1 < 2 ^ 64) (sym counted) (dims_fit (codec_of c.args.self.now)).0
+    let counted : count (region c.in_ok-subset.subset) ≡ count_of (inner_dims (met_codec c.args.self.now)) = ap count
+    c.in_ok-subset.ensures ∙ ap count_of (chunk_dims (met_codec c.args.self.now) c.args.indices.now c.requires.chunk) in
+    subst (λ n. n + 1 < 2 ^ 64) (sym counted) (dims_fit (met_codec c.args.self.now)).0
 
 pub put-requires-clause-bytes : goal.put-requires-clause-bytes
 put-requires-clause-bytes c =
-    let counted : count (region c.in_ok-subset.subset) ≡ count_of (inner_dims (codec_of c.args.self.now)) = ap count c.in_ok-subset.ensures ∙ ap count_of (chunk_dims (codec_of c.args.self.now) c.args.indices.now c.requires.chunk) in
-    subst₂ (λ k n. n * size_in (fixed_size k) < 2 ^ 64) (sym c.requires.holds.of_kind) (sym counted) (dims_fit (codec_of c.args.self.now)).1
+    let counted : count (region c.in_ok-subset.subset) ≡ count_of (inner_dims (met_codec c.args.self.now)) = ap count
+    c.in_ok-subset.ensures ∙ ap count_of (chunk_dims (met_codec c.args.self.now) c.args.indices.now c.requires.chunk) in
+    subst₂ (λ k n. n * size_in (fixed_size k) < 2 ^ 64) (sym c.requires.holds.of_kind) (sym counted)
+    (dims_fit (met_codec c.args.self.now)).1

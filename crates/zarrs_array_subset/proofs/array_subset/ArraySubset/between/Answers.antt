@@ -6,7 +6,8 @@ use Rattle.zarrs_array_subset.proofs.array_subset.ArraySubset.between.Goals as g
 pub invariant_of-result : goal.invariant_of-result
 invariant_of-result c =
     record {
-      is_box = ap (is_box c.args.start.items) (c.to_lengths.ensures ∙ ap (lengths_to 0 c.args.end.items) c.deref.ensures.value)
+      is_box = ap (is_box c.args.start.items)
+          (c.to_lengths.ensures ∙ ap (lengths_to 0 c.args.end.items) c.deref.ensures.value)
           ∙ between_fits c.args.start.items c.args.end.items c.requires (λ k h. omega arith) (λ k h. omega arith);
     }
 

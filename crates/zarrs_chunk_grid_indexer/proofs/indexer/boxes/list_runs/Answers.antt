@@ -12,4 +12,5 @@ returns-in-Ok-clause-lists c r e =
 pub returns-in-Err-clause-refused : goal.returns-in-Err-clause-refused
 returns-in-Err-clause-refused c r e =
     let shape : c.in_ok-shape.shape.items ≡ c.args.array_shape.now = search rules in
-    subst (λ r. RefusesShape r c.args.array_shape.now c.in-Err.error) e (subst (λ xs. RefusesShape (region c.args.subset) xs c.in-Err.error) shape c.in-Err.ensures.refused)
+    subst (λ r. RefusesShape r c.args.array_shape.now c.in-Err.error) e
+    (subst (λ xs. RefusesShape (region c.args.subset) xs c.in-Err.error) shape c.in-Err.ensures.refused)

@@ -6,6 +6,7 @@ abbrev pub invariant-loop-run : goal.invariant-loop-run
 invariant-loop-run g l =
     (goal.iterator-loop-run g).can_next l.run-iterator
     × (goal.iterator-loop-run g).is_finite l.run-iterator
-    × (map span_of l.out.items ++ g.I.Indexer.contiguous_left l.run-iterator ≡ map span_of l.initial.out.items ++ g.I.Indexer.pieces l.indexer l.array_shape)
+    × (map span_of l.out.items ++ g.I.Indexer.contiguous_left l.run-iterator ≡
+    map span_of l.initial.out.items ++ g.I.Indexer.pieces l.indexer l.array_shape)
     × (take l.before l.out.items ≡ l.initial.out.items)
     × (l.before ≤ length l.out.items)

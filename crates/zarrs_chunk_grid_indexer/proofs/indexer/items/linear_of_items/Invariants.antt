@@ -5,6 +5,7 @@ use Rattle.zarrs_chunk_grid_indexer.proofs.indexer.items.linear_of_items.Given a
 
 abbrev pub invariant-loop-item : goal.invariant-loop-item
 invariant-loop-item g l = record {
-  items : l.indices.items ≡ flat_map (λ x. map (linear_index l.array_shape) (g.T.Indexer.places x)) (take l.item-index l.list);
+  items : l.indices.items ≡
+      flat_map (λ x. map (linear_index l.array_shape) (g.T.Indexer.places x)) (take l.item-index l.list);
   inside : list_all (λ x. g.T.Indexer.fits x l.array_shape) (take l.item-index l.list) ≡ true;
 }

@@ -3,4 +3,5 @@ use Rattle.zarr_model.specs.Region.{linear_index}
 use Rattle.zarrs_chunk_grid_indexer.proofs.indexer.lists.iter_linear.Goals as goal
 
 pub returns-in-Ok-clause-lists : goal.returns-in-Ok-clause-lists
-returns-in-Ok-clause-lists c xs e = c.into_iter.ensures.rest ∙ c.in-Ok.ensures.lists ∙ ap (map (linear_index c.args.array_shape.now)) e
+returns-in-Ok-clause-lists c xs e =
+    c.into_iter.ensures.rest ∙ c.in-Ok.ensures.lists ∙ ap (map (linear_index c.args.array_shape.now)) e

@@ -6,4 +6,5 @@ use Rattle.zarrs_chunk_grid_indexer.proofs.indexer.lists.iter_runs.Goals as goal
 pub returns-in-Ok-clause-lists : goal.returns-in-Ok-clause-lists
 returns-in-Ok-clause-lists c xs e =
     let all = c.into_iter.ensures.rest ∙ c.in-Ok.ensures.lists ∙ ap (map (linear_index c.args.array_shape.now)) e in
-    ap (map (λ n. record { start = n; size = 1 })) all ∙ map-map (λ n. record { start = n; size = 1 }) (linear_index c.args.array_shape.now) xs
+    ap (map (λ n. record { start = n; size = 1 })) all
+    ∙ map-map (λ n. record { start = n; size = 1 }) (linear_index c.args.array_shape.now) xs

@@ -6,5 +6,6 @@ use Rattle.zarrs_codec_array_bytes.proofs.array_bytes.ArrayBytes.is_fill_value.G
 
 pub returns-clause-elements : goal.returns-clause-elements
 returns-clause-elements c = λ kind number xs x e h f.
-    let law = fill_means kind number (raw_of c.args.self.now) c.as_ne_bytes.result.now xs x e h (ap (fill_element kind) c.as_ne_bytes.ensures ∙ f) in
+    let law = fill_means kind number (raw_of c.args.self.now) c.as_ne_bytes.result.now xs x e h
+    (ap (fill_element kind) c.as_ne_bytes.ensures ∙ f) in
     ((λ t. law.0 (c.are_fill.ensures.0 t)), (λ s. c.are_fill.ensures.1 (law.1 s)))

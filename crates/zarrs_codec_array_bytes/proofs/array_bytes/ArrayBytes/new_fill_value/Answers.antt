@@ -8,10 +8,13 @@ use Rattle.zarrs_codec_array_bytes.proofs.array_bytes.ArrayBytes.new_fill_value.
 
 pub returns-clause-filled : goal.returns-clause-filled
 returns-clause-filled c = λ x e.
-    filled_answer raw_of (kind_seen c.args.data_type.now) c.args.num_elements c.as_ne_bytes.result.now c.fill_with.result c.fill_with.ensures.value x
+    filled_answer raw_of (kind_seen c.args.data_type.now) c.args.num_elements c.as_ne_bytes.result.now
+    c.fill_with.result c.fill_with.ensures.value x
     (ap (fill_element (kind_seen c.args.data_type.now)) c.as_ne_bytes.ensures ∙ e)
 
 pub returns-clause-short : goal.returns-clause-short
 returns-clause-short c = λ h.
-    short_answer raw_of (kind_seen c.args.data_type.now) c.args.num_elements c.as_ne_bytes.result.now c.fill_with.result c.fill_with.ensures.value
-    (subst (λ fill. length (innermost_fill (kind_seen c.args.data_type.now) fill) < 2 ^ 32) (sym c.as_ne_bytes.ensures) h)
+    short_answer raw_of (kind_seen c.args.data_type.now) c.args.num_elements c.as_ne_bytes.result.now c.fill_with.result
+    c.fill_with.ensures.value
+    (subst (λ fill. length (innermost_fill (kind_seen c.args.data_type.now) fill) < 2 ^ 32) (sym c.as_ne_bytes.ensures)
+    h)

@@ -6,5 +6,7 @@ use Rattle.zarrs_codec_array_bytes.proofs.array_bytes.extract.linear_indices.Goa
 
 pub returns-in-Ok-clause-within : goal.returns-in-Ok-clause-within
 returns-in-Ok-clause-within g c =
-    subst (λ l. (k : ℕ) → k < length l → get_or l k 0 < count_of c.args.shape.now) (sym (c.in-Ok.ensures.lists ∙ ap (λ l. l ++ linear c.args.shape.now (g.I.Indexer.places c.args.indexer.now)) c.new-indices.ensures.items))
-    (indices_below c.args.shape.now (g.I.Indexer.places c.args.indexer.now) (g.met.I.Indexer.inside c.args.indexer.now c.args.shape.now c.in-Ok.ensures.inside))
+    subst (λ l. (k : ℕ) → k < length l → get_or l k 0 < count_of c.args.shape.now) (sym (c.in-Ok.ensures.lists
+    ∙ ap (λ l. l ++ linear c.args.shape.now (g.I.Indexer.places c.args.indexer.now)) c.new-indices.ensures.items))
+    (indices_below c.args.shape.now (g.I.Indexer.places c.args.indexer.now)
+    (g.met.I.Indexer.inside c.args.indexer.now c.args.shape.now c.in-Ok.ensures.inside))

@@ -4,7 +4,8 @@ use Rattle.zarrs_metadata_values.specs.Configuration.{configuration_seen}
 use Rattle.zarrs_codec_error.proofs.OptionLemmas.{get_seen}
 use Rattle.zarrs_codec_error.proofs.codec_specific_options.CodecSpecificOptions.get_option.Goals as goal
 
-seen_of_ref : (r : Option (Bor Configuration)) → option_map (λ x. configuration_seen x.now) r ≡ option_map configuration_seen (option_map (λ x. x.now) r)
+seen_of_ref : (r : Option (Bor Configuration)) →
+    option_map (λ x. configuration_seen x.now) r ≡ option_map configuration_seen (option_map (λ x. x.now) r)
 seen_of_ref None = refl
 seen_of_ref (Some x) = refl
 

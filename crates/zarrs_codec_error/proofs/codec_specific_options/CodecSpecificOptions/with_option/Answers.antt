@@ -8,4 +8,5 @@ use Rattle.zarrs_codec_error.proofs.codec_specific_options.CodecSpecificOptions.
 pub returns : goal.returns
 returns c =
     options_put c.args.self record { options = c.insert.new.self } c.in_ok-name.name c.args.option (search rules)
-    ∙ ap (λ name. finite.insert (options_seen c.args.self) name (configuration_seen c.args.option)) c.in_ok-name.ensures.ok
+    ∙ ap (λ name. finite.insert (options_seen c.args.self) name (configuration_seen c.args.option))
+    c.in_ok-name.ensures.ok

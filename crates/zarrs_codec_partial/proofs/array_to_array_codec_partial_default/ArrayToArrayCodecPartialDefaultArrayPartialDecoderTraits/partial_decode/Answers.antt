@@ -15,4 +15,5 @@ pub returns-clause-decodes : goal.returns-clause-decodes
 returns-clause-decodes g c = λ served there whole. (c.decode_elements.ensures.gives served).decodes there whole
 
 pub returns-clause-all : goal.returns-clause-all
-returns-clause-all g c = λ served filled all. (c.decode_elements.ensures.gives served).all (none_smaller (array_level c.args.self.now.level).shape (g.I.Indexer.as_region c.args.indexer.now) all)
+returns-clause-all g c = λ served filled all. (c.decode_elements.ensures.gives served).all
+    (none_smaller (array_level c.args.self.now.level).shape (g.I.Indexer.as_region c.args.indexer.now) all)

@@ -12,7 +12,8 @@ returns-clause-erases g c =
     let codec = own.level.codec in
     let unserved = unserved_at (g.C.ArrayCodecTraits.unserved codec) level fill in
     let handle = g.H.ArrayPartialDecoderTraits in
-    erases_above (code.meaning codec) (code.fill_below codec) level fill unserved (code.region_below codec) (handle.seen own.handle) (handle.seen c.erase.new.self) c.erase.result c.erase.ensures.erases
+    erases_above (code.meaning codec) (code.fill_below codec) level fill unserved (code.region_below codec)
+    (handle.seen own.handle) (handle.seen c.erase.new.self) c.erase.result c.erase.ensures.erases
 
 pub returns-clause-rest : goal.returns-clause-rest
 returns-clause-rest g c =
@@ -22,4 +23,5 @@ returns-clause-rest g c =
     let code = g.C.ArrayToArrayCodecTraits in
     let codec = own.level.codec in
     let unserved = unserved_at (g.C.ArrayCodecTraits.unserved codec) level fill in
-    rest_above (code.meaning codec) (code.fill_below codec) level fill unserved (code.region_below codec) _ _ c.erase.ensures.rest
+    rest_above (code.meaning codec) (code.fill_below codec) level fill unserved (code.region_below codec) _ _
+    c.erase.ensures.rest

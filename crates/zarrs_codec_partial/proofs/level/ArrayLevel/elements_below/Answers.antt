@@ -1,9 +1,6 @@
 use Rattle.std.proofs.Common.{◌∙◌, sym, ap, not, IsSome}
-use Rattle.zarr_model.specs.Region.{count_of}
-use Rattle.zarr_model.specs.Element.{kind_of, fill_element}
+use Rattle.zarrs_codec_traits.specs.Prelude.{count_of, kind_of, fill_element, raw_of, options_of}
 use Rattle.zarr_model.proofs.ElementLaws.{denoted}
-use Rattle.zarrs_codec_array_bytes.specs.Raw.{raw_of}
-use Rattle.zarrs_codec_traits.specs.Views.{options_of}
 use Rattle.zarrs_codec_traits.proofs.FaultLaws.{answers_no_fault, known_validity}
 use Rattle.zarrs_codec_traits.proofs.FillLaws.{element_bytes}
 use Rattle.zarrs_codec_traits.proofs.CountLaws.{lengths_some}
@@ -20,11 +17,15 @@ returns-then-is_dropped-clause-hands g c =
     let laws = g.met.C.ArrayToArrayCodecTraits in
     let codec = c.args.self.now.codec in
     let served = c.requires.all.served in
-    let facts = (λ (some : IsSome (fill_element (kind_of level.data_type) fill)). let own = denoted (fill_element (kind_of level.data_type) fill) some in
-    filled_by at.meaning at.fill_below level fill own (laws.denotes codec level fill served own) (laws.fills codec level fill served own (element_bytes (kind_of level.data_type) fill level.fill c.fill_is_bytes.ensures own))) in
+    let facts = (λ (some : IsSome (fill_element (kind_of level.data_type) fill)). let own =
+    denoted (fill_element (kind_of level.data_type) fill) some in
+    filled_by at.meaning at.fill_below level fill own (laws.denotes codec level fill served own) (laws.fills codec level
+    fill served own (element_bytes (kind_of level.data_type) fill level.fill c.fill_is_bytes.ensures own))) in
     record {
-      hands = hands_filled at.meaning at.fill_below level fill (options_of c.args.options.now) (raw_of c.args.bytes) c.filled_below.result facts
-          (λ list filled means. sym (ap not c.if-is_dropped.true) ∙ c.is_dropped.ensures (count_of level.shape) list (lengths_some c.args.self.now.shape.items) means)
+      hands = hands_filled at.meaning at.fill_below level fill (options_of c.args.options.now) (raw_of c.args.bytes)
+          c.filled_below.result facts
+          (λ list filled means. sym (ap not c.if-is_dropped.true)
+          ∙ c.is_dropped.ensures (count_of level.shape) list (lengths_some c.args.self.now.shape.items) means)
           c.filled_below.ensures.fills.value c.filled_below.ensures.fills.short;
       failed = λ some there. c.filled_below.ensures.fills.failed some;
     }
@@ -37,16 +38,22 @@ returns-clause-hands g c =
     let laws = g.met.C.ArrayToArrayCodecTraits in
     let codec = c.args.self.now.codec in
     let served = c.requires.all.served in
-    let facts = (λ (some : IsSome (fill_element (kind_of level.data_type) fill)). let own = denoted (fill_element (kind_of level.data_type) fill) some in
-    filled_by at.meaning at.fill_below level fill own (laws.denotes codec level fill served own) (laws.fills codec level fill served own (element_bytes (kind_of level.data_type) fill level.fill c.fill_is_bytes.ensures own))) in
+    let facts = (λ (some : IsSome (fill_element (kind_of level.data_type) fill)). let own =
+    denoted (fill_element (kind_of level.data_type) fill) some in
+    filled_by at.meaning at.fill_below level fill own (laws.denotes codec level fill served own) (laws.fills codec level
+    fill served own (element_bytes (kind_of level.data_type) fill level.fill c.fill_is_bytes.ensures own))) in
     record {
-      hands = hands_given at.meaning at.fill_below level fill (options_of c.args.options.now) (raw_of c.args.bytes) c.encode.result facts
-          (λ list filled means. sym (ap not c.if-is_dropped.false) ∙ c.is_dropped.ensures (count_of level.shape) list (lengths_some c.args.self.now.shape.items) means)
+      hands = hands_given at.meaning at.fill_below level fill (options_of c.args.options.now) (raw_of c.args.bytes)
+          c.encode.result facts
+          (λ list filled means. sym (ap not c.if-is_dropped.false)
+          ∙ c.is_dropped.ensures (count_of level.shape) list (lengths_some c.args.self.now.shape.items) means)
           ((rw c.deref.ensures.value at c.encode.ensures.value) served) c.encode.ensures.short;
-      failed = λ some there. valid_fails_memory level (raw_of c.args.bytes) c.encode.result there ((rw c.deref.ensures.value at c.encode.ensures.exact) served);
+      failed = λ some there. valid_fails_memory level (raw_of c.args.bytes) c.encode.result there
+          ((rw c.deref.ensures.value at c.encode.ensures.exact) served);
     }
 
 pub returns-clause-no_fault : goal.returns-clause-no_fault
 returns-clause-no_fault g c =
     let level = (codec_seen g.C.ArrayCodecTraits g.C.ArrayToArrayCodecTraits c.args.self.now).level in
-    answers_no_fault c.encode.result _ (known_validity (kind_of level.data_type) (count_of level.shape) (raw_of c.args.bytes)) ((rw c.deref.ensures.value at c.encode.ensures.exact) c.requires.all.served)
+    answers_no_fault c.encode.result _ (known_validity (kind_of level.data_type) (count_of level.shape)
+    (raw_of c.args.bytes)) ((rw c.deref.ensures.value at c.encode.ensures.exact) c.requires.all.served)

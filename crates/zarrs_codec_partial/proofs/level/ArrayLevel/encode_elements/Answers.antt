@@ -5,15 +5,23 @@ use Rattle.zarrs_codec_partial.proofs.level.ArrayLevel.encode_elements.Goals as 
 
 pub returns-in-Ok-expect_served : goal.returns-in-Ok-expect_served
 returns-in-Ok-expect_served g c =
-    encodes_fit g.H.ArrayPartialDecoderTraits g.H.ArrayPartialEncoderTraits (codec_seen g.C.ArrayCodecTraits g.C.ArrayToArrayCodecTraits c.args.self.now) (options_of c.args.options.now) _ _ c.args.handle.now c.encode_fit.new.handle c.encode_fit.result
-    (rw c.deref.ensures.value at c.in-Ok.ensures.answer) (rw c.deref.ensures.value at c.in-Ok.ensures.fit) c.in-Ok-expect_served.ensures.served c.in-Ok-expect_served.ensures.denotes c.encode_fit.ensures
+    encodes_fit g.H.ArrayPartialDecoderTraits g.H.ArrayPartialEncoderTraits
+    (codec_seen g.C.ArrayCodecTraits g.C.ArrayToArrayCodecTraits c.args.self.now) (options_of c.args.options.now) _ _
+    c.args.handle.now c.encode_fit.new.handle c.encode_fit.result
+    (rw c.deref.ensures.value at c.in-Ok.ensures.answer) (rw c.deref.ensures.value at c.in-Ok.ensures.fit)
+    c.in-Ok-expect_served.ensures.served c.in-Ok-expect_served.ensures.denotes c.encode_fit.ensures
 
 pub returns-in-Ok : goal.returns-in-Ok
 returns-in-Ok g c =
-    encodes_unserved g.H.ArrayPartialDecoderTraits g.H.ArrayPartialEncoderTraits (codec_seen g.C.ArrayCodecTraits g.C.ArrayToArrayCodecTraits c.args.self.now) (options_of c.args.options.now) _ _ c.args.handle.now c.in-Err-expect_served.error
-    (g.met.H.ArrayPartialDecoderTraits.same_self c.args.handle.now) (rw c.deref.ensures.value at c.in-Ok.ensures.answer) (rw c.deref.ensures.value at c.in-Ok.ensures.fit) c.in-Err-expect_served.ensures
+    encodes_unserved g.H.ArrayPartialDecoderTraits g.H.ArrayPartialEncoderTraits
+    (codec_seen g.C.ArrayCodecTraits g.C.ArrayToArrayCodecTraits c.args.self.now) (options_of c.args.options.now) _ _
+    c.args.handle.now c.in-Err-expect_served.error
+    (g.met.H.ArrayPartialDecoderTraits.same_self c.args.handle.now) (rw c.deref.ensures.value at c.in-Ok.ensures.answer)
+    (rw c.deref.ensures.value at c.in-Ok.ensures.fit) c.in-Err-expect_served.ensures
 
 pub returns : goal.returns
 returns g c =
-    encodes_refused g.H.ArrayPartialDecoderTraits g.H.ArrayPartialEncoderTraits (codec_seen g.C.ArrayCodecTraits g.C.ArrayToArrayCodecTraits c.args.self.now) (options_of c.args.options.now) _ _ c.args.handle.now c.in-Err.error
-    (g.met.H.ArrayPartialDecoderTraits.same_self c.args.handle.now) (rw c.deref.ensures.value at c.in-Err.ensures.answer) (rw c.deref.ensures.value at c.in-Err.ensures.refusal)
+    encodes_refused g.H.ArrayPartialDecoderTraits g.H.ArrayPartialEncoderTraits (codec_seen g.C.ArrayCodecTraits
+    g.C.ArrayToArrayCodecTraits c.args.self.now) (options_of c.args.options.now) _ _ c.args.handle.now c.in-Err.error
+    (g.met.H.ArrayPartialDecoderTraits.same_self c.args.handle.now)
+    (rw c.deref.ensures.value at c.in-Err.ensures.answer) (rw c.deref.ensures.value at c.in-Err.ensures.refusal)

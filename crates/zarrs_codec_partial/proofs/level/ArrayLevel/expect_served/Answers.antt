@@ -1,6 +1,5 @@
 use Rattle.std.proofs.Common.{refl, Err}
-use Rattle.zarr_model.specs.Element.{kind_of, fill_element}
-use Rattle.zarrs_codec_array_bytes.specs.Refusals.{other_fill}
+use Rattle.zarrs_codec_traits.specs.Prelude.{kind_of, fill_element, other_fill}
 use Rattle.zarrs_codec_traits.proofs.FaultLaws.{told_no_fault, served_no_fault, fill_no_fault}
 use Rattle.zarrs_codec_traits.proofs.LevelLaws.{served_ok}
 use Rattle.zarrs_codec_partial_elements.proofs.DenotesLaws.{none_some}
@@ -29,8 +28,11 @@ returns-in-Ok g c =
       served = tt;
       denotes = tt;
       memory = memory;
-      named = λ below. named_own _ _ at.unserved below (fill_element (kind_of at.level.data_type) at.fill) c.in-Err-encoded_representation.error c.in-Ok.ensures.denotes refuses (λ served. memory served c.in-Ok.ensures.denotes);
-      no_fault = served_no_fault at.unserved (Err c.in-Err-encoded_representation.error) refuses (λ served. fill_no_fault _ (Err c.in-Err-encoded_representation.error) (exact served));
+      named = λ below. named_own _ _ at.unserved below (fill_element (kind_of at.level.data_type) at.fill)
+          c.in-Err-encoded_representation.error c.in-Ok.ensures.denotes refuses
+          (λ served. memory served c.in-Ok.ensures.denotes);
+      no_fault = served_no_fault at.unserved (Err c.in-Err-encoded_representation.error) refuses
+          (λ served. fill_no_fault _ (Err c.in-Err-encoded_representation.error) (exact served));
     }
 
 pub returns : goal.returns
@@ -40,6 +42,7 @@ returns g c =
       served = tt;
       denotes = tt;
       memory = λ served filled. none_some _ c.in-Err.ensures.refused filled;
-      named = λ below. named_fill _ at.unserved below (fill_element (kind_of at.level.data_type) at.fill) c.in-Err.error c.in-Err.ensures.refused c.in-Err.ensures.told;
+      named = λ below. named_fill _ at.unserved below (fill_element (kind_of at.level.data_type) at.fill) c.in-Err.error
+          c.in-Err.ensures.refused c.in-Err.ensures.told;
       no_fault = told_no_fault c.in-Err.error other_fill refl c.in-Err.ensures.told;
     }

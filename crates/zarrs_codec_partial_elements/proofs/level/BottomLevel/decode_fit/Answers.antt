@@ -12,7 +12,8 @@ returns-in-Ok-Some g c =
     let is = sym (ap (option_map box_of) c.in-Ok-Some.field-0-is) ∙ c.in-Ok-Some.ensures in
     let box = box_of c.in-Ok-Some.region in
     let asked = smaller_is c.args.numbers.now (g.I.Indexer.as_region c.args.indexer.now) box (sym is) in
-    asked_so (ap (option_and_then request) (rw c.requires.shape at is)) (placed_read box (g.I.Indexer.places c.args.indexer.now) (g.met.I.Indexer.boxed c.args.indexer.now box asked).0 c.decode_box.ensures)
+    asked_so (ap (option_and_then request) (rw c.requires.shape at is)) (placed_read box
+    (g.I.Indexer.places c.args.indexer.now) (g.met.I.Indexer.boxed c.args.indexer.now box asked).0 c.decode_box.ensures)
 
 pub returns-in-Ok-None : goal.returns-in-Ok-None
 returns-in-Ok-None g c =
@@ -21,4 +22,5 @@ returns-in-Ok-None g c =
     asked_so (ap (option_and_then request) (rw c.requires.shape at is)) c.decode_listed.ensures
 
 pub returns-in-Err : goal.returns-in-Err
-returns-in-Err g c = unread_so (g.met.H.BytesPartialDecoderTraits.same_self c.args.handle.now) (memory_no_fault _ c.from.ensures) (λ served ok. c.from.ensures)
+returns-in-Err g c = unread_so (g.met.H.BytesPartialDecoderTraits.same_self c.args.handle.now)
+    (memory_no_fault _ c.from.ensures) (λ served ok. c.from.ensures)

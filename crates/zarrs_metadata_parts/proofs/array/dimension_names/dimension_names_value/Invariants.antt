@@ -4,4 +4,5 @@ use Rattle.zarrs_metadata_parts.specs.DimensionNames.{dimension_name_data, dimen
 use Rattle.zarrs_metadata_parts.proofs.array.dimension_names.dimension_names_value.Given as goal
 
 abbrev pub invariant-loop-name : goal.invariant-loop-name
-invariant-loop-name l = map view l.items.items ≡ map dimension_name_data (dimension_names_seen (take l.name-index l.names))
+invariant-loop-name l =
+    map view l.items.items ≡ map dimension_name_data (dimension_names_seen (take l.name-index l.names))

@@ -5,4 +5,5 @@ use Rattle.zarrs_metadata_parts.specs.DimensionNames.{dimension_name, dimension_
 use Rattle.zarrs_metadata_parts.proofs.array.dimension_names.read_each_dimension_name.Given as goal
 
 abbrev pub invariant-loop-item : goal.invariant-loop-item
-invariant-loop-item l = each dimension_name (items_view (take l.item-index l.items)) ≡ Some (dimension_names_seen l.names.items)
+invariant-loop-item l =
+    each dimension_name (items_view (take l.item-index l.items)) ≡ Some (dimension_names_seen l.names.items)

@@ -12,13 +12,16 @@ loop-name-preserved c =
     let done = l.invariant.2.0 in
     let e : Field = (c.in-Some.name.now, c.in-Some.field.now) in
     let left = c.next.new.self in
-    let all : c.args.fields.now.entries ≡ done ++ e ∷ left = l.invariant.2.1 ∙ ap (λ es. done ++ es) c.in-Some.ensures.steps in
+    let all : c.args.fields.now.entries ≡ done ++ e ∷ left =
+    l.invariant.2.1 ∙ ap (λ es. done ++ es) c.in-Some.ensures.steps in
     let sorted = subst (λ es. IsStrictlySortedBy string_cmp (keys_of es)) all c.iter-name-items.ensures.ordered in (
       tt,
       tt,
       (
         done ++ e ∷ [],
         all ∙ sym (append_assoc done (e ∷ []) left),
-        ap additional_fields_seen c.in_ok-insert.ensures.entries ∙ fields-copy l.copies.entries done e left c.in_ok-name.name c.in_ok-try_clone.field-0 l.invariant.2.2 c.in_ok-name.ensures.cases c.in_ok-try_clone.ensures sorted,
+        ap additional_fields_seen c.in_ok-insert.ensures.entries
+            ∙ fields-copy l.copies.entries done e left c.in_ok-name.name c.in_ok-try_clone.field-0 l.invariant.2.2
+            c.in_ok-name.ensures.cases c.in_ok-try_clone.ensures sorted,
       ),
     )

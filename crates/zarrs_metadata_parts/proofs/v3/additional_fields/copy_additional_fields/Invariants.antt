@@ -7,4 +7,5 @@ abbrev pub invariant-loop-name : goal.invariant-loop-name
 invariant-loop-name l =
     (goal.iterator-loop-name).can_next l.name-iterator ×
     (goal.iterator-loop-name).is_finite l.name-iterator ×
-    ((done : List Field) × (l.fields.entries ≡ done ++ l.name-iterator) × (additional_fields_seen l.copies.entries ≡ additional_fields_seen done))
+    ((done : List Field) × (l.fields.entries ≡ done ++ l.name-iterator) ×
+    (additional_fields_seen l.copies.entries ≡ additional_fields_seen done))

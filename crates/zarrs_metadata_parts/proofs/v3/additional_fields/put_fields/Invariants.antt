@@ -7,4 +7,5 @@ abbrev pub invariant-loop-name : goal.invariant-loop-name
 invariant-loop-name l =
     (goal.iterator-loop-name).can_next l.name-iterator ×
     (goal.iterator-loop-name).is_finite l.name-iterator ×
-    (put_fields l.kind (additional_fields_seen l.name-iterator) (members_view l.members.entries) ≡ put_fields l.kind (additional_fields_seen l.fields.entries) (members_view l.fn.members.entries))
+    (put_fields l.kind (additional_fields_seen l.name-iterator) (members_view l.members.entries) ≡
+    put_fields l.kind (additional_fields_seen l.fields.entries) (members_view l.fn.members.entries))

@@ -8,4 +8,5 @@ abbrev pub invariant-loop-name : goal.invariant-loop-name
 invariant-loop-name l =
     (goal.iterator-loop-name).can_next l.name-iterator ×
     (goal.iterator-loop-name).is_finite l.name-iterator ×
-    ((done : List Entry) × (l.members.entries ≡ done ++ l.name-iterator) × (additional_fields_seen l.fields.entries ≡ additional_fields_of l.kind (members_view done)))
+    ((done : List Entry) × (l.members.entries ≡ done ++ l.name-iterator) ×
+    (additional_fields_seen l.fields.entries ≡ additional_fields_of l.kind (members_view done)))

@@ -4,4 +4,5 @@ use Rattle.zarrs_metadata_parts.specs.MetadataV3.{extension_data, extensions_see
 use Rattle.zarrs_metadata_parts.proofs.v3.metadata.extension_items.Given as goal
 
 abbrev pub invariant-loop-extension : goal.invariant-loop-extension
-invariant-loop-extension l = map view l.items.items ≡ map extension_data (extensions_seen (take l.extension-index l.extensions))
+invariant-loop-extension l =
+    map view l.items.items ≡ map extension_data (extensions_seen (take l.extension-index l.extensions))

@@ -6,4 +6,5 @@ use Rattle.zarrs_metadata_v2.specs.ArrayMetadataV2.{positive_number}
 use Rattle.zarrs_metadata_v2.proofs.array.reading.read_each_positive_number.Given as goal
 
 abbrev pub invariant-loop-item : goal.invariant-loop-item
-invariant-loop-item l = each positive_number (items_view (take l.item-index l.items)) ≡ Some (map non_zero_u64_get l.numbers.items)
+invariant-loop-item l =
+    each positive_number (items_view (take l.item-index l.items)) ≡ Some (map non_zero_u64_get l.numbers.items)

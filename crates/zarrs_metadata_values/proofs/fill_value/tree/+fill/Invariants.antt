@@ -9,4 +9,5 @@ invariant-fills_from_items-loop-item l = map fill_view l.fills.items ≡ map vie
 
 abbrev pub invariant-fills_from_members-loop-name : goal.invariant-fills_from_members-loop-name
 invariant-fills_from_members-loop-name l =
-    (done : List Entry) × (l.members.entries ≡ done ++ l.name-iterator) × (fields_view l.fills.entries ≡ members_view done)
+    (done : List Entry) × (l.members.entries ≡ done ++ l.name-iterator) ×
+    (fields_view l.fills.entries ≡ members_view done)

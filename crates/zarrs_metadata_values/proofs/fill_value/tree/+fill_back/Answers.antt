@@ -11,8 +11,10 @@ members_from_fields-loop-name-preserved t c =
     let done = l.invariant.0 in
     let e : Field = (c.in-Some.name.now, c.in-Some.field.now) in
     let left = c.next.new.self in
-    let all : c.args.fields.now.entries ≡ done ++ e ∷ left = l.invariant.1 ∙ ap (λ es. done ++ es) c.in-Some.ensures.steps in
-    let last = fields_last done e left (subst (λ es. IsStrictlySortedBy string_cmp (keys_of es)) all c.iter-name-items.ensures.ordered) in (
+    let all : c.args.fields.now.entries ≡ done ++ e ∷ left =
+    l.invariant.1 ∙ ap (λ es. done ++ es) c.in-Some.ensures.steps in
+    let last = fields_last done e left
+    (subst (λ es. IsStrictlySortedBy string_cmp (keys_of es)) all c.iter-name-items.ensures.ordered) in (
       done ++ e ∷ [],
       all ∙ sym (append_assoc done (e ∷ []) left),
       c.in_ok-put.ensures.ok ∙ rw (c.as_str.ensures.value, c.in_ok-fill_to_value.ensures, l.invariant.2) last,

@@ -9,4 +9,5 @@ invariant-items_from_fills-loop-fill l = map view l.items.items ≡ map fill_vie
 
 abbrev pub invariant-members_from_fields-loop-name : goal.invariant-members_from_fields-loop-name
 invariant-members_from_fields-loop-name l =
-    (done : List Field) × (l.fields.entries ≡ done ++ l.name-iterator) × (members_view l.members.entries ≡ fields_view done)
+    (done : List Field) × (l.fields.entries ≡ done ++ l.name-iterator) ×
+    (members_view l.members.entries ≡ fields_view done)

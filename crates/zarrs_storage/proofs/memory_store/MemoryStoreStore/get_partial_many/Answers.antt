@@ -10,7 +10,8 @@ use Rattle.zarrs_storage.proofs.memory_store.MemoryStoreStore.get_partial_many.G
 pub returns-in_default-clause-reads : goal.returns-in_default-clause-reads
 returns-in_default-clause-reads c =
     let found = get-held_by c.self.inside.map c.args.key.now in
-    let absent : None ≡ content_of c.args.self.now c.args.key.now = rw (← c.self.view_is, found) (grind (arith, common_steps)) in
+    let absent : None ≡ content_of c.args.self.now c.args.key.now =
+    rw (← c.self.view_is, found) (grind (arith, common_steps)) in
     record {
       value = ap (option_map (slices_of c.args.ranges.now)) absent;
       valid = ap (invalid_range c.args.ranges.now) (sym absent);
@@ -25,8 +26,10 @@ returns-in_default-clause-reads c =
 pub returns-in_err-parts-clause-reads : goal.returns-in_err-parts-clause-reads
 returns-in_err-parts-clause-reads c =
     let found = get-held_by c.self.inside.map c.args.key.now in
-    let here : Some c.deref.result.now ≡ content_of c.args.self.now c.args.key.now = rw (← c.self.view_is, found) (grind (arith, common_steps)) in
-    let told : IsRangeError c.args.ranges.now (content_of c.args.self.now c.args.key.now) (range_fault c.in_err-parts.field-0.0) =
+    let here : Some c.deref.result.now ≡ content_of c.args.self.now c.args.key.now =
+    rw (← c.self.view_is, found) (grind (arith, common_steps)) in
+    let told :
+    IsRangeError c.args.ranges.now (content_of c.args.self.now c.args.key.now) (range_fault c.in_err-parts.field-0.0) =
     subst (λ held. IsRangeError c.args.ranges.now held (range_fault c.in_err-parts.field-0.0)) here
     (range_error c.args.ranges.now c.deref.result.now c.in_err-parts.field-0.0 c.in_err-parts.ensures.refused) in
     record {
@@ -43,7 +46,8 @@ returns-in_err-parts-clause-reads c =
 pub returns-clause-reads : goal.returns-clause-reads
 returns-clause-reads c =
     let found = get-held_by c.self.inside.map c.args.key.now in
-    let here : Some c.deref.result.now ≡ content_of c.args.self.now c.args.key.now = rw (← c.self.view_is, found) (grind (arith, common_steps)) in
+    let here : Some c.deref.result.now ≡ content_of c.args.self.now c.args.key.now =
+    rw (← c.self.view_is, found) (grind (arith, common_steps)) in
     record {
       value = ap Some c.in_ok-parts.ensures.value ∙ ap (option_map (slices_of c.args.ranges.now)) here;
       valid = ap (invalid_range c.args.ranges.now) (sym here) ∙ c.in_ok-parts.ensures.valid;

@@ -5,4 +5,5 @@ use Rattle.zarrs_chunk_grid_indexer.proofs.indexer.indexer_list.IndexerListIndex
 
 pub returns-in-Ok-clause-lists : goal.returns-in-Ok-clause-lists
 returns-in-Ok-clause-lists g c =
-    ap (map span_of) c.into_iter.ensures.rest ∙ c.in-Ok.ensures.lists ∙ ap (flat_map (λ x. g.T.Indexer.pieces x c.args.array_shape.now)) c.as_slice.ensures.value
+    ap (map span_of) c.into_iter.ensures.rest ∙ c.in-Ok.ensures.lists
+    ∙ ap (flat_map (λ x. g.T.Indexer.pieces x c.args.array_shape.now)) c.as_slice.ensures.value

@@ -1,0 +1,54 @@
+use Rattle.std.proofs.Common.{◌≡◌, ◌<◌, length, arith}
+use Rattle.zarrs_codec_traits.specs.Prelude.{count, chunks_meeting, region, raw_of, options_of}
+use Rattle.zarr_array.specs.Access.{described}
+use Rattle.zarr_array.specs.RegionChunks.{met_chunk_at}
+use Rattle.zarr_array.proofs.MetLaws.{num_met, met_here}
+use Rattle.zarr_array.proofs.WriteSteps.{none_written, one_written, stops_written, all_written}
+use Rattle.zarr_array.proofs.region_chunks.RegionChunks.write_chunks.Goals as goal
+
+pub loop-number-init : goal.loop-number-init
+loop-number-init g c =
+    let met = c.args.self.now in
+    let array = g.C.ChunkAccess.seen met.array.now in (
+      none_written array (options_of c.args.options.now) (region met.subset.now) (raw_of c.args.bytes.now)
+          (g.met.C.ChunkAccess.served met.array.now) (g.S.Store.shown c.args.store.now) (g.met.S.Store.counts_fit
+          c.args.store.now).1 (g.met.S.Store.counts_fit c.args.store.now).2
+          (g.met.S.Store.counts_fit c.args.store.now).3,
+      tt,
+    )
+
+pub returns-in-Err : goal.returns-in-Err
+returns-in-Err g c =
+    let met = c.args.self.now in
+    let array = g.C.ChunkAccess.seen met.array.now in
+    let below : c.loop-number.number < count (region c.args.self.now.chunks) = omega arith in
+    stops_written array (options_of c.args.options.now) (region met.subset.now) (raw_of c.args.bytes.now)
+    (g.met.C.ChunkAccess.served met.array.now) c.loop-number.number (met_chunk_at met c.loop-number.number)
+    (g.S.Store.shown c.args.store.now) (g.S.Store.shown c.loop-number.store) (g.S.Store.shown c.write_chunk.new.store)
+    c.in-Err.kind
+    (met_here array met c.requires.met c.loop-number.number below) c.loop-number.invariant.0 c.in-Err.ensures.written
+
+pub loop-number-preserved : goal.loop-number-preserved
+loop-number-preserved g c =
+    let met = c.args.self.now in
+    let array = g.C.ChunkAccess.seen met.array.now in
+    let below : c.loop-number.number < count (region c.args.self.now.chunks) = omega arith in (
+      one_written array (options_of c.args.options.now) (region met.subset.now) (raw_of c.args.bytes.now)
+          (g.met.C.ChunkAccess.served met.array.now) c.loop-number.number (met_chunk_at met c.loop-number.number)
+          (g.S.Store.shown c.args.store.now) (g.S.Store.shown c.loop-number.store)
+          (g.S.Store.shown c.write_chunk.new.store)
+          (met_here array met c.requires.met c.loop-number.number below) c.loop-number.invariant.0
+          c.in-Ok.ensures.written,
+      c.in-Ok.ensures.hand,
+    )
+
+pub returns : goal.returns
+returns g c =
+    let met = c.args.self.now in
+    let array = g.C.ChunkAccess.seen met.array.now in
+    let num = num_met array met c.requires.met in
+    let all : c.loop-number.number ≡
+    length (chunks_meeting (described array).grid (region c.args.self.now.subset.now)) = omega (arith, num) in
+    all_written array (options_of c.args.options.now) (region met.subset.now) (raw_of c.args.bytes.now)
+    c.loop-number.number (g.S.Store.shown c.args.store.now) (g.S.Store.shown c.loop-number.store) all
+    c.loop-number.invariant.0

@@ -1,0 +1,149 @@
+//! What two boxes share, and its elements.
+
+ghost use Rattle.std.specs.Prelude.{◌≡◌, ◌+◌, ◌*◌, ◌<◌, ◌^◌, List, false, Some, length, IfOk};
+ghost use Rattle.zarr_model.specs.Region.{count, starts};
+ghost use Rattle.zarr_model.specs.Element.{Element, null};
+ghost use Rattle.zarr_model.specs.ArrayBytes.{meaning};
+ghost use Rattle.zarr_model.specs.Command.{has_long_element};
+ghost use Rattle.zarrs_array_subset.specs.ArraySubset.{region};
+ghost use Rattle.zarrs_array_subset.specs.Boxes.{overlap_of, moved_back, maxes};
+ghost use Rattle.zarrs_codec_slices.specs.Picking.{picked};
+ghost use Rattle.zarrs_codec_array_bytes.specs.Raw.{raw_of};
+ghost use Rattle.zarrs_codec_array_bytes.specs.Steps.{kind_seen, bytes_seen};
+ghost use Rattle.zarr_array_boxes.specs.Shared.{shared_in, lengths_shared};
+
+use std::alloc::{AllocError, Global};
+use zarrs_array_subset::ArraySubset;
+use zarrs_codec_array_bytes::ArrayBytes;
+use zarrs_data_type::DataType;
+
+// The greater of both starts in each dimension.
+fn shared_starts(alloc: Global, start: &[u64], other: &[u64]) -> Result<Vec<u64>, AllocError>
+    ensures { IfOk result (λ v. v.items ≡ maxes start.now other.now) }
+{
+    start
+        .iter()
+        .zip(other)
+        .map(|(s, o)| *s.max(o))
+        .collect(alloc)
+}
+
+// The length from the greater start to the lesser end in each dimension, or 0 where that is none.
+#[tactic(auto, unfolding(crate::specs::Shared::lengths_shared))]
+fn shared_lengths(
+    alloc: Global,
+    start: &[u64],
+    shape: &[u64],
+    other_start: &[u64],
+    other_shape: &[u64],
+) -> Result<Vec<u64>, AllocError>
+    ensures { IfOk result (λ v. v.items
+        ≡ lengths_shared start.now shape.now other_start.now other_shape.now) }
+{
+    start
+        .iter()
+        .zip(shape)
+        .zip(other_start)
+        .zip(other_shape)
+        .map(|(((s, n), o), m)| {
+            let end = s.saturating_add(*n).min(o.saturating_add(*m));
+            end.saturating_sub(*s.max(o))
+        })
+        .collect(alloc)
+}
+
+/// The part that two boxes of one rank share. Nothing is made but its start and its lengths.
+pub(crate) fn shared_part(
+    alloc: Global,
+    subset: &ArraySubset,
+    other: &ArraySubset,
+) -> Result<ArraySubset, AllocError>
+    requires { length (region subset.now) ≡ length (region other.now) }
+    ensures { IfOk result (λ v. region v ≡ overlap_of (region subset.now) (region other.now)) }
+{
+    let start = shared_starts(alloc, subset.start(), other.start())?;
+    let shape = shared_lengths(
+        alloc,
+        subset.start(),
+        subset.shape(),
+        other.start(),
+        other.shape(),
+    )?;
+    match ArraySubset::new_with_start_shape(start, shape) {
+        Ok(part) => Ok(part),
+        Err(_) => unreachable!(),
+    }
+}
+
+/// A part of a box, by its place in it.
+pub(crate) fn part_in(
+    alloc: Global,
+    part: &ArraySubset,
+    subset: &ArraySubset,
+) -> Result<ArraySubset, AllocError>
+    ensures { IfOk result
+        (λ v. region v ≡ moved_back (region part.now) (starts (region subset.now))) }
+{
+    match part.relative_to(alloc, subset.start()) {
+        Ok(at) => Ok(at),
+        Err(_) => Err(AllocError),
+    }
+}
+
+/// What a box shares with another one of its rank.
+#[derive(Drop)]
+pub struct SharedBox {
+    /// The part that both have.
+    pub subset: ArraySubset,
+    /// The same by its place in the other one.
+    pub within: ArraySubset,
+}
+
+impl SharedBox {
+    ghost use Rattle.zarr_array_boxes.specs.SharedBox.{IsSharedBy};
+
+    /// What a box shares with another one of its rank.
+    ///
+    /// # Errors
+    /// [`AllocError`] where memory runs out.
+    pub fn of(
+        alloc: Global,
+        subset: &ArraySubset,
+        other: &ArraySubset,
+    ) -> Result<SharedBox, AllocError>
+        requires { length (region subset.now) ≡ length (region other.now) }
+        ensures { IfOk result (IsSharedBy (region subset.now) (region other.now)) }
+    {
+        let part = shared_part(alloc, subset, other)?;
+        let within = part_in(alloc, &part, other)?;
+        Ok(SharedBox {
+            subset: part,
+            within,
+        })
+    }
+}
+
+/// The elements that bytes over a box have in a part of it.
+pub(crate) fn piece_in(
+    alloc: Global,
+    data_type: &DataType,
+    bytes: &ArrayBytes<'_>,
+    subset: &ArraySubset,
+    part: &ArraySubset,
+) -> Result<ArrayBytes<'static>, AllocError>
+    requires count { count (region subset.now) + 1 < 2 ^ 64 }
+    requires bytes { count (region subset.now) * bytes_seen data_type.now < 2 ^ 64 }
+    ensures selected { let kind = kind_seen data_type.now in
+        let places = shared_in (region subset.now) (region part.now) in (xs : List Element)
+        → meaning kind (count (region subset.now)) (raw_of bytes.now) ≡ Some xs
+        → IfOk result (λ v. meaning kind (length places) (raw_of v)
+        ≡ Some (picked null places xs)) }
+    ensures short { has_long_element (raw_of bytes.now) ≡ false
+        → IfOk result (λ v. has_long_element (raw_of v) ≡ false) }
+{
+    let at = part_in(alloc, part, subset)?;
+    match bytes.extract_array_subset(alloc, &at, subset.shape(), data_type) {
+        Ok(piece) => Ok(piece),
+        Err(_) => Err(AllocError),
+    }
+}

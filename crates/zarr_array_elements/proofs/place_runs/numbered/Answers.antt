@@ -1,6 +1,0 @@
-use Rattle.std.proofs.Common.{rules}
-use Rattle.zarr_array_elements.proofs.PlaceRunLaws.{one_numbered, all_numbered}
-use Rattle.zarr_array_elements.proofs.place_runs.numbered.Goals as goal
-
-pub loop-run-preserved : goal.loop-run-preserved
-loop-run-preserved c = one_numbered c.args.runs.now c.loop-run.run-index c.loop-run.total c.in-Some.behind c.loop-run.numbered.items c.push.new.self.items c.loop-run-test.true (search rules) (search rules) c.loop-run.invariant

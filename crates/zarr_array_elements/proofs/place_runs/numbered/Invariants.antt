@@ -1,5 +1,0 @@
-use Rattle.zarr_array_elements.proofs.PlaceRunLaws.{HasNumbered}
-use Rattle.zarr_array_elements.proofs.place_runs.numbered.Given as goal
-
-abbrev pub invariant-loop-run : goal.invariant-loop-run
-invariant-loop-run l = HasNumbered l.runs l.run-index l.total l.numbered.items

@@ -1,5 +1,0 @@
-use Rattle.zarr_array_elements.proofs.PlaceRunLaws.{HasPutFirst}
-use Rattle.zarr_array_elements.proofs.place_runs.put_runs.Given as goal
-
-abbrev pub invariant-loop-run : goal.invariant-loop-run
-invariant-loop-run l = HasPutFirst l.runs l.run-index l.initial.picks l.picks

@@ -1,0 +1,18 @@
+use Rattle.std.proofs.Common.{map, arith}
+use Rattle.std.proofs.lemmas.List.{map-append}
+use Rattle.zarrs_plugin.specs.Registry.{registry_of}
+use Rattle.zarr_array_open.specs.OpenError.{open_refusal_of}
+use Rattle.zarr_array_open.specs.Views.{made_codec_seen}
+use Rattle.zarr_array_open.proofs.CodecLaws.{codecs_push, codecs_fail}
+use Rattle.zarr_array_open.proofs.shard_codecs.document_codecs.Goals as goal
+
+pub returns-in-Err : goal.returns-in-Err
+returns-in-Err c = codecs_fail c.args.chunk_shape.now (registry_of c.args.registry.now) c.args.extensions.now
+    c.loop-extension.extension-index c.extension-item.result (map made_codec_seen c.loop-extension.codecs.items)
+    (open_refusal_of c.in-Err.error) (omega arith) c.extension-item.is c.loop-extension.invariant c.in-Err.ensures
+
+pub loop-extension-preserved : goal.loop-extension-preserved
+loop-extension-preserved c = rw (c.in_ok-push-in-Ok.ensures.items, map-append made_codec_seen)
+    (codecs_push c.args.chunk_shape.now (registry_of c.args.registry.now) c.args.extensions.now
+    c.loop-extension.extension-index c.extension-item.result (map made_codec_seen c.loop-extension.codecs.items)
+    (made_codec_seen c.in-Ok.codec) (omega arith) c.extension-item.is c.loop-extension.invariant c.in-Ok.ensures)

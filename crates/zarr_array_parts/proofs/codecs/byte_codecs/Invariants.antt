@@ -1,5 +1,0 @@
-use Rattle.zarr_array_parts.proofs.ChainOrderLaws.{AreByteCodecs}
-use Rattle.zarr_array_parts.proofs.codecs.byte_codecs.Given as goal
-
-abbrev pub invariant-loop-codec : goal.invariant-loop-codec
-invariant-loop-codec l = AreByteCodecs l.codecs l.codec-index l.others.items

@@ -1,9 +1,0 @@
-use Rattle.std.proofs.Common.{◌≡◌, map, length, take, Ok}
-use Rattle.zarrs_plugin.specs.Registry.{registry_of}
-use Rattle.zarrs_metadata_parts.specs.MetadataV3.{extensions_seen}
-use Rattle.zarr_basics.specs.kinds.CodecForm.{form_of}
-use Rattle.zarr_array_parts.specs.Opening.{codecs_by}
-use Rattle.zarr_array_parts.proofs.extensions.codecs_by.Given as goal
-
-abbrev pub invariant-loop-extension : goal.invariant-loop-extension
-invariant-loop-extension l = codecs_by (length l.array_shape) (registry_of l.registry) (extensions_seen (take l.extension-index l.extensions)) ≡ Ok (map form_of l.codecs.items)

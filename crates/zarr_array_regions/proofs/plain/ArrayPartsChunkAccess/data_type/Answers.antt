@@ -1,6 +1,0 @@
-use Rattle.zarrs_data_type_names.specs.DataType.{type_of}
-use Rattle.zarr_array_regions.proofs.SizeLaws.{some_size}
-use Rattle.zarr_array_regions.proofs.plain.ArrayPartsChunkAccess.data_type.Goals as goal
-
-pub returns-clause-sizes : goal.returns-clause-sizes
-returns-clause-sizes c = λ n is. some_size c.args.self.now (type_of c.data_type.result.now) n c.data_type.ensures is

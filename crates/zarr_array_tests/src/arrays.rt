@@ -1,0 +1,89 @@
+//! Each call on a sharded array once.
+
+use std::alloc::Global;
+use std::ops::Range;
+use std::process::Abort;
+use zarr_array::{Reply, SessionError};
+use zarr_array_open::builtin_registries;
+use zarr_shard::ShardArray;
+use zarrs_array_subset::ArraySubset;
+use zarrs_codec_array_bytes::ArrayBytes;
+use zarrs_codec_array_bytes::array_bytes::bytes_in;
+use zarrs_codec_error::CodecOptions;
+use zarrs_metadata::ArrayMetadataV3;
+use zarrs_storage::{MemoryStore, Store};
+
+// Two chunks of four numbers, each in two inner chunks.
+const DOCUMENT: &str =
+    r#"{"zarr_format":3,"node_type":"array","shape":[8],"data_type":"uint8","chunk_grid":{"name":"regular","configuration":{"chunk_shape":[4]}},"chunk_key_encoding":"default","fill_value":0,"codecs":[{"name":"sharding_indexed","configuration":{"chunk_shape":[2],"codecs":["bytes"],"index_codecs":[{"name":"bytes","configuration":{"endian":"little"}}]}}]}"#;
+
+// The array of the fields of a document.
+fn made(rt: &impl Abort, alloc: Global) -> ShardArray {
+    let registries = builtin_registries(alloc).expect(rt, "memory");
+    let metadata = ArrayMetadataV3::try_from_text(alloc, DOCUMENT).expect(rt, "a document");
+    match ShardArray::from_metadata(alloc, &metadata, &registries) {
+        Ok(array) => array,
+        Err(_) => panic!(rt; "no array"),
+    }
+}
+
+fn region(rt: &impl Abort, alloc: Global, ranges: &[Range<u64>]) -> ArraySubset {
+    ArraySubset::new_with_ranges(alloc, ranges).expect(rt, "memory")
+}
+
+// The reply, where there is no error.
+fn reply_in(rt: &impl Abort, reply: Result<Reply, SessionError>) -> Reply {
+    match reply {
+        Ok(reply) => reply,
+        Err(_) => panic!(rt; "an error"),
+    }
+}
+
+fn are_elements(elements: &ArrayBytes<'_>, bytes: &[u8]) -> bool {
+    match elements {
+        ArrayBytes::Fixed(raw) => bytes_in(raw) == bytes,
+        _ => false,
+    }
+}
+
+// Whether a write of three elements in two chunks is done.
+fn is_written(rt: &impl Abort, alloc: Global, array: &ShardArray, store: &mut MemoryStore) -> bool {
+    let subset = region(rt, alloc, &[2..5]);
+    let elements = ArrayBytes::from([10, 11, 12].as_slice());
+    let reply = array.write(alloc, &subset, &elements, store, &CodecOptions::default());
+    matches!(&reply_in(rt, reply), Reply::Done)
+}
+
+// Whether a region has these elements.
+fn is_read(
+    rt: &impl Abort,
+    alloc: Global,
+    array: &ShardArray,
+    range: Range<u64>,
+    bytes: &[u8],
+    store: &mut MemoryStore,
+) -> bool {
+    let subset = region(rt, alloc, &[range]);
+    let reply = array.read(alloc, &subset, store, &CodecOptions::default());
+    match &reply_in(rt, reply) {
+        Reply::Elements(elements) => are_elements(elements, bytes),
+        _ => false,
+    }
+}
+
+// The second half of the first chunk is one inner chunk: its index of 32 bytes is read, and its two bytes.
+#[test]
+fn an_array_is_written_read_and_erased(rt: HostRuntime) {
+    let alloc = rt.alloc();
+    let array = made(&rt, alloc);
+    let mut store = MemoryStore::new(alloc);
+    assert!(rt; is_written(&rt, alloc, &array, &mut store));
+    assert!(rt; store.puts() == 2);
+    let (asks, taken) = (store.asks(), store.taken());
+    assert!(rt; is_read(&rt, alloc, &array, 3..4, &[11], &mut store));
+    assert!(rt; store.asks() == asks.wrapping_add(2));
+    assert!(rt; store.taken() == taken.wrapping_add(34));
+    let reply = array.erase(alloc, &[0], &mut store, &CodecOptions::default());
+    assert!(rt; matches!(&reply_in(&rt, reply), Reply::Done));
+    assert!(rt; is_read(&rt, alloc, &array, 1..6, &[0, 0, 0, 12, 0], &mut store));
+}

@@ -1,0 +1,17 @@
+use Rattle.std.proofs.Common.{◌≡◌, true, ap, sym, ◌∙◌, subst}
+use Rattle.zarr_model.specs.Prelude.{whole, contains}
+use Rattle.zarrs_chunk_grid.specs.ChunkGrid.{HasElement}
+use Rattle.zarr_basics.specs.GridOf.{grid_of_regular}
+use Rattle.zarr_basics.specs.RegularGrid.{quotients}
+use Rattle.zarr_basics.proofs.RegularFacts.{quotients_hold}
+use Rattle.zarr_basics.proofs.regular_grid.chunks.RegularGridChunkGridTraits.chunk_indices.Goals as goal
+
+pub returns-clause-chunk : goal.returns-clause-chunk
+returns-clause-chunk c =
+    let grid = c.args.self.now in
+    let indices = c.args.array_indices.now in
+    let inside : contains (whole grid.array_shape.items) indices ≡ true =
+    sym (c.are_below.ensures ∙ ap (λ s. contains (whole s) indices) c.deref.ensures.value) ∙ c.if-not-are_below.false in
+    subst (HasElement (grid_of_regular grid) indices)
+    (sym (c.in_ok-chunk.ensures ∙ ap (quotients indices) c.deref-2.ensures.value))
+    (quotients_hold grid.array_shape.items grid.chunk_shape.items indices grid.rank inside)

@@ -1,9 +1,0 @@
-pub mod Lengths
-pub mod GridForms
-pub mod Limits
-pub mod LimitTests
-pub mod Largest
-pub mod Axes
-pub mod BoundaryGrid
-pub mod Configurations
-pub mod Making

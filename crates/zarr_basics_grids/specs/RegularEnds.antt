@@ -1,7 +1,0 @@
--- Where the chunks of a regular grid end.
-use Rattle.std.specs.Prelude.{ℕ, ◌*◌, ◌^◌, Bool, true, ◌&&◌, nat_lt, List, ◌∷◌}
-
--- the last chunk of each dimension ends within 64 bits
-abbrev pub ends_fit : List ℕ → List ℕ → Bool
-ends_fit (n ∷ counts) (p ∷ lengths) = nat_lt (n * p) (2 ^ 64) && ends_fit counts lengths
-ends_fit _ _ = true

@@ -1,5 +1,0 @@
-pub mod Text
-pub mod Fixed
-pub mod Growing
-pub mod Put
-pub mod Place

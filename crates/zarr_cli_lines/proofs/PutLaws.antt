@@ -1,0 +1,105 @@
+-- What the text of an element puts at the end of array bytes.
+use Rattle.std.proofs.Common.{◌≡◌, ◌≢◌, ℕ, true, false, ◌==◌, List, [], ◌∷◌, ◌++◌, length, codes, Option, Some, None}
+use Rattle.std.proofs.Common.{option_map, option_and_then, refl, sym, ap, ◌∙◌, subst, eq-eqb}
+use Rattle.std.proofs.lemmas.Bool.{cond-true, cond-false, ne_eqb}
+use Rattle.zarr_model.specs.Element.{Element, of_bytes, null, some, Kind, fixed, variable, optional, blank}
+use Rattle.zarr_model.specs.ArrayBytes.{ArrayBytes, fixed_bytes, variable_bytes, optional_bytes}
+use Rattle.zarr_cli_lines.specs.ElementText.{hex_of, fixed_element, element_of}
+use Rattle.zarr_cli_lines.specs.Put.{put_element, PutsElement}
+
+-- a fixed kind
+pub fixed_is : (size : ℕ) (text bytes : List ℕ) → hex_of text ≡ Some bytes → length bytes ≡ size →
+    element_of (fixed size) text ≡ Some (of_bytes bytes)
+fixed_is size text bytes is long =
+    ap (option_and_then (fixed_element size)) is ∙ cond-true (length bytes == size) _ None (eq-eqb _ _ long)
+
+pub fixed_put : (size : ℕ) (text bytes before now : List ℕ) → hex_of text ≡ Some bytes → length bytes ≡ size →
+    now ≡ before ++ bytes →
+    PutsElement (fixed size) (element_of (fixed size) text) true (fixed_bytes before) (fixed_bytes now)
+fixed_put size text bytes before now is long made = subst (λ o. PutsElement (fixed size) o true (fixed_bytes before)
+    (fixed_bytes now)) (sym (fixed_is size text bytes is long)) (ap fixed_bytes made)
+
+pub fixed_none : (size : ℕ) (text : List ℕ) (before now : ArrayBytes) → hex_of text ≡ None →
+    PutsElement (fixed size) (element_of (fixed size) text) false before now
+fixed_none size text before now none =
+    subst (λ o. PutsElement (fixed size) o false before now) (sym (ap (option_and_then (fixed_element size)) none)) tt
+
+pub fixed_other : (size : ℕ) (text bytes : List ℕ) (before now : ArrayBytes) → hex_of text ≡ Some bytes →
+    ¬ (length bytes ≡ size) → PutsElement (fixed size) (element_of (fixed size) text) false before now
+fixed_other size text bytes before now is other =
+    subst (λ o. PutsElement (fixed size) o false before now) (sym (ap (option_and_then (fixed_element size)) is
+    ∙ cond-false (length bytes == size) (Some (of_bytes bytes)) None (ne_eqb _ _ other))) tt
+
+-- a variable one
+pub variable_put : (text bytes before now offsets ends : List ℕ) → hex_of text ≡ Some bytes → now ≡ before ++ bytes →
+    ends ≡ offsets ++ length (before ++ bytes) ∷ [] →
+    PutsElement variable (element_of variable text) true (variable_bytes before offsets) (variable_bytes now ends)
+variable_put text bytes before now offsets ends is made end =
+    subst (λ o. PutsElement variable o true (variable_bytes before offsets) (variable_bytes now ends))
+    (sym (ap (option_map of_bytes) is)) (rw (made, end) refl)
+
+pub variable_none : (text : List ℕ) (before now : ArrayBytes) → hex_of text ≡ None →
+    PutsElement variable (element_of variable text) false before now
+variable_none text before now none =
+    subst (λ o. PutsElement variable o false before now) (sym (ap (option_map of_bytes) none)) tt
+
+-- an optional one: null
+pub null_put : (kind : Kind) (text : List ℕ) (before now : ArrayBytes) (mask marks : List ℕ) → text ≡ codes "-" →
+    now ≡ put_element kind (blank kind) before → marks ≡ mask ++ 0 ∷ [] →
+    PutsElement (optional kind) (element_of (optional kind) text) true (optional_bytes before mask)
+    (optional_bytes now marks)
+null_put kind text before now mask marks is made mark =
+    subst (λ t. PutsElement (optional kind) (element_of (optional kind) t) true (optional_bytes before mask)
+    (optional_bytes now marks)) (sym is) (rw (made, mark) refl)
+
+-- neither null nor some
+element_none : (kind : Kind) (text : List ℕ) → ¬ (text ≡ codes "-") → ((rest : List ℕ) → text ≢ 43 ∷ rest) →
+    element_of (optional kind) text ≡ None
+element_none kind [] other lacks = refl
+element_none kind (b ∷ []) other lacks =
+    cond-false (b == 45) (Some null) None (ne_eqb b 45 (λ e. other (ap (λ x. x ∷ []) e)))
+element_none kind (b ∷ c ∷ line) other lacks = cond-false (b == 43) (option_map some (element_of kind (c ∷ line))) None
+    (ne_eqb b 43 (λ e. lacks (c ∷ line) (ap (λ x. x ∷ c ∷ line) e)))
+
+pub optional_none : (kind : Kind) (text : List ℕ) (before now : ArrayBytes) → ¬ (text ≡ codes "-") → ((rest : List ℕ) →
+    text ≢ 43 ∷ rest) → PutsElement (optional kind) (element_of (optional kind) text) false before now
+optional_none kind text before now other lacks =
+    subst (λ o. PutsElement (optional kind) o false before now) (sym (element_none kind text other lacks)) tt
+
+-- some of an element
+empty_none : (kind : Kind) → element_of kind [] ≡ None
+empty_none (fixed n) = refl
+empty_none variable = refl
+empty_none (optional kind) = refl
+
+element_some : (kind : Kind) (rest : List ℕ) →
+    element_of (optional kind) (43 ∷ rest) ≡ option_map some (element_of kind rest)
+element_some kind [] = sym (ap (option_map some) (empty_none kind))
+element_some kind (c ∷ line) = refl
+
+some_puts : (kind : Kind) (o : Option Element) (before now : ArrayBytes) (mask marks : List ℕ) →
+    PutsElement kind o true before now → marks ≡ mask ++ 1 ∷ [] →
+    PutsElement (optional kind) (option_map some o) true (optional_bytes before mask) (optional_bytes now marks)
+some_puts kind None before now mask marks puts mark = absurd puts
+some_puts kind (Some element) before now mask marks puts mark = rw (puts, mark) refl
+
+pub some_put : (kind : Kind) (text rest : List ℕ) (before now : ArrayBytes) (mask marks : List ℕ) → text ≡ 43 ∷ rest →
+    PutsElement kind (element_of kind rest) true before now → marks ≡ mask ++ 1 ∷ [] →
+    PutsElement (optional kind) (element_of (optional kind) text) true (optional_bytes before mask)
+    (optional_bytes now marks)
+some_put kind text rest before now mask marks is puts mark =
+    subst (λ o. PutsElement (optional kind) o true (optional_bytes before mask) (optional_bytes now marks))
+    (sym (ap (element_of (optional kind)) is ∙ element_some kind rest))
+    (some_puts kind (element_of kind rest) before now mask marks puts mark)
+
+none_puts : (kind : Kind) (o : Option Element) (before now above over : ArrayBytes) →
+    PutsElement kind o false before now → PutsElement (optional kind) (option_map some o) false above over
+none_puts kind None before now above over puts = tt
+none_puts kind (Some element) before now above over puts = absurd puts
+
+pub some_none : (kind : Kind) (text rest : List ℕ) (before now above over : ArrayBytes) → text ≡ 43 ∷ rest →
+    PutsElement kind (element_of kind rest) false before now →
+    PutsElement (optional kind) (element_of (optional kind) text) false above over
+some_none kind text rest before now above over is puts =
+    subst (λ o. PutsElement (optional kind) o false above over) (sym (ap (element_of (optional kind)) is
+    ∙ element_some kind rest)) (none_puts kind (element_of kind rest) before now above over puts)

@@ -1,9 +1,0 @@
-use Rattle.std.proofs.Common.{◌≡◌, ◌++◌, ℕ, List, length}
-use Rattle.zarr_cli_parts.specs.Steps.{AreRead}
-use Rattle.zarr_cli_parts.proofs.read.LinesSoFar.push_bytes.Given as goal
-
-abbrev pub invariant-lines : goal.invariant-lines
-invariant-lines l = (done : List ℕ) × (l.fn.piece ≡ done ++ l.left) × ((taken : List ℕ) → AreRead taken l.fn.self → AreRead (taken ++ done) l.self)
-
-abbrev pub decreases-lines : goal.decreases-lines
-decreases-lines l = length l.left

@@ -1,5 +1,0 @@
-use Rattle.zarr_codecs.proofs.DigestLaws.{digest_back}
-use Rattle.zarr_codecs.proofs.sha256_codec.Sha256CodecBytesToBytesCodecTraits.encode.Goals as goal
-
-pub returns : goal.returns
-returns c = λ under. digest_back under.validate_checksums c.args.decoded_value.items c.append_digest.new.bytes.items c.in_ok-append_digest.ensures

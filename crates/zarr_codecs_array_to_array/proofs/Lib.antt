@@ -1,0 +1,3 @@
+mod ShiftLaws
+mod FillLaws
+pub mod CodecLaws

@@ -1,4 +1,0 @@
-pub mod SizeLaws
-pub mod PartLaws
-pub mod OptionalLaws
-pub mod InnerLaws

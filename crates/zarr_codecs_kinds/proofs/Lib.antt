@@ -1,3 +1,0 @@
-mod KindLaws
-mod InnerLaws
-mod ReadsBack

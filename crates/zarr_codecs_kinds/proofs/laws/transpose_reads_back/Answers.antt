@@ -1,5 +1,0 @@
-use Rattle.zarr_codecs_kinds.proofs.ReadsBack.{transpose_back}
-use Rattle.zarr_codecs_kinds.proofs.laws.transpose_reads_back.Goals as goal
-
-pub returns : goal.returns
-returns c = λ names order orders. transpose_back names order orders

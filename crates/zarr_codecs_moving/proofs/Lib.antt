@@ -1,6 +1,0 @@
-pub mod PieceLaws
-pub mod RunSteps
-pub mod SplitLaws
-pub mod MovingLaws
-pub mod SubsetLaws
-pub mod LevelLaws

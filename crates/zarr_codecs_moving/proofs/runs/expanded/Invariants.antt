@@ -1,6 +1,0 @@
-use Rattle.std.proofs.Common.{◌≡◌, ◌++◌, drop}
-use Rattle.zarr_codecs_axes.specs.Moved.{in_runs}
-use Rattle.zarr_codecs_moving.proofs.runs.expanded.Given as goal
-
-abbrev pub invariant-loop-place : goal.invariant-loop-place
-invariant-loop-place l = l.places.items ++ in_runs l.run (drop l.place-index l.runs) ≡ in_runs l.run l.runs

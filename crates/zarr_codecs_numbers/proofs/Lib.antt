@@ -1,4 +1,0 @@
-pub mod PieceLaws
-pub mod AmountLaws
-pub mod OffsetLaws
-pub mod LevelLaws

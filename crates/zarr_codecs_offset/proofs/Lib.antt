@@ -1,2 +1,0 @@
-mod ShiftLaws
-mod FillLaws

@@ -1,6 +1,0 @@
-pub mod References
-pub mod Slices
-pub mod RefStore
-pub mod Over
-pub mod Kept
-pub mod Lent

@@ -1,5 +1,0 @@
-use Rattle.zarr_v2_meaning.proofs.StepLaws.{described}
-use Rattle.zarr_v2_meaning.proofs.translation_is_described.Goals as goal
-
-pub returns : goal.returns
-returns c = λ a stored fill filler fits denotes. described a stored fill filler fits denotes

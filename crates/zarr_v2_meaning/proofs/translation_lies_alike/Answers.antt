@@ -1,5 +1,0 @@
-use Rattle.zarr_v2_meaning.proofs.SameLaws.{lie_alike}
-use Rattle.zarr_v2_meaning.proofs.translation_lies_alike.Goals as goal
-
-pub returns : goal.returns
-returns c = λ a f d answers opens. lie_alike a f d answers opens

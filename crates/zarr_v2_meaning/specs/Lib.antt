@@ -1,3 +1,0 @@
-pub mod ChunksV2
-pub mod Documents
-pub mod Alike

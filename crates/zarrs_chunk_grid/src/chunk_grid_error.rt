@@ -1,0 +1,35 @@
+//! Why a chunk grid refuses a call.
+
+ghost use Rattle.std.specs.Prelude.{◌≡◌};
+ghost use Rattle.zarrs_chunk_grid.specs.declared.chunk_grid_error.ChunkGridError.TheVariants.{OutOfMemory};
+
+use std::alloc::{AllocError, AllocFailed};
+use thiserror::Error;
+use zarrs_array_subset::IncompatibleDimensionalityError;
+
+/// Why a chunk grid refuses a call.
+#[derive(Debug, Drop, Error)]
+pub enum ChunkGridError {
+    /// The indices or the region have another number of dimensions than the grid.
+    #[error(transparent)]
+    IncompatibleDimensionality(IncompatibleDimensionalityError),
+    /// Memory ran out.
+    #[error("out of memory")]
+    OutOfMemory,
+}
+
+impl From<AllocError> for ChunkGridError {
+    ghost from_gives = { λ _ e. e ≡ OutOfMemory };
+
+    fn from(_error: AllocError) -> ChunkGridError {
+        ChunkGridError::OutOfMemory
+    }
+}
+
+impl<T: Drop> From<AllocFailed<T>> for ChunkGridError {
+    ghost from_gives = { λ _ e. e ≡ OutOfMemory };
+
+    fn from(_error: AllocFailed<T>) -> ChunkGridError {
+        ChunkGridError::OutOfMemory
+    }
+}

@@ -1,4 +1,0 @@
-pub mod GridIndices
-pub mod SmallChunks
-pub mod RegularCovers
-pub mod KnownNames

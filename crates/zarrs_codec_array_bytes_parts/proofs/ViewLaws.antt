@@ -1,0 +1,133 @@
+-- Boxes in a whole shape.
+use Rattle.std.proofs.Common.{◌≡◌, ℕ, zero, suc, Bool, false, if◌then◌else◌, nat_eq, ◌*◌, ◌+◌, ◌≤◌, ◌<◌, ◌^◌, List, []}
+use Rattle.std.proofs.Common.{◌∷◌, length, true, ap, ap₂, sym, ◌∙◌, refl, nat_le, ◌&&◌, arith}
+use Rattle.std.proofs.lemmas.List.{length-map}
+use Rattle.std.proofs.lemmas.Bool.Decides.{nat_tests}
+use Rattle.std.proofs.lemmas.Bool.{and_parts, and_from, leb-true, le-leb}
+use Rattle.std.proofs.Math.Nat.{mul-le-mul_right, mul-le-mul_left}
+use Rattle.zarr_model.specs.Region.{Region, whole, count, count_of, sizes, ends_within}
+use Rattle.zarr_model.proofs.RegionLaws.{rank_within, count_within, count_whole, sizes_whole}
+use Rattle.zarrs_array_subset.specs.Boxes.{is_within}
+use Rattle.zarrs_chunk_grid_iterators.specs.Runs.{run_size, run_length, is_whole}
+
+length-whole : (shape : List ℕ) → length (whole shape) ≡ length shape
+length-whole [] = refl
+length-whole (n ∷ shape) = ap suc (length-whole shape)
+
+pub whole_rank : (outer region : Region) (shape : List ℕ) → outer ≡ whole shape → ends_within region shape ≡ true →
+    length outer ≡ length region
+whole_rank outer region shape is h = ap length is ∙ (length-whole shape ∙ sym (rank_within region shape h))
+
+pub whole_long : (outer : Region) (shape : List ℕ) (size long : ℕ) → outer ≡ whole shape →
+    long ≡ count_of shape * size → long ≡ count outer * size
+whole_long outer shape size long is e = e ∙ ap (λ n. n * size) (sym (ap count is ∙ count_whole shape))
+
+-- its number of elements fits where the shape's bytes do
+pub part_fits : (region : Region) (shape : List ℕ) (size len : ℕ) → 0 < size → len < 2 ^ 64 →
+    ends_within region shape ≡ true → len ≡ count_of shape * size →
+    (count region < 2 ^ 64) × (count region * size < 2 ^ 64)
+part_fits region shape size len some fits h e =
+    let low : count region ≤ count_of shape = count_within region shape h in
+    let a : count region * size ≤ count_of shape * size = mul-le-mul_right size low in
+    let b : count region * 1 ≤ count region * size =
+    mul-le-mul_left (count region) (let c : 1 ≤ size = omega (arith, some) in c) in
+    (omega (arith, a, b, fits, e), omega (arith, a, fits, e))
+
+-- a box in a box of the shape is in the shape
+pub within_ends : (region within : Region) (shape : List ℕ) → is_within region within ≡ true →
+    ends_within within shape ≡ true → ends_within region shape ≡ true
+within_ends [] [] [] a h = h
+within_ends [] [] (n ∷ shape) a h = cc
+within_ends [] (b ∷ within) shape a h = cc
+within_ends (a ∷ region) [] shape e h = cc
+within_ends (a ∷ region) (b ∷ within) [] e h = cc
+within_ends (a ∷ region) (b ∷ within) (n ∷ shape) e h =
+    let parts =
+    and_parts (nat_le b.start a.start && nat_le (a.start + a.size) (b.start + b.size)) (is_within region within) e in
+    let ends = and_parts (nat_le b.start a.start) (nat_le (a.start + a.size) (b.start + b.size)) parts.0 in
+    let outer = and_parts (nat_le (b.start + b.size) n) (ends_within within shape) h in
+    let low : a.start + a.size ≤ b.start + b.size = leb-true (a.start + a.size) (b.start + b.size) ends.1 in
+    let high : b.start + b.size ≤ n = leb-true (b.start + b.size) n outer.0 in
+    and_from (nat_le (a.start + a.size) n) (ends_within region shape)
+    (le-leb (a.start + a.size) n (omega (arith, low, high))) (within_ends region within shape parts.1 outer.1)
+
+pub whole_again : (outer : Region) (shape : List ℕ) → outer ≡ whole shape → outer ≡ whole (sizes outer)
+whole_again outer shape is = is ∙ ap whole (sym (ap sizes is ∙ sizes_whole shape))
+
+pub ends_again : (outer region : Region) (shape : List ℕ) → outer ≡ whole shape → ends_within region shape ≡ true →
+    ends_within region (sizes outer) ≡ true
+ends_again outer region shape is h = ap (ends_within region) (ap sizes is ∙ sizes_whole shape) ∙ h
+
+pub long_again : (outer : Region) (shape : List ℕ) (size len : ℕ) → outer ≡ whole shape → len ≡ count_of shape * size →
+    len ≡ count outer * size
+long_again outer shape size len is e = whole_long outer shape size len is e
+
+pub part_rank : (outer region : Region) → ends_within region (sizes outer) ≡ true → length outer ≡ length region
+part_rank outer region h = sym (rank_within region (sizes outer) h ∙ length-map outer (λ span. span.size))
+
+pub whole_count : (outer : Region) (size len : ℕ) → len ≡ count outer * size → len ≡ count_of (sizes outer) * size
+whole_count outer size len e = e
+
+pub whole_is : (outer other : Region) → outer ≡ whole (sizes outer) → other ≡ whole (sizes outer) → other ≡ outer
+whole_is outer other a b = b ∙ sym a
+
+-- a box is within a whole shape where it ends within that
+pub within_whole : (region : Region) (shape : List ℕ) → is_within region (whole shape) ≡ ends_within region shape
+within_whole [] [] = refl
+within_whole [] (n ∷ shape) = refl
+within_whole (span ∷ region) [] = refl
+within_whole (span ∷ region) (n ∷ shape) =
+    ap₂ (λ a b. a && b) (from_none (span.start) (span.start + span.size) n) (within_whole region shape)
+  where
+    from_none : (a b n : ℕ) → (nat_le 0 a && nat_le b (0 + n)) ≡ nat_le b n
+    from_none a b n = ap₂ (λ x m. x && nat_le b m) (le-leb 0 a (omega arith)) (let e : 0 + n ≡ n = omega arith in e)
+
+pub part_within : (outer region : Region) → outer ≡ whole (sizes outer) → ends_within region (sizes outer) ≡ true →
+    is_within region outer ≡ true
+part_within outer region is h = ap (is_within region) is ∙ (within_whole region (sizes outer) ∙ h)
+
+-- a factor fits where the product does
+pub factor_fits : (n size len : ℕ) → 0 < size → len < 2 ^ 64 → len ≡ n * size → n < 2 ^ 64
+factor_fits n size len some fits e =
+    let a : n * 1 ≤ n * size = mul-le-mul_left n (let c : 1 ≤ size = omega (arith, some) in c) in
+    omega (arith, a, fits, e)
+
+run_step : (b : Bool) (n m run : ℕ) → 0 < n * m → (0 < m → run ≤ m) → (if b then n * m else run) ≤ n * m
+run_step true n m run some below = omega arith
+run_step false n m run some below =
+    let low : run ≤ m = below (positive_right n m some) in
+    let up : 1 * m ≤ n * m = mul-le-mul_right m (positive_left n m some) in
+    omega (arith, low, up)
+  where
+    positive_left : (a b : ℕ) → 0 < a * b → 1 ≤ a
+    positive_left zero b h = absurd (omega (arith, h, (let e : 0 * b ≡ 0 = omega arith in e)))
+    positive_left (suc a) b h = omega arith
+
+    positive_right : (a b : ℕ) → 0 < a * b → 0 < b
+    positive_right a zero h = absurd (omega (arith, h, (let e : a * 0 ≡ 0 = omega arith in e)))
+    positive_right a (suc b) h = omega arith
+
+-- a run has at most a region's elements
+run_below : (shape : List ℕ) (region : Region) → 0 < count region → run_length shape region ≤ count region
+run_below [] region some = omega (arith, some)
+run_below (n ∷ shape) [] some = omega (arith, some)
+run_below (n ∷ shape) (span ∷ region) some =
+    run_step (is_whole shape region) span.size (count region) (run_length shape region) some
+    (λ low. run_below shape region low)
+
+run_low : (shape : List ℕ) (region : Region) → run_size shape region ≤ count region
+run_low shape region = go (nat_eq (count region) 0) refl
+  where
+    go : (b : Bool) → nat_eq (count region) 0 ≡ b → (if b then 0 else run_length shape region) ≤ count region
+    go true is = omega arith
+    go false is = run_below shape region (some_left (count region) is)
+      where
+        some_left : (m : ℕ) → nat_eq m 0 ≡ false → 0 < m
+        some_left m is = grind (arith, nat_tests)
+
+pub run_fits : (shape : List ℕ) (region : Region) (size len run : ℕ) → len < 2 ^ 64 → len ≡ count region * size →
+    run ≡ run_size shape region → run * size < 2 ^ 64
+run_fits shape region size len run fits e is =
+    let a : run * size ≤ count region * size =
+    mul-le-mul_right size (let low : run ≤ count region = omega (arith, is, run_low shape region) in low) in
+    omega (arith, a, fits, e)

@@ -1,5 +1,0 @@
-pub mod PartLaws
-pub mod IntervalLaws
-pub mod ThroughLaws
-pub mod EditLaws
-pub mod FaultLaws

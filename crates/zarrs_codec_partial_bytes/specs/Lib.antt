@@ -1,2 +1,0 @@
-pub mod NoFault
-pub mod Stored

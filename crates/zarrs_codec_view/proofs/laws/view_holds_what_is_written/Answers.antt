@@ -1,8 +1,0 @@
-use Rattle.zarrs_codec_view.proofs.HeldLaws.{writes_array, holds_written}
-use Rattle.zarrs_codec_view.proofs.laws.view_holds_what_is_written.Goals as goal
-
-pub returns-clause-array : goal.returns-clause-array
-returns-clause-array c = writes_array
-
-pub returns-clause-elements : goal.returns-clause-elements
-returns-clause-elements c = holds_written

@@ -1,5 +1,0 @@
-pub mod Answers
-pub mod Held
-pub mod Laws
-pub mod Targets
-pub mod TargetViews

@@ -1,3 +1,0 @@
-pub mod MakingLaws
-pub mod SameTypeLaws
-pub mod TypeLaws
