@@ -1,14 +1,13 @@
 //! Each call on a sharded array once.
 
+use crate::made::{are_elements, region, reply_in};
 use std::alloc::Global;
 use std::ops::Range;
 use std::process::Abort;
-use zarr_array::{Reply, SessionError};
+use zarr_array::Reply;
 use zarr_array_open::builtin_registries;
 use zarr_shard::ShardArray;
-use zarrs_array_subset::ArraySubset;
 use zarrs_codec_array_bytes::ArrayBytes;
-use zarrs_codec_array_bytes::array_bytes::bytes_in;
 use zarrs_codec_error::CodecOptions;
 use zarrs_metadata::ArrayMetadataV3;
 use zarrs_storage::{MemoryStore, Store};
@@ -24,25 +23,6 @@ fn made(rt: &impl Abort, alloc: Global) -> ShardArray {
     match ShardArray::from_metadata(alloc, &metadata, &registries) {
         Ok(array) => array,
         Err(_) => panic!(rt; "no array"),
-    }
-}
-
-fn region(rt: &impl Abort, alloc: Global, ranges: &[Range<u64>]) -> ArraySubset {
-    ArraySubset::new_with_ranges(alloc, ranges).expect(rt, "memory")
-}
-
-// The reply, where there is no error.
-fn reply_in(rt: &impl Abort, reply: Result<Reply, SessionError>) -> Reply {
-    match reply {
-        Ok(reply) => reply,
-        Err(_) => panic!(rt; "an error"),
-    }
-}
-
-fn are_elements(elements: &ArrayBytes<'_>, bytes: &[u8]) -> bool {
-    match elements {
-        ArrayBytes::Fixed(raw) => bytes_in(raw) == bytes,
-        _ => false,
     }
 }
 

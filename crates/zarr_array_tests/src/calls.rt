@@ -1,19 +1,11 @@
 //! Each call on an open array once.
 
-use crate::made::{LINE, are_elements, opened, region};
+use crate::made::{LINE, are_elements, opened, region, reply_in};
 use std::alloc::Global;
 use std::process::Abort;
-use zarr_array::{CodecOptions, OpenArray, Reply, SessionError};
+use zarr_array::{CodecOptions, OpenArray, Reply};
 use zarrs_codec_array_bytes::ArrayBytes;
 use zarrs_storage::{MemoryStore, Store};
-
-// The reply, where there is no error.
-fn reply_in(rt: &impl Abort, reply: Result<Reply, SessionError>) -> Reply {
-    match reply {
-        Ok(reply) => reply,
-        Err(_) => panic!(rt; "an error"),
-    }
-}
 
 fn is_done(reply: &Reply) -> bool {
     matches!(reply, Reply::Done)

@@ -1,5 +1,4 @@
-//! Tests of arrays, of sharded arrays and their codec, of documents of version 2, of slices and single lines, and of runs
-//! that no row shows.
+//! Tests of arrays, of sharded arrays and their codec, of slices, and of runs that no row shows.
 #![tactic(auto)]
 
 #[cfg(test)]
@@ -9,8 +8,6 @@ mod calls;
 #[cfg(test)]
 mod checksum;
 #[cfg(test)]
-mod documents;
-#[cfg(test)]
 mod example;
 #[cfg(test)]
 mod handles;
@@ -19,17 +16,11 @@ mod heights;
 #[cfg(test)]
 mod kinds;
 #[cfg(test)]
-mod lines;
-#[cfg(test)]
 mod made;
 #[cfg(test)]
 mod moved;
 #[cfg(test)]
-mod opened;
-#[cfg(test)]
 mod ref_sessions;
-#[cfg(test)]
-mod regions;
 #[cfg(test)]
 mod registries;
 #[cfg(test)]
@@ -37,10 +28,6 @@ mod runs;
 #[cfg(test)]
 mod sessions;
 #[cfg(test)]
-mod shard_calls;
-#[cfg(test)]
-mod sharded;
-#[cfg(test)]
-mod shards;
+mod shard_codec;
 #[cfg(test)]
 mod slices;

@@ -3,7 +3,7 @@
 use std::alloc::Global;
 use std::ops::Range;
 use std::process::Abort;
-use zarr_array::{OpenArray, builtin_registries};
+use zarr_array::{OpenArray, Reply, SessionError, builtin_registries};
 use zarrs_array_subset::ArraySubset;
 use zarrs_codec_array_bytes::ArrayBytes;
 use zarrs_codec_array_bytes::array_bytes::bytes_in;
@@ -46,5 +46,13 @@ pub fn are_elements(bytes: &ArrayBytes<'_>, elements: &[u8]) -> bool {
     match bytes {
         ArrayBytes::Fixed(fixed) => bytes_in(fixed) == elements,
         _ => false,
+    }
+}
+
+/// The reply, where there is no error.
+pub fn reply_in(rt: &impl Abort, reply: Result<Reply, SessionError>) -> Reply {
+    match reply {
+        Ok(reply) => reply,
+        Err(_) => panic!(rt; "an error"),
     }
 }

@@ -1,21 +1,15 @@
 //! Where a move ends whose store fails, or whose chunk does not decode.
 
-use crate::runs::SQUARE;
+use crate::made::{SQUARE, opened, put};
 use std::alloc::Global;
 use std::process::Abort;
-use zarr_array::{CodecOptions, OpenArray, builtin_registries};
+use zarr_array::CodecOptions;
 use zarr_rechunk::{RechunkError, RechunkErrorKind, rechunk};
-use zarrs_storage::{FailingStore, MemoryStore, Store, StoreKey};
+use zarrs_storage::{FailingStore, MemoryStore, Store};
 
 // The square in two chunks, the second of which ends past it.
 const HIGH: &str =
     r#"{"zarr_format":3,"node_type":"array","shape":[4,4],"data_type":"uint8","chunk_grid":{"name":"regular","configuration":{"chunk_shape":[3,4]}},"chunk_key_encoding":"default","fill_value":0,"codecs":["bytes"]}"#;
-
-// The array of a document.
-fn opened(rt: &impl Abort, alloc: Global, document: &str) -> OpenArray {
-    let registries = builtin_registries(alloc).expect(rt, "memory");
-    OpenArray::open(alloc, document, &registries).expect(rt, "a document")
-}
 
 // What an end is called, and the band that it tells.
 fn told(end: Result<(), RechunkError>) -> (&'static str, Option<u64>) {
@@ -49,9 +43,7 @@ fn moved<S: Store, T: Store>(
 // A store with this value for the first chunk of the square.
 fn with_first(rt: &impl Abort, alloc: Global, value: &[u8]) -> MemoryStore {
     let mut store = MemoryStore::new(alloc);
-    let key = String::from_str(alloc, "c/0/0").expect(rt, "memory");
-    let key = StoreKey::new(key).ok().expect(rt, "a key");
-    store.set(alloc, &key, value).ok().expect(rt, "a value");
+    put(rt, alloc, &mut store, "c/0/0", value);
     store
 }
 

@@ -1,22 +1,16 @@
 //! Sessions of commands over slices.
 
+use crate::made::{are_elements, key_of, put};
 use std::alloc::Global;
 use std::process::Abort;
 use zarr_array::{
-    ArrayBytes, ArraySubset, CodecOptions, Command, MemoryStore, OpenError, Reply,
-    SessionErrorKind, Store, builtin_registries,
+    ArraySubset, CodecOptions, Command, MemoryStore, OpenError, Reply, SessionErrorKind,
+    builtin_registries,
 };
 use zarr_refs::{RefSessionError, RefStore, Reference, run_ref_session};
-use zarrs_codec_array_bytes::array_bytes::bytes_in;
-use zarrs_storage::StoreKey;
 
 const DOCUMENT: &str =
     r#"{"zarr_format":3,"node_type":"array","shape":[4],"data_type":"uint8","chunk_grid":{"name":"regular","configuration":{"chunk_shape":[2]}},"chunk_key_encoding":"default","fill_value":0,"codecs":["bytes"]}"#;
-
-fn key_of(rt: &impl Abort, alloc: Global, key: &str) -> StoreKey {
-    let text = String::from_str(alloc, key).expect(rt, "memory");
-    StoreKey::new(text).ok().expect(rt, key)
-}
 
 // A read of all of the array, and if it is asked for an erase of its first chunk.
 fn commands(rt: &impl Abort, alloc: Global, erase: bool) -> Vec<Command> {
@@ -42,13 +36,11 @@ fn session(
 ) -> Result<Vec<Reply>, RefSessionError> {
     let registries = builtin_registries(alloc).expect(rt, "memory");
     let mut base = MemoryStore::new(alloc);
-    let blob = key_of(rt, alloc, "blob");
-    base.set(alloc, &blob, &[0, 1, 2, 3, 4])
-        .expect(rt, "memory");
+    put(rt, alloc, &mut base, "blob", &[0, 1, 2, 3, 4]);
     let mut references = Vec::new(alloc);
     let reference = Reference {
         key: key_of(rt, alloc, "c/0"),
-        base: blob,
+        base: key_of(rt, alloc, "blob"),
         offset: 3,
         length: 2,
     };
@@ -71,7 +63,7 @@ fn session(
 // Whether a reply has these elements.
 fn has_elements(reply: Option<Reply>, elements: &[u8]) -> bool {
     match reply {
-        Some(Reply::Elements(ArrayBytes::Fixed(fixed))) => bytes_in(&fixed) == elements,
+        Some(Reply::Elements(bytes)) => are_elements(&bytes, elements),
         _ => false,
     }
 }

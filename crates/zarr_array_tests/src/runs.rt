@@ -1,16 +1,15 @@
-//! Whole runs from a number, over a source without end, and into a sink that takes a byte a call.
+//! Whole runs from a number, over a source without end, and into a sink that takes a byte a call; the line of a reply.
 
 ghost use Rattle.std.specs.Prelude.{◌≡◌, None};
 
+use crate::made::SQUARE;
 use std::alloc::{AllocError, Global};
 use std::test::Fail;
-use zarr_cli::Status;
+use zarr_array::Reply;
 use zarr_cli::program::run_program;
+use zarr_cli::{Status, reply_line};
+use zarrs_data_type::DataType;
 use zarrs_storage::{IoFailed, MemorySink, MemorySource, MemoryStore, Sink, Source, Store};
-
-/// A document of a square in four chunks.
-pub const SQUARE: &str =
-    r#"{"zarr_format":3,"node_type":"array","shape":[4,4],"data_type":"uint8","chunk_grid":{"name":"regular","configuration":{"chunk_shape":[2,2]}},"chunk_key_encoding":"default","fill_value":0,"codecs":["bytes"]}"#;
 
 // A run over an empty store in memory, which never fails.
 fn run_in_memory<R: Source, W: Sink>(
@@ -164,4 +163,11 @@ fn a_failing_sink_has_a_front(rt: HostRuntime) -> Result<(), Fail> {
     assert_eq!(rt; status.code(), 8);
     assert_eq!(rt; sink.taken.as_slice(), b"ok".as_slice());
     Ok(())
+}
+
+#[test]
+fn line_of_a_reply(rt: HostRuntime) {
+    let alloc = rt.alloc();
+    let line = reply_line(alloc, &Reply::Done, &DataType::UInt8).expect(&rt, "memory");
+    assert_eq!(rt; line.as_str(), "done");
 }

@@ -1,14 +1,10 @@
 //! Slices of one value, read; and references that are refused.
 
+use crate::made::key_of;
 use std::alloc::Global;
 use std::process::Abort;
 use zarr_refs::{RefError, RefStore, Reference};
-use zarrs_storage::{ByteRange, FailingStore, MemoryStore, StorageError, Store, StoreKey};
-
-fn key_of(rt: &impl Abort, alloc: Global, key: &str) -> StoreKey {
-    let text = String::from_str(alloc, key).expect(rt, "memory");
-    StoreKey::new(text).ok().expect(rt, key)
-}
+use zarrs_storage::{ByteRange, FailingStore, MemoryStore, StorageError, Store};
 
 // A reference to `length` bytes of a value from `offset` on.
 fn slice(

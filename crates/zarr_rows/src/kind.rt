@@ -1,6 +1,6 @@
 //! What a row of texts tries.
 
-use crate::{data_type, document, extension, field, fill, group, node, version_2};
+use crate::{data_type, document, extension, field, fill, group, line, node, shard, version_2};
 use std::alloc::{AllocError, Global};
 
 /// How the texts of a row are read and written.
@@ -21,8 +21,17 @@ pub enum TextKind {
     /// The same as a codec and a data type of version 2.
     CodecV2,
     DataTypeV2,
+    /// What a document of an array of version 2 is translated to, and why it is not opened.
+    Translation,
+    OpeningV2,
     /// The data type that each line names, and its fill value there.
     DataType,
+    /// What each line says as a key line, and as a command line.
+    KeyLine,
+    CommandLine,
+    /// How chunks keep inner chunks, and regions of sharded chunks.
+    Shard,
+    Regions,
 }
 
 impl TextKind {
@@ -38,6 +47,12 @@ impl TextKind {
             "fill" => Some(TextKind::Fill),
             "codec_v2" => Some(TextKind::CodecV2),
             "data_type_v2" => Some(TextKind::DataTypeV2),
+            "translation" => Some(TextKind::Translation),
+            "opening_v2" => Some(TextKind::OpeningV2),
+            "key_line" => Some(TextKind::KeyLine),
+            "command_line" => Some(TextKind::CommandLine),
+            "shard" => Some(TextKind::Shard),
+            "regions" => Some(TextKind::Regions),
             "document" => Some(TextKind::Document),
             _ => None,
         }
@@ -56,6 +71,12 @@ impl TextKind {
             TextKind::Fill => fill::line_of(alloc, text),
             TextKind::CodecV2 => version_2::codec_line(alloc, text),
             TextKind::DataTypeV2 => version_2::data_type_line(alloc, text),
+            TextKind::Translation => version_2::translation_line(alloc, text),
+            TextKind::OpeningV2 => version_2::opening_line(alloc, text),
+            TextKind::KeyLine => line::entry_of(alloc, text),
+            TextKind::CommandLine => line::command_of(alloc, text),
+            TextKind::Shard => shard::chunk_line(alloc, text),
+            TextKind::Regions => shard::region_lines(alloc, text),
         }
     }
 
@@ -79,7 +100,9 @@ impl TextKind {
     /// Tries a text, and appends what comes of it.
     pub fn try_text(self, alloc: Global, text: &str, out: &mut Vec<u8>) -> Result<(), AllocError> {
         match self {
-            TextKind::Document | TextKind::Pretty => self.try_line(alloc, text, out),
+            TextKind::Document | TextKind::Pretty | TextKind::Regions => {
+                self.try_line(alloc, text, out)
+            }
             _ => self.try_each(alloc, text, out),
         }
     }

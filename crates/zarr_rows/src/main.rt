@@ -8,9 +8,11 @@ mod field;
 mod fill;
 mod group;
 mod kind;
+mod line;
 mod node;
 mod row;
 mod run;
+mod shard;
 mod version_2;
 
 use row::Row;

@@ -1,10 +1,11 @@
-//! Rows of the codecs and data types of version 2 arrays: what a text says as one.
+//! Rows of arrays of version 2, of their codecs and data types: what a text says as one.
 
 use std::alloc::{AllocError, Global};
 use zarr_basics::builtin_registries;
+use zarr_v2::{open_v2, translate};
 use zarrs_data_type::{DataType, DataTypeTraitsV2};
 use zarrs_metadata::{
-    DataTypeMetadataV2, EmptyConfiguration, MetadataError, MetadataV2,
+    ArrayMetadataV2, DataTypeMetadataV2, EmptyConfiguration, MetadataError, MetadataV2,
     data_type_metadata_v2_to_endianness,
 };
 use zarrs_plugin::PluginCreateError;
@@ -85,6 +86,31 @@ fn told_type(alloc: Global, data_type: &DataTypeMetadataV2) -> Result<String, Al
 pub fn data_type_line(alloc: Global, text: &str) -> Result<String, AllocError> {
     match type_again(alloc, text) {
         Ok(data_type) => told_type(alloc, &data_type),
+        Err(error) => format!(in alloc; "{error:?}"),
+    }
+}
+
+// The document of version 3 that one of version 2 is translated to, or the name of the refusal.
+fn translated(alloc: Global, document: &ArrayMetadataV2) -> Result<String, AllocError> {
+    match translate(alloc, document) {
+        Ok(array) => array.to_value(alloc)?.to_string(alloc),
+        Err(error) => format!(in alloc; "{error:?}"),
+    }
+}
+
+/// The same of the document that a text is.
+pub fn translation_line(alloc: Global, text: &str) -> Result<String, AllocError> {
+    match ArrayMetadataV2::try_from_text(alloc, text) {
+        Ok(document) => translated(alloc, &document),
+        Err(error) => format!(in alloc; "{error:?}"),
+    }
+}
+
+/// Why a text is not opened as an array of version 2, or that it is.
+pub fn opening_line(alloc: Global, text: &str) -> Result<String, AllocError> {
+    let registries = builtin_registries(alloc)?;
+    match open_v2(alloc, text, &registries) {
+        Ok(_) => "opened".to_string(alloc),
         Err(error) => format!(in alloc; "{error:?}"),
     }
 }
