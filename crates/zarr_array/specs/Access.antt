@@ -24,7 +24,8 @@ abbrev pub is_once : Costs → Bool
 is_once (by_chunk alone) = true
 is_once (by_part cost) = false
 
--- which errors tell that the value of a chunk, of which all was asked for or a part, does not decode
+-- which errors tell that the value of a chunk, of which all was asked for or a part, does not
+-- decode
 abbrev pub Says : Type 1
 Says = Options → List ℕ → Option Region → List ℕ → CodecError → Type 0
 

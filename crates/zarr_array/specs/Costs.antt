@@ -29,8 +29,8 @@ only_reads array command = is_read command || is_some (refusal array command)
 abbrev pub OnlyReads : Description → List Command → Type 0
 OnlyReads array commands = list_all (only_reads array) commands ≡ true
 
--- what commands cost that ran; where parts are paid for, nothing is said beside an accepted write or
--- erase
+-- what commands cost that ran; where parts are paid for, nothing is said beside an accepted write
+-- or erase
 abbrev pub CostsOn : Costs → Description → Options → List Command → Shown → Shown → Ended → Type 0
 CostsOn (by_chunk alone) array options commands before now ended =
     CostsByChunk alone array options commands before now ended

@@ -35,7 +35,8 @@ plain_served array = record {
   sound = λ options. describe-sound (documented_parts array) options (λ chunk other.
       keys_differ array.keys (described_parts array).grid chunk other
       (countable_is (described_parts array).grid.grid_shape array.countable));
-  small = (or_parts (has_large_chunk (described_parts array).grid (fixed_size (kind (described_parts array)))) _
+  small = (or_parts (has_large_chunk (described_parts array).grid
+      (fixed_size (kind (described_parts array)))) _
       array.fits).0;
 }
 

@@ -25,9 +25,11 @@ fn make_regular(
     array_shape: &[u64],
     metadata: &MetadataV3,
 ) -> Result<BasicGrid, OpenError>
-    ensures made { Opens (λ grid. grid_lengths_of (basic_form grid)) result (or_refused plugin_create
+    ensures made { Opens (λ grid. grid_lengths_of (basic_form grid)) result
+        (or_refused plugin_create
         (chunk_shape_in array_shape.now (extension_seen metadata.now).configuration)) }
-    ensures form { IfOk result (λ grid. basic_form grid ≡ regular (grid_lengths_of (basic_form grid))) }
+    ensures form { IfOk result (λ grid. basic_form grid
+        ≡ regular (grid_lengths_of (basic_form grid))) }
     ensures shape { IfOk result (λ grid. basic_shape grid ≡ array_shape.now) }
 {
     match GridKind::Regular.make(alloc, metadata, array_shape) {
@@ -49,7 +51,8 @@ pub(crate) fn regular_by(
 ) -> Result<BasicGrid, OpenError>
     ensures made { Opens (λ grid. grid_lengths_of (basic_form grid)) result (chunk_shape_by
         (registry_of registry.now) array_shape.now (extension_seen metadata.now)) }
-    ensures form { IfOk result (λ grid. basic_form grid ≡ regular (grid_lengths_of (basic_form grid))) }
+    ensures form { IfOk result (λ grid. basic_form grid
+        ≡ regular (grid_lengths_of (basic_form grid))) }
     ensures shape { IfOk result (λ grid. basic_shape grid ≡ array_shape.now) }
 {
     match registry.find(metadata.name()) {

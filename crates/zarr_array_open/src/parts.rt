@@ -171,8 +171,8 @@ impl ArrayParts {
             (fill_bytes result.now) ≡ Some (documented_parts self.now).fill }
         // Where there is a chunk, one element that is the fill value is not too long to be stored.
         ensures short { (chunk : List ℕ) → IsChunk (described_parts self.now).grid chunk
-            → has_long_element (filled_with (kind (described_parts self.now)) 1 (fill_bytes result.now))
-            ≡ false }
+            → has_long_element (filled_with (kind (described_parts self.now)) 1
+            (fill_bytes result.now)) ≡ false }
     {
         &self.fill
     }

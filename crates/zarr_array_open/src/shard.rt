@@ -27,7 +27,8 @@ pub struct Shard {
     /// Whether the index has a CRC-32C behind it.
     pub checked: bool,
     ghost regular: { is_regular_grid (documented_parts inner).grid ≡ true },
-    ghost cut: { are_inner_lengths (documented_parts inner).shape (grid_lengths_of (documented_parts inner).grid)
+    ghost cut: { are_inner_lengths (documented_parts inner).shape
+        (grid_lengths_of (documented_parts inner).grid)
         ≡ true },
     ghost small: { is_large_shard (documented_parts inner) checked ≡ false },
 }

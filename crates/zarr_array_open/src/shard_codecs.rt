@@ -79,7 +79,8 @@ pub(crate) fn document_codec(
     metadata: &MetadataV3,
     registry: &Registry<CodecKind>,
 ) -> Result<MadeCodec, OpenError>
-    ensures { Opens made_codec_seen result (document_codec chunk_shape.now (registry_of registry.now)
+    ensures { Opens made_codec_seen result (document_codec chunk_shape.now
+        (registry_of registry.now)
         (extension_seen metadata.now)) }
 {
     if metadata.name() == "sharding_indexed" {

@@ -2,7 +2,7 @@
 
 use std::alloc::Global;
 use std::process::Abort;
-use zarr_shard_codec::Crc32cCodec;
+use zarr_codecs_to_bytes::Crc32cCodec;
 use zarrs_codec_error::{BytesRepresentation, CodecOptions};
 use zarrs_codec_traits::BytesToBytesCodecTraits;
 

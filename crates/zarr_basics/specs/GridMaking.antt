@@ -50,7 +50,8 @@ basic_created e shape = if is_boundaries e.name then boundary_created e shape
 
 -- metadata is refused for its name exactly where that is neither
 pub refuses_unnamed : RefusesNames is_basic basic_created
-refuses_unnamed e shape name = go (is_boundaries e.name) (boundary.boundaries_refuse_others e shape name)
+refuses_unnamed e shape name = go (is_boundaries e.name)
+    (boundary.boundaries_refuse_others e shape name)
     (refuses_others e shape name)
   where
     go : (b : Bool)

@@ -92,7 +92,8 @@ fn chunks_of(
 ) -> Result<ArraySubset, AllocError>
     requires rank { length (region array_subset.now) ≡ length axes.now }
     requires some { 0 < count (region array_subset.now) }
-    ensures { IfOk result (λ s. region s ≡ boundary_chunk_region axes.now (region array_subset.now)) }
+    ensures { IfOk result (λ s. region s ≡ boundary_chunk_region axes.now
+        (region array_subset.now)) }
 {
     let first = chunks_at(alloc, axes, array_subset.start())?;
     let last = last_chunks(alloc, axes, &array_subset.end_exc(alloc)?)?;

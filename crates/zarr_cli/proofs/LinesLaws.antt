@@ -15,7 +15,8 @@ use Rattle.zarr_cli_runs.specs.Keys.{IsDumpAsks}
 use Rattle.zarr_cli_runs.proofs.DocumentLawsBelow.{same_opened}
 use Rattle.zarr_cli.specs.Words.{Settings, ReadsBy, HasBadWords}
 use Rattle.zarr_cli.specs.Lines.{LinesRun, IsOutOfForm, line_entries}
-use Rattle.zarr_cli.specs.Run.{open_costs, CostsAll, IsUnasked}
+use Rattle.zarr_cli_runs.specs.Job.{IsUnasked}
+use Rattle.zarr_cli.specs.Run.{open_costs, CostsAll}
 use Rattle.zarr_cli.specs.Answers.{AnswersLines, IsOfLines, outside}
 use Rattle.zarr_cli.specs.ProgramInput.{input_limit, command_grammar, document_line, lines_after_document}
 use Rattle.zarr_cli.specs.ProgramInput.{input_entries, with_entries, store_after_keys, IsBadLine, HasBadLine}

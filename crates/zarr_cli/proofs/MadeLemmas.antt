@@ -1,5 +1,5 @@
 -- A run that is made from a number: its array, its summary, and what it owes.
-use Rattle.std.proofs.Common.{◌≡◌, Bool, true, ℕ, ◌+◌, List, [], Some, None, Result, Ok, Err, IfOk, IfErr, MatchResult}
+use Rattle.std.proofs.Common.{◌≡◌, Bool, true, ℕ, ◌+◌, ◌-◌, ◌^◌, ◌≤◌, List, [], Some, None, Result, Ok, Err, IfOk, IfErr, MatchResult}
 use Rattle.std.proofs.Common.{Vec, ◌⊎◌, ⊎_elim, inl, inr, refl, sym, ap, ◌∙◌, subst}
 use Rattle.std.specs.declared.alloc.Global.{Global}
 use Rattle.zarr_model.specs.Prelude.{Options, Description, Command, Shown, Given, Rose, IsDamageSeen, SeesNoDamage}
@@ -7,6 +7,8 @@ use Rattle.zarr_cli_runs.specs.MadeCommands.{made_commands}
 use Rattle.zarr_cli_runs.specs.array.parts.declared.open_error.OpenError.TheVariants as OpenError
 use Rattle.zarr_cli_runs.specs.Between.{LeavesBetween}
 use Rattle.zarr_cli_runs.specs.Commands.{IsChangedKey, IsRunFault, EndsAtDamage}
+use Rattle.zarr_cli_runs.specs.Job.{job, Did}
+use Rattle.zarr_cli_runs.proofs.JobLaws.{alone_fault, no_key}
 use Rattle.zarr_cli_runs.proofs.BetweenLaws.{between_ran, between_last}
 use Rattle.zarr_cli_runs.specs.Ending.{Ending, IsGiven, IsGivenFront, IsGivenLine, ending_line, IsBeforeStore}
 use Rattle.zarr_cli_runs.specs.Ending.{IsWritten, damaged_chunk}
@@ -22,6 +24,19 @@ use Rattle.zarr_cli.proofs.EndingLemmas.{begun, is_done, is_write}
 use Rattle.zarr_cli.specs.Made.{AnswersMade}
 use Rattle.zarr_cli.specs.ProgramAnswers.{Ends}
 use Rattle.zarr_cli.specs.Seen.{ProgramSeen}
+
+-- a made run
+abbrev DidMade : ℕ → Options → Shown → Shown → Result (Vec ℕ Global) Status → Type 0
+DidMade number options before now result =
+    Did (job true made_array options [] (made_commands number)) ⊥ before now result
+    (λ text. SumsAll made_array options (made_commands number) before now text.items)
+
+made_fault : (number : ℕ) (options : Options) (before now : Shown) → before.puts ≤ 2 ^ 64 - 1 →
+    (result : Result (Vec ℕ Global) Status) → DidMade number options before now result →
+    IfErr result (λ status. IsRunFault true made_array options (made_commands number) before now status)
+made_fault number options before now few result =
+    alone_fault true made_array options (made_commands number) ⊥ before now few result
+    (λ text. SumsAll made_array options (made_commands number) before now text.items)
 
 -- what a made run owes, from each of its ends
 module _ (number : ℕ) (options : Options) (before now : ProgramSeen) where
@@ -131,25 +146,20 @@ module _ (number : ℕ) (options : Options) (before now : ProgramSeen) where
       }
 
   -- what a made run and the writing of its text come to
-  pub made_answers : (result : Result (Vec ℕ Global) Status) (last : Status) →
-      IfOk result (λ text. SumsAll made_array options (made_commands number) before.store now.store text.items) →
-      IfErr result Fails →
-      IfErr result (λ status.
-      LeavesBetween true made_array options [] (made_commands number) before.store now.store (ending_of status)) →
-      (SeesNoDamage made_array options (made_commands number) before.store.content →
-      ¬ Rose before.store.faults now.store.faults → IfErr result (λ status. status ≡ OutOfMemory)) →
-      ((key : List ℕ) → ¬ IsChangedKey made_array (made_commands number) key →
-      now.store.content key ≡ before.store.content key) → now.source ≡ before.source →
+  pub made_answers : (result : Result (Vec ℕ Global) Status) (last : Status) → before.store.puts ≤ 2 ^ 64 - 1 →
+      DidMade number options before.store now.store result → now.source ≡ before.source →
       MatchResult result (λ text. WritesText text.items before.sink now.sink last)
       (λ status. EndsWith status before.sink now.sink last) → AnswersMade number options before now (ending_of last)
-  made_answers (Ok text) last sums fault left complete unchanged unread (inl (is, given)) =
+  made_answers (Ok text) last few did unread (inl (is, given)) =
       subst (λ s. AnswersMade number options before now (ending_of s)) (sym is)
-      (made_done text.items sums given unread unchanged)
-  made_answers (Ok text) last sums fault left complete unchanged unread (inr (is, rose, given)) =
+      (made_done text.items did.done given unread (λ key. did.unchanged key (no_key key)))
+  made_answers (Ok text) last few did unread (inr (is, rose, given)) =
       subst (λ s. AnswersMade number options before now (ending_of s)) (sym is)
-      (made_write text.items sums given rose unread unchanged)
-  made_answers (Err status) last sums fault left complete unchanged unread ends =
-      made_early status last ends.which ends.kept fault unread complete left unchanged
+      (made_write text.items did.done given rose unread (λ key. did.unchanged key (no_key key)))
+  made_answers (Err status) last few did unread ends =
+      made_early status last ends.which ends.kept
+      (made_fault number options before.store now.store few (Err status) did) unread did.complete did.between
+      (λ key. did.unchanged key (no_key key))
 
 -- the endings of a made run
 abbrev IsOfMade : Status → Type 0 → Type 0 → Type 0
@@ -175,24 +185,24 @@ of_fault once description options commands before now sink Write fault = absurd 
 of_fault once description options commands before now sink TooLong fault = absurd fault
 
 module _ (number : ℕ) (options : Options) (before now : Shown) (given given_now : Given) where
-  pub of_made : (result : Result (Vec ℕ Global) Status) (last : Status) →
-      IfErr result (λ status. IsRunFault true made_array options (made_commands number) before now status) →
+  pub of_made : (result : Result (Vec ℕ Global) Status) (last : Status) → before.puts ≤ 2 ^ 64 - 1 →
+      DidMade number options before now result →
       MatchResult result (λ text. WritesText text.items given given_now last)
       (λ status. EndsWith status given given_now last) →
       IsOfMade last (Rose before.faults now.faults) (Rose given.faults given_now.faults) ×
       IsGivenLine (ending_line (ending_of last)) given given_now
-  of_made (Ok text) last fault (inl (is, whole)) =
+  of_made (Ok text) last few did (inl (is, whole)) =
       subst (λ s. IsOfMade s (Rose before.faults now.faults) (Rose given.faults given_now.faults) ×
       IsGivenLine (ending_line (ending_of s)) given given_now) (sym is) (tt, tt)
-  of_made (Ok text) last fault (inr (is, rose, front)) =
+  of_made (Ok text) last few did (inr (is, rose, front)) =
       subst (λ s. IsOfMade s (Rose before.faults now.faults) (Rose given.faults given_now.faults) ×
       IsGivenLine (ending_line (ending_of s)) given given_now) (sym is) (rose, tt)
-  of_made (Err status) last fault ends = (
+  of_made (Err status) last few did ends = (
     ⊎_elim
         (λ (same : last ≡ status).
         subst (λ s. IsOfMade s (Rose before.faults now.faults) (Rose given.faults given_now.faults)) (sym same)
         (of_fault true made_array options (made_commands number) before now (Rose given.faults given_now.faults) status
-        fault))
+        (made_fault number options before now few (Err status) did)))
         (λ (memory : last ≡ OutOfMemory).
         subst (λ s. IsOfMade s (Rose before.faults now.faults) (Rose given.faults given_now.faults)) (sym memory) tt)
         ends.which,

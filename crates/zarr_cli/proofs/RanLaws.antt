@@ -24,7 +24,7 @@ use Rattle.zarr_cli.specs.Words.{Settings}
 use Rattle.zarr_cli.specs.Lines.{LinesRun, IsOutOfForm, line_entries, with_entries}
 use Rattle.zarr_cli.specs.Run.{RunCosts, CostsAll, EndedByDamage}
 use Rattle.zarr_cli.specs.Written.{WritesText, EndsWith}
-use Rattle.zarr_cli.specs.Array.{job, Did}
+use Rattle.zarr_cli_runs.specs.Job.{job, Did}
 use Rattle.zarr_cli.specs.Answers.{Outside, AnswersLines, IsOfLines}
 use Rattle.zarr_cli.specs.Steps.{SaysLines, IsFormFault, PrintsAll, PrintsLines, IsLinesFault, RanLines}
 use Rattle.zarr_cli.proofs.EndingLemmas.{begun}

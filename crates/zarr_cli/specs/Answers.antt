@@ -8,7 +8,8 @@ use Rattle.zarr_cli_runs.specs.Ending.{IsBeforeStore}
 use Rattle.zarr_cli_runs.specs.Ending as end
 use Rattle.zarr_cli.specs.Words.{Settings}
 use Rattle.zarr_cli.specs.Lines.{LinesRun, IsOutOfForm, line_entries, with_entries}
-use Rattle.zarr_cli.specs.Run.{RunCosts, CostsAll, LinesWent, EndedByDamage, SameButLines, IsUnasked}
+use Rattle.zarr_cli_runs.specs.Job.{IsUnasked}
+use Rattle.zarr_cli.specs.Run.{RunCosts, CostsAll, LinesWent, EndedByDamage, SameButLines}
 
 -- what a sink and a store show to the contract of a run
 pub record Outside : Type 0 where
@@ -58,8 +59,8 @@ pub record AnswersLines (costs : RunCosts) (description : Description) (settings
   -- after every end: all keys but those of key lines and of chunks that an accepted command changes
   -- are as before
   pub unchanged : SameButLines description lines before.store.content now.store.content
-  -- after every end the store has some key lines set, is left as by a session with this error, or as
-  -- by all commands
+  -- after every end the store has some key lines set, is left as by a session with this error, or
+  -- as by all commands
   pub between : (run : LinesRun description lines) → LeavesBetween costs.once description
       settings.options (line_entries lines) run.commands before.store now.store ending
   -- where replies are written, all commands are refused and no keys are asked for, the store is as

@@ -26,8 +26,8 @@ IsInputFault before now (NotUtf8 line) = (input : List ℕ) → before.left ≡ 
     (length input ≤ input_limit) × IsNotUtf8 input line
 IsInputFault before now OutOfMemory = Unit {0}
 
--- what an input says, by what its lines say: it may have so many bytes, and has to be UTF-8; else an
--- ending stops it
+-- what an input says, by what its lines say: it may have so many bytes, and has to be UTF-8; else
+-- an ending stops it
 abbrev pub text_says : {V : Type 0} → (Ending → V) → (List (List ℕ) → V) → List ℕ → V
 text_says stops says input = if nat_lt input_limit (length input) then stops too_long
     else if nat_lt (utf8_valid_len input) (length input)

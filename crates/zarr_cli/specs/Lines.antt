@@ -1,7 +1,7 @@
 -- The lines of a program: a document, key lines and command lines.
 use Rattle.std.specs.Prelude.{◌≡◌, ℕ, ◌+◌, ◌<◌, List, [], ◌∷◌, length, drop, Contains, Some}
 use Rattle.zarr_model.specs.Prelude.{Command, Content, Description, kind, with_keys}
-pub use Rattle.zarr_cli_runs.specs.Between.{with_entries}
+pub use Rattle.zarr_cli_runs.specs.Between.{IsKeyOf, with_entries}
 use Rattle.zarr_cli_runs.specs.lines.Text.{line_command, input_lines, first_entries, commands_of, good_lines}
 
 -- the first line, and in an input the lines after it
@@ -18,10 +18,6 @@ lines_after_document input = drop 1 (input_lines input)
 -- the entries of the key lines, which stand behind the document
 abbrev pub line_entries : List (List ℕ) → List (List ℕ × List ℕ)
 line_entries lines = first_entries (drop 1 lines)
-
--- a key is one of some entries
-abbrev pub IsKeyOf : List (List ℕ × List ℕ) → List ℕ → Type 0
-IsKeyOf entries key = (value : List ℕ) × Contains entries (key, value)
 
 -- the key lines of an input
 abbrev pub input_entries : List ℕ → List (List ℕ × List ℕ)

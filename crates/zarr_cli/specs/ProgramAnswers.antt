@@ -69,8 +69,8 @@ pub record AnswersWords (words : List (List ℕ)) (input : List ℕ) (before now
   -- after every end: all keys but those of key lines and of chunks that an accepted command changes
   -- are as before
   pub unchanged : SameButChanged words input before.store.content now.store.content
-  -- after every end the store has some key lines set, is left as by a session with this error, or as
-  -- by all commands
+  -- after every end the store has some key lines set, is left as by a session with this error, or
+  -- as by all commands
   pub between : LeavesInput words input before.store now.store ending
   -- where replies are written, all commands are refused and no keys are asked for, the store is as
   -- the key lines left it

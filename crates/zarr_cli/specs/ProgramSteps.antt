@@ -13,8 +13,8 @@ abbrev pub RefusesInput : List (List ℕ) → List ℕ → Option OpenRefusal �
 RefusesInput words input None = ⊥
 RefusesInput words input (Some why) = HasRefusedDocument words input why
 
--- the cause of each status before the lines are run, for an input that is known; a type says whether
--- the source failed
+-- the cause of each status before the lines are run, for an input that is known; a type says
+-- whether the source failed
 abbrev pub IsEarlyFault : List (List ℕ) → List ℕ → Type 0 → Status → Type 0
 IsEarlyFault words input rose BadWords = HasBadWords words
 IsEarlyFault words input rose (BadInput line) = HasBadLine words input line

@@ -18,8 +18,8 @@ IsOutput description commands array dump store output = (keys : List ℕ) × IsD
 -- commands ran to their end over a store, and this was printed
 pub record Prints (description : Description) (settings : Settings) (commands : List Command)
     (old new : Content) (output : List ℕ) : Type 0 where
-  -- the replies of one plain array that the store meant without the damage that was not met, and the
-  -- final keys
+  -- the replies of one plain array that the store meant without the damage that was not met, and
+  -- the final keys
   pub replied : (array : Array Element) →
       MeansUndamaged description settings.options commands old array →
       IsOutput description commands array settings.dump new output
@@ -57,8 +57,8 @@ pub record Counts : Type 0 where
 abbrev pub counts_of : Shown → Counts
 counts_of store = record { asks = store.asks; taken = store.taken; puts = store.puts }
 
--- what an array says that commands cost: whether one reading call fetches a chunk, and what all cost
--- that ran, over a store, by the counts before and after
+-- what an array says that commands cost: whether one reading call fetches a chunk, and what all
+-- cost that ran, over a store, by the counts before and after
 pub record RunCosts : Type 1 where
   pub once : Bool
   pub ran : Options → List Command → Content → Counts → Counts → Type 0
@@ -73,9 +73,9 @@ shown_by store counts = record {
   puts = counts.puts;
 }
 
--- An opened array's commands ask once for each chunk that an accepted read or write meets, and put or
--- erase once each chunk that an accepted write or erase changes; where the codec `bytes` is all of the
--- chain they take exactly the bytes that they need, where presence before each is known.
+-- An opened array's commands ask once for each chunk that an accepted read or write meets, and put
+-- or erase once each chunk that an accepted write or erase changes; where the codec `bytes` is all
+-- of the chain they take exactly the bytes that they need, where presence before each is known.
 pub record CostsOpen (document : ArrayDocument) (options : Options) (commands : List Command)
     (store : Content) (before now : Counts) : Type 0 where
   pub asks : now.asks ≡ counted before.asks (all_asks (describe document) commands)
@@ -99,10 +99,6 @@ pub record CostsAll (costs : RunCosts) (settings : Settings) (commands : List Co
 -- some first key lines are set, and the next one perhaps
 abbrev pub SetsPart : List (List ℕ × List ℕ) → Content → Content → Type 0
 SetsPart entries old new = (n : ℕ) × SetsSome entries n old new
-
--- nothing was asked of a store, and it handed out nothing
-abbrev pub IsUnasked : Shown → Shown → Type 0
-IsUnasked before now = (now.asks ≡ before.asks) × (now.taken ≡ before.taken)
 
 -- Each key that is neither a key line's nor that of a chunk that an accepted command writes or
 -- erases holds what it held. Where a line is out of form each key does.

@@ -22,7 +22,8 @@ use Rattle.zarr_cli.specs.declared.lines.InputFault.TheVariants.{Read, TooLong, 
 use Rattle.zarr_cli.specs.declared.lines.InputFault.TheVariants as InputFault
 use Rattle.zarr_cli.specs.declared.read.LinesSoFar.{LinesSoFar}
 use Rattle.zarr_cli.specs.Lines.{LinesRun, IsOutOfForm, line_entries, with_entries}
-use Rattle.zarr_cli.specs.Run.{Prints, RunCosts, counts_of, CostsAll, EndedByDamage, SameButLines, IsUnasked}
+use Rattle.zarr_cli_runs.specs.Job.{IsUnasked}
+use Rattle.zarr_cli.specs.Run.{Prints, RunCosts, counts_of, CostsAll, EndedByDamage, SameButLines}
 
 -- these bytes were taken from what a source had left, where it tells that
 abbrev pub HasTaken : Option (List ℕ) → List ℕ → Option (List ℕ) → Type 0
@@ -41,8 +42,8 @@ abbrev pub AreWhole : List (List ℕ) → Type 0
 AreWhole [] = Unit {0}
 AreWhole (line ∷ lines) = NoNewline line × AreWhole lines
 
--- what stands behind lines that ended: the front of the next one, or a line that ended too and is no
--- UTF-8, and anything behind it
+-- what stands behind lines that ended: the front of the next one, or a line that ended too and is
+-- no UTF-8, and anything behind it
 abbrev pub IsBehind : Bool → List ℕ → List ℕ → Type 0
 IsBehind false line behind = (behind ≡ line) × NoNewline line
 IsBehind true line behind = (bad rest : List ℕ) × (behind ≡ bad ++ 10 ∷ rest) × NoNewline bad
@@ -129,7 +130,8 @@ IsLinesFault once description settings lines before now OutOfMemory = Unit {0}
 IsLinesFault _ _ _ _ _ _ _ = ⊥
 
 -- what a run of lines comes to before its text is written
-pub record RanLines {Z : Type 0} (costs : RunCosts) (description : Description) (settings : Settings)
+pub record RanLines {Z : Type 0} (costs : RunCosts) (description : Description)
+    (settings : Settings)
     (lines : List (List ℕ)) (before now : Shown) (result : Result (Vec ℕ Z) Status) : Type 0 where
   pub told : MatchResult result
       (λ text. PrintsLines costs description settings lines before now text.items)

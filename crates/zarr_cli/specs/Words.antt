@@ -65,7 +65,8 @@ abbrev pub reading_settings : List (List ℕ) → Option Settings
 reading_settings words =
     option_and_then (λ settings. unless_made settings.make settings) (settings_of words)
 
--- a word is not known to a program that reads its input whatever the words say, which has no `--make`
+-- a word is not known to a program that reads its input whatever the words say, which has no
+-- `--make`
 abbrev pub HasNoReading : List (List ℕ) → Type 0
 HasNoReading words = reading_settings words ≡ None
 

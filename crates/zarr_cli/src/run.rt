@@ -8,14 +8,14 @@ ghost use Rattle.zarr_cli_runs.specs.lines.Parts.{entry_view};
 ghost use Rattle.zarr_cli.specs.Status.{settings_view};
 ghost use Rattle.zarr_cli.specs.Lines.{with_entries, IsKeyOf};
 ghost use Rattle.zarr_cli.specs.Run.{SetsPart};
-ghost use Rattle.zarr_cli.specs.Array.{job, Did};
+ghost use Rattle.zarr_cli_runs.specs.Job.{job, Did};
 ghost use Rattle.zarr_cli.specs.Steps.{RepliesTo, PrintsAll};
 
 use crate::array::CommandArray;
 use crate::words::Words;
 use std::alloc::Global;
 use zarr_cli_runs::commands::text_of_replies;
-use zarr_cli_runs::keys::push_dump;
+use zarr_cli_runs::keys::{push_dump, storage_status};
 use zarr_cli_runs::{CodecOptions, Command, Entry, ParsedLines, Status};
 use zarrs_storage::{StorageError, Store};
 
@@ -115,8 +115,6 @@ pub(crate) fn run_parsed<A: CommandArray, S: Store>(
 {
     match set_entries(alloc, &parsed.entries, store) {
         Ok(()) => text_of_all(alloc, words, array, &parsed.commands, store),
-        Err(StorageError::Failed) => Err(Status::Store),
-        Err(StorageError::InvalidByteRange(_)) => unreachable!(),
-        Err(StorageError::OutOfMemory) => Err(Status::OutOfMemory),
+        Err(error) => Err(storage_status(error)),
     }
 }

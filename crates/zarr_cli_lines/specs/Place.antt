@@ -5,7 +5,8 @@ use Rattle.zarr_model.specs.ArrayBytes.{ArrayBytes, fixed_bytes, variable_bytes,
 use Rattle.zarr_cli_lines.specs.ElementText.{element_text}
 
 -- array bytes mean so many elements, and this place is one of them
-pub record IsElementPlace (kind : Kind) (elements : ℕ) (bytes : ArrayBytes) (index : ℕ) : Type 0 where
+pub record IsElementPlace (kind : Kind) (elements : ℕ) (bytes : ArrayBytes) (index : ℕ)
+    : Type 0 where
   pub inside : index < elements
   pub valid : IsSome (meaning kind elements bytes)
 

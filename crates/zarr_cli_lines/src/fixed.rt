@@ -86,7 +86,8 @@ fn pair_first(text: &[u8]) -> Option<(u8, u8, Option<&[u8]>)>
 // The two digits of an element of one byte at the front of a text, and what follows the space behind them.
 #[tactic(auto, using(crate::proofs::FixedLemmas::no_h))]
 fn first_pair(text: &[u8]) -> Option<(u8, u8, Option<&[u8]>)>
-    ensures text { IfSome result (λ first. text.now ≡ 104 ∷ first.0 ∷ first.1 ∷ behind_space first.2) }
+    ensures text { IfSome result (λ first. text.now ≡ 104 ∷ first.0 ∷ first.1
+        ∷ behind_space first.2) }
     ensures none { IfNone result (written_bytes 1 (split_at 32 text.now) ≡ None) }
 {
     match text {

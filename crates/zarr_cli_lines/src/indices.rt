@@ -29,7 +29,8 @@ fn parse_numbers(alloc: Global, text: &str) -> Result<Option<Vec<u64>>, AllocErr
 
 /// The indices of a chunk. An error comes only for want of memory.
 pub(crate) fn parse_indices(alloc: Global, text: &str) -> Result<Option<ArrayIndices>, AllocError>
-    ensures { IfOk result (λ indices. option_map (λ v. v.items) indices ≡ indices_in_line text.now) }
+    ensures { IfOk result (λ indices. option_map (λ v. v.items) indices
+        ≡ indices_in_line text.now) }
 {
     if text == "." {
         return Ok(Some(Vec::new(alloc)));

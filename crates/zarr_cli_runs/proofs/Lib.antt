@@ -12,6 +12,7 @@ pub mod MadeTextLemmas
 pub mod ChangeLaws
 pub mod BetweenLaws
 pub mod CommandLemmas
+pub mod JobLaws
 pub mod KeyLemmas
 pub mod CountLemmas
 pub mod MadeLemmas

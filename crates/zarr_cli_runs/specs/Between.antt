@@ -1,5 +1,5 @@
 -- What a run leaves, also where it ended early.
-use Rattle.std.specs.Prelude.{◌≡◌, ◌⊎◌, ℕ, Bool, true, false, List, length, Option}
+use Rattle.std.specs.Prelude.{◌≡◌, ◌⊎◌, ℕ, Bool, true, false, List, length, Contains, Option}
 use Rattle.zarr_model.specs.Prelude.{Options, counted, IsHonest, with_keys, Command, Description, layout, Shown, Rose}
 use Rattle.zarr_model.specs.Prelude.{SetsSome, EndsBetween}
 use Rattle.zarr_array.specs.Session.{FailsBy}
@@ -16,8 +16,12 @@ with_entries entries store = record store {
   puts = counted store.puts (length entries);
 }
 
--- an honest store: some key lines of a run are set, its commands are cut short at a place, or all of
--- them ran; the key of the next chunk is absent only where the store failed, and this is told
+-- a key is one of some entries
+abbrev pub IsKeyOf : List (List ℕ × List ℕ) → List ℕ → Type 0
+IsKeyOf entries key = (value : List ℕ) × Contains entries (key, value)
+
+-- an honest store: some key lines of a run are set, its commands are cut short at a place, or all
+-- of them ran; the key of the next chunk is absent only where the store failed, and this is told
 abbrev pub IsBetween : Description → Options → List (List ℕ × List ℕ) → List Command → Shown →
     Shown → Ending → Type 0
 IsBetween description options entries commands before now ending =

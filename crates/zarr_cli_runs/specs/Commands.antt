@@ -31,8 +31,9 @@ MeansUndamaged description options commands store array =
     MeetsNoDamage description options commands store
     × Means (layout description options) (undamaged (layout description options) store) array
 
--- Commands that ran over any store: a damaged value stands until its chunk is erased, the array that
--- the store wholly means without them is the one that is left, and all other keys are as before.
+-- Commands that ran over any store: a damaged value stands until its chunk is erased, the array
+-- that the store wholly means without them is the one that is left, and all other keys are as
+-- before.
 pub record LeavesUndamaged (description : Description) (options : Options)
     (commands : List Command) (old new : Content) : Type 0 where
   pub keeps : KeepsDamage description options commands old new

@@ -1,5 +1,5 @@
 -- The keys of a store and the lines of them: what they are, and what listing them owes.
-use Rattle.std.specs.Prelude.{◌≡◌, ℕ, ◌+◌, Bool, true, false, List, [], ◌++◌, length, map, unwrap_or}
+use Rattle.std.specs.Prelude.{◌≡◌, ℕ, ◌+◌, ◌≤◌, Bool, true, false, List, [], ◌++◌, length, map, unwrap_or, Result, IfErr}
 use Rattle.std.specs.Cmp.Lexicographic.{slice_cmp}
 use Rattle.std.specs.Ordering.{nat_cmp}
 use Rattle.std.specs.FinMap.{is_sorted, find}
@@ -52,6 +52,13 @@ abbrev pub IsDumpFault : Shown → Shown → Status → Type 0
 IsDumpFault before now Store = Rose before.faults now.faults
 IsDumpFault before now OutOfMemory = Unit {0}
 IsDumpFault _ _ _ = ⊥
+
+-- a store was only read, and where that ended early it failed or memory ran out
+pub record ReadsKeys {T : Type 0} (before now : Shown) (result : Result T Status) : Type 0 where
+  pub same : now.content ≡ before.content
+  pub puts : now.puts ≡ before.puts
+  pub later : before.faults ≤ now.faults
+  pub fault : IfErr result (IsDumpFault before now)
 
 -- keys of a store with their values
 abbrev pub entries_at : Content → List (List ℕ) → List (List ℕ × List ℕ)

@@ -10,6 +10,7 @@ pub mod Status
 pub mod Opening
 pub mod Between
 pub mod Commands
+pub mod Job
 pub mod Keys
 pub mod Made
 pub mod Honest

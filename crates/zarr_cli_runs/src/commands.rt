@@ -1,14 +1,13 @@
 //! Commands run over a store, and the text of their replies.
 
-ghost use Rattle.std.specs.Prelude.{◌≡◌, ◌<◌, ◌≤◌, map, List, [], ℕ, IfOk, IfErr, OnOk, OnErr};
-ghost use Rattle.zarrs_codec_traits.specs.Prelude.{fixed, Rose, SeesNoDamage, AreRefused};
-ghost use Rattle.zarrs_codec_traits.specs.Prelude.{IsUntouched, options_of, kind_seen};
+ghost use Rattle.std.specs.Prelude.{◌≡◌, ◌<◌, map, [], ℕ, IfOk, OnOk};
+ghost use Rattle.zarrs_codec_traits.specs.Prelude.{fixed, options_of, kind_seen};
+ghost use Rattle.zarrs_codec_traits.specs.Prelude.{AreRefused, IsUntouched};
 ghost use Rattle.zarr_array.specs.Access.{described, is_once};
 ghost use Rattle.zarr_array.specs.boxes.Command.{command_of, AreReads};
 ghost use Rattle.zarr_cli_lines.specs.Parts.{IsTextOf};
-ghost use Rattle.zarr_cli_runs.specs.Between.{LeavesBetween};
-ghost use Rattle.zarr_cli_runs.specs.Status.{ending_of};
-ghost use Rattle.zarr_cli_runs.specs.Commands.{IsChangedKey, RepliedBy, CostsRun, IsRunFault, session_status};
+ghost use Rattle.zarr_cli_runs.specs.Commands.{RepliedBy, CostsRun, session_status};
+ghost use Rattle.zarr_cli_runs.specs.Job.{job, Did};
 
 use crate::status::Status;
 use crate::{CodecOptions, Command, Reply, SessionErrorKind, push_reply};
@@ -60,30 +59,16 @@ pub fn replies_of<C: ChunkAccess, S: Store>(
     store: &mut S,
     options: &CodecOptions,
 ) -> Result<Vec<Reply>, Status>
-    ensures ran { IfOk result (λ held. RepliedBy (described (C.seen array.now))
-        (options_of options.now) (map command_of commands.now) (S.shown store.old)
-        (S.shown store.new) held.items) }
+    ensures did { Did (job (is_once (C.seen array.now).costs) (described (C.seen array.now))
+        (options_of options.now) [] (map command_of commands.now)) (Unit {0})
+        (S.shown store.old) (S.shown store.new) result
+        (λ held. RepliedBy (described (C.seen array.now)) (options_of options.now)
+        (map command_of commands.now) (S.shown store.old) (S.shown store.new) held.items) }
+    ensures refused { AreRefused (described (C.seen array.now)) (map command_of commands.now) →
+        IsUntouched (S.shown store.old) (S.shown store.new) }
     ensures costs { OnOk result (CostsRun (C.seen array.now).costs
         (described (C.seen array.now)) (options_of options.now) (map command_of commands.now)
         (S.shown store.old) (S.shown store.new)) }
-    ensures refused { AreRefused (described (C.seen array.now)) (map command_of commands.now) →
-        IsUntouched (S.shown store.old) (S.shown store.new) }
-    ensures unchanged { (key : List ℕ) →
-        ¬ IsChangedKey (described (C.seen array.now)) (map command_of commands.now) key →
-        (S.shown store.new).content key ≡ (S.shown store.old).content key }
-    ensures later { (S.shown store.old).faults ≤ (S.shown store.new).faults }
-    ensures fault { IfErr result (λ status.
-        IsRunFault (is_once (C.seen array.now).costs) (described (C.seen array.now))
-        (options_of options.now) (map command_of commands.now) (S.shown store.old)
-        (S.shown store.new) status) }
-    ensures between { IfErr result (λ status. LeavesBetween (is_once (C.seen array.now).costs)
-        (described (C.seen array.now)) (options_of options.now) []
-        (map command_of commands.now) (S.shown store.old) (S.shown store.new)
-        (ending_of status)) }
-    ensures complete { SeesNoDamage (described (C.seen array.now)) (options_of options.now)
-        (map command_of commands.now) (S.shown store.old).content →
-        ¬ Rose (S.shown store.old).faults (S.shown store.new).faults →
-        IfErr result (λ status. status ≡ Status.OutOfMemory) }
     ensures kept { AreReads (map command_of commands.now) → S.kept store.old store.new }
 {
     match run_commands(array, alloc, commands, store, options) {

@@ -1,9 +1,9 @@
 //! The keys of a store: their lines, and how many there are.
 
-ghost use Rattle.std.specs.Prelude.{◌≡◌, ◌++◌, ◌≤◌, ℕ, List, [], true, false, IsSome, IfOk, IfErr, OnOk, Contains, length, unwrap_or};
+ghost use Rattle.std.specs.Prelude.{◌≡◌, ◌++◌, ℕ, List, [], true, false, IsSome, IfOk, OnOk, Contains, length, unwrap_or};
 ghost use Rattle.zarrs_codec_traits.specs.Prelude.{counted, IsUntouched, ListsKeys};
 ghost use Rattle.zarr_cli_lines.specs.Text.{entry_text, entries_text, line_of};
-ghost use Rattle.zarr_cli_runs.specs.Keys.{Dumps, IsDumpFault, entries_at, storage_status};
+ghost use Rattle.zarr_cli_runs.specs.Keys.{Dumps, ReadsKeys, entries_at, storage_status};
 
 use crate::push_entry;
 use crate::status::Status;
@@ -30,12 +30,8 @@ fn push_key<S: Store>(
     requires { IsSome ((S.shown store.now).content key.now) }
     ensures line { OnOk result (text.new.items ≡ text.old.items
         ++ line_of (entry_text (key.now, unwrap_or ((S.shown store.old).content key.now) []))) }
-    ensures same { (S.shown store.new).content ≡ (S.shown store.old).content }
     ensures asks { OnOk result ((S.shown store.new).asks ≡ counted (S.shown store.old).asks 1) }
-    ensures puts { (S.shown store.new).puts ≡ (S.shown store.old).puts }
-    ensures later { (S.shown store.old).faults ≤ (S.shown store.new).faults }
-    ensures fault { IfErr result (λ status.
-        IsDumpFault (S.shown store.old) (S.shown store.new) status) }
+    ensures reads { ReadsKeys (S.shown store.old) (S.shown store.new) result }
 {
     match store.get(alloc, key) {
         Ok(Some(value)) => Ok(push_entry(text, key, &value)?),
@@ -54,13 +50,9 @@ fn push_keys<S: Store>(
     requires { (key : List ℕ) → Contains keys.now key → IsSome ((S.shown store.now).content key) }
     ensures lines { OnOk result (text.new.items ≡ text.old.items
         ++ entries_text (entries_at (S.shown store.old).content keys.now)) }
-    ensures same { (S.shown store.new).content ≡ (S.shown store.old).content }
     ensures asks { OnOk result
         ((S.shown store.new).asks ≡ counted (S.shown store.old).asks (length keys.now)) }
-    ensures puts { (S.shown store.new).puts ≡ (S.shown store.old).puts }
-    ensures later { (S.shown store.old).faults ≤ (S.shown store.new).faults }
-    ensures fault { IfErr result (λ status.
-        IsDumpFault (S.shown store.old) (S.shown store.new) status) }
+    ensures reads { ReadsKeys (S.shown store.old) (S.shown store.new) result }
 {
     for key in keys {
         push_key(alloc, text, key, store)?;
@@ -72,10 +64,7 @@ fn push_keys<S: Store>(
 fn push_store<S: Store>(alloc: Global, text: &mut Vec<u8>, store: &mut S) -> Result<(), Status>
     ensures dumped { OnOk result (Dumps true (S.shown store.old) (S.shown store.new)
         text.old.items text.new.items) }
-    ensures same { (S.shown store.new).content ≡ (S.shown store.old).content }
-    ensures later { (S.shown store.old).faults ≤ (S.shown store.new).faults }
-    ensures fault { IfErr result (λ status.
-        IsDumpFault (S.shown store.old) (S.shown store.new) status) }
+    ensures reads { ReadsKeys (S.shown store.old) (S.shown store.new) result }
 {
     match store.list(alloc) {
         Ok(keys) => push_keys(alloc, text, &keys, store),
@@ -96,11 +85,8 @@ pub fn push_dump<S: Store>(
 ) -> Result<(), Status>
     ensures dumped { OnOk result (Dumps dump (S.shown store.old) (S.shown store.new)
         text.old.items text.new.items) }
-    ensures same { (S.shown store.new).content ≡ (S.shown store.old).content }
     ensures still { dump ≡ false → IsUntouched (S.shown store.old) (S.shown store.new) }
-    ensures later { (S.shown store.old).faults ≤ (S.shown store.new).faults }
-    ensures fault { IfErr result (λ status.
-        IsDumpFault (S.shown store.old) (S.shown store.new) status) }
+    ensures reads { ReadsKeys (S.shown store.old) (S.shown store.new) result }
 {
     if dump {
         push_store(alloc, text, store)
@@ -116,12 +102,8 @@ pub fn push_dump<S: Store>(
 pub fn count_keys<S: Store>(alloc: Global, store: &mut S) -> Result<usize, Status>
     ensures keys { IfOk result (λ count. (keys : List (List ℕ))
         × ListsKeys (S.shown store.new).content keys × (count ≡ length keys)) }
-    ensures same { (S.shown store.new).content ≡ (S.shown store.old).content }
     ensures asks { OnOk result ((S.shown store.new).asks ≡ counted (S.shown store.old).asks 1) }
-    ensures puts { (S.shown store.new).puts ≡ (S.shown store.old).puts }
-    ensures later { (S.shown store.old).faults ≤ (S.shown store.new).faults }
-    ensures fault { IfErr result (λ status.
-        IsDumpFault (S.shown store.old) (S.shown store.new) status) }
+    ensures reads { ReadsKeys (S.shown store.old) (S.shown store.new) result }
 {
     match store.list(alloc) {
         Ok(keys) => Ok(keys.len()),

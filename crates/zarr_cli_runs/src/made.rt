@@ -1,8 +1,8 @@
 //! A run that is made from a number.
 
-ghost use Rattle.std.specs.Prelude.{◌≡◌, ◌<◌, map, List, [], ℕ, true, IfOk, IfErr, OnErr};
+ghost use Rattle.std.specs.Prelude.{◌≡◌, ◌<◌, map, List, [], ℕ, true, IfOk, IfErr};
 ghost use Rattle.std.specs.List.{AllZip};
-ghost use Rattle.zarrs_codec_traits.specs.Prelude.{Rose, SeesNoDamage, kind, fixed, Matches};
+ghost use Rattle.zarrs_codec_traits.specs.Prelude.{kind, fixed, Matches};
 ghost use Rattle.zarrs_codec_traits.specs.Prelude.{options_of, kind_seen};
 ghost use Rattle.zarr_model.specs.Command as Model;
 ghost use Rattle.zarr_array.specs.OpenArray.{described_array};
@@ -10,9 +10,7 @@ ghost use Rattle.zarr_array.specs.boxes.Command.{command_of, answer_of};
 ghost use Rattle.zarr_cli_runs.specs.MadeCommands.{made_commands};
 ghost use Rattle.zarr_cli_runs.specs.Summary.{summary_text};
 ghost use Rattle.zarr_cli_runs.specs.Tally.{summary_held};
-ghost use Rattle.zarr_cli_runs.specs.Between.{LeavesBetween};
-ghost use Rattle.zarr_cli_runs.specs.Status.{ending_of};
-ghost use Rattle.zarr_cli_runs.specs.Commands.{IsChangedKey, IsRunFault};
+ghost use Rattle.zarr_cli_runs.specs.Job.{job, Did};
 ghost use Rattle.zarr_cli_runs.specs.Made.{made_array, SumsAll};
 
 use crate::commands::{replies_of, text_of_replies};
@@ -67,21 +65,10 @@ fn summary_of_commands<S: Store>(
     options: &CodecOptions,
 ) -> Result<Vec<u8>, Status>
     requires sized { kind (described_array array.now) ≡ fixed 2 }
-    ensures ran { IfOk result (λ text. SumsAll (described_array array.now) (options_of options.now)
+    ensures { Did (job true (described_array array.now) (options_of options.now) []
+        (map command_of commands.now)) ⊥ (S.shown store.old) (S.shown store.new) result
+        (λ text. SumsAll (described_array array.now) (options_of options.now)
         (map command_of commands.now) (S.shown store.old) (S.shown store.new) text.items) }
-    ensures unchanged { (key : List ℕ) →
-        ¬ IsChangedKey (described_array array.now) (map command_of commands.now) key →
-        (S.shown store.new).content key ≡ (S.shown store.old).content key }
-    ensures fault { IfErr result (λ status.
-        IsRunFault true (described_array array.now) (options_of options.now)
-        (map command_of commands.now) (S.shown store.old) (S.shown store.new) status) }
-    ensures between { IfErr result (λ status. LeavesBetween true (described_array array.now)
-        (options_of options.now) [] (map command_of commands.now) (S.shown store.old)
-        (S.shown store.new) (ending_of status)) }
-    ensures complete { SeesNoDamage (described_array array.now) (options_of options.now)
-        (map command_of commands.now) (S.shown store.old).content →
-        ¬ Rose (S.shown store.old).faults (S.shown store.new).faults →
-        IfErr result (λ status. status ≡ Status.OutOfMemory) }
 {
     match replies_of(alloc, array.parts(), commands, store, options) {
         Ok(replies) => match count_keys(alloc, store) {
@@ -101,21 +88,10 @@ fn summary_from<S: Store>(
     options: &CodecOptions,
 ) -> Result<Vec<u8>, Status>
     requires sized { kind (described_array array.now) ≡ fixed 2 }
-    ensures ran { IfOk result (λ text. SumsAll (described_array array.now) (options_of options.now)
+    ensures { Did (job true (described_array array.now) (options_of options.now) []
+        (made_commands number)) ⊥ (S.shown store.old) (S.shown store.new) result
+        (λ text. SumsAll (described_array array.now) (options_of options.now)
         (made_commands number) (S.shown store.old) (S.shown store.new) text.items) }
-    ensures unchanged { (key : List ℕ) →
-        ¬ IsChangedKey (described_array array.now) (made_commands number) key →
-        (S.shown store.new).content key ≡ (S.shown store.old).content key }
-    ensures fault { IfErr result (λ status.
-        IsRunFault true (described_array array.now) (options_of options.now)
-        (made_commands number) (S.shown store.old) (S.shown store.new) status) }
-    ensures between { IfErr result (λ status. LeavesBetween true (described_array array.now)
-        (options_of options.now) [] (made_commands number) (S.shown store.old)
-        (S.shown store.new) (ending_of status)) }
-    ensures complete { SeesNoDamage (described_array array.now) (options_of options.now)
-        (made_commands number) (S.shown store.old).content →
-        ¬ Rose (S.shown store.old).faults (S.shown store.new).faults →
-        IfErr result (λ status. status ≡ Status.OutOfMemory) }
 {
     let commands = made_commands(alloc, number)?;
     summary_of_commands(alloc, array, &commands, store, options)
@@ -132,20 +108,10 @@ pub fn run_made<S: Store>(
     number: u64,
     store: &mut S,
 ) -> Result<Vec<u8>, Status>
-    ensures ran { IfOk result (λ text. SumsAll made_array (options_of options.now)
-        (made_commands number) (S.shown store.old) (S.shown store.new) text.items) }
-    ensures unchanged { (key : List ℕ) → ¬ IsChangedKey made_array (made_commands number) key →
-        (S.shown store.new).content key ≡ (S.shown store.old).content key }
-    ensures fault { IfErr result (λ status.
-        IsRunFault true made_array (options_of options.now)
-        (made_commands number) (S.shown store.old) (S.shown store.new) status) }
-    ensures between { IfErr result (λ status. LeavesBetween true made_array
-        (options_of options.now) [] (made_commands number) (S.shown store.old)
-        (S.shown store.new) (ending_of status)) }
-    ensures complete { SeesNoDamage made_array (options_of options.now)
-        (made_commands number) (S.shown store.old).content →
-        ¬ Rose (S.shown store.old).faults (S.shown store.new).faults →
-        IfErr result (λ status. status ≡ Status.OutOfMemory) }
+    ensures { Did (job true made_array (options_of options.now) [] (made_commands number)) ⊥
+        (S.shown store.old) (S.shown store.new) result (λ text. SumsAll made_array
+        (options_of options.now) (made_commands number) (S.shown store.old) (S.shown store.new)
+        text.items) }
 {
     match open_made(alloc) {
         Ok(array) => summary_from(alloc, &array, number, store, options),

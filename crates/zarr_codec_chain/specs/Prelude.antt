@@ -1,4 +1,5 @@
--- The words that files above this crate import most, of its specs and of those below it, from one place.
+-- The words that files above this crate import most, of its specs and of those below it, from one
+-- place.
 pub use Rattle.zarr_model.specs.ArrayBytes.{ArrayBytes, meaning}
 pub use Rattle.zarr_model.specs.Codec.{ArrayCodec, Level, Options, decode_array_to_bytes, decode_bytes}
 pub use Rattle.zarr_model.specs.Command.{has_long_element, kind, layout}

@@ -28,8 +28,8 @@ pub plain_array_serves : (codec : ArrayToArray) (shape : List ℕ) (type : DataT
     → array_unserved_by codec None (Some type) ≡ None → array_has_rank (length shape) codec ≡ true
     → array_unserved_by codec (Some shape) (Some type) ≡ None
 plain_array_serves (offset number) shape type served rank = served
-plain_array_serves (transpose order) shape type served rank = cond-true (length shape == length order)
-    None (Some (unsupported names.Transpose))
+plain_array_serves (transpose order) shape type served rank =
+    cond-true (length shape == length order) None (Some (unsupported names.Transpose))
     (eq-eqb (length shape) (length order) (sym (eqb-true (length order) (length shape) rank)))
 
 -- a codec keeps the type, and what it decodes has an element for each place
@@ -59,7 +59,8 @@ abbrev pub below_of : BasicArrayToArray → Level → Level
 below_of c level = (array_codec_of (array_form c)).level_below level
 
 abbrev pub ServesLevel : BasicArrayToArray → Level → Type 0
-ServesLevel c level = array_unserved_by (array_form c) (Some level.shape) (Some level.data_type) ≡ None
+ServesLevel c level =
+    array_unserved_by (array_form c) (Some level.shape) (Some level.data_type) ≡ None
 
 -- a level that is served is so by a call that takes only some of it
 pub served_parts : (c : BasicArrayToArray) (level : Level) (with_shape with_type : Bool)
@@ -86,8 +87,8 @@ list_decodes (offset number) level below = refl
 list_decodes (transpose order) level below = refl
 
 -- the fill value below, its element, its bytes and its length
-pub fill_decodes : (c : BasicArrayToArray) (level : Level) → ServesLevel c level → AreBytes level.fill
-    → (array_codec_of (array_form c)).decode_list level
+pub fill_decodes : (c : BasicArrayToArray) (level : Level) → ServesLevel c level
+    → AreBytes level.fill → (array_codec_of (array_form c)).decode_list level
     (replicate (count_of (below_of c level).shape) (below_of c level).fill)
     ≡ Some (replicate (count_of level.shape) level.fill)
 fill_decodes (arrays.Offset codec) level served proper =

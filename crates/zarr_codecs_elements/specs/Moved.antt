@@ -1,8 +1,8 @@
 -- Where elements stand once the dimensions of their array are ordered anew.
-use Rattle.std.specs.Prelude.{ℕ, ◌+◌, ◌*◌, List, [], ◌∷◌, length, map, replicate}
+use Rattle.std.specs.Prelude.{◌≡◌, ℕ, ◌+◌, ◌*◌, ◌^◌, ◌<◌, true, List, [], ◌∷◌, length, map, replicate, None}
 use Rattle.std.specs.List.{flat_map, range_with_len}
-use Rattle.zarrs_codec_traits.specs.Prelude.{whole, tuples, place, permuted}
-use Rattle.zarr_codecs_elements.specs.Order.{scattered, row_major}
+use Rattle.zarrs_codec_traits.specs.Prelude.{whole, tuples, place, permuted, count_of, ArrayBytes, lengths_refusal}
+use Rattle.zarr_codecs_elements.specs.Order.{is_order, scattered, row_major}
 
 -- for each tuple of a shape, in row-major order, the place of the ordered tuple in the ordered
 -- shape
@@ -25,3 +25,17 @@ moved_steps order shape =
 -- the places in runs of one length, by the places of the runs
 abbrev pub in_runs : ℕ → List ℕ → List ℕ
 in_runs run places = flat_map (λ place. range_with_len (place * run) run) places
+
+-- array bytes are those of so many runs of elements of a size, with as many elements in each: a run
+-- for each place of a shape whose dimensions are ordered so, which has these steps
+pub record AreRuns (dimensions shape strides : List ℕ) (runs run size : ℕ) (given : ArrayBytes)
+    : Type 0 where
+  pub order : is_order dimensions ≡ true
+  pub rank : length shape ≡ length dimensions
+  pub some : 0 < count_of shape
+  pub count : runs ≡ count_of shape
+  pub steps : strides ≡ moved_steps dimensions shape
+  -- the elements and the bytes of a run can be counted, and the lengths are theirs
+  pub fits : runs * run < 2 ^ 64
+  pub bytes : run * size < 2 ^ 64
+  pub long : lengths_refusal size (runs * run) given ≡ None

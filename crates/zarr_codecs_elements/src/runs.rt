@@ -1,12 +1,11 @@
 //! Array bytes of every kind whose elements are moved, those of each run together.
 
-ghost use Rattle.std.specs.Prelude.{◌≡◌, ◌+◌, ◌*◌, ◌<◌, ◌^◌, ◌++◌, true, None, length, IfOk, IfErr};
+ghost use Rattle.std.specs.Prelude.{◌≡◌, ◌+◌, ◌*◌, ◌<◌, ◌^◌, ◌++◌, true, length, IfOk, IfErr};
 ghost use Rattle.std.specs.List.{range_with_len};
 ghost use Rattle.zarrs_codec_traits.specs.Prelude.{count_of, AllBelow, gathered, raw_of};
-ghost use Rattle.zarrs_codec_traits.specs.Prelude.{lengths_refusal};
 ghost use Rattle.zarrs_codec_error.specs.declared.error.CodecError.TheVariants as codec;
 ghost use Rattle.zarr_codecs_elements.specs.Order.{is_order};
-ghost use Rattle.zarr_codecs_elements.specs.Moved.{moved_places as places_of, moved_steps as steps_of, in_runs};
+ghost use Rattle.zarr_codecs_elements.specs.Moved.{moved_places as places_of, in_runs, AreRuns};
 
 use crate::{moved_places, strided_pieces};
 use std::alloc::{AllocError, Global};
@@ -79,14 +78,7 @@ pub(crate) fn moved_kinds(
     run: u64,
     size: usize,
 ) -> Result<ArrayBytes<'static>, CodecError>
-    requires order { is_order order.now ≡ true }
-    requires rank { length shape.now ≡ length order.now }
-    requires some { 0 < count_of shape.now }
-    requires count { count ≡ count_of shape.now }
-    requires steps { steps.now ≡ steps_of order.now shape.now }
-    requires fits { count * run < 2 ^ 64 }
-    requires bytes { run * size < 2 ^ 64 }
-    requires long { lengths_refusal size (count * run) (raw_of bytes.now) ≡ None }
+    requires { AreRuns order.now shape.now steps.now count run size (raw_of bytes.now) }
     ensures value { IfOk result (λ v. raw_of v ≡ gathered size (count * run)
         (in_runs run (places_of order.now shape.now)) (raw_of bytes.now) (raw_of bytes.now)) }
     ensures memory { IfErr result (λ e. e ≡ codec.OutOfMemory) }

@@ -1,3 +1,5 @@
+pub mod TableLaws
+pub mod ChecksumLaws
 pub mod ValueLaws
 pub mod DigestLaws
 pub mod OrderLaws

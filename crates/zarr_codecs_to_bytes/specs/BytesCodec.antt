@@ -60,7 +60,8 @@ byte_order_text Big = codes "big"
 
 abbrev pub byte_order_members : Option Endianness → Members
 byte_order_members None = no_members
-byte_order_members (Some order) = member (codes "endian") (string (byte_order_text order)) no_members
+byte_order_members (Some order) =
+    member (codes "endian") (string (byte_order_text order)) no_members
 
 -- a byte order by its text, or null
 abbrev pub order_named : List ℕ → Option (Option Endianness)
@@ -86,5 +87,6 @@ byte_order_in (Some ms) = if is_empty ms then Some None else given_order ms
 -- the codec of metadata, which has its name
 abbrev pub bytes_created : Extension → Result (Option Members) Unmade
 bytes_created e = if bytes_eq e.name (codes "bytes")
-    then or_config (option_map (λ order. Some (byte_order_members order)) (byte_order_in e.configuration))
+    then or_config
+    (option_map (λ order. Some (byte_order_members order)) (byte_order_in e.configuration))
     else Err (making.unsupported e.name)

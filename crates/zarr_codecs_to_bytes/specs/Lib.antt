@@ -1,5 +1,8 @@
 pub mod Values
 pub mod Sha256
+pub mod Crc32c
+pub mod Crc32cTable
+pub mod Crc32cCodec
 pub mod BytesCodec
 pub mod Ranges
 pub mod Asking

@@ -80,8 +80,8 @@ pub record IsMoved (move : Move) (from_before from_now to_before to_now : Shown)
       (in_description (describe move.target) array)
   pub set : from_now.content ≡ source_content move from_before.content
   pub keys : IsDump true to_now.content text
-  -- each chunk of the source was asked for once for each band that meets it, each of the target once,
-  -- and then its keys; there were as many writing calls as key lines and chunks of the target
+  -- each chunk of the source was asked for once for each band that meets it, each of the target
+  -- once, and then its keys; there were as many writing calls as key lines and chunks of the target
   pub asked_from : from_now.asks
       ≡ counted from_before.asks (chunks_of_each (describe move.source).grid (move_bands move))
   pub put_from : from_now.puts ≡ counted from_before.puts (length move.entries)
@@ -170,4 +170,5 @@ pub record EndsMoved (words : List (List ℕ)) (before now : SeenBoth) (ending :
   -- on an early end the sink was given its line, or a front of it where the sink failed
   pub line : IsGivenLine (move_line ending) before.sink now.sink
   -- where the words, the reading or the input decided, both stores are as before
-  pub untouched : IsEarlyMove ending → IsUntouched before.from now.from × IsUntouched before.to now.to
+  pub untouched : IsEarlyMove ending → IsUntouched before.from now.from
+      × IsUntouched before.to now.to

@@ -72,7 +72,8 @@ pub record StoppedMove {Z : Type 0} (told : Ending) (before now : Both)
       (move_ending_of status ≡ cli told) ⊎ (status ≡ Cli Status.OutOfMemory))
 
 -- what was moved, by what was said
-abbrev pub RanMoveBy : {Z : Type 0} → MoveVerdict → Both → Both → Result (Vec ℕ Z) RechunkStatus → Type 0
+abbrev pub RanMoveBy : {Z : Type 0} → MoveVerdict → Both → Both → Result (Vec ℕ Z) RechunkStatus
+    → Type 0
 RanMoveBy (moves move) before now result = RanMove move before now result
 RanMoveBy (stops told) before now result = StoppedMove told before now result
 

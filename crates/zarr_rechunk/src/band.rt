@@ -27,7 +27,8 @@ fn read_band<S: Store>(
     options: &CodecOptions,
 ) -> Result<ArrayBytes<'static>, RechunkErrorKind>
     requires { region_refusal (described_array source.now) (region_of band.now) ≡ None }
-    ensures read { IfOk result (λ bytes. HasReadBand (described_array source.now) (options_of options.now)
+    ensures read { IfOk result (λ bytes. HasReadBand (described_array source.now)
+        (options_of options.now)
         (region_of band.now) (raw_of bytes) (S.shown from.old) (S.shown from.new)) }
     ensures source { IsOnlyRead (S.shown from.old) (S.shown from.new) }
     ensures kept { S.kept from.old from.new }
@@ -69,7 +70,8 @@ fn write_band<T: Store>(
 ) -> Result<(), RechunkErrorKind>
     requires { refusal (described_array target.now) (write (region_of band.now) (raw_of bytes.now))
         ≡ None }
-    ensures written { OnOk result (HasWrittenBand (described_array target.now) (options_of options.now)
+    ensures written { OnOk result (HasWrittenBand (described_array target.now)
+        (options_of options.now)
         (region_of band.now) (raw_of bytes.now) (T.shown to.old) (T.shown to.new)) }
     ensures left { LeavesBand (described_array target.now) (options_of options.now)
         (T.shown to.old) (T.shown to.new) }
@@ -98,7 +100,8 @@ pub(crate) fn move_band<S: Store, T: Store>(
 ) -> Result<(), RechunkErrorKind>
     requires { IsMovable (described_array source.now) (described_array target.now)
         (region_of band.now) }
-    ensures moved { OnOk result (HasMovedBand (described_array source.now) (described_array target.now)
+    ensures moved { OnOk result (HasMovedBand (described_array source.now)
+        (described_array target.now)
         (options_of options.now) (region_of band.now) (S.shown from.old) (S.shown from.new)
         (T.shown to.old) (T.shown to.new)) }
     ensures source { IsOnlyRead (S.shown from.old) (S.shown from.new) }

@@ -1,11 +1,11 @@
 //! The program that moves an array: two documents and key lines in, the keys of the array's new store out.
 
-ghost use Rattle.std.specs.Prelude.{◌≡◌, ◌≤◌, true, List, ℕ, [], length, map, drop, string_bytes, Some, Err, IfOk, IfErr, OnOk};
+ghost use Rattle.std.specs.Prelude.{◌≡◌, true, List, ℕ, [], length, map, drop, string_bytes, Some, Err, IfOk, IfErr, OnOk};
 ghost use Rattle.zarrs_codec_traits.specs.Prelude.{Rose, counted, SameContent};
 ghost use Rattle.zarr_array.specs.OpenArray.{documented};
 ghost use Rattle.zarr_cli_lines.specs.Text.{first_entries};
 ghost use Rattle.zarr_cli_lines.specs.Parts.{entry_view};
-ghost use Rattle.zarr_cli_runs.specs.Keys.{IsDump, IsDumpAsks, IsDumpFault};
+ghost use Rattle.zarr_cli_runs.specs.Keys.{IsDump, IsDumpAsks, ReadsKeys};
 ghost use Rattle.zarr_cli_runs.specs.declared.status.Status.TheVariants.{BadWords};
 ghost use Rattle.zarr_cli.specs.Status.{words_of};
 ghost use Rattle.zarr_rechunk.specs.declared.status.RechunkStatus.TheVariants.{Cli};
@@ -54,13 +54,9 @@ fn status_of(kind: RechunkErrorKind) -> RechunkStatus
 // The lines of the keys of a store.
 fn text_of_keys<T: Store>(alloc: Global, store: &mut T) -> Result<Vec<u8>, Status>
     ensures keys { IfOk result (λ text. IsDump true (T.shown store.new).content text.items) }
-    ensures same { (T.shown store.new).content ≡ (T.shown store.old).content }
     ensures asks { OnOk result ((more : ℕ) × IsDumpAsks true (T.shown store.new).content more
         × ((T.shown store.new).asks ≡ counted (T.shown store.old).asks more)) }
-    ensures puts { OnOk result ((T.shown store.new).puts ≡ (T.shown store.old).puts) }
-    ensures later { (T.shown store.old).faults ≤ (T.shown store.new).faults }
-    ensures fault { IfErr result (λ status.
-        IsDumpFault (T.shown store.old) (T.shown store.new) status) }
+    ensures reads { ReadsKeys (T.shown store.old) (T.shown store.new) result }
 {
     let mut text = Vec::new(alloc);
     match push_dump(alloc, true, &mut text, store) {
@@ -208,7 +204,8 @@ fn text_of_input<R: Source, S: Store, T: Store>(
     from: &mut S,
     to: &mut T,
 ) -> Result<Vec<u8>, RechunkStatus>
-    ensures ran { RanMoveInput (text_says stops move_lines_say) (R.shown source.old) (R.shown source.new)
+    ensures ran { RanMoveInput (text_says stops move_lines_say) (R.shown source.old)
+        (R.shown source.new)
         (both (S.shown from.old) (T.shown to.old)) (both (S.shown from.new) (T.shown to.new))
         result }
     ensures plain { IfErr result (IsPlainMove (move_outcome (⊥)
@@ -229,7 +226,8 @@ fn text_of_words<R: Source, S: Store, T: Store>(
     from: &mut S,
     to: &mut T,
 ) -> Result<Vec<u8>, RechunkStatus>
-    ensures ran { RanMoveInput (move_verdict (words_of words.now)) (R.shown source.old) (R.shown source.new)
+    ensures ran { RanMoveInput (move_verdict (words_of words.now)) (R.shown source.old)
+        (R.shown source.new)
         (both (S.shown from.old) (T.shown to.old)) (both (S.shown from.new) (T.shown to.new))
         result }
     ensures plain { IfErr result (IsPlainMove (move_outcome (¬ (words_of words.now ≡ []))

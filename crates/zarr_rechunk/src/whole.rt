@@ -70,7 +70,8 @@ fn bands_to_move(
     ensures may { OnOk result (MayMove (described_array source.now) (described_array target.now)) }
     ensures bands { IfOk result (λ list. map region_of list.items
         ≡ bands (described_array target.now).shape (described_array target.now).grid) }
-    ensures fails { IfErr result (IsUnbegun (described_array source.now) (described_array target.now)) }
+    ensures fails { IfErr result (IsUnbegun (described_array source.now)
+        (described_array target.now)) }
 {
     if !is_same_shape(source.shape(), target.shape()) {
         return Err(RechunkErrorKind::ShapeMismatch);

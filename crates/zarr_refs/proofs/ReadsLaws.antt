@@ -15,7 +15,7 @@ use Rattle.zarr_cli_runs.specs.declared.status.Status.TheVariants.{Done, BadWord
 use Rattle.zarr_cli_runs.specs.declared.status.Status.TheVariants.{Read, Write, TooLong, OutOfMemory}
 use Rattle.zarr_cli.specs.Lines.{IsKeyOf, with_entries}
 use Rattle.zarr_cli.specs.Run.{RunCosts, SetsPart}
-use Rattle.zarr_cli.specs.Array.{job, Did}
+use Rattle.zarr_cli_runs.specs.Job.{job, Did}
 use Rattle.zarr_cli.specs.Steps.{RepliesTo}
 use Rattle.zarr_refs.specs.declared.reference.Reference.{Reference as Ref}
 use Rattle.zarr_refs.specs.declared.reference.RefError.{RefError}

@@ -11,9 +11,10 @@ use Rattle.zarr_refs.specs.Ending.{IsByReference}
 use Rattle.zarr_refs.specs.Input.{RefRun, Verdict, runs, stops, word_options}
 use Rattle.zarr_refs.specs.Run.{reference_fault, base_of, AreFitRefs, SeesNone, SeesDamage, IsAllSet, PrintsReads}
 
--- what a run over references owes, by what the words and the input say, over a source that tells its
--- bytes, which are the input
-pub record AnswersRefs (verdict : Verdict) (before now : ProgramSeen) (ending : RefEnding) : Type 0 where
+-- what a run over references owes, by what the words and the input say, over a source that tells
+-- its bytes, which are the input
+pub record AnswersRefs (verdict : Verdict) (before now : ProgramSeen) (ending : RefEnding)
+    : Type 0 where
   -- where they stop it, it ends so, but for want of memory or of a source that failed
   pub stopped : (told : RefEnding) → verdict ≡ stops told →
       ¬ Rose before.source.faults now.source.faults → IsRefOrMemory ending told
@@ -57,7 +58,8 @@ pub record AnswersRefs (verdict : Verdict) (before now : ProgramSeen) (ending : 
       IsAllSet run before.store now.store
 
 -- what a run over references owes over any source
-pub record EndsRefs (words : List (List ℕ)) (before now : ProgramSeen) (ending : RefEnding) : Type 0 where
+pub record EndsRefs (words : List (List ℕ)) (before now : ProgramSeen) (ending : RefEnding)
+    : Type 0 where
   -- bad words are answered as such, but for want of memory, and nothing is read
   pub bad_words : ending ≡ cli end.bad_words → word_options words ≡ None
   pub exactly_words : word_options words ≡ None → IsRefOrMemory ending (cli end.bad_words)

@@ -66,7 +66,8 @@ all_lines_say options lines =
 
 -- what an input says
 abbrev pub input_says_refs : Options → List ℕ → Verdict
-input_says_refs options input = text_says (λ ending. stops (cli ending)) (all_lines_say options) input
+input_says_refs options input = text_says (λ ending. stops (cli ending)) (all_lines_say options)
+    input
 
 -- what words and an input say
 abbrev pub words_say : Option Options → List ℕ → Verdict

@@ -10,8 +10,8 @@ pub record CountsNoMore (own own_new below below_new : ℕ) : Type 0 where
   pub rises : own ≤ own_new
   pub no_more : own_new < 2 ^ 64 - 1 → below_new + own ≤ below + own_new
 
--- the base is the same reference, under the same slices; it holds what it held, had no writing call,
--- and was asked and has handed out no more than its reads were; no failure is its own
+-- the base is the same reference, under the same slices; it holds what it held, had no writing
+-- call, and was asked and has handed out no more than its reads were; no failure is its own
 pub record KeepsOver (old new : Over) : Type 0 where
   pub same_reference : new.name ≡ old.name
   pub same_slices : new.slices ≡ old.slices

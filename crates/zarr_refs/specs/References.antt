@@ -56,16 +56,18 @@ IsUnfit first before now (SliceOutOfBounds key) = first ≡ Some (SliceOutOfBoun
 IsUnfit first before now Store = Rose before now
 IsUnfit first before now OutOfMemory = Unit {0}
 
--- why references make no store: the first key that an earlier one has, before the base is asked, else
--- the first that does not lie in its base's value, or a fault of the base, or memory
+-- why references make no store: the first key that an earlier one has, before the base is asked,
+-- else the first that does not lie in its base's value, or a fault of the base, or memory
 abbrev pub IsRefusedRefs : List Reference → Shown → Shown → RefError → Type 0
 IsRefusedRefs references old new (RepeatedKey key) =
     (first_repeated references ≡ Some key) × (new ≡ old)
 IsRefusedRefs references old new (MissingBase key) =
     (first_repeated references ≡ None) × (unfit old.content references ≡ Some (MissingBase key))
 IsRefusedRefs references old new (SliceOutOfBounds key) =
-    (first_repeated references ≡ None) × (unfit old.content references ≡ Some (SliceOutOfBounds key))
-IsRefusedRefs references old new Store = (first_repeated references ≡ None) × Rose old.faults new.faults
+    (first_repeated references ≡ None) × (unfit old.content references
+    ≡ Some (SliceOutOfBounds key))
+IsRefusedRefs references old new Store = (first_repeated references ≡ None)
+    × Rose old.faults new.faults
 IsRefusedRefs references old new OutOfMemory = Unit {0}
 
 -- the same without what the base's count says

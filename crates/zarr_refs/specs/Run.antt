@@ -17,7 +17,8 @@ repeated_or (Some key) other = Some (RepeatedKey key)
 repeated_or None other = other
 
 abbrev pub reference_fault : List Reference → Content → Option RefError
-reference_fault references content = repeated_or (first_repeated references) (unfit content references)
+reference_fault references content = repeated_or (first_repeated references)
+    (unfit content references)
 
 -- what the base holds once the key lines are set, and the map of slices then
 abbrev pub base_of : RefRun → Content → Content

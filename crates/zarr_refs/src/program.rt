@@ -44,7 +44,8 @@ fn text_of_lines<S: Store>(
 ) -> Result<Vec<u8>, RefStatus>
     ensures ran { RanBy (ref_lines_say (described_array array.now) (options_of options.now)
         (map string_bytes lines.now)) (S.shown store.old) (S.shown store.new) result }
-    ensures plain { IfErr result (IsPlainRef (outcome ⊥ ⊥ (S.shown store.old) (S.shown store.new))) }
+    ensures plain { IfErr result (IsPlainRef (outcome ⊥ ⊥ (S.shown store.old)
+        (S.shown store.new))) }
 {
     match parse_ref_lines(alloc, lines, array.data_type()) {
         Ok(parsed) => run_ref_lines(alloc, array, &parsed, store, options),
@@ -67,7 +68,8 @@ fn text_of_document<S: Store>(
 ) -> Result<Vec<u8>, RefStatus>
     ensures ran { RanBy (all_lines_say (options_of options.now) (map string_bytes lines.now))
         (S.shown store.old) (S.shown store.new) result }
-    ensures plain { IfErr result (IsPlainRef (outcome ⊥ ⊥ (S.shown store.old) (S.shown store.new))) }
+    ensures plain { IfErr result (IsPlainRef (outcome ⊥ ⊥ (S.shown store.old)
+        (S.shown store.new))) }
 {
     match open_line(alloc, first_line(lines)) {
         Ok(array) => text_of_lines(alloc, &array, behind_first(lines), options, store),

@@ -30,26 +30,24 @@ fn box_in(alloc: Global, text: &str) -> Result<Option<ArraySubset>, AllocError> 
     }
 }
 
-// The lengths of the chunk that a text says as a box from 0.
-fn lengths_in(alloc: Global, text: &str) -> Result<Vec<NonZeroU64>, AllocError> {
+// The lengths of the chunk that a text says as a box from 0, or none where it says no box or a length is 0.
+fn lengths_in(alloc: Global, text: &str) -> Result<Option<Vec<NonZeroU64>>, AllocError> {
+    let Some(region) = box_in(alloc, text)? else {
+        return Ok(None);
+    };
     let mut lengths = Vec::new(alloc);
-    if let Some(region) = box_in(alloc, text)? {
-        for length in region.shape() {
-            if let Some(length) = NonZeroU64::new(*length) {
-                lengths.push(length)?;
-            }
-        }
+    for length in region.shape() {
+        let Some(length) = NonZeroU64::new(*length) else {
+            return Ok(None);
+        };
+        lengths.push(length)?;
     }
-    Ok(lengths)
+    Ok(Some(lengths))
 }
 
-// The bytes that stand behind the first letter of a text.
-fn bytes_of(alloc: Global, text: &str) -> Result<Vec<u8>, AllocError> {
-    let digits = text.strip_prefix('h').unwrap_or("");
-    match decode(alloc, digits) {
-        Ok(bytes) => Ok(bytes),
-        Err(_) => Ok(Vec::new(alloc)),
-    }
+// The bytes that stand behind the first letter of a text, or none where it says no bytes.
+fn bytes_of(alloc: Global, text: &str) -> Option<Vec<u8>> {
+    decode(alloc, text.strip_prefix('h')?).ok()
 }
 
 fn metadata_of(alloc: Global, text: &str) -> Result<MetadataV3, OpenError> {
@@ -59,15 +57,19 @@ fn metadata_of(alloc: Global, text: &str) -> Result<MetadataV3, OpenError> {
     }
 }
 
-fn shard_of(alloc: Global, shape: &str, fill: &str, metadata: &str) -> Result<Shard, OpenError> {
+fn shard_of(
+    alloc: Global,
+    shape: &[NonZeroU64],
+    fill: Vec<u8>,
+    metadata: &str,
+) -> Result<Shard, OpenError> {
     let registries = builtin_registries(alloc)?;
     let metadata = metadata_of(alloc, metadata)?;
-    let shape = lengths_in(alloc, shape)?;
-    let fill = FillValue::new(bytes_of(alloc, fill)?);
+    let fill = FillValue::new(fill);
     Shard::for_chunk(
         alloc,
         &metadata,
-        &shape,
+        shape,
         &DataType::UInt16,
         &fill,
         &registries,
@@ -79,7 +81,10 @@ fn shard_of(alloc: Global, shape: &str, fill: &str, metadata: &str) -> Result<Sh
 pub fn chunk_line(alloc: Global, line: &str) -> Result<String, AllocError> {
     let (shape, rest) = cut(line);
     let (fill, metadata) = cut(rest);
-    match shard_of(alloc, shape, fill, metadata) {
+    let (Some(shape), Some(fill)) = (lengths_in(alloc, shape)?, bytes_of(alloc, fill)) else {
+        return "no chunk".to_string(alloc);
+    };
+    match shard_of(alloc, &shape, fill, metadata) {
         Ok(shard) => {
             let counts = shard.inner.grid().grid_shape();
             format!(in alloc; "{counts:?} {}", shard.checked)
@@ -89,31 +94,33 @@ pub fn chunk_line(alloc: Global, line: &str) -> Result<String, AllocError> {
 }
 
 // The codec of chunks of numbers of one byte, whose fill value is 0.
-fn codec_of(alloc: Global, shape: &str, metadata: &str) -> Result<ShardCodec, OpenError> {
+fn codec_of(alloc: Global, shape: &[NonZeroU64], metadata: &str) -> Result<ShardCodec, OpenError> {
     let registries = builtin_registries(alloc)?;
     let metadata = metadata_of(alloc, metadata)?;
-    let shape = lengths_in(alloc, shape)?;
     let fill = FillValue::new(vec![in alloc; 0]?);
     ShardCodec::for_chunk(
         alloc,
         &metadata,
-        &shape,
+        shape,
         &DataType::UInt8,
         &fill,
         &registries,
     )
 }
 
-// A store with the value that a text says under a key, if it says one.
-fn store_of(alloc: Global, key: &StoreKey, value: &str) -> Result<MemoryStore, AllocError> {
+// A store with the value that a text says under a key, or with none for `-`; or nothing where it says neither.
+fn store_of(alloc: Global, key: &StoreKey, value: &str) -> Result<Option<MemoryStore>, AllocError> {
     let mut store = MemoryStore::new(alloc);
-    if value != "-" {
-        let value = bytes_of(alloc, value)?;
-        if store.set(alloc, key, &value).is_err() {
-            return Err(AllocError);
-        }
+    if value == "-" {
+        return Ok(Some(store));
     }
-    Ok(store)
+    let Some(value) = bytes_of(alloc, value) else {
+        return Ok(None);
+    };
+    match store.set(alloc, key, &value) {
+        Ok(()) => Ok(Some(store)),
+        Err(_) => Err(AllocError),
+    }
 }
 
 // The numbers of a region, or why they are not read.
@@ -149,7 +156,9 @@ fn region_line(
     let (Ok(key), Some(region)) = (StoreKey::new("c/0".to_string(alloc)?), region) else {
         return "no box".to_string(alloc);
     };
-    let mut store = store_of(alloc, &key, value)?;
+    let Some(mut store) = store_of(alloc, &key, value)? else {
+        return "no value".to_string(alloc);
+    };
     let options = CodecOptions::default().with_validate_checksums(validate);
     let told = read_line(alloc, codec, &mut store, &key, &region, &options)?;
     format!(in alloc; "{told} asks {} taken {}", store.asks(), store.taken())
@@ -169,7 +178,10 @@ fn told(alloc: Global, codec: &ShardCodec, line: &str) -> Result<String, AllocEr
 pub fn region_lines(alloc: Global, text: &str) -> Result<String, AllocError> {
     let (first, lines) = text.split_once('\n').unwrap_or((text, ""));
     let (shape, metadata) = cut(first);
-    let codec = match codec_of(alloc, shape, metadata) {
+    let Some(shape) = lengths_in(alloc, shape)? else {
+        return "no chunk".to_string(alloc);
+    };
+    let codec = match codec_of(alloc, &shape, metadata) {
         Ok(codec) => codec,
         Err(error) => return format!(in alloc; "{error:?}"),
     };

@@ -19,10 +19,11 @@ use Rattle.zarr_shard.specs.ShardArray.{inner_document, inner_meaning, document_
 use Rattle.zarr_shard.specs.ShardArray.{described_shards}
 use Rattle.zarr_shard.specs.declared.array.ShardArray.{ShardArray}
 
--- what a box of a chunk costs: a call for the index, and one for each inner chunk that the box meets
--- and that is there, and their bytes
+-- what a box of a chunk costs: a call for the index, and one for each inner chunk that the box
+-- meets and that is there, and their bytes
 abbrev pub shard_cost : ShardDocument → PartCost
-shard_cost document under chunk within value = let grid = (describe (inner_document document)).grid in
+shard_cost document under chunk within value = let grid =
+    (describe (inner_document document)).grid in
     record {
       asks = shard_asks document.checked under.validate_checksums grid within value;
       taken = shard_taken document.checked under.validate_checksums grid within value;
@@ -55,9 +56,12 @@ pub shard_served : (array : ShardArray) → IsServed (shard_access array).descri
 shard_served array = record {
   covers = subst (CoversShape (basic_shape array.grid)) (grid_is array) (basic_covers array.grid);
   sound = λ options. record {
-    count = λ chunk value elements is_chunk e. shard_counted (document_inner_form (documented_shards array))
-        options.validate_checksums (inner_meaning (documented_shards array) options) _ value elements e;
-    keys_apart = λ chunk other. keys_differ array.codec.shard.inner.keys (described_shards array).grid chunk
+    count = λ chunk value elements is_chunk e. shard_counted
+        (document_inner_form (documented_shards array))
+        options.validate_checksums (inner_meaning (documented_shards array) options) _ value
+        elements e;
+    keys_apart = λ chunk other. keys_differ array.codec.shard.inner.keys
+        (described_shards array).grid chunk
         other (countable_is (described_shards array).grid.grid_shape
         (subst (λ (grid : Grid). are_countable grid.grid_shape ≡ true) (grid_is array)
         array.countable));

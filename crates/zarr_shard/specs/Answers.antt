@@ -11,15 +11,15 @@ use Rattle.zarr_shard.specs.Run.{ShardRun, IsOfRun, RunsLines, SameButSharded}
 -- what a run owes over a source that tells its bytes, which are the input
 pub record AnswersShard (settings : Settings) (input : List ℕ) (before now : ProgramSeen)
     (ending : Ending) : Type 0 where
-  -- an ending by the input is the first that it calls for; and where the source did not fail, what it
-  -- calls for is answered, but for want of memory
+  -- an ending by the input is the first that it calls for; and where the source did not fail, what
+  -- it calls for is answered, but for want of memory
   pub cause : IsOfInput ending → input_says input ≡ stops ending
   pub exactly : (called_for : Ending) → input_says input ≡ stops called_for →
       ¬ Rose before.source.faults now.source.faults → IsOrMemory ending called_for
   -- replies, a front of them, a damaged chunk and a fault of the store come of a run in form alone
   pub in_form : IsOfRun ending → ShardRun input
-  -- of which, unless the source failed, all is owed that a run of its lines owes: the replies of one
-  -- plain array, which is left, by what the chunks of the sharded document mean
+  -- of which, unless the source failed, all is owed that a run of its lines owes: the replies of
+  -- one plain array, which is left, by what the chunks of the sharded document mean
   pub lines : (run : ShardRun input) → ¬ (ending ≡ end.read_fault) →
       RunsLines run.document settings input before now ending
   -- done: the source has no byte left

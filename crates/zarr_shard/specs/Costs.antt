@@ -13,7 +13,8 @@ use Rattle.zarr_shard.specs.ShardArray.{describe_sharded}
 pub record CostsShard (document : ShardDocument) (options : Options) (commands : List Command)
     (store : Content) (before now : Counts) : Type 0 where
   pub puts : now.puts ≡ counted before.puts (all_puts (describe_sharded document) commands)
-  pub reads : OnlyReads (describe_sharded document) commands → Pays (costs_of (read_cost (shard_cost document)
+  pub reads : OnlyReads (describe_sharded document) commands
+      → Pays (costs_of (read_cost (shard_cost document)
       (describe_sharded document) options store) commands) (shown_by store before)
       (shown_by store now)
 

@@ -13,7 +13,8 @@ use Rattle.zarr_shard.specs.Costs.{shard_costs}
 use Rattle.zarr_shard.specs.Says.{input_says, runs}
 use Rattle.zarr_shard.specs.ShardArray.{describe_sharded}
 
--- what an input says that is in form: its document, and the commands; there is one such run, or none
+-- what an input says that is in form: its document, and the commands; there is one such run, or
+-- none
 pub record ShardRun (input : List ℕ) : Type 0 where
   pub document : ShardDocument
   pub is_run : input_says input ≡ runs document
@@ -28,7 +29,8 @@ IsOfRun store_fault = Unit {0}
 IsOfRun _ = ⊥
 
 -- what a run of lines owes: its replies, its causes, what it costs and what it leaves in any store
-abbrev pub RunsLines : ShardDocument → Settings → List ℕ → ProgramSeen → ProgramSeen → Ending → Type 0
+abbrev pub RunsLines : ShardDocument → Settings → List ℕ → ProgramSeen → ProgramSeen → Ending
+    → Type 0
 RunsLines document settings input before now ending =
     AnswersLines (shard_costs document) (describe_sharded document) settings (input_lines input)
     (outside before.sink before.store) (outside now.sink now.store) ending

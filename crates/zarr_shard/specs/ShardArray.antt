@@ -1,5 +1,5 @@
--- A sharded array: its document, and the array that it describes. A chunk's value holds inner chunks
--- and an index of them; what it decodes to is the chain of the array.
+-- A sharded array: its document, and the array that it describes. A chunk's value holds inner
+-- chunks and an index of them; what it decodes to is the chain of the array.
 use Rattle.std.specs.Prelude.{◌≡◌, ℕ, Bool, List, [], is_some, Result, Ok, Err}
 use Rattle.zarr_model.specs.Prelude.{Region, Level, Options, Description, decode_chain, chunk_key}
 use Rattle.zarr_basics.specs.BasicGrid.{basic_shape}
@@ -34,15 +34,19 @@ inner_meaning document under = decode_chain ((describe (inner_document document)
 
 -- the shape of inner chunks, and whether the number of the index stands behind it
 abbrev pub document_inner_form : ShardDocument → Form
-document_inner_form document = record { inner_shape = document.inner_shape; checked = document.checked }
+document_inner_form document = record {
+  inner_shape = document.inner_shape;
+  checked = document.checked;
+}
 
 -- what a chunk's value decodes to
 abbrev pub document_meaning : ShardDocument → Options → Meaning
-document_meaning document under = decode_shard (document_inner_form document) under.validate_checksums
+document_meaning document under = decode_shard (document_inner_form document)
+    under.validate_checksums
     (inner_meaning document under)
 
--- whether a value that need not decode holds a region of a chunk: its index is found, and each inner
--- chunk that the region meets has elements
+-- whether a value that need not decode holds a region of a chunk: its index is found, and each
+-- inner chunk that the region meets has elements
 abbrev pub finds_region : ShardDocument → Options → Level → Region → List ℕ → Bool
 finds_region document under level region value =
     is_some (region_list document.checked under.validate_checksums

@@ -77,7 +77,8 @@ impl ShardArray {
         ensures answered { AnswersRefused (described_shards self.now)
             (write (region_of_subset region.now) (raw_of bytes.now) ∷ []) result }
         // An error that is not the store's leaves the chunks before it changed, and all other keys as they were.
-        ensures begun { IfErr result (StopsWrite (described_shards self.now) (options_of options.now)
+        ensures begun { IfErr result (StopsWrite (described_shards self.now)
+            (options_of options.now)
             (region_of_subset region.now) (raw_of bytes.now) (S.shown store.old) (S.shown store.new)) }
         ensures told { IfErr result (λ error. TellsOfShards self.now None
             (options_of options.now) (S.shown store.new) error.kind) }

@@ -2,7 +2,7 @@
 use Rattle.std.proofs.Common.{ℕ, true, List, length, Option, Some, None}
 use Rattle.zarrs_codec_traits.specs.Prelude.{Region, Options, IsNoFault}
 use Rattle.zarrs_codec_error.specs.declared.error.CodecError.{CodecError}
-use Rattle.zarr_shard_codec.specs.Crc32cCodec.{number_no_fault}
+use Rattle.zarr_codecs_to_bytes.specs.Crc32cCodec.{number_no_fault}
 use Rattle.zarr_shard_codec.specs.Index.{index_in, pair_at, part_of}
 use Rattle.zarr_shard_codec.specs.NoFault.{range_error_no_fault, found_no_fault}
 use Rattle.zarr_shard_codec.specs.Placing.{inner_number}

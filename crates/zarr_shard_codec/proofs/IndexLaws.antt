@@ -6,8 +6,8 @@ use Rattle.std.proofs.lemmas.Bool.{cond-true, le-leb}
 use Rattle.zarr_model.specs.Codec.{number_of_bytes, low_bytes}
 use Rattle.zarr_model.proofs.VlenLaws.{number_of_bytes-low_bytes}
 use Rattle.zarr_array_open.specs.ShardDocument.{index_size}
-use Rattle.zarr_shard_codec.specs.Crc32c.{crc32c_bytes}
-use Rattle.zarr_shard_codec.proofs.ChecksumLaws.{number_back, length-low, length-number}
+use Rattle.zarr_codecs_to_bytes.specs.Crc32c.{crc32c_bytes}
+use Rattle.zarr_codecs_to_bytes.proofs.ChecksumLaws.{number_back, length-low, length-number}
 use Rattle.zarr_shard_codec.specs.Index.{Pair, pair_of, pair_bytes, index_in, index_part, index_bytes, index_ended}
 use Rattle.zarr_shard_codec.specs.Written.{FitsPair, WrittenIsFound, HoldsPairs}
 

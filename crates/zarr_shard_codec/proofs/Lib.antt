@@ -1,5 +1,3 @@
-mod TableLaws
-mod ChecksumLaws
 mod IndexLaws
 pub mod ShardLaws
 mod PlacedLaws

@@ -9,8 +9,8 @@ use Rattle.zarr_shard_codec.specs.Shard.{inner_layout, inner_pairs, inner_array,
 use Rattle.zarr_shard_codec.specs.Shard.{Meaning, decode_shard}
 
 -- the elements of an array over a shape are as many as its tuples
-shard_list_counted : (array : Layout Element) (value index : List ℕ) (all : Bool) (list : List Element)
-    → (if all then Some (elements_in (whole array.shape)
+shard_list_counted : (array : Layout Element) (value index : List ℕ) (all : Bool)
+    (list : List Element) → (if all then Some (elements_in (whole array.shape)
     (stored_array (inner_layout array value) (inner_pairs array.grid index))) else None)
     ≡ Some list → length list ≡ count_of array.shape
 shard_list_counted array value index false list e = cc
@@ -28,8 +28,8 @@ index_counted array value None list e = cc
 index_counted array value (Some index) list e =
     shard_list_counted array value index (all_decode array value index) list e
 
-pub shard_counted : (form : Form) (validate : Bool) (inner : Meaning) (level : Level) (value : List ℕ)
-    (list : List Element) → decode_shard form validate inner level value ≡ Some list
-    → length list ≡ count_of level.shape
+pub shard_counted : (form : Form) (validate : Bool) (inner : Meaning) (level : Level)
+    (value : List ℕ) (list : List Element) → decode_shard form validate inner level value
+    ≡ Some list → length list ≡ count_of level.shape
 shard_counted form validate inner level value list e = let array = inner_array form inner level in
     index_counted array value (index_of form.checked validate array value) list e

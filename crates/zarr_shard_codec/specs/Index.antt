@@ -3,7 +3,7 @@ use Rattle.std.specs.Prelude.{ℕ, ◌+◌, ◌-◌, ◌*◌, ◌^◌, Bool, tru
 use Rattle.std.specs.Prelude.{length, take, drop, Option, Some, None, flat_map}
 use Rattle.zarr_model.specs.Codec.{number_of_bytes, low_bytes}
 use Rattle.zarr_array_open.specs.ShardDocument.{index_size}
-use Rattle.zarr_shard_codec.specs.Crc32c.{crc32c_bytes, crc32c_codec}
+use Rattle.zarr_codecs_to_bytes.specs.Crc32c.{crc32c_bytes, crc32c_codec}
 
 -- where an inner chunk lies in the value, if it is there
 pub record Pair : Type 0 where

@@ -1,6 +1,3 @@
-pub mod Crc32c
-pub mod Crc32cTable
-pub mod Crc32cCodec
 pub mod Index
 pub mod Finding
 pub mod Shard

@@ -15,7 +15,7 @@ use Rattle.zarr_codec_chain.specs.Chain.{bottom_level}
 use Rattle.zarr_codec_chain.specs.Values.{byte_codecs, said_at, bytes_says}
 use Rattle.zarr_array_open.specs.Codecs.{list_says, bytes_meaning, bytes_codec_says as codec_says}
 use Rattle.zarr_array_open.specs.ShardDocument.{index_size}
-use Rattle.zarr_shard_codec.specs.Crc32cCodec.{number_no_fault}
+use Rattle.zarr_codecs_to_bytes.specs.Crc32cCodec.{number_no_fault}
 use Rattle.zarr_shard_codec.specs.Index.{Pair, pair_at, part_of}
 use Rattle.zarr_shard_codec.specs.Finding.{says_index, index_found}
 use Rattle.zarr_shard_codec.specs.Inner.{says_found}

@@ -42,8 +42,8 @@ abbrev pub says_at : ShardCodec → Options → List ℕ → List ℕ → List �
 says_at codec under value index chunk e =
     found_says (InnerSays codec under) value (pair_at index (inner_number codec chunk)) e
 
--- an error tells why the first inner chunk that a region meets and that has no elements has none: its
--- pair names bytes past the value, or its bytes do not decode
+-- an error tells why the first inner chunk that a region meets and that has no elements has none:
+-- its pair names bytes past the value, or its bytes do not decode
 pub record SaysMet (codec : ShardCodec) (under : Options) (region : Region)
     (value index : List ℕ) (e : CodecError) : Type 0 where
   pub chunk : List ℕ
@@ -56,7 +56,8 @@ pub record SaysMet (codec : ShardCodec) (under : Options) (region : Region)
 
 -- why there is nothing of a region by what the bytes of the index hold: its number is wrong, and
 -- else such an inner chunk
-abbrev pub region_says_by : ShardCodec → Options → Region → List ℕ → Option (List ℕ) → CodecError → Type 0
+abbrev pub region_says_by : ShardCodec → Options → Region → List ℕ → Option (List ℕ) → CodecError
+    → Type 0
 region_says_by codec under region value None e = e ≡ error.InvalidChecksum
 region_says_by codec under region value (Some index) e = SaysMet codec under region value index e
 

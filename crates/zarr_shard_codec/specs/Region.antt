@@ -52,7 +52,8 @@ WholeIsAll = (codec : ShardCodec) (under : Options) (value : List ℕ)
 -- the pairs of the inner chunks of a grid that a region meets and that are there
 abbrev pub pairs_met : Grid → Region → List ℕ → List Pair
 pairs_met grid region index = filter (λ pair. not (is_absent pair))
-    (map (λ chunk. pair_at index (place (whole grid.grid_shape) chunk)) (chunks_meeting grid region))
+    (map (λ chunk. pair_at index (place (whole grid.grid_shape) chunk))
+    (chunks_meeting grid region))
 
 -- those that a read of a region takes the inner chunks of, by the index of a value if it is found
 abbrev pub pairs_by : Grid → Region → Option (List ℕ) → List Pair
@@ -95,8 +96,8 @@ abbrev pub own_index : ShardCodec → Options → List ℕ → Option (List ℕ)
 own_index codec under value =
     index_of codec.shard.checked under.validate_checksums (own_array codec under) value
 
--- what a region with elements has by what stands under the chunk's key, the fill where nothing does;
--- and how many reading calls give it, and how many bytes these take
+-- what a region with elements has by what stands under the chunk's key, the fill where nothing
+-- does; and how many reading calls give it, and how many bytes these take
 abbrev pub held_region : ShardCodec → Options → Region → Option (List ℕ) → Option (List Element)
 held_region codec under region None = Some (replicate (count region) (inner_of codec).fill)
 held_region codec under region (Some value) = own_region codec under region value

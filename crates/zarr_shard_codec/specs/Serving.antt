@@ -1,5 +1,5 @@
--- What a `ShardCodec` serves: chunks of the shape, the data type and the fill value that it was made
--- for.
+-- What a `ShardCodec` serves: chunks of the shape, the data type and the fill value that it was
+-- made for.
 use Rattle.std.specs.Prelude.{◌≡◌, ℕ, ◌&&◌, Bool, true, false, List, bytes_eq, Option, Some, None, refl}
 use Rattle.std.proofs.Common.{ap}
 use Rattle.std.proofs.lemmas.Bool.{and_parts, and_from}

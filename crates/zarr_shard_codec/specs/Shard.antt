@@ -20,8 +20,8 @@ abbrev pub inner_pairs : Grid → List ℕ → Content
 inner_pairs grid index chunk = let number = place (whole grid.grid_shape) chunk in
     if is_absent (pair_at index number) then None else Some (pair_part index number)
 
--- the elements of an inner chunk, if its bytes lie within the value and decode, or the fill where it
--- is not there
+-- the elements of an inner chunk, if its bytes lie within the value and decode, or the fill where
+-- it is not there
 abbrev pub inner_content : Layout Element → List ℕ → List ℕ → List ℕ → Option (List Element)
 inner_content array value index chunk =
     chunk_content (inner_layout array value) (inner_pairs array.grid index) chunk

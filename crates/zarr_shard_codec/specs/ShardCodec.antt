@@ -53,7 +53,8 @@ abbrev pub codec_inner_form : ShardCodec → Form
 codec_inner_form codec = record { inner_shape = inner_dims codec; checked = codec.shard.checked }
 
 abbrev pub shard_meaning : ShardCodec → Options → Level → List ℕ → Option (List Element)
-shard_meaning codec under level value = decode_shard (codec_inner_form codec) under.validate_checksums
+shard_meaning codec under level value =
+    decode_shard (codec_inner_form codec) under.validate_checksums
     (decode_chain ((inner_of codec).chain under)) level value
 
 -- which errors tell that the bytes of an inner chunk do not decode: those of its chain
@@ -61,5 +62,5 @@ pub record InnerSays (codec : ShardCodec) (under : Options) (value : List ℕ) (
     : Type 0 where
   pub levels : ChunkLevels
   pub serves : ServesShape codec.shard.inner (inner_dims codec) codec.shard.inner.chain levels
-  pub said : chain_says list_says bytes_meaning bytes_codec_says codec.shard.inner.chain levels under
-      value e
+  pub said : chain_says list_says bytes_meaning bytes_codec_says codec.shard.inner.chain levels
+      under value e

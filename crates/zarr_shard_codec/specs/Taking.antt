@@ -1,5 +1,5 @@
--- What is refused of valid elements that are to be encoded: too long ones. Where lengths are stored,
--- an inner chunk never has too many elements, and elsewhere no element is too long.
+-- What is refused of valid elements that are to be encoded: too long ones. Where lengths are
+-- stored, an inner chunk never has too many elements, and elsewhere no element is too long.
 use Rattle.std.specs.Prelude.{◌≡◌, Bool, true, false, not, refl}
 use Rattle.std.proofs.Common.{ap, inl, inr}
 use Rattle.zarrs_codec_traits.specs.Prelude.{ArrayBytes, has_long_element, BytesAnswer, fine, IsFormRefusal}

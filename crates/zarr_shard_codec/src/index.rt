@@ -3,11 +3,11 @@
 ghost use Rattle.std.specs.Prelude.{◌≡◌, ◌≤◌, ◌<◌, ◌*◌, ◌+◌, ◌^◌, length, IfSome, SomeIff, Some, None, MatchResult, IfOk, option_map};
 ghost use Rattle.zarrs_codec_array_bytes.specs.Refusals.{told_by, wrong_length};
 ghost use Rattle.zarr_array_open.specs.ShardDocument.{index_size};
-ghost use Rattle.zarr_shard_codec.specs.Crc32c.{crc32c_codec};
+ghost use Rattle.zarr_codecs_to_bytes.specs.Crc32c.{crc32c_codec};
 ghost use Rattle.zarr_shard_codec.specs.Index.{index_part};
 ghost use Rattle.zarr_shard_codec.specs.Finding.{index_found, index_says};
 
-use crate::crc32c_codec::is_intact;
+use zarr_codecs_to_bytes::crc32c_codec::is_intact;
 use zarrs_codec_error::{CodecError, InvalidBytesLengthError};
 
 /// How many bytes the index of so many inner chunks has, if these can be addressed.

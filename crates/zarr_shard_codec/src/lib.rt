@@ -1,12 +1,8 @@
-//! Sharded chunks: what a value decodes to that holds inner chunks and an index of them, its encoding, and the codec `crc32c`,
-//! which puts a checksum behind a value.
+//! Sharded chunks: what a value decodes to that holds inner chunks and an index of them, and its encoding.
 //!
 //! See <https://zarr-specs.readthedocs.io/en/latest/v3/codecs/index.html>.
 #![tactic(auto)]
 
-mod checksum;
-mod crc32c_codec;
-mod crc32c_tables;
 mod encoding;
 mod fetch;
 mod index;
@@ -25,7 +21,6 @@ mod values;
 mod whole;
 mod writing;
 
-pub use crc32c_codec::Crc32cCodec;
 pub use laws::{counted, element_is_inner, selects_inner};
 pub use read_region::{selects_region, whole_is_all};
 pub use shard_codec::ShardCodec;

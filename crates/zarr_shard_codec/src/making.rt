@@ -105,7 +105,8 @@ impl ShardCodec {
         fill_value: &FillValue,
         registries: &Registries,
     ) -> Result<ShardCodec, OpenError>
-        ensures made { Opens codec_shard_form result (shard_of_chunk (registry_of registries.now.codecs)
+        ensures made { Opens codec_shard_form result (shard_of_chunk
+            (registry_of registries.now.codecs)
             (nonzeros shape.now) (type_of data_type.now) (fill_bytes fill_value.now)
             (extension_seen metadata.now)) }
         ensures served { IfOk result (λ codec. unserved_at (shard_unserved codec)

@@ -29,7 +29,8 @@ pub struct ShardCodec {
     pub(crate) inner_shape: ChunkShape,
     // The fill value of a chunk, and so of its inner chunks.
     pub(crate) fill_value: FillValue,
-    ghost dims: { grid_lengths_of (documented_parts shard.inner).grid ≡ nonzeros inner_shape.items },
+    ghost dims: { grid_lengths_of (documented_parts shard.inner).grid
+        ≡ nonzeros inner_shape.items },
     ghost filled: { denotes
         (fill_element (kind_of (documented_parts shard.inner).data_type) (fill_bytes fill_value))
         (documented_parts shard.inner).fill ≡ true },

@@ -5,9 +5,9 @@ ghost use Rattle.zarr_model.specs.Codec.{low_bytes};
 ghost use Rattle.zarr_shard_codec.specs.Index.{pair_bytes, index_ended};
 ghost use Rattle.zarr_shard_codec.specs.Pair.{pair_seen};
 
-use crate::crc32c_codec::append_number;
 use crate::pair::Pair;
 use std::alloc::AllocError;
+use zarr_codecs_to_bytes::crc32c_codec::append_number;
 
 // Appends a number in 8 bytes, the lowest first.
 fn push_number(out: &mut Vec<u8>, number: u64) -> Result<(), AllocError>

@@ -18,7 +18,8 @@ use Rattle.zarr_v2.specs.Run.{RunV2, WentV2, IsHonestRun, HasDamageV2, SameButCh
 
 -- what a run of the lines behind its document owes: its replies, its causes, what it costs and what
 -- it leaves in any store, by the document of version 3 that the first line is translated to
-abbrev pub RunsLinesV2 : {input : List ℕ} → Settings → RunV2 input → ProgramSeen → ProgramSeen → EndingV2 → Type 0
+abbrev pub RunsLinesV2 : {input : List ℕ} → Settings → RunV2 input → ProgramSeen → ProgramSeen
+    → EndingV2 → Type 0
 RunsLinesV2 {input = input} settings run before now ending = (own : Ending) × (ending ≡ cli own)
     × AnswersLines (open_costs run.document) (describe run.document) settings (input_lines input)
     (outside before.sink before.store) (outside now.sink now.store) own
@@ -26,8 +27,8 @@ RunsLinesV2 {input = input} settings run before now ending = (own : Ending) × (
 -- what a run owes over a source that tells its bytes, which are the input
 pub record AnswersV2 (settings : Settings) (input : List ℕ) (before now : ProgramSeen)
     (ending : EndingV2) : Type 0 where
-  -- done: the sink has the replies of one plain array that the store meant by the version 2 document,
-  -- and the keys that were asked for; and the store means the array that is left
+  -- done: the sink has the replies of one plain array that the store meant by the version 2
+  -- document, and the keys that were asked for; and the store means the array that is left
   pub done : ending ≡ cli end.done → WentV2 settings input before.store.content now.store.content
       (λ output. IsGiven output before.sink.bytes now.sink.bytes)
   -- a sink that failed on the replies has a front of them
@@ -36,8 +37,8 @@ pub record AnswersV2 (settings : Settings) (input : List ℕ) (before now : Prog
       (λ output. IsGivenFront output before.sink.bytes now.sink.bytes)
   -- the source has no byte left
   pub read_whole : ending ≡ cli end.done → now.source.left ≡ Some []
-  -- an ending by the input is the first that it calls for; and where the source did not fail, what it
-  -- calls for is answered, but for want of memory
+  -- an ending by the input is the first that it calls for; and where the source did not fail, what
+  -- it calls for is answered, but for want of memory
   pub cause : IsOfInputV2 ending → says_v2 input ≡ stops ending
   pub exactly : (called_for : EndingV2) → says_v2 input ≡ stops called_for →
       ¬ Rose before.source.faults now.source.faults → IsOrMemoryV2 ending called_for
@@ -60,7 +61,8 @@ pub record AnswersV2 (settings : Settings) (input : List ℕ) (before now : Prog
       RunsLinesV2 settings run before now ending
 
 -- what a run with a refused document owes over any source
-pub record EndsRefused (words : List (List ℕ)) (before now : ProgramSeen) (why : V2Error) : Type 0 where
+pub record EndsRefused (words : List (List ℕ)) (before now : ProgramSeen) (why : V2Error)
+    : Type 0 where
   pub known : ¬ HasNoReading words
   pub line : IsGivenLine (line_v2 (refused why)) before.sink now.sink
   pub untouched : IsUntouched before.store now.store

@@ -100,8 +100,8 @@ OnlyChunksRefuse = (a : ArrayV2) (f : ArrayFields) → HasChunks a → translate
     ((d : ArrayDocument) × (document_of builtin_names f ≡ Ok d))
     ⊎ (document_of builtin_names f ≡ Err chunk_too_large)
 
--- the chunks of a version 2 document, which there are, lie as those of a document of version 3, under
--- any options
+-- the chunks of a version 2 document, which there are, lie as those of a document of version 3,
+-- under any options
 abbrev pub LieAlike : Option ChunksV2 → ArrayDocument → Type 0
 LieAlike chunks d = MatchOption chunks ⊥ (λ chunks. (options : Options) →
     DecodeAlike (layout_v2 chunks) (layout (describe d) options))

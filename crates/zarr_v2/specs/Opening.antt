@@ -115,8 +115,8 @@ abbrev pub IsOnlyLarge : V2OpenError → Type 0
 IsOnlyLarge (Open error) = open_refusal_of error ≡ Some chunk_too_large
 IsOnlyLarge _ = Unit {0}
 
--- what a text says of the chunks in a store, if it is a version 2 array document of a known type and
--- fill value
+-- what a text says of the chunks in a store, if it is a version 2 array document of a known type
+-- and fill value
 abbrev pub chunks_read : Result ArrayV2 MetadataError → Option ChunksV2
 chunks_read (Ok a) = chunks_of a
 chunks_read (Err error) = None
@@ -124,6 +124,7 @@ chunks_read (Err error) = None
 abbrev pub chunks_text : List ℕ → Option ChunksV2
 chunks_text text = chunks_read (from_json array_v2_of (read text))
 
--- a store means the same arrays by the version 2 document that a text is as by a document of version 3
+-- a store means the same arrays by the version 2 document that a text is as by a document of
+-- version 3
 abbrev pub MeansAsV2 : List ℕ → ArrayDocument → Type 0
 MeansAsV2 text document = MeansTheSame (chunks_text text) document

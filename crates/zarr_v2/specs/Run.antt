@@ -1,5 +1,5 @@
--- A run over a version 2 document: what its input says, what it prints, and what it leaves in the store,
--- which means an array by that document alone.
+-- A run over a version 2 document: what its input says, what it prints, and what it leaves in the
+-- store, which means an array by that document alone.
 use Rattle.std.specs.Prelude.{◌≡◌, ℕ, Bool, true, false, List, take, slice_get, Contains, Some, None}
 use Rattle.std.specs.List.{list_any}
 use Rattle.zarr_model.specs.Prelude.{Element, Array, Content, IsHonest, Means, WhollyMeans, SameOtherKeys}
@@ -16,8 +16,8 @@ use Rattle.zarr_v2.specs.Opening.{chunks_text}
 use Rattle.zarr_v2.specs.Says.{says_v2, runs}
 
 -- what an input says that is in form: the document that its first line is translated to, how the
--- chunks lie in a store by the version 2 document itself, and the commands; there is one such run, or
--- none
+-- chunks lie in a store by the version 2 document itself, and the commands; there is one such run,
+-- or none
 pub record RunV2 (input : List ℕ) : Type 0 where
   pub document : ArrayDocument
   pub is_run : says_v2 input ≡ runs document
@@ -45,14 +45,14 @@ WentV2 settings input old new wrote = (run : RunV2 input) × (output : List ℕ)
     × PrintsV2 run.chunks (describe run.document) run.lines.commands settings.dump
     (store_after_keys input old) new output × wrote output
 
--- once the key lines of a run in form are set, each chunk's key is absent, or has a value that is as
--- long as the chunk's elements
+-- once the key lines of a run in form are set, each chunk's key is absent, or has a value that is
+-- as long as the chunk's elements
 abbrev pub IsHonestRun : List ℕ → Content → Type 0
 IsHonestRun input old = (run : RunV2 input)
     × IsHonest (layout_v2 run.chunks) (store_after_keys input old)
 
--- a key is that of a chunk that has no elements in a store, and that an accepted read or write meets
--- with no accepted erase of it before
+-- a key is that of a chunk that has no elements in a store, and that an accepted read or write
+-- meets with no accepted erase of it before
 abbrev pub IsDamageMetV2 : ChunksV2 → Description → List Command → Content → List ℕ → Type 0
 IsDamageMetV2 chunks description commands store key =
     (m : ℕ) × (command : Command) × (slice_get commands m ≡ Some command)

@@ -1,5 +1,5 @@
--- What the input of a run over a version 2 document says: an ending that stops it, or a document, by
--- which all of its lines are in form.
+-- What the input of a run over a version 2 document says: an ending that stops it, or a document,
+-- by which all of its lines are in form.
 use Rattle.std.specs.Prelude.{ℕ, ◌+◌, nat_lt, if◌then◌else◌, List, length, drop}
 use Rattle.zarr_model.specs.Prelude.{kind}
 use Rattle.zarr_array_open.specs.Document.{ArrayDocument, describe}

@@ -1,8 +1,9 @@
 -- Elements that are read and put into a target.
-use Rattle.std.proofs.Common.{◌≡◌, ◌⊎◌, ℕ, Bool, List, length, Option, Some, None, IsSome, Result, Ok, Err, IfOk, IfErr}
-use Rattle.std.proofs.Common.{OnOk, refl, sym, ◌∙◌, subst, inl, inr, ⊎_elim}
+use Rattle.std.proofs.Common.{◌≡◌, ◌==◌, ◌⊎◌, ℕ, Bool, true, false, List, length, Option, Some, None, IsSome, Result}
+use Rattle.std.proofs.Common.{Ok, Err, IfOk, IfErr, OnOk, refl, sym, ◌∙◌, subst, inl, inr, ⊎_elim, true≢false}
 use Rattle.zarrs_codec_traits.specs.Prelude.{Region, Element, Kind, kind_of, ArrayBytes, meaning, Options, raw_of}
 use Rattle.zarrs_codec_traits.specs.Prelude.{BytesAnswer, fine, told, told_by, into_answer, IsPut, held_by, IsTargetOf}
+use Rattle.zarrs_codec_traits.specs.Prelude.{first_answer, RefusesAs, RefusesCount}
 use Rattle.zarr_model.proofs.Choices.{some_given, always_ok, always_err}
 use Rattle.zarrs_codec_error.specs.declared.error.CodecError.{CodecError}
 use Rattle.zarrs_codec_array_bytes.specs.declared.array_bytes.ArrayBytes as code
@@ -12,7 +13,8 @@ use Rattle.zarrs_codec_array_bytes_parts.specs.declared.array_bytes_fixed_disjoi
   ArrayBytesFixedDisjointView,
 }
 use Rattle.zarrs_codec.specs.Lists.{ListSeen, HasListFill, ReadsList}
-use Rattle.zarrs_codec.specs.Selects.{Selects, HasListOrFill, SelectsInto, KeepsFrame}
+use Rattle.zarrs_codec.specs.Selects.{Indexed, placed, Selects, CountsIndexed, HasListOrFill, SelectsInto, KeepsFrame}
+use Rattle.zarrs_codec.proofs.FaultLaws.{no_faults, target_no_fault}
 use Rattle.zarrs_codec.proofs.NamedLaws.{refused_never, refused_still}
 use Rattle.zarrs_codec.proofs.UpdateLaws.{keeps_self}
 
@@ -32,6 +34,50 @@ reads_still asked old new v result reads =
       taken = always_ok result reads.taken;
       taken_err = always_err result (inr reads.taken);
     }
+
+-- what was tested before elements were given, whatever comes after them
+never_unfit : {U P : Type 0} (fits : Bool) (v : U) → RefusesAs (first_answer None fits fine) (Ok v) → fits ≡ false → P
+never_unfit true v refuses is = absurd (true≢false is)
+never_unfit false v refuses is = absurd refuses
+
+unfit_after : {T U : Type 0} (fits : Bool) (v : U) (result : Result T CodecError) →
+    RefusesAs (first_answer None fits fine) (Ok v) → RefusesAs (first_answer None fits fine) result
+unfit_after true v result refuses = tt
+unfit_after false v result refuses = absurd refuses
+
+count_after : {T U : Type 0} (same : Bool) (num expected : ℕ) (v : U) (result : Result T CodecError) →
+    RefusesCount same num expected (Ok v) → RefusesCount same num expected result
+count_after true num expected v result refuses = tt
+count_after false num expected v result refuses = absurd refuses
+
+pub counts_after : {T U : Type 0} (num : ℕ) (at : Indexed) (old new : ListSeen) (v : U) (result : Result T CodecError) →
+    CountsIndexed num at old new (Ok v) → CountsIndexed num at old new result
+counts_after num at old new v result counts = record {
+  counted = count_after (num == length at.places) num (length at.places) v result counts.counted;
+  unfit = λ same. unfit_after at.fits v result (counts.unfit same);
+  refusal = λ same unfit. never_unfit at.fits v (counts.unfit same) unfit;
+  unread = counts.unread;
+}
+
+-- and where none were
+unfit_still : (T U : Type 0) (fits : Bool) (e : CodecError) → RefusesAs {T = T} (first_answer None fits fine) (Err e) →
+    RefusesAs {T = U} (first_answer None fits fine) (Err e)
+unfit_still T U true e refuses = tt
+unfit_still T U false e refuses = refuses
+
+count_still : (T U : Type 0) (same : Bool) (num expected : ℕ) (e : CodecError) →
+    RefusesCount {T = T} same num expected (Err e) → RefusesCount {T = U} same num expected (Err e)
+count_still T U true num expected e refuses = tt
+count_still T U false num expected e refuses = refuses
+
+pub counts_still : {T U : Type 0} (num : ℕ) (at : Indexed) (old new : ListSeen) (e : CodecError) →
+    CountsIndexed {T = T} num at old new (Err e) → CountsIndexed {T = U} num at old new (Err e)
+counts_still {T} {U} num at old new e counts = record {
+  counted = count_still T U (num == length at.places) num (length at.places) e counts.counted;
+  unfit = λ same. unfit_still T U at.fits e (counts.unfit same);
+  refusal = counts.refusal;
+  unread = counts.unread;
+}
 
 -- elements that are put into a target's views
 module _ (kind : Kind) (number : ℕ) (raw : ArrayBytes) (olds news : List ArrayBytesFixedDisjointView)
@@ -88,8 +134,9 @@ module _ (under : Options) (asked : Option Region) (places : List (List ℕ)) (i
   answer = into_answer (kind_of old.level.data_type) (length places) olds from
 
   pub selects_into : {T : Type 0} (elements : code.ArrayBytes) (result : Result T CodecError) → Selects under asked
-      places in_order tells old new (Ok elements) → told result ≡ target_answer (raw_of elements) olds from
-      → SelectsInto under asked in_order tells answer old new result
+      (placed places old.level) in_order tells old new (Ok elements) →
+      told result ≡ target_answer (raw_of elements) olds from →
+      SelectsInto under asked in_order tells answer old new result
   selects_into elements result selects same =
       record {
         taken = λ served some. ok_told result answer (answered served some);
@@ -98,6 +145,8 @@ module _ (under : Options) (asked : Option Region) (places : List (List ℕ)) (i
         decodes = λ served there all. always_ok result (selects.decodes served there all);
         all = λ served filled all. always_ok result (selects.all served filled all);
         named = λ order. refused_never old.unserved elements result (selects.named order);
+        fault = no_faults old.shown.faults new.shown.faults result
+            (target_no_fault result (raw_of elements) olds from same);
         reads = reads_still asked old new elements result selects.reads;
       }
     where
@@ -112,7 +161,8 @@ module _ (under : Options) (asked : Option Region) (places : List (List ℕ)) (i
       answered served some = put_answer (kind_of old.level.data_type) (length places) (raw_of elements) olds olds from
           from result (valid served some) same
 
-  pub selects_not : {T : Type 0} (e : CodecError) → Selects under asked places in_order tells old new (Err e) →
+  pub selects_not : {T : Type 0} (e : CodecError) →
+      Selects under asked (placed places old.level) in_order tells old new (Err e) →
       SelectsInto {T = T} under asked in_order tells answer old new (Err e)
   selects_not {T} e selects = record {
     taken = λ served filled. tt;
@@ -121,6 +171,7 @@ module _ (under : Options) (asked : Option Region) (places : List (List ℕ)) (i
     decodes = λ served there all. tt;
     all = λ served filled all. tt;
     named = λ order. refused_still code.ArrayBytes T old.unserved e (selects.named order);
+    fault = selects.fault;
     reads = record {
       keeps = selects.reads.keeps;
       asks = tt;

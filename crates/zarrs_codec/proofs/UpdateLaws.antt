@@ -8,7 +8,7 @@ use Rattle.zarr_model.proofs.Choices.{none_some, always_ok, always_err}
 use Rattle.zarrs_codec_error.specs.declared.error.CodecError.{CodecError}
 use Rattle.zarrs_codec_error.specs.declared.error.CodecError.TheVariants as codec
 use Rattle.zarrs_codec_array_bytes.specs.declared.array_bytes.ArrayBytes as code
-use Rattle.zarrs_codec_traits.specs.Writes.{is_fault, Unless, UnlessFault, CountsIf, MayCountIf}
+use Rattle.zarrs_codec_traits.specs.Writes.{UnlessFault, CountsIf, MayCountIf}
 use Rattle.zarrs_codec_traits.proofs.EditLaws.{fault_later}
 use Rattle.zarrs_codec_traits.proofs.HeldFaultLaws.{unless_of, unless}
 use Rattle.zarrs_codec.specs.Lists.{Refused, ListSeen, HasShortFill, KeepsList, ReadsList, IsListError}
@@ -17,11 +17,6 @@ use Rattle.zarrs_codec.specs.ListWrites.{PutsList, StaysList, KeepsRest, Unasked
 use Rattle.zarrs_codec.specs.ListWrites.{IsEncodedList, IsUnfilled, IsUnreadList}
 use Rattle.zarrs_codec.proofs.FaultLaws.{no_fault, faults_after}
 use Rattle.zarrs_codec.specs.Updates.{Change, given_by, made_by, ReadsListIf, GivesMade, Stores, Updates}
-
-pub unless_fault : {T : Type 0} (P : Type 0) (r : Result T CodecError) (before now : ℕ) →
-    IfErr r (IsFailedRead before now) → UnlessFault r P
-unless_fault P (Ok v) before now is = tt
-unless_fault {T} P (Err e) before now is = subst (λ (x : CodecError). Unless (is_fault x) P) (sym is.0) tt
 
 pub keeps_self : (seen : ListSeen) → KeepsList seen seen
 keeps_self seen = record {

@@ -33,6 +33,7 @@ pub use Rattle.zarrs_codec_traits.specs.CodecMetadata
 pub use Rattle.zarrs_codec_traits.specs.CodecOf
 pub use Rattle.zarrs_codec_traits.specs.Making
 pub mod Boxes
+pub mod Settings
 pub mod Lists
 pub mod ListWrites
 pub mod Updates

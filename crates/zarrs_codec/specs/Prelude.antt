@@ -1,4 +1,5 @@
--- The words that files above this crate import most, of its specs and of those below it, from one place.
+-- The words that files above this crate import most, of its specs and of those below it, from one
+-- place.
 pub use Rattle.zarr_model.specs.Array.{Array, elements_in}
 pub use Rattle.zarr_model.specs.ArrayBytes.{ArrayBytes, fixed_bytes, meaning, optional_bytes, variable_bytes}
 pub use Rattle.zarr_model.specs.Codec.{ArrayCodec, Level, Options, decode_bytes}
@@ -35,6 +36,7 @@ pub use Rattle.zarrs_codec.specs.Boxes.{is_all, smaller_box}
 pub use Rattle.zarrs_codec.specs.ListWrites.{given_answer, is_kept}
 pub use Rattle.zarrs_codec.specs.Lists.{AreFew, IsListError, IsUnread, ListSeen, ReadsList, Refused, RefusesFor}
 pub use Rattle.zarrs_codec.specs.Lists.{TellsFault, by_codec, fills, is_short}
-pub use Rattle.zarrs_codec.specs.Selects.{chosen}
+pub use Rattle.zarrs_codec.specs.Selects.{Choice, Indexed, boxed, chosen, every, indexed, placed}
+pub use Rattle.zarrs_codec.specs.Settings.{KeepsSettings}
 pub use Rattle.zarrs_codec.specs.Stored.{taken_of}
 pub use Rattle.zarrs_codec.specs.Updates.{Change, Stores, change_of}

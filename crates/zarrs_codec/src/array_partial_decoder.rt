@@ -1,20 +1,15 @@
 //! Handles on elements that are read.
 
-ghost use Rattle.std.specs.Prelude.{◌≡◌, ◌==◌, ◌&&◌, Bool, true, false, List, [], length, Option, Some, None, IsSome, IfOk, IfErr, OnOk};
-ghost use Rattle.zarrs_codec_traits.specs.Prelude.{Region, count_of, Rose, meaning, Options};
-ghost use Rattle.zarrs_codec_traits.specs.Prelude.{has_long_element, type_of, picked, raw_of};
-ghost use Rattle.zarrs_codec_traits.specs.Prelude.{linear, fine, first_answer, IfUnfit, held_by};
-ghost use Rattle.zarrs_codec_traits.specs.Prelude.{IsTargetOf, RefusesAs, options_of};
-ghost use Rattle.zarr_model.specs.Element.{Element, null, kind_of};
-ghost use Rattle.zarr_model.specs.ArrayBytes as model;
+ghost use Rattle.std.specs.Prelude.{◌≡◌, false, Bool, List, [], length, Option, Some, None, IfOk, IfErr};
+ghost use Rattle.zarrs_codec_traits.specs.Prelude.{Region, count_of, Rose, Options, type_of, options_of};
+ghost use Rattle.zarr_model.specs.Element.{Element, kind_of};
 ghost use Rattle.zarrs_storage.specs.declared.store.StorageError.TheVariants as storage;
 ghost use Rattle.zarrs_codec_error.specs.declared.error.CodecError.{CodecError};
 ghost use Rattle.zarrs_codec_array_bytes_parts.specs.Targets.{LeftBehind};
 ghost use Rattle.zarrs_codec_array_bytes_parts.specs.TargetViews.{inner_view, mask_views};
-ghost use Rattle.zarrs_codec_traits.specs.Into.{num_elements_in, into_answer, RefusesCount, IsPut};
-ghost use Rattle.zarrs_codec.specs.Boxes.{is_all};
-ghost use Rattle.zarrs_codec.specs.Lists.{ListSeen, HasListFill, HasShortFill, AreFew, LooksAt, ReadsList, IsUnread, IsListError, RefusesFor, TellsFault, fills};
-ghost use Rattle.zarrs_codec.specs.Selects.{chosen, SelectsInto, KeepsFrame};
+ghost use Rattle.zarrs_codec.specs.Lists.{ListSeen, AreFew, LooksAt, fills};
+ghost use Rattle.zarrs_codec.specs.Selects.{indexed, ReadsIndexed, ReadsInto, PutsInto};
+ghost use Rattle.zarrs_codec.specs.Settings.{KeepsSettings};
 
 use crate::into_target::{read_into_fixed, read_into_optional};
 use std::alloc::Global;
@@ -59,9 +54,7 @@ pub trait ArrayPartialDecoderTraits {
         ensures failed { IfErr result (λ e. (e ≡ storage.Failed)
             × Rose (seen self.old).shown.faults (seen self.new).shown.faults) }
         ensures looks { LooksAt (seen self.old) (seen self.new) result }
-        ensures same { same self.old self.new }
-        ensures tells { (under : Options) (asked : Option Region) (e : CodecError)
-            → tells self.new under asked e → tells self.old under asked e };
+        ensures kept { KeepsSettings same tells self.old self.new };
 
     /// How many bytes of the value are in memory; 0 over a store.
     fn size_held(&self) -> usize
@@ -87,43 +80,10 @@ pub trait ArrayPartialDecoderTraits {
     ) -> Result<ArrayBytes<'static>, CodecError>
         requires few { AreFew (kind_of (seen self.old).level.data_type)
             (length (I.places indexer.now)) }
-        ensures unfit { RefusesAs (first_answer None
-            (I.fits indexer.now (seen self.old).level.shape) fine) result }
-        ensures refusal { I.fits indexer.now (seen self.old).level.shape ≡ false
-            → IfErr result (IfUnfit (I.refuses indexer.now (seen self.old).level.shape)) }
-        ensures unread { I.fits indexer.now (seen self.old).level.shape ≡ false
-            → IsUnread (seen self.old).shown (seen self.new).shown }
-        ensures value { (list : List Element) → (seen self.old).unserved ≡ None
-            → (seen self.old).list (options_of options.now) ≡ Some list → IfOk result
-            (λ v. meaning (kind_of (seen self.old).level.data_type) (length (I.places indexer.now))
-            (raw_of v) ≡ Some (picked null (linear (seen self.old).level.shape
-            (I.places indexer.now)) list)) }
-        ensures valid { (seen self.old).unserved ≡ None → HasListFill (seen self.old) → IfOk result
-            (λ v. IsSome (meaning (kind_of (seen self.old).level.data_type)
-            (length (I.places indexer.now)) (raw_of v))) }
-        ensures failed { (seen self.old).unserved ≡ None
-            → I.fits indexer.now (seen self.old).level.shape ≡ true
-            → IfErr result (IsListError (seen self.old).there
-            ((seen self.old).list (options_of options.now))
-            (tells self.old (options_of options.now) (I.as_region indexer.now))
-            (seen self.old).shown.faults (seen self.new).shown.faults) }
-        ensures named { I.fits indexer.now (seen self.old).level.shape ≡ true
-            → RefusesFor (seen self.old).unserved result }
-        ensures decodes { (seen self.old).unserved ≡ None → (seen self.old).there ≡ true
-            → (seen self.old).whole (I.as_region indexer.now) ≡ true
-            → OnOk result (IsSome ((seen self.old).list (options_of options.now))) }
-        ensures all { (seen self.old).unserved ≡ None → HasListFill (seen self.old)
-            → is_all (seen self.old).level.shape (I.as_region indexer.now) ≡ true
-            → OnOk result (IsSome ((seen self.old).list (options_of options.now))) }
-        ensures short { (seen self.old).unserved ≡ None → HasShortFill (seen self.old)
-            → IfOk result (λ v. has_long_element (raw_of v) ≡ false) }
-        ensures fault { IfErr result
-            (TellsFault (seen self.old).shown.faults (seen self.new).shown.faults) }
-        ensures reads { ReadsList (I.as_region indexer.now) (seen self.old) (seen self.new)
-            result }
-        ensures same { same self.old self.new }
-        ensures tells { (under : Options) (asked : Option Region) (e : CodecError)
-            → tells self.new under asked e → tells self.old under asked e };
+        ensures reads { ReadsIndexed (options_of options.now)
+            (indexed I.fits I.refuses I.as_region I.places (seen self.old).level.shape indexer.now)
+            (tells self.old) (seen self.old) (seen self.new) result }
+        ensures kept { KeepsSettings same tells self.old self.new };
 
     /// Puts the elements at the indexer's indices into the boxes of a target's views, and nothing else of their bytes is
     /// changed. On an error it is as it was.
@@ -140,58 +100,17 @@ pub trait ArrayPartialDecoderTraits {
     ) -> Result<(), CodecError>
         requires few { AreFew (kind_of (seen self.old).level.data_type)
             (length (I.places indexer.now)) }
-        ensures counted { let num = num_elements_in output_target.entry in
-            RefusesCount (num == length (I.places indexer.now)) num
-            (length (I.places indexer.now)) result }
-        ensures unfit { (num_elements_in output_target.entry == length (I.places indexer.now))
-            ≡ true → RefusesAs (first_answer None
-            (I.fits indexer.now (seen self.old).level.shape) fine) result }
-        ensures refusal { (num_elements_in output_target.entry == length (I.places indexer.now))
-            ≡ true → I.fits indexer.now (seen self.old).level.shape ≡ false
-            → IfErr result (IfUnfit (I.refuses indexer.now (seen self.old).level.shape)) }
-        ensures unread { ((num_elements_in output_target.entry == length (I.places indexer.now))
-            && I.fits indexer.now (seen self.old).level.shape) ≡ false
-            → IsUnread (seen self.old).shown (seen self.new).shown }
-        ensures put { let level = (seen self.old).level in (list : List Element)
-            → (seen self.old).unserved ≡ None
-            → (seen self.old).list (options_of options.now) ≡ Some list
-            → IsTargetOf (kind_of level.data_type) (length (I.places indexer.now))
-            (mask_views output_target.entry) (inner_view output_target.entry)
-            → IfOk result (λ _. LeftBehind
-            (λ left. held_by [] left.0.now ≡ chosen level (I.places indexer.now) list)
-            (λ left. held_by left.1.0.now left.0.now ≡ chosen level (I.places indexer.now) list)
-            output_target.exit) }
-        ensures written { let level = (seen self.old).level in (list : List Element)
-            → (seen self.old).unserved ≡ None
-            → (seen self.old).list (options_of options.now) ≡ Some list
-            → IfOk result (λ _. LeftBehind
-            (λ left. IsPut (kind_of level.data_type) (length (I.places indexer.now))
-            (Some (chosen level (I.places indexer.now) list)) [] []
-            (inner_view output_target.entry) left.0.now)
-            (λ left. IsPut (kind_of level.data_type) (length (I.places indexer.now))
-            (Some (chosen level (I.places indexer.now) list))
-            (mask_views output_target.entry) left.1.0.now
-            (inner_view output_target.entry) left.0.now) output_target.exit) }
-        ensures selects { SelectsInto (options_of options.now) (I.as_region indexer.now)
-            ((num_elements_in output_target.entry == length (I.places indexer.now))
-            && I.fits indexer.now (seen self.old).level.shape)
-            (tells self.old (options_of options.now) (I.as_region indexer.now))
-            (into_answer (kind_of (seen self.old).level.data_type)
-            (length (I.places indexer.now)) (mask_views output_target.entry)
-            (inner_view output_target.entry)) (seen self.old) (seen self.new) result }
-        ensures fault { IfErr result
-            (TellsFault (seen self.old).shown.faults (seen self.new).shown.faults) }
-        ensures framed { IfOk result (λ _. LeftBehind
-            (λ left. KeepsFrame [] [] (inner_view output_target.entry) left.0.now)
-            (λ left. KeepsFrame (mask_views output_target.entry) left.1.0.now
-            (inner_view output_target.entry) left.0.now) output_target.exit) }
-        ensures kept { IfErr result (λ _. LeftBehind
-            (λ left. left.0.now ≡ inner_view output_target.entry)
-            (λ left. (left.0.now ≡ inner_view output_target.entry)
-            × (left.1.0.now ≡ mask_views output_target.entry)) output_target.exit) }
-        ensures same { same self.old self.new }
-        ensures tells { (under : Options) (asked : Option Region) (e : CodecError)
-            → tells self.new under asked e → tells self.old under asked e }
+        ensures reads { ReadsInto (options_of options.now)
+            (indexed I.fits I.refuses I.as_region I.places (seen self.old).level.shape indexer.now)
+            (tells self.old) (mask_views output_target.entry) (inner_view output_target.entry)
+            (seen self.old) (seen self.new) result }
+        ensures puts { let at = options_of options.now in LeftBehind
+            (λ left. PutsInto at (I.places indexer.now) (seen self.old) [] []
+            (inner_view output_target.entry) left.0.now result)
+            (λ left. PutsInto at (I.places indexer.now) (seen self.old)
+            (mask_views output_target.entry) left.1.0.now (inner_view output_target.entry)
+            left.0.now result) output_target.exit }
+        ensures kept { KeepsSettings same tells self.old self.new }
     {
         match output_target {
             ArrayBytesDecodeIntoTarget::Fixed(view) => {

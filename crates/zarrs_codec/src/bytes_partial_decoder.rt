@@ -7,6 +7,7 @@ ghost use Rattle.zarrs_storage.specs.declared.byte_range.ByteRange.{ByteRange};
 ghost use Rattle.zarrs_storage.specs.declared.byte_range.InvalidByteRangeError.{InvalidByteRangeError};
 ghost use Rattle.zarrs_storage.specs.declared.store.StorageError.TheVariants as storage;
 ghost use Rattle.zarrs_codec_error.specs.declared.error.CodecError.{CodecError};
+ghost use Rattle.zarrs_codec.specs.Settings.{KeepsSettings};
 ghost use Rattle.zarrs_codec_traits.specs.Reads.{Looks, ReadsRanges, GivesParts, IsReadError, IsPartError, RefusesFirst};
 
 use std::alloc::Global;
@@ -45,9 +46,7 @@ pub trait BytesPartialDecoderTraits {
         ensures failed { IfErr result (λ e. (e ≡ storage.Failed)
             × Rose (seen self.old).shown.faults (seen self.new).shown.faults) }
         ensures looks { Looks (seen self.old) (seen self.new) result }
-        ensures same { same self.old self.new }
-        ensures tells { (under : Options) (asked : Option (List ByteRange)) (e : CodecError)
-            → tells self.new under asked e → tells self.old under asked e };
+        ensures kept { KeepsSettings same tells self.old self.new };
 
     /// How many bytes of the value are in memory; 0 over a store.
     fn size_held(&self) -> usize
@@ -77,10 +76,9 @@ pub trait BytesPartialDecoderTraits {
             (seen self.old).shown.faults (seen self.new).shown.faults) }
         ensures first { RefusesFirst (early self.old (Some (decoded_region ∷ [])))
             (seen self.old).shown (seen self.new).shown result }
-        ensures reads { ReadsRanges (Some (decoded_region ∷ [])) (seen self.old) (seen self.new) result }
-        ensures same { same self.old self.new }
-        ensures tells { (under : Options) (asked : Option (List ByteRange)) (e : CodecError)
-            → tells self.new under asked e → tells self.old under asked e }
+        ensures reads { ReadsRanges (Some (decoded_region ∷ [])) (seen self.old)
+            (seen self.new) result }
+        ensures kept { KeepsSettings same tells self.old self.new }
     {
         let regions = [decoded_region];
         match self.partial_decode_many(alloc, &regions, options) {
@@ -111,10 +109,9 @@ pub trait BytesPartialDecoderTraits {
             (seen self.old).shown.faults (seen self.new).shown.faults) }
         ensures first { RefusesFirst (early self.old (Some decoded_regions.now))
             (seen self.old).shown (seen self.new).shown result }
-        ensures reads { ReadsRanges (Some decoded_regions.now) (seen self.old) (seen self.new) result }
-        ensures same { same self.old self.new }
-        ensures tells { (under : Options) (asked : Option (List ByteRange)) (e : CodecError)
-            → tells self.new under asked e → tells self.old under asked e };
+        ensures reads { ReadsRanges (Some decoded_regions.now) (seen self.old)
+            (seen self.new) result }
+        ensures kept { KeepsSettings same tells self.old self.new };
 
     /// The whole value, or [`None`] where it is absent.
     ///
@@ -134,9 +131,7 @@ pub trait BytesPartialDecoderTraits {
         ensures first { RefusesFirst (early self.old None)
             (seen self.old).shown (seen self.new).shown result }
         ensures reads { ReadsRanges None (seen self.old) (seen self.new) result }
-        ensures same { same self.old self.new }
-        ensures tells { (under : Options) (asked : Option (List ByteRange)) (e : CodecError)
-            → tells self.new under asked e → tells self.old under asked e };
+        ensures kept { KeepsSettings same tells self.old self.new };
 
     // Settings that are kept by two calls are kept.
     ghost same_self: { (h : Self) → same h h };

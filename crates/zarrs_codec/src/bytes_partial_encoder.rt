@@ -6,7 +6,8 @@ ghost use Rattle.zarrs_storage.specs.Parts.{PartsFit, with_parts};
 ghost use Rattle.zarrs_codec_error.specs.declared.error.CodecError.{CodecError};
 ghost use Rattle.zarrs_codec_traits.specs.Prelude.{Options, options_of, IsReadError, IsHandleError};
 ghost use Rattle.zarrs_codec_traits.specs.Prelude.{IsFailedRead};
-ghost use Rattle.zarrs_codec_traits.specs.Writes.{Writes, ToldAfter, Edits, Unasked};
+ghost use Rattle.zarrs_codec_traits.specs.Writes.{Writes, Edits, Unasked};
+ghost use Rattle.zarrs_codec.specs.Settings.{KeepsOnWrite};
 
 use crate::bytes_partial_decoder::BytesPartialDecoderTraits;
 use std::alloc::Global;
@@ -26,11 +27,7 @@ pub trait BytesPartialEncoderTraits: BytesPartialDecoderTraits {
     /// # Errors
     /// [`CodecError::StorageError`] where what is below fails. The value is then as before, or absent.
     fn erase(&mut self) -> Result<(), CodecError>
-        ensures same { Self.same self.old self.new }
-        ensures tells { (under : Options) (asked : Option (List ByteRange)) (e : CodecError)
-            → Self.tells self.new under asked e
-            → ToldAfter ((Self.seen self.new).held under) asked
-            (Self.tells self.old under asked) e }
+        ensures kept { KeepsOnWrite Self.seen Self.same Self.tells self.old self.new }
         ensures writes { Writes None (Self.seen self.old) (Self.seen self.new) result }
         ensures unasked { Unasked (Self.seen self.old) (Self.seen self.new) }
         ensures cause { IfErr result (IsFailedRead (Self.seen self.old).shown.faults
@@ -52,11 +49,7 @@ pub trait BytesPartialEncoderTraits: BytesPartialDecoderTraits {
         options: &CodecOptions,
     ) -> Result<(), CodecError>
         requires fit { offset + length bytes.items ≤ 2 ^ 64 - 1 }
-        ensures same { Self.same self.old self.new }
-        ensures tells { (under : Options) (asked : Option (List ByteRange)) (e : CodecError)
-            → Self.tells self.new under asked e
-            → ToldAfter ((Self.seen self.new).held under) asked
-            (Self.tells self.old under asked) e }
+        ensures kept { KeepsOnWrite Self.seen Self.same Self.tells self.old self.new }
         ensures edits { Edits
             (λ value. with_parts (record { offset = offset; bytes = bytes } ∷ []) value)
             (rereads self.old) (options_of options.now)
@@ -83,11 +76,7 @@ pub trait BytesPartialEncoderTraits: BytesPartialDecoderTraits {
         options: &CodecOptions,
     ) -> Result<(), CodecError>
         requires fit { PartsFit offset_values.now }
-        ensures same { Self.same self.old self.new }
-        ensures tells { (under : Options) (asked : Option (List ByteRange)) (e : CodecError)
-            → Self.tells self.new under asked e
-            → ToldAfter ((Self.seen self.new).held under) asked
-            (Self.tells self.old under asked) e }
+        ensures kept { KeepsOnWrite Self.seen Self.same Self.tells self.old self.new }
         ensures edits { Edits (with_parts offset_values.now) (rereads self.old)
             (options_of options.now) (Self.seen self.old) (Self.seen self.new) result }
         ensures cause { IfErr result
@@ -106,11 +95,7 @@ pub trait BytesPartialEncoderTraits: BytesPartialDecoderTraits {
         bytes: &[u8],
         options: &CodecOptions,
     ) -> Result<(), CodecError>
-        ensures same { Self.same self.old self.new }
-        ensures tells { (under : Options) (asked : Option (List ByteRange)) (e : CodecError)
-            → Self.tells self.new under asked e
-            → ToldAfter ((Self.seen self.new).held under) asked
-            (Self.tells self.old under asked) e }
+        ensures kept { KeepsOnWrite Self.seen Self.same Self.tells self.old self.new }
         ensures writes { Writes (Some bytes.now) (Self.seen self.old) (Self.seen self.new) result }
         ensures unasked { Unasked (Self.seen self.old) (Self.seen self.new) }
         ensures cause { IfErr result (IsHandleError (Self.seen self.old).shown.faults

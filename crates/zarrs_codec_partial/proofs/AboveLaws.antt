@@ -13,7 +13,7 @@ use Rattle.zarrs_codec_error.specs.declared.error.CodecError.{CodecError}
 use Rattle.zarrs_codec_error.specs.declared.error.CodecError.TheVariants as codec
 use Rattle.zarrs_codec_array_bytes.specs.declared.array_bytes.ArrayBytes as code
 use Rattle.zarrs_codec_traits.proofs.LevelLaws.{valid_memory}
-use Rattle.zarrs_codec_traits.proofs.SelectLaws.{listed, box-fits, boxed-picked}
+use Rattle.zarrs_codec_traits.proofs.SelectLaws.{listed, box-fits}
 use Rattle.zarrs_codec.proofs.BoxLaws.{whole_is_all}
 use Rattle.zarrs_codec.specs.Lists.{Refused, ListSeen, HasListFill, is_short, AreFew, KeepsList, LooksAt, ReadsList}
 use Rattle.zarrs_codec.specs.Lists.{IsListError}
@@ -142,28 +142,6 @@ decoded_valid decode level below raw (Ok v) there gives = go (list_at below raw)
     go None is held = cc
     go (Some ys) is held = (gives ys is).there
 
--- elements of a box or at some places, out of them
-pub placed : (level : Level) (places : List (List ℕ)) (r : Result code.ArrayBytes CodecError)
-    (raw : ArrayBytes) (xs : List Element) → list_at level raw ≡ Some xs
-    → ((ys : List Element) → list_at level raw ≡ Some ys → IfOk r (λ v.
-    meaning (kind_of level.data_type) (length places) (raw_of v) ≡ Some (picked null (linear level.shape places) ys)))
-    → IfOk r (λ v.
-    meaning (kind_of level.data_type) (length places) (raw_of v) ≡ Some (picked null (linear level.shape places) xs))
-placed level places r raw xs is chosen = chosen xs is
-
-pub placed_valid : (level : Level) (places : List (List ℕ)) (r : Result code.ArrayBytes CodecError) (raw : ArrayBytes) →
-    IsSome (list_at level raw)
-    → ((ys : List Element) → list_at level raw ≡ Some ys → IfOk r (λ v.
-    meaning (kind_of level.data_type) (length places) (raw_of v) ≡ Some (picked null (linear level.shape places) ys)))
-    → IfOk r (λ v. IsSome (meaning (kind_of level.data_type) (length places) (raw_of v)))
-placed_valid level places (Err e) raw there chosen = tt
-placed_valid level places (Ok v) raw there chosen = go (list_at level raw) refl there
-  where
-    go : (o : Option (List Element)) → list_at level raw ≡ o → IsSome o →
-        IsSome (meaning (kind_of level.data_type) (length places) (raw_of v))
-    go None is held = cc
-    go (Some ys) is held = some_now _ _ (chosen ys is)
-
 -- what is shown of the handle below
 pub own_served : (own : Option Unserved) (below : Option Refused) (element : Option Element) →
     first_unserved own below element ≡ None → own ≡ None
@@ -251,19 +229,3 @@ pub below_fill : (codec : ArrayCodec) (fill_below : DataType → List ℕ → Li
 below_fill codec fill_below level fill seen x is denotes =
     some_now _ x (ap₂ (λ (k : Kind) (f : List ℕ). fill_element k f) (same_kind codec fill_below level fill seen is)
     is.fill ∙ denotes)
-
--- the elements of a box as those at its places
-pub boxed_means : (level : Level) (box : Region) (places : List (List ℕ)) (xs : List Element)
-    (r : Result code.ArrayBytes CodecError) → places ≡ tuples box
-    → IfOk r (λ v. list_at (at_box box level) (raw_of v) ≡ Some (select level.shape box xs)) → IfOk r (λ v.
-    meaning (kind_of level.data_type) (length places) (raw_of v) ≡ Some (picked null (linear level.shape places) xs))
-boxed_means level box places xs (Ok v) same is = boxed-picked level box places (raw_of v) xs same is
-boxed_means level box places xs (Err e) same is = tt
-
-pub boxed_valid : (level : Level) (box : Region) (places : List (List ℕ)) (r : Result code.ArrayBytes CodecError) →
-    places ≡ tuples box
-    → IfOk r (λ v. IsSome (list_at (at_box box level) (raw_of v))) →
-    IfOk r (λ v. IsSome (meaning (kind_of level.data_type) (length places) (raw_of v)))
-boxed_valid level box places (Ok v) same is = subst (λ (n : ℕ). IsSome (meaning (kind_of level.data_type) n (raw_of v)))
-    (sym (ap length same ∙ length-tuples box)) is
-boxed_valid level box places (Err e) same is = tt

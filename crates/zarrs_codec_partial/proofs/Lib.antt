@@ -4,4 +4,3 @@ pub mod AboveLaws
 pub mod StoreLaws
 mod ServedLaws
 mod ReadLaws
-mod StepLaws

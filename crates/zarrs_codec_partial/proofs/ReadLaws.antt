@@ -1,59 +1,25 @@
 -- Steps of reading elements through a codec.
-use Rattle.std.proofs.Common.{◌≡◌, ◌⊎◌, ℕ, Bool, true, false, List, Option, Some, None, Result, Ok, Err, IfOk, IfErr}
-use Rattle.std.proofs.Common.{refl, ap, ◌∙◌, subst, inl, ⊎_elim}
-use Rattle.zarrs_codec.specs.Prelude.{Region, tuples, fill_element, kind_of, Options, has_long_element, raw_of, told_by}
-use Rattle.zarrs_codec.specs.Prelude.{fine, first_answer, IfUnfit, IsNoFault, RefusesAs, is_all, smaller_box}
-use Rattle.zarrs_codec.specs.Prelude.{RefusesFor, IsListError}
-use Rattle.zarrs_array_subset.specs.declared.error.IndexerError.{IndexerError}
+use Rattle.std.proofs.Common.{◌≡◌, true, false, Option, Some, None, Result, Ok, Err, IfOk, IfErr, refl, sym, ap, ◌∙◌}
+use Rattle.std.proofs.Common.{subst, inl}
+use Rattle.zarrs_codec.specs.Prelude.{Region, whole, fill_element, kind_of, Options, has_long_element, raw_of}
+use Rattle.zarrs_codec.specs.Prelude.{IsNoFault, RefusesFor, IsListError, ReadsList}
 use Rattle.zarrs_codec_error.specs.declared.error.CodecError.{CodecError}
 use Rattle.zarrs_codec_error.specs.declared.error.CodecError.TheVariants as codec
 use Rattle.zarrs_codec_array_bytes.specs.declared.array_bytes.ArrayBytes as code
-use Rattle.zarrs_codec_array_bytes.proofs.ToldLaws.{says_some}
-use Rattle.zarrs_codec_traits.proofs.FaultLaws.{memory_no_fault, answers_no_fault, known_first}
-use Rattle.zarrs_codec.proofs.BoxLaws.{all_not_smaller}
+use Rattle.zarrs_codec_traits.proofs.FaultLaws.{memory_no_fault}
 use Rattle.zarrs_codec.proofs.FaultLaws.{no_fault, no_faults}
-use Rattle.zarrs_codec.proofs.NamedLaws.{refused_memory, refused_still}
+use Rattle.zarrs_codec.proofs.NamedLaws.{refused_memory}
 use Rattle.zarrs_codec.proofs.UpdateLaws.{keeps_self}
 use Rattle.zarrs_codec.specs.declared.array_partial_decoder.ArrayPartialDecoderTraits as decoder
 use Rattle.zarrs_codec.proofs.SelectsLaws.{reads_still}
-use Rattle.zarrs_codec_partial_elements.proofs.ServedLaws.{fitting_named}
 use Rattle.zarrs_codec_partial_elements.specs.Boxes.{Denotes}
-use Rattle.zarrs_codec_partial.specs.Above.{CodecSeen, seen_above}
-use Rattle.zarrs_codec_partial.specs.Reading.{Asked, in_box, at_places, box_read, ReadsBelow, ReadsAsked}
-use Rattle.zarrs_codec_partial.specs.Reading.{DecodesElements, TestsServed}
-use Rattle.zarrs_codec_partial.proofs.AboveLaws.{above_told, below_served, own_served, fill_served, boxed_means}
-use Rattle.zarrs_codec_partial.proofs.AboveLaws.{boxed_valid}
+use Rattle.zarrs_codec_partial_elements.specs.Steps.{ReadsStep, ReadsHeld}
+use Rattle.zarrs_codec_partial_elements.proofs.ReadLaws.{told_first}
+use Rattle.zarrs_codec_partial_elements.proofs.StepLaws.{none_smaller}
+use Rattle.zarrs_codec_partial.specs.Above.{CodecSeen, level_below, list_above, seen_above, box_for, asked_box_below}
+use Rattle.zarrs_codec_partial.specs.Reading.{Asked, every_element, own_box, box_read, choice_of, ReadsBelow, ReadsAsked}
+use Rattle.zarrs_codec_partial.proofs.AboveLaws.{above_told, below_served, below_short, raised_reads}
 use Rattle.zarrs_codec_partial.proofs.ServedLaws.{named_above}
-
--- where the box of all elements is asked for, no smaller one is read
-pub none_smaller : (shape : List ℕ) (asked : Option Region) → is_all shape asked ≡ true → smaller_box shape asked ≡ None
-none_smaller shape asked all = go (smaller_box shape asked) refl
-  where
-    go : (o : Option Region) → smaller_box shape asked ≡ o → smaller_box shape asked ≡ None
-    go None is = is
-    go (Some box) is = all_not_smaller shape asked box is all
-
--- an indexer that fits is not refused
-fit_refuses : {T : Type 0} (fits : Bool) (r : Result T CodecError) → fits ≡ true →
-    RefusesAs (first_answer None fits fine) r
-fit_refuses true r fit = tt
-fit_refuses false r fit = cc
-
--- one that does not is, by what is told
-unfit_refuses : (T : Type 0) (fits : Bool) (e : CodecError) → (e ≡ codec.OutOfMemory) ⊎
-    (told_by e ≡ first_answer None fits fine) → RefusesAs {T = T} (first_answer None fits fine) (Err e)
-unfit_refuses T true e answer = tt
-unfit_refuses T false e answer = answer
-
-fits_not : {P : Type 0} (fits : Bool) → fits ≡ true → fits ≡ false → P
-fits_not true fit unfits = cc
-fits_not false fit unfits = cc
-
-fitting_memory : (fits : Bool) (e : CodecError) → fits ≡ true →
-    (e ≡ codec.OutOfMemory) ⊎ (told_by e ≡ first_answer None fits fine) → e ≡ codec.OutOfMemory
-fitting_memory fits e fit answer =
-    ⊎_elim (λ (m : e ≡ codec.OutOfMemory). m) (λ (t : told_by e ≡ first_answer None fits fine).
-    absurd (says_some e (t ∙ ap (λ (b : Bool). first_answer None b fine) fit))) answer
 
 module _ {A : Type 0} (H : decoder.Ghosts A) where
   -- nothing is asked for
@@ -91,7 +57,7 @@ module _ {A : Type 0} (H : decoder.Ghosts A) (at : CodecSeen) (under : Options) 
     gives = λ served. record {
       value = λ xs is. tt;
       valid = tt;
-      failed = λ fit. inl (inl is);
+      failed = inl (inl is);
       decodes = λ there all. tt;
       all = λ none. tt;
     };
@@ -109,7 +75,7 @@ module _ {A : Type 0} (H : decoder.Ghosts A) (at : CodecSeen) (under : Options) 
     gives = λ served. record {
       value = λ xs is. tt;
       valid = tt;
-      failed = λ fit. above_told (at.meaning.decode_list at.level) ((H.seen old).list under) (H.seen old).there
+      failed = above_told (at.meaning.decode_list at.level) ((H.seen old).list under) (H.seen old).there
           (H.tells old under (Some (box_read at asked))) _ _ e
           (subst (λ (b : Region). IsListError (H.seen old).there ((H.seen old).list under) (H.tells old under (Some b))
           (H.seen old).shown.faults (H.seen new).shown.faults e) is
@@ -122,80 +88,49 @@ module _ {A : Type 0} (H : decoder.Ghosts A) (at : CodecSeen) (under : Options) 
     below = subst (λ (b : Region). ReadsBelow H b old new (Err e)) is below;
   }
 
-  -- the elements of a box are those at its places
-  pub reads_boxed : (box : Region) (places : List (List ℕ)) (old new : A) (r : Result code.ArrayBytes CodecError) →
-      places ≡ tuples box → ReadsAsked H at under (in_box box) old new r
-      → ReadsAsked H at under (at_places (Some box) places) old new r
-  reads_boxed box places old new r same reads = record {
-    gives = λ served. let given = reads.gives served in record {
-      value = λ xs is. boxed_means at.level box places xs r same (given.value xs is);
-      valid = boxed_valid at.level box places r same given.valid;
-      failed = given.failed;
-      decodes = given.decodes;
-      all = given.all;
-    };
-    named = reads.named;
-    below = reads.below;
+  -- a step as one of any level
+  pub step_of : (asked : Asked) (old new : A) (r : Result code.ArrayBytes CodecError) → at.unserved ≡ None →
+      Denotes at.level at.fill → ReadsAsked H at under asked old new r →
+      ReadsStep under (own_box asked) (λ level. choice_of level asked) (λ under other e. H.tells old under
+      (Some (asked_box_below at.region_below at.level.shape (level_below at).shape other)) e)
+      (seen_above at (H.seen old)) (seen_above at (H.seen new)) r
+  step_of asked old new r own some reads = record {
+    selects = λ other is.
+        let same : box_read at asked ≡ asked_box_below at.region_below at.level.shape (level_below at).shape other =
+        sym (ap (box_for (at.region_below at.level.shape) (whole (level_below at).shape)) is) in
+        record {
+          value = λ list served e. (reads.gives served).value list e;
+          valid = λ served filled. (reads.gives served).valid;
+          failed = λ served ok. subst (λ (b : Region). IfErr r (IsListError (H.seen old).there
+              (list_above at ((H.seen old).list under)) (H.tells old under (Some b)) (H.seen old).shown.faults
+              (H.seen new).shown.faults)) same (reads.gives served).failed;
+          decodes = λ served there all. (reads.gives served).decodes there
+              (subst (λ (b : Region). (H.seen old).whole (Some b) ≡ true) (sym same) all);
+          all = λ served filled all. (reads.gives served).all (sym is ∙ none_smaller at.level.shape other all);
+          named = λ ok. named_above at.unserved (H.seen old).unserved
+              (fill_element (kind_of at.level.data_type) at.fill) r own some reads.named;
+          short = λ served few. reads.below.short (below_served _ _ _ served) (below_short _ _ few);
+          fault = reads.below.fault;
+          reads = raised_reads at.level at.fill at.unserved at.meaning at.region_below other (H.seen old) (H.seen new) r
+              (subst (λ (b : Region). ReadsList (Some b) (H.seen old) (H.seen new) r) same reads.below.reads);
+        };
+    valid = λ served. (reads.gives served).valid;
   }
 
-  module _ (asked : Asked) (fits : Bool) (refuses : IndexerError → Type 0) where
-    -- an indexer that fits, of a level that is served
-    pub decodes_fit : (old new : A) (r : Result code.ArrayBytes CodecError) → fits ≡ true → at.unserved ≡ None →
-        Denotes at.level at.fill → ReadsAsked H at under asked old new r
-        → DecodesElements H at under asked fits refuses old new r
-    decodes_fit old new r fit own some reads = record {
-      unfit = fit_refuses fits r fit;
-      refusal = λ unfits. fits_not fits fit unfits;
-      unread = λ unfits. fits_not fits fit unfits;
-      named = λ fit. named_above at.unserved (H.seen old).unserved (fill_element (kind_of at.level.data_type) at.fill) r
-          own some reads.named;
-      gives = λ served. let given = reads.gives served in record {
-        value = given.value;
-        valid = given.valid;
-        failed = λ fit. given.failed refl;
-        decodes = given.decodes;
-        all = given.all;
-      };
-      below = reads.below;
-    }
-
-    -- of one that is not
-    pub decodes_unserved : {T : Type 0} (old : A) (e : CodecError) → H.same old old → fits ≡ true →
-        TestsServed {T = T} at (Err e) → DecodesElements H at under asked fits refuses old old (Err e)
-    decodes_unserved {T} old e same fit tests = record {
-      unfit = fit_refuses fits (Err e) fit;
-      refusal = λ unfits. fits_not fits fit unfits;
-      unread = λ unfits. fits_not fits fit unfits;
-      named = λ fit.
-          refused_still T code.ArrayBytes (seen_above at (H.seen old)).unserved e (tests.named (H.seen old).unserved);
-      gives = λ served. record {
-        value = λ xs is. tt;
-        valid = tt;
-        failed = λ fit. inl (inl (tests.memory (own_served at.unserved (H.seen old).unserved
-            (fill_element (kind_of at.level.data_type) at.fill) served)
-            (fill_served at.unserved (H.seen old).unserved (fill_element (kind_of at.level.data_type) at.fill)
-            served)));
-        decodes = λ there all. tt;
-        all = λ none. tt;
-      };
-      below = below_early H (box_read at asked) old e same tests.no_fault;
-    }
-
-    -- an indexer that does not fit
-    pub decodes_unfit : (old : A) (e : CodecError) → H.same old old → (e ≡ codec.OutOfMemory) ⊎ (told_by e ≡
-        first_answer None fits fine) → IfUnfit refuses e → DecodesElements H at under asked fits refuses old old (Err e)
-    decodes_unfit old e same answer told = record {
-      unfit = unfit_refuses code.ArrayBytes fits e answer;
-      refusal = λ unfits. told;
-      unread = λ unfits. record { asks = refl; taken = refl; faults = refl };
-      named = λ fit. fitting_named code.ArrayBytes (seen_above at (H.seen old)).unserved fits e fit answer;
-      gives = λ served. record {
-        value = λ xs is. tt;
-        valid = tt;
-        failed = λ fit. inl (inl (fitting_memory fits e fit answer));
-        decodes = λ there all. tt;
-        all = λ none. tt;
-      };
-      below = below_early H (box_read at asked) old e same
-          (answers_no_fault {T = code.ArrayBytes} (Err e) _ (known_first None fits fine refl) answer);
-    }
+  -- all elements, to be changed
+  pub held_of : (old new : A) (r : Result code.ArrayBytes CodecError) → at.unserved ≡ None → Denotes at.level at.fill →
+      ReadsAsked H at under every_element old new r → ReadsHeld under
+      (H.tells old under (Some (whole (level_below at).shape))) (seen_above at (H.seen old))
+      (seen_above at (H.seen new)) r
+  held_of old new r own some reads = record {
+    value = λ xs served e. (reads.gives served).value xs e;
+    valid = λ served. (reads.gives served).valid;
+    decodes = λ served. (reads.gives served).all refl;
+    failed = λ served. told_first _ _ r (reads.gives served).failed;
+    named = named_above at.unserved (H.seen old).unserved (fill_element (kind_of at.level.data_type) at.fill) r own some
+        reads.named;
+    short = λ served few. reads.below.short (below_served _ _ _ served) (below_short _ _ few);
+    fault = reads.below.fault;
+    reads = raised_reads at.level at.fill at.unserved at.meaning at.region_below None (H.seen old) (H.seen new) r
+        reads.below.reads;
+  }

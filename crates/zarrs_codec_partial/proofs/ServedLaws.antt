@@ -38,24 +38,6 @@ named_above own below None r is there refuses = cc
 named_above (Some why) below (Some x) r is there refuses = cc
 named_above None below (Some x) r is there refuses = refuses
 
--- a first step that is Ok was not refused, or what it gives is valid
-pub valid_or : (why : Option Refused) (r : Result code.ArrayBytes CodecError) (Q : code.ArrayBytes → Type 0) →
-    RefusesFor why r → IfOk r (λ v. RefusesFor why r ⊎ Q v)
-valid_or why (Ok v) Q refuses = inl refuses
-valid_or why (Err e) Q refuses = tt
-
-pub step_named : {U : Type 0} (old mid : Option Refused) (v : code.ArrayBytes) (Q : Type 0) (r : Result U CodecError) →
-    mid ≡ old → RefusesFor old (Ok v) ⊎ Q → (Q → RefusesFor mid r) → RefusesFor old r
-step_named old mid v Q r same step next =
-    ⊎_elim (λ (no : RefusesFor old (Ok v)). refused_never old v r no)
-    (λ (q : Q). subst (λ (o : Option Refused). RefusesFor o r) same (next q)) step
-
-pub copied_valid : (level : Level) (number : ℕ) (raw copy : ArrayBytes) → number ≡ count_of level.shape → copy ≡ raw →
-    IsSome (meaning (kind_of level.data_type) number raw) → IsSome (list_at level copy)
-copied_valid level number raw copy long same there =
-    subst (λ (r : ArrayBytes). IsSome (list_at level r)) (sym same)
-    (subst (λ (n : ℕ). IsSome (meaning (kind_of level.data_type) n raw)) long there)
-
 -- what is handed on of elements is valid
 given_below : (decode : List Element → Option (List Element)) (o given : Option (List Element)) (list : List Element) →
     given ≡ o → option_and_then decode o ≡ Some list → IsSome given
@@ -71,25 +53,6 @@ hands_valid codec level fill fill_below under bytes encoded given filled hands s
     (list_at (codec.level_below level) encoded) given list same (hands.decodes list filled means))
 
 -- elements and an indexer that are in order
-sized_fine : (len expected : ℕ) (why : Option model.Refusal) → sized_answer len expected why ≡ fine → why ≡ None
-sized_fine len expected None is = refl
-sized_fine len expected (Some model.incompatible_dimensionality) is = cc
-sized_fine len expected (Some model.subset_out_of_bounds) is = cc
-sized_fine len expected (Some model.region_too_large) is = cc
-sized_fine len expected (Some model.expected_fixed_length_bytes) is = cc
-sized_fine len expected (Some model.expected_variable_length_bytes) is = cc
-sized_fine len expected (Some model.expected_optional_bytes) is = cc
-sized_fine len expected (Some model.invalid_mask) is = cc
-sized_fine len expected (Some model.unexpected_chunk_decoded_size) is = cc
-sized_fine len expected (Some model.invalid_variable_sized_array_offsets) is = cc
-sized_fine len expected (Some model.element_too_long) is = cc
-
-pub given_valid : (kind : Kind) (fits : Bool) (number : ℕ) (raw : ArrayBytes) →
-    given_answer kind fits number raw ≡ fine → IsSome (meaning kind number raw)
-given_valid kind fits number raw all =
-    (refusal-meaning kind number raw).0 (sized_fine (inner_length raw) (number * size_in (fixed_size kind))
-    (bytes_refusal kind number raw) (first_fine (validity kind number raw) (first_answer None fits fine) all))
-
 pub given_fine : (kind : Kind) (fits : Bool) (number : ℕ) (raw : ArrayBytes) → fits ≡ true →
     IsSome (meaning kind number raw) → given_answer kind fits number raw ≡ fine
 given_fine kind fits number raw inside there =
@@ -97,3 +60,9 @@ given_fine kind fits number raw inside there =
     let valid : validity kind number raw ≡ fine =
     ap (sized_answer (inner_length raw) (number * size_in (fixed_size kind))) none in
     ap₂ (λ (v : BytesAnswer) (f : Bool). then_answer v (first_answer None f fine)) valid inside
+
+-- both halves of a test that was passed
+pub both_served : {T : Type 0} (P Q : Type 0) (r : Result T CodecError) → IfOk r (λ v. P) → IfOk r (λ v. Q) →
+    IfOk r (λ v. P × Q)
+both_served P Q (Ok v) p q = (p, q)
+both_served P Q (Err e) p q = tt

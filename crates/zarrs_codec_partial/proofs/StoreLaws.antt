@@ -13,13 +13,12 @@ use Rattle.zarrs_codec_array_bytes.specs.declared.array_bytes.ArrayBytes as code
 use Rattle.zarrs_codec_traits.proofs.HeldFaultLaws.{unless}
 use Rattle.zarrs_codec.specs.ListWrites.{is_kept, is_stored, HoldsList, HoldsStored, IsAbsent, SameList, IsRefused}
 use Rattle.zarrs_codec.specs.ListWrites.{ErasesList, PutsList, StaysList, KeepsRest, UnaskedList, Rewrites}
-use Rattle.zarrs_codec.specs.Updates.{ReadsListIf, Stores, Updates}
+use Rattle.zarrs_codec.specs.Updates.{Stores, Updates}
 use Rattle.zarrs_codec_partial_elements.specs.Kinds.{kind_code}
 use Rattle.zarrs_codec_partial_elements.proofs.WriteLaws.{dropped_list, filled_list}
 use Rattle.zarrs_codec_partial.specs.Above.{IsBelow, IsFilled, HandsOn, list_raised, first_unserved, IsUnencodedBelow}
 use Rattle.zarrs_codec_partial.specs.Above.{IsEncodedBelow}
 use Rattle.zarrs_codec_partial.proofs.AboveLaws.{same_kind, below_served, unserved_below, below_short, own_short}
-use Rattle.zarrs_codec_partial.proofs.AboveLaws.{raised_keeps}
 
 -- what the codec's laws say of the fill
 pub filled_by : (codec : ArrayCodec) (fill_below : DataType → List ℕ → List ℕ) (level : Level) (fill : List ℕ) →
@@ -226,17 +225,6 @@ module _ (codec : ArrayCodec) (fill_below : DataType → List ℕ → List ℕ) 
   stays_above old new stays = let same = same_above old new (record { there = stays.there; list = stays.list }) in
       record { there = stays.there; list = same.list; content = stays.content }
 
-  pub reads_above : {T E : Type 0} (reads : Bool) (old new : ListSeen) (result : Result T E) → ReadsListIf reads
-      (Some (whole (codec.level_below level).shape)) old new result → ReadsListIf reads None (see old) (see new) result
-  reads_above reads old new result read = record {
-    keeps = raised_keeps level fill unserved codec region_below old new
-        read.keeps;
-    asks = read.asks;
-    asks_err = read.asks_err;
-    taken = read.taken;
-    taken_err = read.taken_err;
-  }
-
   -- nothing is read where all elements are given
   unasked_of : {T : Type 0} (old new : ListSeen) (result : Result T CodecError) → Rewrites false old new result →
       UnaskedList old new
@@ -257,13 +245,6 @@ told_above before now decode unencoded ys list (Ok v) decodes told = tt
 told_above before now decode unencoded ys list (Err e) decodes told =
     ⊎_elim (λ (h : IsHandleError before now e). inl h) (λ (u : unencoded ys e).
     let b : IsUnencodedBelow decode unencoded list e = record { below = ys; decodes = decodes; told = u } in inr b) told
-
-pub unencoded_back : (decode : List Element → Option (List Element)) (unencoded other : List Element → CodecError →
-    Type 0) → ((list : List Element) (e : CodecError) → other list e → unencoded list e)
-    → (list : List Element) (e : CodecError) → IsUnencodedBelow decode other list e →
-    IsUnencodedBelow decode unencoded list e
-unencoded_back decode unencoded other back list e why =
-    record { below = why.below; decodes = why.decodes; told = back why.below e why.told }
 
 taken_above : {T : Type 0} (decode : List Element → Option (List Element)) (takes : List Element → Type 0)
     (ys list : List Element) (r : Result T CodecError) → decode ys ≡ Some list → OnOk r (takes ys) →

@@ -109,11 +109,6 @@ pub record IsOver (seen : ListSeen) (at : CodecSeen) : Type 0 where
   pub served : at.unserved ≡ None
   pub below : IsBelow at.meaning at.fill_below at.level at.fill seen
 
--- where the codec serves its level a handle is one of the level below
-abbrev pub IsBelowServed : ListSeen → CodecSeen → Type 0
-IsBelowServed seen at =
-    at.unserved ≡ None → IsBelow at.meaning at.fill_below at.level at.fill seen
-
 -- a box is all of the level below one that fits, and that the codec serves
 pub record IsAllBelow (box : Region) (at : CodecSeen) : Type 0 where
   pub fits : IsFit at.level.shape at.level.data_type

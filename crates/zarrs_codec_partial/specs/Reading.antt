@@ -1,29 +1,24 @@
 -- What reading elements through a codec owes.
-use Rattle.std.specs.Prelude.{◌≡◌, ℕ, Bool, true, false, List, Option, Some, None, IsSome, Result, IfOk, IfErr, OnOk}
-use Rattle.std.specs.Prelude.{OnErr}
+use Rattle.std.specs.Prelude.{◌≡◌, true, false, List, Option, Some, None, IsSome, Result, IfOk, IfErr, OnOk, OnErr}
 use Rattle.zarrs_codec.specs.Prelude.{Region, whole, Element, fill_element, kind_of, meaning, Level, Options}
-use Rattle.zarrs_codec.specs.Prelude.{has_long_element, raw_of, fine, first_answer, IfUnfit, IsNoFault, RefusesAs}
-use Rattle.zarrs_codec.specs.Prelude.{Refused, RefusesFor, ListSeen, IsListError, TellsFault, IsUnread, ReadsList}
-use Rattle.zarrs_array_subset.specs.declared.error.IndexerError.{IndexerError}
+use Rattle.zarrs_codec.specs.Prelude.{has_long_element, raw_of, IsNoFault, Refused, RefusesFor, ListSeen, IsListError}
+use Rattle.zarrs_codec.specs.Prelude.{TellsFault, ReadsList, Choice, every, boxed}
 use Rattle.zarrs_codec_error.specs.declared.error.CodecError.{CodecError}
 use Rattle.zarrs_codec_error.specs.declared.error.CodecError.TheVariants as codec
 use Rattle.zarrs_codec_array_bytes.specs.declared.array_bytes.ArrayBytes as code
 use Rattle.zarrs_codec.specs.declared.array_partial_decoder.ArrayPartialDecoderTraits as decoder
-use Rattle.zarrs_codec_partial_elements.specs.Boxes.{Denotes, Choice, every, boxed, placed}
+use Rattle.zarrs_codec_partial_elements.specs.Boxes.{Denotes}
 use Rattle.zarrs_codec_partial.specs.Above.{CodecSeen, level_below, list_above, seen_above, box_for, first_unserved}
 
--- what is asked for: all elements, those of a box, or those at some places, with the smaller box
--- that these are, if they are one
+-- what is asked for: all elements, or those of a box
 pub data Asked : Type 0 where
   every_element : Asked
   in_box : Region → Asked
-  at_places : Option Region → List (List ℕ) → Asked
 
--- the box that is read for it by itself, if one is, and the one below that is then read
+-- that box, if it is one, and the one below that is then read
 abbrev pub own_box : Asked → Option Region
 own_box every_element = None
 own_box (in_box box) = Some box
-own_box (at_places box places) = box
 
 abbrev pub box_read : CodecSeen → Asked → Region
 box_read at asked =
@@ -33,7 +28,6 @@ box_read at asked =
 abbrev pub choice_of : Level → Asked → Choice
 choice_of level every_element = every level
 choice_of level (in_box box) = boxed box level
-choice_of level (at_places box places) = placed places level
 
 -- the list that array bytes mean which are given for it, if they are valid
 abbrev pub given_for : Level → Asked → code.ArrayBytes → Option (List Element)
@@ -41,14 +35,13 @@ given_for level asked v =
     meaning (kind_of level.data_type) (choice_of level asked).number (raw_of v)
 
 -- what is answered: those elements of the list above; or the error says why there are none
-pub record GivesAsked (at : CodecSeen) (asked : Asked) (fits : Bool) (list : Option (List Element))
+pub record GivesAsked (at : CodecSeen) (asked : Asked) (list : Option (List Element))
     (tells : CodecError → Type 0) (old new : ListSeen) (result : Result code.ArrayBytes CodecError)
     : Type 0 where
   pub value : (xs : List Element) → list ≡ Some xs
       → IfOk result (λ v. given_for at.level asked v ≡ Some ((choice_of at.level asked).pick xs))
   pub valid : IfOk result (λ v. IsSome (given_for at.level asked v))
-  pub failed : fits ≡ true
-      → IfErr result (IsListError old.there list tells old.shown.faults new.shown.faults)
+  pub failed : IfErr result (IsListError old.there list tells old.shown.faults new.shown.faults)
   -- a value that is read whole below decodes, and so does one all of whose elements are read
   pub decodes : old.there ≡ true → old.whole (Some (box_read at asked)) ≡ true
       → OnOk result (IsSome list)
@@ -69,24 +62,10 @@ pub record ReadsBelow {A : Type 0} (H : decoder.Ghosts A) (box : Region) (old ne
 -- a step of reading, at a level that the codec serves
 pub record ReadsAsked {A : Type 0} (H : decoder.Ghosts A) (at : CodecSeen) (under : Options)
     (asked : Asked) (old new : A) (result : Result code.ArrayBytes CodecError) : Type 0 where
-  pub gives : (seen_above at (H.seen old)).unserved ≡ None → GivesAsked at asked true
+  pub gives : (seen_above at (H.seen old)).unserved ≡ None → GivesAsked at asked
       (list_above at ((H.seen old).list under)) (H.tells old under (Some (box_read at asked)))
       (H.seen old) (H.seen new) result
   pub named : RefusesFor (H.seen old).unserved result
-  pub below : ReadsBelow H (box_read at asked) old new result
-
--- a whole call: an indexer that does not fit is refused first, by its own refusal, and nothing is
--- read; then the call is refused for the first reason for which nothing is served
-pub record DecodesElements {A : Type 0} (H : decoder.Ghosts A) (at : CodecSeen) (under : Options)
-    (asked : Asked) (fits : Bool) (refuses : IndexerError → Type 0) (old new : A)
-    (result : Result code.ArrayBytes CodecError) : Type 0 where
-  pub unfit : RefusesAs (first_answer None fits fine) result
-  pub refusal : fits ≡ false → IfErr result (IfUnfit refuses)
-  pub unread : fits ≡ false → IsUnread (H.seen old).shown (H.seen new).shown
-  pub named : fits ≡ true → RefusesFor (seen_above at (H.seen old)).unserved result
-  pub gives : (seen_above at (H.seen old)).unserved ≡ None → GivesAsked at asked fits
-      (list_above at ((H.seen old).list under)) (H.tells old under (Some (box_read at asked)))
-      (H.seen old) (H.seen new) result
   pub below : ReadsBelow H (box_read at asked) old new result
 
 -- a test that the fill value denotes an element, and that the codec serves its level

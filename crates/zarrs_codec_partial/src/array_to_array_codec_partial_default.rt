@@ -9,11 +9,14 @@ ghost use Rattle.zarrs_codec_partial_elements.specs.Kinds.{kind_code};
 use crate::level::ArrayLevel;
 use crate::write::are_fill_bytes;
 use std::alloc::Global;
-use zarrs_array_subset::ChunkShape;
+use zarrs_array_subset::{ArraySubset, ChunkShape};
 use zarrs_chunk_grid_indexer::Indexer;
 use zarrs_codec::{ArrayPartialDecoderTraits, ArrayPartialEncoderTraits};
 use zarrs_codec_array_bytes::ArrayBytes;
 use zarrs_codec_error::{CodecError, CodecOptions};
+use zarrs_codec_partial_elements::calls::{LevelReads, LevelWrites};
+use zarrs_codec_partial_elements::decoding::decode_elements;
+use zarrs_codec_partial_elements::encoding::encode_elements;
 use zarrs_codec_traits::ArrayToArrayCodecTraits;
 use zarrs_data_type::DataType;
 use zarrs_data_type_bytes::FillValue;
@@ -99,6 +102,119 @@ impl<H: ArrayPartialDecoderTraits, C: ArrayToArrayCodecTraits> ArrayToArrayCodec
     }
 }
 
+impl<H: ArrayPartialDecoderTraits, C: ArrayToArrayCodecTraits> LevelReads
+    for ArrayToArrayCodecPartialDefault<H, C> {
+    ghost use Rattle.std.specs.Prelude.{Some};
+    ghost use Rattle.std.proofs.Common.{refl, ◌∙◌, subst};
+    ghost use Rattle.zarrs_codec_partial_elements.specs.Boxes.{Denotes};
+    ghost use Rattle.zarrs_codec_partial.specs.Above.{array_level, array_fill, list_raised, asked_box_below};
+
+    ghost seen = { λ h. list_raised (array_level h.level) (array_fill h.level)
+        (unserved_at (C.unserved h.level.codec) (array_level h.level) (array_fill h.level))
+        (C.meaning h.level.codec) (C.region_below h.level.codec) (H.seen h.handle) };
+
+    ghost tells = { λ h under asked e. H.tells h.handle under
+        (Some (asked_box_below (C.region_below h.level.codec) (array_level h.level).shape
+        ((C.meaning h.level.codec).level_below (array_level h.level)).shape asked)) e };
+
+    ghost same = { λ a b. (a.level ≡ b.level) × H.same a.handle b.handle };
+
+    ghost served = { λ h. (unserved_at (C.unserved h.level.codec) (array_level h.level)
+        (array_fill h.level) ≡ None) × Denotes (array_level h.level) (array_fill h.level) };
+
+    ghost fits = { λ h. h.fits };
+
+    ghost same_self = { λ h. (refl, H.same_self h.handle) };
+
+    ghost same_twice = { λ a b c x y. (
+      x.0 ∙ y.0,
+      H.same_twice a.handle b.handle c.handle x.1 y.1,
+    ) };
+
+    ghost same_served = { λ a b same served. subst (λ at. (unserved_at (C.unserved at.codec)
+        (array_level at) (array_fill at) ≡ None) × Denotes (array_level at) (array_fill at))
+        same.0 served };
+
+    fn shape(&self) -> &ChunkShape {
+        &self.level.shape
+    }
+
+    fn element_type(&self) -> &DataType {
+        &self.level.data_type
+    }
+
+    fn expect_served(&self, alloc: Global) -> Result<(), CodecError> {
+        self.level.expect_served(alloc)
+    }
+
+    fn decode_whole(
+        &mut self,
+        alloc: Global,
+        options: &CodecOptions,
+    ) -> Result<ArrayBytes<'static>, CodecError> {
+        self.level.decode_whole(alloc, &mut self.handle, options)
+    }
+
+    fn decode_box(
+        &mut self,
+        alloc: Global,
+        region: &ArraySubset,
+        options: &CodecOptions,
+    ) -> Result<ArrayBytes<'static>, CodecError> {
+        self.level
+            .decode_box(alloc, &mut self.handle, region, options)
+    }
+}
+
+impl<H: ArrayPartialEncoderTraits, C: ArrayToArrayCodecTraits> LevelWrites
+    for ArrayToArrayCodecPartialDefault<H, C> {
+    ghost use Rattle.std.specs.Prelude.{Some};
+    ghost use Rattle.std.proofs.Common.{subst, sym};
+    ghost use Rattle.zarrs_codec_partial.specs.Above.{array_level, IsUnencodedBelow, IsEncodedBelow};
+
+    ghost unencoded = { λ h list e. IsUnencodedBelow ((C.meaning h.level.codec).decode_list
+        (array_level h.level)) (H.unencoded h.handle) list e };
+
+    ghost encodes = { λ h list. IsEncodedBelow ((C.meaning h.level.codec).decode_list
+        (array_level h.level)) (H.encodes h.handle) list };
+
+    ghost encodes_short = { λ h. H.encodes_short h.handle };
+
+    ghost same_unencoded = { λ a b list e same why. record {
+      below = why.below;
+      decodes = subst (λ at. (C.meaning at.codec).decode_list (array_level at) why.below
+          ≡ Some list) (sym same.0) why.decodes;
+      told = H.same_unencoded a.handle b.handle why.below e same.1 why.told;
+    } };
+
+    ghost same_encodes = { λ a b list same is. record {
+      below = is.below;
+      decodes = subst (λ at. (C.meaning at.codec).decode_list (array_level at) is.below
+          ≡ Some list) (sym same.0) is.decodes;
+      taken = H.same_encodes a.handle b.handle is.below same.1 is.taken;
+    } };
+
+    ghost same_short = { λ a b same takes. H.same_short a.handle b.handle same.1 takes };
+
+    fn old_elements(
+        &mut self,
+        alloc: Global,
+        options: &CodecOptions,
+    ) -> Result<ArrayBytes<'static>, CodecError> {
+        ArrayLevel::decode_whole(&self.level, alloc, &mut self.handle, options)
+    }
+
+    fn store_elements(
+        &mut self,
+        alloc: Global,
+        bytes: ArrayBytes<'static>,
+        options: &CodecOptions,
+    ) -> Result<(), CodecError> {
+        self.level
+            .store_elements(alloc, &mut self.handle, bytes, options)
+    }
+}
+
 impl<H: ArrayPartialDecoderTraits, C: ArrayToArrayCodecTraits> ArrayPartialDecoderTraits
     for ArrayToArrayCodecPartialDefault<H, C> {
     ghost use Rattle.std.specs.Prelude.{Some, ◌&&◌};
@@ -170,15 +286,13 @@ impl<H: ArrayPartialDecoderTraits, C: ArrayToArrayCodecTraits> ArrayPartialDecod
             && self.handle.supports_partial_decode()
     }
 
-    #[tactic(auto, using(crate::proofs::AboveLaws::raised_reads, crate::proofs::AboveLaws::below_short))]
     fn partial_decode<I: Indexer>(
         &mut self,
         alloc: Global,
         indexer: &I,
         options: &CodecOptions,
     ) -> Result<ArrayBytes<'static>, CodecError> {
-        self.level
-            .decode_elements(alloc, &mut self.handle, indexer, options)
+        decode_elements(self, alloc, indexer, options)
     }
 }
 
@@ -231,7 +345,6 @@ impl<H: ArrayPartialEncoderTraits, C: ArrayToArrayCodecTraits> ArrayPartialEncod
         bytes: &ArrayBytes<'_>,
         options: &CodecOptions,
     ) -> Result<(), CodecError> {
-        self.level
-            .encode_elements(alloc, &mut self.handle, indexer, bytes, options)
+        encode_elements(self, alloc, indexer, bytes, options)
     }
 }

@@ -2,21 +2,18 @@
 
 ghost use Rattle.std.specs.Prelude.{◌≡◌, true, None, MatchResult};
 ghost use Rattle.zarrs_codec.specs.Prelude.{whole, ends_within, region as box_of, unserved_at};
-ghost use Rattle.zarrs_codec.specs.Prelude.{options_of, IsFit, smaller_box as box_within};
+ghost use Rattle.zarrs_codec.specs.Prelude.{options_of, IsFit};
 ghost use Rattle.zarrs_codec_error.specs.declared.error.CodecError.TheVariants as codec;
-ghost use Rattle.zarrs_codec_partial.specs.Above.{IsBelowServed, IsOver};
-ghost use Rattle.zarrs_codec_partial.specs.Reading.{every_element, in_box, at_places, ReadsAsked, DecodesElements, TestsServed};
+ghost use Rattle.zarrs_codec_partial.specs.Above.{IsOver};
+ghost use Rattle.zarrs_codec_partial.specs.Reading.{every_element, in_box, ReadsAsked, TestsServed};
 
 use crate::level::ArrayLevel;
 use std::alloc::Global;
 use zarrs_array_subset::ArraySubset;
-use zarrs_chunk_grid_indexer::Indexer;
 use zarrs_codec::ArrayPartialDecoderTraits;
 use zarrs_codec_array_bytes::ArrayBytes;
 use zarrs_codec_error::{CodecError, CodecOptions};
-use zarrs_codec_partial_elements::boxes::smaller_box;
 use zarrs_codec_partial_elements::fill::expect_denoted;
-use zarrs_codec_partial_elements::read::fitting_numbers;
 use zarrs_codec_traits::{ArrayToArrayCodecTraits, whole_box};
 
 impl<C: ArrayToArrayCodecTraits> ArrayLevel<C> {
@@ -55,7 +52,7 @@ impl<C: ArrayToArrayCodecTraits> ArrayLevel<C> {
     }
 
     // The elements of a region, out of those of the box below.
-    fn decode_box<H: ArrayPartialDecoderTraits>(
+    pub(crate) fn decode_box<H: ArrayPartialDecoderTraits>(
         &self,
         alloc: Global,
         handle: &mut H,
@@ -109,93 +106,6 @@ impl<C: ArrayToArrayCodecTraits> ArrayLevel<C> {
                     &self.fill_value,
                     options,
                 ),
-                Err(error) => Err(error),
-            },
-            Err(error) => Err(error),
-        }
-    }
-}
-
-impl<C: ArrayToArrayCodecTraits> ArrayLevel<C> {
-    ghost use Rattle.zarrs_codec_partial.specs.Above.{array_level, array_fill, codec_seen};
-
-    // The elements at an indexer's indices, out of all elements.
-    fn decode_listed<H: ArrayPartialDecoderTraits, I: Indexer>(
-        &self,
-        alloc: Global,
-        handle: &mut H,
-        indexer: &I,
-        numbers: &[u64],
-        options: &CodecOptions,
-    ) -> Result<ArrayBytes<'static>, CodecError>
-        requires over { IsOver (H.seen handle.old)
-            (codec_seen C.ArrayCodecTraits.own C.ArrayToArrayCodecTraits.own self.now) }
-        requires shape { numbers.now ≡ (array_level self.now).shape }
-        requires fit { I.fits indexer.now numbers.now ≡ true }
-        ensures { ReadsAsked H.ArrayPartialDecoderTraits
-            (codec_seen C.ArrayCodecTraits.own C.ArrayToArrayCodecTraits.own self.now)
-            (options_of options.now) (at_places None (I.places indexer.now))
-            handle.old handle.new result }
-    {
-        match self.decode_whole(alloc, handle, options) {
-            Ok(all) => all.extract_array_subset(alloc, indexer, numbers, &self.data_type),
-            Err(error) => Err(error),
-        }
-    }
-
-    // The elements at the indices of an indexer that fits.
-    fn decode_fit<H: ArrayPartialDecoderTraits, I: Indexer>(
-        &self,
-        alloc: Global,
-        handle: &mut H,
-        indexer: &I,
-        numbers: &[u64],
-        options: &CodecOptions,
-    ) -> Result<ArrayBytes<'static>, CodecError>
-        requires over { IsOver (H.seen handle.old)
-            (codec_seen C.ArrayCodecTraits.own C.ArrayToArrayCodecTraits.own self.now) }
-        requires shape { numbers.now ≡ (array_level self.now).shape }
-        requires fit { I.fits indexer.now numbers.now ≡ true }
-        ensures { ReadsAsked H.ArrayPartialDecoderTraits
-            (codec_seen C.ArrayCodecTraits.own C.ArrayToArrayCodecTraits.own self.now)
-            (options_of options.now)
-            (at_places (box_within (array_level self.now).shape (I.as_region indexer.now))
-            (I.places indexer.now)) handle.old handle.new result }
-    {
-        match smaller_box(alloc, indexer, numbers) {
-            Ok(Some(region)) => self.decode_box(alloc, handle, &region, options),
-            Ok(None) => self.decode_listed(alloc, handle, indexer, numbers, options),
-            Err(error) => Err(CodecError::from(error)),
-        }
-    }
-
-    /// The elements at the indexer's indices, in their order: of a box that is smaller than the shape by the steps of the
-    /// codec, else out of all elements.
-    ///
-    /// # Errors
-    /// [`CodecError`] exactly where the indexer does not fit the shape, before anything is read; else where the fill value
-    /// denotes no element, where the codec does not serve its level, where what is below is not served, fails or does not
-    /// decode, or where memory runs out.
-    pub fn decode_elements<H: ArrayPartialDecoderTraits, I: Indexer>(
-        &self,
-        alloc: Global,
-        handle: &mut H,
-        indexer: &I,
-        options: &CodecOptions,
-    ) -> Result<ArrayBytes<'static>, CodecError>
-        requires fits { IsFit (array_level self.now).shape (array_level self.now).data_type }
-        requires below { IsBelowServed (H.seen handle.old)
-            (codec_seen C.ArrayCodecTraits.own C.ArrayToArrayCodecTraits.own self.now) }
-        ensures { DecodesElements H.ArrayPartialDecoderTraits
-            (codec_seen C.ArrayCodecTraits.own C.ArrayToArrayCodecTraits.own self.now)
-            (options_of options.now)
-            (at_places (box_within (array_level self.now).shape (I.as_region indexer.now))
-            (I.places indexer.now)) (I.fits indexer.now (array_level self.now).shape)
-            (I.refuses indexer.now (array_level self.now).shape) handle.old handle.new result }
-    {
-        match fitting_numbers(alloc, indexer, &self.shape) {
-            Ok(numbers) => match self.expect_served(alloc) {
-                Ok(()) => self.decode_fit(alloc, handle, indexer, &numbers, options),
                 Err(error) => Err(error),
             },
             Err(error) => Err(error),

@@ -32,7 +32,8 @@ use Rattle.zarrs_codec.specs.Lists.{fills, IsListError, KeepsList, LooksAt, Read
 use Rattle.zarrs_codec.proofs.SliceLaws.{parts_sliced}
 use Rattle.zarrs_codec_partial_elements.specs.Level.{list_of, found, held_in, IsPartRefused, IsOtherFill, undecoded}
 use Rattle.zarrs_codec_partial_elements.specs.Level.{parts_say, ranges_say, own_says, level_says, ranges_for, listed}
-use Rattle.zarrs_codec_partial_elements.specs.Boxes.{Denotes, IsShort, every, boxed, placed, GivesElements}
+use Rattle.zarrs_codec.specs.Selects.{every, boxed, placed}
+use Rattle.zarrs_codec_partial_elements.specs.Boxes.{Denotes, IsShort, GivesElements}
 
 -- one half of an answer
 ok_of : {T : Type 0} (P : T → Type 0) (Q : CodecError → Type 0) (r : Result T CodecError) → MatchResult r P Q → IfOk r P
@@ -353,38 +354,6 @@ given_fails level fill decode says tells below under sound ranges before now giv
         value_fails_if level fill decode says tells below under (Some ranges) before now value r is
         (cause value s.slices s.lengths)
 
--- elements at some tuples, out of all of them
-pub listed_gives : (level : Level) (fill : List ℕ) (list : Option (List Element)) (places : List (List ℕ))
-    (raw : ArrayBytes) (r : Result code.ArrayBytes CodecError)
-    → ((xs : List Element) → list ≡ Some xs → list_at level raw ≡ Some xs) → IsSome (list_at level raw)
-    → ((xs : List Element) → list_at level raw ≡ Some xs → IfOk r (λ v.
-    meaning (kind_of level.data_type) (length places) (raw_of v) ≡ Some (picked null (linear level.shape places) xs)))
-    → (IsShort level fill → IfOk r (λ v. has_long_element (raw_of v) ≡ false)) →
-    GivesElements (placed places level) level fill list r
-listed_gives level fill list places raw r value valid chosen short = record {
-  value = λ xs e. chosen xs (value xs e);
-  valid = let all = listed_some (list_at level raw) valid in
-      weaker _ _ r (λ v is. some_now _ _ is) (chosen all.0 all.1);
-  short = short;
-}
-  where
-    listed_some : (o : Option (List Element)) → IsSome o → (xs : List Element) × (o ≡ Some xs)
-    listed_some None some = cc
-    listed_some (Some xs) some = (xs, refl)
-
--- elements that are not taken out of all of them
-pub listed_fails : {T : Type 0} (level : Level) (fits : Bool) (raw : ArrayBytes) (r : Result T CodecError)
-    (P : CodecError → Type 0) → fits ≡ true → IsSome (list_at level raw)
-    → Answers (extract_answer (kind_of level.data_type) fits (count_of level.shape) raw) r → P codec.OutOfMemory →
-    IfErr r P
-listed_fails level fits raw (Ok v) P inside valid answers memory = tt
-listed_fails level fits raw (Err e) P inside valid answers memory = go (list_at level raw) refl valid
-  where
-    go : (o : Option (List Element)) → list_at level raw ≡ o → IsSome o → P e
-    go None is some = cc
-    go (Some xs) is some = subst P
-        (sym (extract_told (kind_of level.data_type) fits (count_of level.shape) raw xs e inside is answers)) memory
-
 -- what is given has a list
 pub value_decodes : {T : Type 0} (decode : List ℕ → Option (List Element)) (absent : Option (List Element))
     (there : Bool) (held : Held) (given : T → Option (List Element)) (Q : CodecError → Type 0) (r : Result T CodecError)
@@ -405,21 +374,6 @@ pub absent_decodes : (level : Level) (fill : List ℕ) (list : Option (List Elem
 absent_decodes level fill list there is gone (inl here) = absurd (never (sym here ∙ gone))
 absent_decodes level fill list there is gone (inr denotes) = subst (λ (o : Option (List Element)). IsSome o) (sym is)
     (filled_some (count_of level.shape) (fill_element (kind_of level.data_type) fill) denotes)
-
--- the elements of the box that an indexer is
-pub boxed_gives : (level : Level) (fill : List ℕ) (box : Region) (places : List (List ℕ)) (list : Option (List Element))
-    (r : Result code.ArrayBytes CodecError) → places ≡ tuples box → GivesElements (boxed box level) level fill list r
-    → GivesElements (placed places level) level fill list r
-boxed_gives level fill box places list r same gives = record {
-  value = λ xs e. weaker _ _ r (λ v is. boxed-picked level box places (raw_of v) xs same is) (gives.value xs e);
-  valid = weaker _ _ r (λ v is. boxed_some v is) gives.valid;
-  short = gives.short;
-}
-  where
-    boxed_some : (v : code.ArrayBytes) → IsSome (list_at (at_box box level) (raw_of v)) →
-        IsSome (meaning (kind_of level.data_type) (length places) (raw_of v))
-    boxed_some v is = subst (λ (n : ℕ). IsSome (meaning (kind_of level.data_type) n (raw_of v)))
-        (sym (ap length same ∙ length-tuples box)) is
 
 -- what is shown of the handle below
 module _ (level : Level) (fill : List ℕ) (unserved : Option Unserved)
@@ -483,13 +437,3 @@ module _ (level : Level) (fill : List ℕ) (decode : List ℕ → Option (List E
       ⊎_elim (λ (t : IsPartRefused (old.held under) (old.part under) asked × new_tells asked e). inl (t.0, back t.1))
       (λ (own : own_says level fill says (ranges_say level fill (undecoded decode says) old.there (old.part under)
       asked) (old.held under) e). inr own) same
-
--- the box that is read by itself is the indexer's
-pub smaller_is : (shape : List ℕ) (asked : Option Region) (box : Region) → smaller_box shape asked ≡ Some box →
-    asked ≡ Some box
-smaller_is shape None box e = cc
-smaller_is shape (Some other) box e = go (is_smaller shape other) e
-  where
-    go : (b : Bool) → (if b then Some other else None) ≡ Some box → Some other ≡ Some box
-    go true e = e
-    go false e = cc

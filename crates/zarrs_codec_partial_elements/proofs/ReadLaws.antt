@@ -13,6 +13,7 @@ use Rattle.zarrs_codec_error.specs.declared.error.CodecError.TheVariants as code
 use Rattle.zarrs_codec_array_bytes.specs.declared.array_bytes.ArrayBytes as code
 use Rattle.zarrs_codec_array_bytes.specs.Refusals.{BytesAnswer, fine, told_by, other_fill, extract_answer, Answers}
 use Rattle.zarrs_codec_traits.specs.Errors.{Unserved, unserved_at, IsNoFault, RefusesBy, RefusesAs, IsDecodeError}
+use Rattle.zarrs_codec_traits.specs.Calls.{DecodesParts}
 use Rattle.zarrs_codec_traits.specs.Parts.{ArePartsOf, request_answer, part_lengths_answer}
 use Rattle.zarrs_codec_traits.proofs.FaultLaws.{memory_no_fault, told_no_fault, answers_no_fault, decoded_no_fault}
 use Rattle.zarrs_codec_traits.proofs.FaultLaws.{served_no_fault, known_extract}
@@ -23,12 +24,13 @@ use Rattle.zarrs_codec_partial_elements.specs.declared.level.BottomLevel.{Bottom
 use Rattle.zarrs_codec_partial_elements.specs.Level.{level_of_bottom, bottom_fill, list_of, found, held_in, IsOtherFill}
 use Rattle.zarrs_codec_partial_elements.specs.Level.{undecoded, parts_say, ranges_say, own_says, IsServedBottom}
 use Rattle.zarrs_codec_partial_elements.specs.Level.{bottom_list_in, says_in, seen_by}
-use Rattle.zarrs_codec_partial_elements.specs.Boxes.{Denotes, Choice, every, boxed, placed, GivesElements}
+use Rattle.zarrs_codec.specs.Selects.{Choice, every, boxed, placed}
+use Rattle.zarrs_codec_partial_elements.specs.Boxes.{Denotes, GivesElements}
 use Rattle.zarrs_codec_partial_elements.specs.Reading.{FillsElements, ReadsElements, ReadsOld}
 use Rattle.zarrs_codec_partial_elements.proofs.HeldLaws.{weaker_err, all_of_value, box_of_value, value_fails_by}
 use Rattle.zarrs_codec_partial_elements.proofs.HeldLaws.{value_fails_if, read_fails, parts_fail, list_absent}
-use Rattle.zarrs_codec_partial_elements.proofs.HeldLaws.{box_of_parts, parts_told, given_fails, listed_gives}
-use Rattle.zarrs_codec_partial_elements.proofs.HeldLaws.{listed_fails, value_decodes, absent_decodes, boxed_gives}
+use Rattle.zarrs_codec_partial_elements.proofs.HeldLaws.{box_of_parts, parts_told, given_fails}
+use Rattle.zarrs_codec_partial_elements.proofs.HeldLaws.{value_decodes, absent_decodes}
 
 -- whatever comes after a read
 read_still : {T U E F : Type 0} (asked : Option (List ByteRange)) (old new : Seen) (v : T) (result : Result U F) →
@@ -59,7 +61,8 @@ fill_own : (level : Level) (fill : List ℕ) (e : CodecError) → (e ≡ codec.O
 fill_own level fill e (inl memory) = memory_no_fault e memory
 fill_own level fill e (inr other) = told_no_fault e other_fill refl other.1
 
-told_first : {T : Type 0} (A B : CodecError → Type 0) (r : Result T CodecError) → IfErr r A → IfErr r (λ e. A e ⊎ B e)
+pub told_first : {T : Type 0} (A B : CodecError → Type 0) (r : Result T CodecError) → IfErr r A →
+    IfErr r (λ e. A e ⊎ B e)
 told_first A B (Ok v) told = tt
 told_first A B (Err e) told = inl told
 
@@ -68,28 +71,6 @@ none_given : (choice : Choice) (level : Level) (fill : List ℕ) (list : Option 
     GivesElements choice level fill list (Err e)
 none_given choice level fill list e = record { value = λ xs is. tt; valid = tt; short = λ few. tt }
 
--- what a codec makes of parts
-pub record DecodesParts {B : Type 0} (unserved : B → Option (List ℕ) → Option DataType → Option (List ℕ) →
-    Option Unserved) (meaning : B → Options → Level → List ℕ → Option (List Element))
-    (says : B → Options → Level → List ℕ → CodecError → Type 0)
-    (bottom : BottomLevel B) (box : Region) (request : Option (List ByteRange)) (parts : List (List ℕ))
-    (under : Options) (result : Result code.ArrayBytes CodecError) : Type 0 where
-  pub value : (value : List ℕ) (xs : List Element) → IsServedBottom unserved bottom → ArePartsOf request value parts →
-      meaning bottom.codec under (level_of_bottom bottom) value ≡ Some xs
-      → MatchResult result (λ v. list_at (at_box box (level_of_bottom bottom)) (raw_of v) ≡
-      Some (select (level_of_bottom bottom).shape box xs)) (λ e. e ≡ codec.OutOfMemory)
-  pub lengths : IsServedBottom unserved bottom → RefusesAs (request_answer request parts) result
-  pub cause : (value : List ℕ) → IsServedBottom unserved bottom → ArePartsOf request value parts →
-      request_answer request parts ≡ fine
-      → IfErr result (IsDecodeError (meaning bottom.codec under (level_of_bottom bottom) value)
-      (says bottom.codec under (level_of_bottom bottom) value))
-  pub valid : IsServedBottom unserved bottom →
-      IfOk result (λ v. IsSome (list_at (at_box box (level_of_bottom bottom)) (raw_of v)))
-  pub decodes : (value : List ℕ) → IsServedBottom unserved bottom → request ≡ None → parts ≡ value ∷ [] →
-      IfOk result (λ _. IsSome (meaning bottom.codec under (level_of_bottom bottom) value))
-  pub short : IfOk result (λ v. has_long_element (raw_of v) ≡ false)
-  pub no_fault : IfErr result IsNoFault
-
 -- a list where a call was Ok
 on_ok_of : {T : Type 0} (P : Type 0) (r : Result T CodecError) → IfOk r (λ _. P) → OnOk r P
 on_ok_of P (Ok v) holds = holds
@@ -97,9 +78,6 @@ on_ok_of P (Err e) holds = tt
 
 here_gone : true ≡ false → ⊥
 here_gone e = cc
-
-pub not_ok : {P : Type 0} → false ≡ true → P
-not_ok e = cc
 
 list_some : (list other : Option (List Element)) → list ≡ other → {T : Type 0} (r : Result T CodecError) →
     OnOk r (IsSome other) → OnOk r (IsSome list)
@@ -128,37 +106,6 @@ module _ {B X : Type 0} {unserved : B → Option (List ℕ) → Option DataType 
       → ReadsElements unserved meaning says seen Tells Same bottom choice other in_order under old new result
   asked_so {choice = choice} {in_order = in_order} {result = result} same read = subst (λ (a : Option (List ByteRange)).
       ReadsElements unserved meaning says seen Tells Same bottom choice a in_order under old new result) same read
-
-  -- a failure to read other elements
-  pub failed_so : {choice other : Level → Choice} {asked : Option (List ByteRange)} {in_order : Bool} {e : CodecError} →
-      ReadsElements unserved meaning says seen Tells Same bottom choice asked in_order under old new (Err e)
-      → ReadsElements unserved meaning says seen Tells Same bottom other asked in_order under old new (Err e)
-  failed_so {other = other} {e = e} read = record {
-    gives = λ served. none_given (other (level_of_bottom bottom))
-        (level_of_bottom bottom) (bottom_fill bottom) _ e;
-    failed = read.failed;
-    decodes = read.decodes;
-    fault = read.fault;
-    reads = read.reads;
-    same = read.same;
-    tells = read.tells;
-  }
-
-  -- the elements of the box that an indexer is
-  pub placed_read : (box : Region) (places : List (List ℕ)) {asked : Option (List ByteRange)}
-      {in_order : Bool} {result : Result code.ArrayBytes CodecError} → places ≡ tuples box
-      → ReadsElements unserved meaning says seen Tells Same bottom (boxed box) asked in_order under old new result →
-      ReadsElements unserved meaning says seen Tells Same bottom (placed places) asked in_order under old new result
-  placed_read box places {result = result} same read = record {
-    gives = λ served.
-        boxed_gives (level_of_bottom bottom) (bottom_fill bottom) box places _ result same (read.gives served);
-    failed = read.failed;
-    decodes = read.decodes;
-    fault = read.fault;
-    reads = read.reads;
-    same = read.same;
-    tells = read.tells;
-  }
 
 -- what follows a read of what is below
 module _ {B X : Type 0} {unserved : B → Option (List ℕ) → Option DataType → Option (List ℕ) → Option Unserved}
@@ -282,23 +229,26 @@ module _ {B X : Type 0} {unserved : B → Option (List ℕ) → Option DataType 
       (seen old).held under ≡ Some (Some value)
       → ReadsRanges {E = CodecError} None (seen old) (seen new) (Ok v) → Same old new → ((options : Options) (ranges :
       Option (List ByteRange)) (e : CodecError) → Tells new options ranges e → Tells old options ranges e)
-      → DecodesParts unserved meaning says bottom box request parts under result →
+      → (IsServedBottom unserved bottom → DecodesParts request
+      (meaning bottom.codec under (level_of_bottom bottom)) (says bottom.codec under (level_of_bottom bottom))
+      (level_of_bottom bottom) box parts result) → IfOk result (λ v. has_long_element (raw_of v) ≡ false) →
+      IfErr result IsNoFault →
       ReadsElements unserved meaning says seen Tells Same bottom (boxed box) None in_order under old new result
-  box_value_read box {result = result} value request parts none only is reads same tells decoded =
+  box_value_read box {result = result} value request parts none only is reads same tells decoded short own =
       let level = level_of_bottom bottom in
       let fill = bottom_fill bottom in
       let decode = meaning bottom.codec under level in
       let told = says bottom.codec under level in
       let are = subst (λ (r : Option (List ByteRange)). ArePartsOf r value parts) (sym none) only in
       let fits = ap (λ (r : Option (List ByteRange)). request_answer r parts) none in
-      after_read reads same tells decoded.no_fault
+      after_read reads same tells own
       (λ served. box_of_value level fill decode (fills level fill) (held_in (seen old) under) box value result (ap
-      (found (seen old).there) is) (λ xs e. decoded.value value xs served are e) (decoded.valid served) decoded.short)
+      (found (seen old).there) is) (λ xs e. (decoded served).value value xs are e) (decoded served).valid short)
       (λ served. value_fails_if level fill decode told (Tells old under) (seen old) under None _ _ value result is
-      (decoded.cause value served are fits))
+      ((decoded served).cause value are fits))
       (λ served whole case. list_some (bottom_list_in meaning bottom (seen old) under) (decode value)
       (ap (λ (h : Held). list_of decode (fills level fill) (found (seen old).there h)) is) result
-      (on_ok_of (IsSome (decode value)) result (decoded.decodes value served none only)))
+      (on_ok_of (IsSome (decode value)) result ((decoded served).decodes value none only)))
 
   -- a box was decoded out of parts
   pub box_parts_read : (box : Region) {ranges : List ByteRange} {T : Type 0}
@@ -308,9 +258,13 @@ module _ {B X : Type 0} {unserved : B → Option (List ℕ) → Option DataType 
       ReadsRanges {E = CodecError} (Some ranges) (seen old) (seen new) (Ok v) → Same old new
       → ((options : Options) (ranges : Option (List ByteRange)) (e : CodecError) → Tells new options ranges e →
       Tells old options ranges e)
-      → DecodesParts unserved meaning says bottom box request parts under result →
+      → (IsServedBottom unserved bottom → DecodesParts request
+      (meaning bottom.codec under (level_of_bottom bottom)) (says bottom.codec under (level_of_bottom bottom))
+      (level_of_bottom bottom) box parts result) → IfOk result (λ v. has_long_element (raw_of v) ≡ false) →
+      IfErr result IsNoFault →
       ReadsElements unserved meaning says seen Tells Same bottom (boxed box) (Some ranges) in_order under old new result
-  box_parts_read box {ranges = ranges} {result = result} request parts some sound given reads same tells decoded =
+  box_parts_read box {ranges = ranges} {result = result} request parts some sound given reads same tells decoded short
+      own =
       let level = level_of_bottom bottom in
       let fill = bottom_fill bottom in
       let decode = meaning bottom.codec under level in
@@ -320,41 +274,20 @@ module _ {B X : Type 0} {unserved : B → Option (List ℕ) → Option DataType 
       let answer : request_answer request parts ≡ part_lengths_answer ranges parts =
       ap (λ (r : Option (List ByteRange)). request_answer r parts) some in
       let cause = (λ (served : IsServedBottom unserved bottom) (value : List ℕ) (is : parts ≡ slices_of ranges value)
-      (fits : part_lengths_answer ranges parts ≡ fine). decoded.cause value served (are value is) (answer ∙ fits)) in
-      after_read reads same tells decoded.no_fault
+      (fits : part_lengths_answer ranges parts ≡ fine). (decoded served).cause value (are value is) (answer ∙ fits)) in
+      after_read reads same tells own
       (λ served. box_of_parts level fill decode (fills level fill) ((seen old).held under) (seen old).there
       (sound.all_there under) ((seen old).part under) ranges parts (λ value is range. sound.whole under value range is)
       given.1 given.0 box result
-      (λ value xs is e. decoded.value value xs served (are value is) e) (decoded.valid served) decoded.short)
+      (λ value xs is e. (decoded served).value value xs (are value is) e) (decoded served).valid short)
       (λ served.
       given_fails level fill decode told (Tells old under) (seen old) under sound ranges _ _ parts result given
       (told_each decode told ranges parts result
-      (subst (λ (t : BytesAnswer). RefusesAs t result) answer (decoded.lengths served)) (cause served)) (cause served))
+      (subst (λ (t : BytesAnswer). RefusesAs t result) answer (decoded served).lengths) (cause served)) (cause served))
       (λ served whole case. absurd (some_none whole))
     where
       some_none : Some ranges ≡ None → ⊥
       some_none e = cc
-
-  -- elements were taken out of all of them
-  pub listed_read : (places : List (List ℕ)) {whole : code.ArrayBytes} {result : Result code.ArrayBytes CodecError}
-      (fits : Bool) → ReadsElements unserved meaning says seen Tells Same bottom every None in_order under old new
-      (Ok whole) → fits ≡ true
-      → ((xs : List Element) → list_at (level_of_bottom bottom) (raw_of whole) ≡ Some xs →
-      IfOk result (λ v. means (kind_of (level_of_bottom bottom).data_type) (length places) (raw_of v) ≡
-      Some (picked null (linear (level_of_bottom bottom).shape places) xs)))
-      → Answers (extract_answer (kind_of (level_of_bottom bottom).data_type) fits
-      (count_of (level_of_bottom bottom).shape) (raw_of whole)) result
-      → (has_long_element (raw_of whole) ≡ false → IfOk result (λ v. has_long_element (raw_of v) ≡ false)) →
-      ReadsElements unserved meaning says seen Tells Same bottom (placed places) None in_order under old new result
-  listed_read places {whole = whole} {result = result} fits read inside taken answer short =
-      let level = level_of_bottom bottom in
-      after_read read.reads read.same read.tells (answers_no_fault result _
-      (known_extract (kind_of level.data_type) fits (count_of level.shape) (raw_of whole)) answer)
-      (λ served. let all = read.gives served in listed_gives level (bottom_fill bottom) _ places (raw_of whole) result
-      all.value all.valid taken (λ few. short (all.short few)))
-      (λ served.
-      listed_fails level fits (raw_of whole) result _ inside (read.gives served).valid answer (inl (inl refl)))
-      (λ served all case. always_ok result (read.decodes served all case))
 
   -- what is below was not read
   pub not_read : {choice : Level → Choice} {T : Type 0} {e : CodecError} → ReadsRanges {T = T} None (seen old)

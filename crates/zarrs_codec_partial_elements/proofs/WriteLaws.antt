@@ -1,7 +1,7 @@
 -- Elements that are written through a codec.
-use Rattle.std.proofs.Common.{◌≡◌, ◌⊎◌, ℕ, suc, ◌*◌, ◌<◌, ◌≤◌, Bool, true, false, is_some, not, ◌||◌, ◌&&◌, ◌==◌, List}
+use Rattle.std.proofs.Common.{◌≡◌, ◌⊎◌, ℕ, ◌*◌, Bool, true, false, is_some, not, ◌||◌, ◌==◌, List}
 use Rattle.std.proofs.Common.{[], ◌∷◌, length, replicate, Option, Some, None, IsSome, option_map, Result, Ok, Err, IfOk}
-use Rattle.std.proofs.Common.{IfErr, OnErr, refl, sym, ap, ap₂, ◌∙◌, ◌↔◌, zero, subst, inl, inr, ⊎_elim, eqb-true}
+use Rattle.std.proofs.Common.{IfErr, OnErr, refl, sym, ap, ap₂, ◌∙◌, ◌↔◌, subst, inl, inr, ⊎_elim, eqb-true}
 use Rattle.std.specs.List.{list_all}
 use Rattle.std.specs.Bool.{IsTrue}
 use Rattle.std.proofs.lemmas.Result.{on_ok_weaker, on_err_weaker}
@@ -9,10 +9,10 @@ use Rattle.std.proofs.lemmas.Bool.{and_parts}
 use Rattle.zarrs_codec.specs.Prelude.{Region, count_of, sizes, tuples, ends_within, ArrayBytes, fixed_bytes}
 use Rattle.zarrs_codec.specs.Prelude.{variable_bytes, optional_bytes, meaning, Level, Options, Refusal, bytes_refusal}
 use Rattle.zarrs_codec.specs.Prelude.{raw_of, lengths, list_at, Gives, Held, Seen, IsSoundSeen, IsFailedRead}
-use Rattle.zarrs_codec.specs.Prelude.{IsHandleError, ListSeen, by_codec, fills, Change, Stores}
+use Rattle.zarrs_codec.specs.Prelude.{IsHandleError, ListSeen, by_codec, fills, Stores}
 use Rattle.zarr_model.proofs.RegionLaws.{length-tuples}
 use Rattle.zarr_model.proofs.BytesLaws.{length-meaning, refusal-meaning}
-use Rattle.zarr_model.specs.Element.{Element, some, Kind, fixed, variable, optional, DataType, same_element}
+use Rattle.zarr_model.specs.Element.{Element, some, Kind, fixed, variable, optional, same_element}
 use Rattle.zarr_model.specs.Element.{fill_element, kind_of, fixed_size}
 use Rattle.zarr_model.proofs.ElementLaws.{each_same, all_same}
 use Rattle.zarr_model.proofs.Choices.{some_now, none_some, always_ok}
@@ -40,8 +40,7 @@ use Rattle.zarrs_codec.specs.ListWrites.{ErasesList, PutsList, StaysList, KeepsR
 use Rattle.zarrs_codec.proofs.FaultLaws.{handle_faults, own_faults}
 use Rattle.zarrs_codec.proofs.UpdateLaws.{fault_told, fault_only, handle_told}
 use Rattle.zarrs_codec_partial_elements.specs.Level.{list_of, found, listed}
-use Rattle.zarrs_codec_partial_elements.specs.Writing.{IsBeyond, IsTaken, MakesBottomElements}
-use Rattle.zarrs_codec_partial_elements.specs.declared.level.BottomLevel.{BottomLevel}
+use Rattle.zarrs_codec_partial_elements.specs.Writing.{IsBeyond, IsTaken}
 
 bool_split : (b : Bool) → (b ≡ true) ⊎ (b ≡ false)
 bool_split true = inl refl
@@ -62,14 +61,6 @@ tested (Some x) number xs b there long test =
   where
     differ : false ≡ true → ⊥
     differ e = cc
-
-pub kept_by : (under : Options) (element : Option Element) (xs : List Element) (b : Bool) → b ≡ are_all element xs →
-    not (not under.store_empty_chunks && b) ≡ is_kept under element xs
-kept_by under element xs b is = go under.store_empty_chunks b (are_all element xs) is
-  where
-    go : (s b a : Bool) → b ≡ a → not (not s && b) ≡ (s || not a)
-    go true b a is = refl
-    go false b a is = ap not is
 
 -- of a list that is not kept, the fill's is the same
 pub dropped_list : (level : Level) (fill : List ℕ) (under : Options) (xs : List Element) → length xs ≡ count_of
@@ -419,17 +410,3 @@ all_gives level covers places indices given list raw copy all long same means =
     let gives : Gives (list_at level copy) (updated true indices given list) =
     record { same = is; there = some_now _ _ is } in
     subst (λ (b : Bool). Gives (list_at level copy) (updated b indices given list)) all gives
-
--- new elements of which it is known whether all are given
-module _ {B X : Type 0} {unserved : B → Option (List ℕ) → Option DataType → Option (List ℕ) → Option Unserved}
-    {meaning : B → Options → Level → List ℕ → Option (List Element)}
-    {says : B → Options → Level → List ℕ → CodecError → Type 0}
-    {request : B → List ℕ → DataType → Region → Option (List ByteRange)}
-    {seen : X → Seen} {Tells : X → Options → Option (List ByteRange) → CodecError → Type 0} {Same : X → X → Type 0}
-    {bottom : BottomLevel B} {change : Change} {under : Options} {old new : X}
-    {result : Result code.ArrayBytes CodecError} {all : Bool} where
-  pub makes_so : all ≡ change.all → MakesBottomElements unserved meaning says request seen Tells Same bottom
-      (record change { all = all }) under old new result →
-      MakesBottomElements unserved meaning says request seen Tells Same bottom change under old new result
-  makes_so same makes = subst (λ (b : Bool). MakesBottomElements unserved meaning says request seen Tells Same bottom
-      (record change { all = b }) under old new result) same makes

@@ -1,10 +1,10 @@
 -- What elements of a level are given.
 use Rattle.std.specs.Prelude.{◌≡◌, ℕ, ◌<◌, ◌^◌, false, List, length, Option, Some, IsSome, Result, IfOk}
-use Rattle.zarrs_codec_traits.specs.Prelude.{Region, count, count_of, Element, fill_element, kind_of, meaning, Level}
-use Rattle.zarrs_codec_traits.specs.Prelude.{has_long_element, innermost_fill, raw_of, select}
+use Rattle.zarrs_codec_traits.specs.Prelude.{Element, fill_element, kind_of, meaning, Level, has_long_element}
+use Rattle.zarrs_codec_traits.specs.Prelude.{innermost_fill, raw_of}
 use Rattle.zarrs_codec_array_bytes.specs.declared.array_bytes.ArrayBytes as code
 use Rattle.zarrs_codec_error.specs.declared.error.CodecError.{CodecError}
-use Rattle.zarrs_codec.specs.Selects.{chosen}
+use Rattle.zarrs_codec.specs.Selects.{Choice}
 
 -- the fill value denotes an element, and is short
 abbrev pub Denotes : Level → List ℕ → Type 0
@@ -12,21 +12,6 @@ Denotes level fill = IsSome (fill_element (kind_of level.data_type) fill)
 
 abbrev pub IsShort : Level → List ℕ → Type 0
 IsShort level fill = length (innermost_fill (kind_of level.data_type) fill) < 2 ^ 32
-
--- elements that are asked for: how many, and which of a list
-pub record Choice : Type 0 where
-  pub number : ℕ
-  pub pick : List Element → List Element
-
--- all of a level's, those of a box, and those at some tuples
-abbrev pub every : Level → Choice
-every level = record { number = count_of level.shape; pick = λ list. list }
-
-abbrev pub boxed : Region → Level → Choice
-boxed box level = record { number = count box; pick = select level.shape box }
-
-abbrev pub placed : List (List ℕ) → Level → Choice
-placed places level = record { number = length places; pick = chosen level places }
 
 -- those that are asked for of a list, if there is one, as array bytes, which are valid in any case
 pub record GivesElements (choice : Choice) (level : Level) (fill : List ℕ)

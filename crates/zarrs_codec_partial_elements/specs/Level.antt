@@ -4,7 +4,7 @@ use Rattle.std.specs.Prelude.{option_and_then}
 use Rattle.zarrs_codec_traits.specs.Prelude.{fill_bytes, has_size, RefusesSome}
 use Rattle.zarrs_codec.specs.Prelude.{Region, Element, DataType, kind_of, Level, Options, BytesAnswer, fine, told_by}
 use Rattle.zarrs_codec.specs.Prelude.{other_fill, Unserved, unserved_at, ArePartsOf, part_lengths_answer, level_of}
-use Rattle.zarrs_codec.specs.Prelude.{Held, Seen, GivesParts, smaller_box, ListSeen, by_codec, fills, is_short}
+use Rattle.zarrs_codec.specs.Prelude.{Held, Seen, GivesParts, smaller_box, ListSeen, by_codec, fills, is_short, IsFit}
 use Rattle.zarrs_storage.specs.declared.byte_range.ByteRange.{ByteRange}
 use Rattle.zarrs_codec_error.specs.declared.error.CodecError.{CodecError}
 use Rattle.zarrs_codec_partial_elements.specs.declared.level.BottomLevel.{BottomLevel}
@@ -112,6 +112,10 @@ listed level fill unserved meaning request below = record {
   size = below.size;
 }
 
+-- its level fits
+abbrev pub IsFitBottom : {B : Type 0} → BottomLevel B → Type 0
+IsFitBottom bottom = IsFit (level_of_bottom bottom).shape (level_of_bottom bottom).data_type
+
 -- The same by the members of a codec: its level is served
 abbrev pub IsServedBottom : {B : Type 0}
     → (B → Option (List ℕ) → Option DataType → Option (List ℕ) → Option Unserved)
@@ -122,7 +126,8 @@ IsServedBottom unserved bottom =
 -- the list that is held
 abbrev pub bottom_list_in : {B : Type 0} → (B → Options → Level → List ℕ → Option (List Element))
     → BottomLevel B → Seen → Options → Option (List Element)
-bottom_list_in meaning bottom below under = list_of (meaning bottom.codec under (level_of_bottom bottom))
+bottom_list_in meaning bottom below under = list_of
+    (meaning bottom.codec under (level_of_bottom bottom))
     (fills (level_of_bottom bottom) (bottom_fill bottom)) (held_in below under)
 
 -- which errors say why there are no elements, of ranges or of the whole value

@@ -10,7 +10,8 @@ use Rattle.zarrs_codec.specs.ListWrites.{IsUnfilled}
 use Rattle.zarrs_codec_partial_elements.specs.declared.level.BottomLevel.{BottomLevel}
 use Rattle.zarrs_codec_partial_elements.specs.Level.{level_of_bottom, bottom_fill, IsOtherFill, IsServedBottom}
 use Rattle.zarrs_codec_partial_elements.specs.Level.{bottom_list_in, says_in, seen_by}
-use Rattle.zarrs_codec_partial_elements.specs.Boxes.{Denotes, Choice, every, GivesElements}
+use Rattle.zarrs_codec.specs.Selects.{Choice, every}
+use Rattle.zarrs_codec_partial_elements.specs.Boxes.{Denotes, GivesElements}
 
 -- the elements that are asked for of the fill's, or why there are none
 pub record FillsElements (choice : Level → Choice) (level : Level) (fill : List ℕ)
@@ -31,7 +32,8 @@ module _ {B X : Type 0}
       (result : Result code.ArrayBytes CodecError) : Type 0 where
     -- of a level that is served the elements, or why there are none
     pub gives : IsServedBottom unserved bottom → GivesElements (choice (level_of_bottom bottom))
-        (level_of_bottom bottom) (bottom_fill bottom) (bottom_list_in meaning bottom (seen old) under) result
+        (level_of_bottom bottom) (bottom_fill bottom)
+        (bottom_list_in meaning bottom (seen old) under) result
     pub failed : IsServedBottom unserved bottom → in_order ≡ true → IfErr result
         (IsListError (seen old).there (bottom_list_in meaning bottom (seen old) under)
         (says_in meaning says bottom (Tells old) (seen old) under asked)
@@ -53,7 +55,8 @@ module _ {B X : Type 0}
       (result : Result code.ArrayBytes CodecError) : Type 0 where
     -- of a level that is served the elements, or why there are none
     pub gives : IsServedBottom unserved bottom → GivesElements (every (level_of_bottom bottom))
-        (level_of_bottom bottom) (bottom_fill bottom) (bottom_list_in meaning bottom (seen old) under) result
+        (level_of_bottom bottom) (bottom_fill bottom)
+        (bottom_list_in meaning bottom (seen old) under) result
     pub failed : IsServedBottom unserved bottom → IfErr result
         (λ e. IsListError (seen old).there (bottom_list_in meaning bottom (seen old) under)
         (says_in meaning says bottom (Tells old) (seen old) under None)

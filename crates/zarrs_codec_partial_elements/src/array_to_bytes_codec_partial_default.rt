@@ -3,9 +3,12 @@
 ghost use Rattle.std.specs.Prelude.{◌≡◌};
 ghost use Rattle.zarrs_codec_traits.specs.Prelude.{type_of, lengths, IsFit};
 
+use crate::calls::{LevelReads, LevelWrites};
+use crate::decoding::decode_elements;
+use crate::encoding::encode_elements;
 use crate::level::BottomLevel;
 use std::alloc::Global;
-use zarrs_array_subset::ChunkShape;
+use zarrs_array_subset::{ArraySubset, ChunkShape};
 use zarrs_chunk_grid_indexer::Indexer;
 use zarrs_codec::{
     ArrayPartialDecoderTraits, ArrayPartialEncoderTraits, BytesPartialDecoderTraits,
@@ -67,6 +70,105 @@ impl<H, C: Drop> ArrayToBytesCodecPartialDefault<H, C> {
     }
 }
 
+impl<H: BytesPartialDecoderTraits, C: ArrayToBytesCodecTraits> LevelReads
+    for ArrayToBytesCodecPartialDefault<H, C> {
+    ghost use Rattle.std.proofs.Common.{refl, ◌∙◌, subst};
+    ghost use Rattle.zarrs_codec_partial_elements.specs.Level.{request_for, says_in, seen_by, IsServedBottom};
+
+    ghost seen = { λ h. seen_by C.unserved C.meaning C.request h.level (H.seen h.handle) };
+
+    ghost tells = { λ h under asked e. says_in C.meaning C.says h.level (H.tells h.handle)
+        (H.seen h.handle) under (request_for C.request h.level asked) e };
+
+    ghost same = { λ a b. (a.level ≡ b.level) × H.same a.handle b.handle };
+
+    ghost served = { λ h. IsServedBottom C.unserved h.level };
+
+    ghost fits = { λ h. h.fits };
+
+    ghost same_self = { λ h. (refl, H.same_self h.handle) };
+
+    ghost same_twice = { λ a b c x y. (
+      x.0 ∙ y.0,
+      H.same_twice a.handle b.handle c.handle x.1 y.1,
+    ) };
+
+    ghost same_served = { λ a b same served. subst (λ at. IsServedBottom C.unserved at) same.0
+        served };
+
+    fn shape(&self) -> &ChunkShape {
+        &self.level.shape
+    }
+
+    fn element_type(&self) -> &DataType {
+        &self.level.data_type
+    }
+
+    fn expect_served(&self, _alloc: Global) -> Result<(), CodecError> {
+        self.level.expect_served()
+    }
+
+    fn decode_whole(
+        &mut self,
+        alloc: Global,
+        options: &CodecOptions,
+    ) -> Result<ArrayBytes<'static>, CodecError> {
+        self.level.decode_whole(alloc, &mut self.handle, options)
+    }
+
+    fn decode_box(
+        &mut self,
+        alloc: Global,
+        region: &ArraySubset,
+        options: &CodecOptions,
+    ) -> Result<ArrayBytes<'static>, CodecError> {
+        self.level
+            .decode_box(alloc, &mut self.handle, region, options)
+    }
+}
+
+impl<H: BytesPartialEncoderTraits, C: ArrayToBytesCodecTraits> LevelWrites
+    for ArrayToBytesCodecPartialDefault<H, C> {
+    ghost use Rattle.std.proofs.Common.{subst, sym};
+    ghost use Rattle.zarrs_codec_partial_elements.specs.Level.{level_of_bottom};
+    ghost use Rattle.zarrs_codec_partial_elements.specs.Writing.{IsBeyond, IsTaken};
+
+    ghost unencoded = { λ h list e. IsBeyond (C.beyond h.level.codec (level_of_bottom h.level))
+        (level_of_bottom h.level) list e };
+
+    ghost encodes = { λ h list. IsTaken (C.beyond h.level.codec (level_of_bottom h.level))
+        (level_of_bottom h.level) list };
+
+    ghost encodes_short = { λ h. C.takes h.level.codec (level_of_bottom h.level) };
+
+    ghost same_unencoded = { λ a b list e same told. subst (λ at. IsBeyond
+        (C.beyond at.codec (level_of_bottom at)) (level_of_bottom at) list e) (sym same.0) told };
+
+    ghost same_encodes = { λ a b list same is. subst (λ at. IsTaken
+        (C.beyond at.codec (level_of_bottom at)) (level_of_bottom at) list) (sym same.0) is };
+
+    ghost same_short = { λ a b same takes. subst (λ at. C.takes at.codec (level_of_bottom at))
+        same.0 takes };
+
+    fn old_elements(
+        &mut self,
+        alloc: Global,
+        options: &CodecOptions,
+    ) -> Result<ArrayBytes<'static>, CodecError> {
+        self.level.old_elements(alloc, &mut self.handle, options)
+    }
+
+    fn store_elements(
+        &mut self,
+        alloc: Global,
+        bytes: ArrayBytes<'static>,
+        options: &CodecOptions,
+    ) -> Result<(), CodecError> {
+        self.level
+            .store_elements(alloc, &mut self.handle, bytes, options)
+    }
+}
+
 impl<H: BytesPartialDecoderTraits, C: ArrayToBytesCodecTraits> ArrayPartialDecoderTraits
     for ArrayToBytesCodecPartialDefault<H, C> {
     ghost use Rattle.std.specs.Prelude.{◌&&◌};
@@ -85,7 +187,8 @@ impl<H: BytesPartialDecoderTraits, C: ArrayToBytesCodecTraits> ArrayPartialDecod
     ghost counted = { λ h under xs served is. listed_count
         (C.meaning h.level.codec under (level_of_bottom h.level)) (level_of_bottom h.level)
         (bottom_fill h.level) (held_in (H.seen h.handle) under) xs
-        (λ value given. C.counted h.level.codec under (level_of_bottom h.level) value xs given) is };
+        (λ value given. C.counted h.level.codec under (level_of_bottom h.level) value xs given)
+        is };
 
     ghost absent = { λ h under served gone. listed_absent
         (C.meaning h.level.codec under (level_of_bottom h.level))
@@ -125,15 +228,13 @@ impl<H: BytesPartialDecoderTraits, C: ArrayToBytesCodecTraits> ArrayPartialDecod
             && self.handle.supports_partial_decode()
     }
 
-    #[tactic(auto, using(crate::proofs::HeldLaws::listed_reads, zarr_model::proofs::Choices::none_of, zarrs_codec::proofs::NamedLaws::codec_served))]
     fn partial_decode<I: Indexer>(
         &mut self,
         alloc: Global,
         indexer: &I,
         options: &CodecOptions,
     ) -> Result<ArrayBytes<'static>, CodecError> {
-        self.level
-            .decode_elements(alloc, &mut self.handle, indexer, options)
+        decode_elements(self, alloc, indexer, options)
     }
 }
 
@@ -181,7 +282,6 @@ impl<H: BytesPartialEncoderTraits, C: ArrayToBytesCodecTraits> ArrayPartialEncod
         bytes: &ArrayBytes<'_>,
         options: &CodecOptions,
     ) -> Result<(), CodecError> {
-        self.level
-            .encode_elements(alloc, &mut self.handle, indexer, bytes, options)
+        encode_elements(self, alloc, indexer, bytes, options)
     }
 }

@@ -27,11 +27,8 @@ fn is_smaller(region: &ArraySubset, shape: &[u64]) -> bool
     region.inbounds_shape(shape) && !same_lengths(region.shape(), shape)
 }
 
-/// The box that an indexer is, where that is smaller than a shape.
-///
-/// # Errors
-/// [`AllocError`] where memory runs out.
-pub fn smaller_box<I: Indexer>(
+// The box that an indexer is, where that is smaller than a shape.
+pub(crate) fn smaller_box<I: Indexer>(
     alloc: Global,
     indexer: &I,
     shape: &[u64],
@@ -59,11 +56,12 @@ fn is_all(region: &ArraySubset, shape: &[u64]) -> bool
     region.inbounds_shape(shape) && same_lengths(region.shape(), shape)
 }
 
-/// Whether an indexer is the box of a whole shape.
-///
-/// # Errors
-/// [`AllocError`] where memory runs out.
-pub fn covers<I: Indexer>(alloc: Global, indexer: &I, shape: &[u64]) -> Result<bool, AllocError>
+// Whether an indexer is the box of a whole shape.
+pub(crate) fn covers<I: Indexer>(
+    alloc: Global,
+    indexer: &I,
+    shape: &[u64],
+) -> Result<bool, AllocError>
     ensures { IfOk result (λ b. b ≡ is_whole shape.now (I.as_region indexer.now)) }
 {
     match indexer.as_array_subset(alloc) {

@@ -2,10 +2,13 @@
 #![tactic(auto)]
 
 mod array_to_bytes_codec_partial_default;
-pub mod boxes;
+mod boxes;
+pub mod calls;
+pub mod decoding;
+pub mod encoding;
 pub mod fill;
 mod level;
-pub mod read;
+mod read;
 pub mod write;
 
 pub use array_to_bytes_codec_partial_default::ArrayToBytesCodecPartialDefault;

@@ -1,14 +1,12 @@
 //! The elements of what a handle of bytes holds, by a codec with its level.
 
-ghost use Rattle.std.specs.Prelude.{◌≡◌, ◌∷◌, [], ◌+◌, ◌<◌, ◌^◌, true, false, None, Some, IsSome, IsOk, IfOk, IfErr, option_map};
+ghost use Rattle.std.specs.Prelude.{◌≡◌, ◌∷◌, [], ◌+◌, ◌<◌, ◌^◌, true, None, Some, IsOk, IfOk, IfErr, option_map};
 ghost use Rattle.zarrs_codec.specs.Prelude.{parts_of, count_of, ends_within, region as box_of};
 ghost use Rattle.zarrs_codec.specs.Prelude.{fine, first_answer, Answers, IfUnfit, unserved_at};
-ghost use Rattle.zarrs_codec.specs.Prelude.{IsNoFault, RefusesAs, lengths, options_of, IsFit};
-ghost use Rattle.zarrs_codec.specs.Prelude.{by_codec, IsUnread, RefusesFor};
-ghost use Rattle.zarrs_codec_partial_elements.specs.Boxes.{every, boxed, placed};
+ghost use Rattle.zarrs_codec.specs.Prelude.{IsNoFault, lengths, options_of, by_codec, RefusesFor};
+ghost use Rattle.zarrs_codec.specs.Selects.{every, boxed};
 ghost use Rattle.zarrs_codec_partial_elements.specs.Reading.{FillsElements, ReadsElements};
 
-use crate::boxes::smaller_box;
 use crate::level::BottomLevel;
 use std::alloc::{AllocError, Global};
 use std::num::NonZeroU64;
@@ -21,11 +19,8 @@ use zarrs_codec_error::{CodecError, CodecOptions};
 use zarrs_codec_traits::{ArrayToBytesCodecTraits, num_elements, shape_numbers};
 use zarrs_storage::ByteRange;
 
-/// The lengths of a shape that an indexer fits.
-///
-/// # Errors
-/// [`CodecError::IncompatibleIndexer`] exactly where it does not fit, or [`CodecError::OutOfMemory`].
-pub fn fitting_numbers<I: Indexer>(
+// The lengths of a shape that an indexer fits. CodecError::IncompatibleIndexer exactly where it does not fit, or no memory.
+pub(crate) fn fitting_numbers<I: Indexer>(
     alloc: Global,
     indexer: &I,
     shape: &[NonZeroU64],
@@ -56,11 +51,11 @@ fn one(alloc: Global, value: Vec<u8>) -> Result<Vec<Vec<u8>>, AllocError>
 }
 
 impl<C: ArrayToBytesCodecTraits> BottomLevel<C> {
-    ghost use Rattle.zarrs_codec_partial_elements.specs.Level.{level_of_bottom, bottom_fill, IsServedBottom, request_of};
+    ghost use Rattle.zarrs_codec_partial_elements.specs.Level.{IsFitBottom, level_of_bottom, bottom_fill, IsServedBottom, request_of};
 
     // Tests that the codec serves the shape, the data type and the fill value.
     pub(crate) fn expect_served(&self) -> Result<(), CodecError>
-        requires fits { IsFit (level_of_bottom self.now).shape (level_of_bottom self.now).data_type }
+        requires fits { IsFitBottom self.now }
         ensures named { RefusesFor (option_map by_codec (unserved_at (C.unserved self.now.codec)
             (level_of_bottom self.now) (bottom_fill self.now))) result }
         ensures served { IsServedBottom C.unserved self.now → IsOk result }
@@ -77,7 +72,7 @@ impl<C: ArrayToBytesCodecTraits> BottomLevel<C> {
 
     // The fill value for each element.
     pub(crate) fn fill_whole(&self, alloc: Global) -> Result<ArrayBytes<'static>, CodecError>
-        requires fits { IsFit (level_of_bottom self.now).shape (level_of_bottom self.now).data_type }
+        requires fits { IsFitBottom self.now }
         ensures { FillsElements every (level_of_bottom self.now) (bottom_fill self.now) result }
     {
         let number = num_elements(&self.shape);
@@ -90,7 +85,7 @@ impl<C: ArrayToBytesCodecTraits> BottomLevel<C> {
         alloc: Global,
         region: &ArraySubset,
     ) -> Result<ArrayBytes<'static>, CodecError>
-        requires fits { IsFit (level_of_bottom self.now).shape (level_of_bottom self.now).data_type }
+        requires fits { IsFitBottom self.now }
         requires inside { ends_within (box_of region.now) (level_of_bottom self.now).shape ≡ true }
         ensures { FillsElements (boxed (box_of region.now)) (level_of_bottom self.now)
             (bottom_fill self.now) result }
@@ -99,17 +94,14 @@ impl<C: ArrayToBytesCodecTraits> BottomLevel<C> {
         ArrayBytes::new_fill_value(alloc, &self.data_type, number, &self.fill_value)
     }
 
-    /// All elements.
-    ///
-    /// # Errors
-    /// [`CodecError`] where what is below fails, where the value does not decode, or where memory runs out.
-    pub fn decode_whole<H: BytesPartialDecoderTraits>(
+    // All elements. An error where what is below fails, where the value does not decode, or where memory runs out.
+    pub(crate) fn decode_whole<H: BytesPartialDecoderTraits>(
         &self,
         alloc: Global,
         handle: &mut H,
         options: &CodecOptions,
     ) -> Result<ArrayBytes<'static>, CodecError>
-        requires fits { IsFit (level_of_bottom self.now).shape (level_of_bottom self.now).data_type }
+        requires fits { IsFitBottom self.now }
         ensures { ReadsElements C.unserved C.meaning C.says H.seen H.tells H.same self.now
             every None true (options_of options.now) handle.old handle.new result }
     {
@@ -135,7 +127,7 @@ impl<C: ArrayToBytesCodecTraits> BottomLevel<C> {
         region: &ArraySubset,
         options: &CodecOptions,
     ) -> Result<ArrayBytes<'static>, CodecError>
-        requires fits { IsFit (level_of_bottom self.now).shape (level_of_bottom self.now).data_type }
+        requires fits { IsFitBottom self.now }
         requires inside { ends_within (box_of region.now) (level_of_bottom self.now).shape ≡ true }
         requires whole { request_of C.request self.now (box_of region.now) ≡ None }
         ensures { ReadsElements C.unserved C.meaning C.says H.seen H.tells H.same self.now
@@ -169,7 +161,7 @@ impl<C: ArrayToBytesCodecTraits> BottomLevel<C> {
         region: &ArraySubset,
         options: &CodecOptions,
     ) -> Result<ArrayBytes<'static>, CodecError>
-        requires fits { IsFit (level_of_bottom self.now).shape (level_of_bottom self.now).data_type }
+        requires fits { IsFitBottom self.now }
         requires inside { ends_within (box_of region.now) (level_of_bottom self.now).shape ≡ true }
         requires asked { request_of C.request self.now (box_of region.now) ≡ Some ranges.now }
         ensures { ReadsElements C.unserved C.meaning C.says H.seen H.tells H.same self.now
@@ -191,19 +183,16 @@ impl<C: ArrayToBytesCodecTraits> BottomLevel<C> {
         }
     }
 
-    /// The elements of a region: out of the parts that the codec asks for, or out of the whole value where it asks for
-    /// none.
-    ///
-    /// # Errors
-    /// [`CodecError`] where what is below fails, where the value does not decode, or where memory runs out.
-    pub fn decode_box<H: BytesPartialDecoderTraits>(
+    // The elements of a region: out of the parts that the codec asks for, or out of the whole value where it asks for
+    // none. An error as of `decode_whole`.
+    pub(crate) fn decode_box<H: BytesPartialDecoderTraits>(
         &self,
         alloc: Global,
         handle: &mut H,
         region: &ArraySubset,
         options: &CodecOptions,
     ) -> Result<ArrayBytes<'static>, CodecError>
-        requires fits { IsFit (level_of_bottom self.now).shape (level_of_bottom self.now).data_type }
+        requires fits { IsFitBottom self.now }
         requires inside { ends_within (box_of region.now) (level_of_bottom self.now).shape ≡ true }
         ensures { ReadsElements C.unserved C.meaning C.says H.seen H.tells H.same self.now
             (boxed (box_of region.now)) (request_of C.request self.now (box_of region.now)) true
@@ -215,97 +204,6 @@ impl<C: ArrayToBytesCodecTraits> BottomLevel<C> {
         {
             Ok(Some(ranges)) => self.decode_box_of_parts(alloc, handle, &ranges, region, options),
             Ok(None) => self.decode_box_of_value(alloc, handle, region, options),
-            Err(error) => Err(error),
-        }
-    }
-}
-
-impl<C: ArrayToBytesCodecTraits> BottomLevel<C> {
-    ghost use Rattle.zarrs_codec_partial_elements.specs.Level.{level_of_bottom, bottom_fill, request_for};
-
-    // The elements at an indexer's indices, out of all elements.
-    fn decode_listed<H: BytesPartialDecoderTraits, I: Indexer>(
-        &self,
-        alloc: Global,
-        handle: &mut H,
-        indexer: &I,
-        numbers: &[u64],
-        options: &CodecOptions,
-    ) -> Result<ArrayBytes<'static>, CodecError>
-        requires fits { IsFit (level_of_bottom self.now).shape (level_of_bottom self.now).data_type }
-        requires shape { numbers.now ≡ (level_of_bottom self.now).shape }
-        requires fit { I.fits indexer.now numbers.now ≡ true }
-        ensures { ReadsElements C.unserved C.meaning C.says H.seen H.tells H.same self.now
-            (placed (I.places indexer.now)) None true (options_of options.now)
-            handle.old handle.new result }
-    {
-        match self.decode_whole(alloc, handle, options) {
-            Ok(whole) => whole.extract_array_subset(alloc, indexer, numbers, &self.data_type),
-            Err(error) => Err(error),
-        }
-    }
-
-    // The elements at the indices of an indexer that fits.
-    fn decode_fit<H: BytesPartialDecoderTraits, I: Indexer>(
-        &self,
-        alloc: Global,
-        handle: &mut H,
-        indexer: &I,
-        numbers: &[u64],
-        options: &CodecOptions,
-    ) -> Result<ArrayBytes<'static>, CodecError>
-        requires fits { IsFit (level_of_bottom self.now).shape (level_of_bottom self.now).data_type }
-        requires shape { numbers.now ≡ (level_of_bottom self.now).shape }
-        requires fit { I.fits indexer.now numbers.now ≡ true }
-        ensures { ReadsElements C.unserved C.meaning C.says H.seen H.tells H.same self.now
-            (placed (I.places indexer.now))
-            (request_for C.request self.now (I.as_region indexer.now)) true
-            (options_of options.now) handle.old handle.new result }
-    {
-        match smaller_box(alloc, indexer, numbers) {
-            Ok(Some(region)) => self.decode_box(alloc, handle, &region, options),
-            Ok(None) => self.decode_listed(alloc, handle, indexer, numbers, options),
-            Err(error) => Err(CodecError::from(error)),
-        }
-    }
-
-    /// The elements at the indexer's indices, in their order: of a box that is smaller than the shape by the steps of the
-    /// codec, else out of all elements.
-    ///
-    /// # Errors
-    /// [`CodecError`] exactly where the indexer does not fit the shape, else where the codec does not serve its level, both
-    /// before anything is read; else where what is below fails, where the value does not decode, or where memory runs out.
-    pub fn decode_elements<H: BytesPartialDecoderTraits, I: Indexer>(
-        &self,
-        alloc: Global,
-        handle: &mut H,
-        indexer: &I,
-        options: &CodecOptions,
-    ) -> Result<ArrayBytes<'static>, CodecError>
-        requires fits { IsFit (level_of_bottom self.now).shape (level_of_bottom self.now).data_type }
-        ensures unfit { RefusesAs (first_answer None
-            (I.fits indexer.now (level_of_bottom self.now).shape) fine) result }
-        ensures refusal { I.fits indexer.now (level_of_bottom self.now).shape ≡ false
-            → IfErr result (IfUnfit (I.refuses indexer.now (level_of_bottom self.now).shape)) }
-        ensures unread { I.fits indexer.now (level_of_bottom self.now).shape ≡ false
-            → IsUnread (H.seen handle.old).shown (H.seen handle.new).shown }
-        ensures named { I.fits indexer.now (level_of_bottom self.now).shape ≡ true
-            → RefusesFor (option_map by_codec (unserved_at (C.unserved self.now.codec)
-            (level_of_bottom self.now) (bottom_fill self.now))) result }
-        ensures unserved { IsSome (unserved_at (C.unserved self.now.codec)
-            (level_of_bottom self.now) (bottom_fill self.now))
-            → IsUnread (H.seen handle.old).shown (H.seen handle.new).shown }
-        ensures read { ReadsElements C.unserved C.meaning C.says H.seen H.tells H.same self.now
-            (placed (I.places indexer.now))
-            (request_for C.request self.now (I.as_region indexer.now))
-            (I.fits indexer.now (level_of_bottom self.now).shape) (options_of options.now)
-            handle.old handle.new result }
-    {
-        match fitting_numbers(alloc, indexer, &self.shape) {
-            Ok(numbers) => match self.expect_served() {
-                Ok(()) => self.decode_fit(alloc, handle, indexer, &numbers, options),
-                Err(error) => Err(error),
-            },
             Err(error) => Err(error),
         }
     }

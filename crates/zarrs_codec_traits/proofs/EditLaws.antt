@@ -1,13 +1,12 @@
 -- Changes after reads.
-use Rattle.std.proofs.Common.{◌≡◌, ◌⊎◌, ℕ, ◌+◌, ◌-◌, ◌^◌, ◌≤◌, min, Bool, true, false, List, Option, Some, None, IsSome}
-use Rattle.std.proofs.Common.{Result, Ok, Err, refl, sym, ◌∙◌, subst, arith, inl, inr, ⊎_elim}
+use Rattle.std.proofs.Common.{◌≡◌, ◌⊎◌, ℕ, ◌+◌, ◌-◌, ◌^◌, ◌≤◌, min, Bool, true, List, Option, Some, None}
+use Rattle.std.proofs.Common.{Result, Ok, Err, ◌∙◌, arith, inl, inr, ⊎_elim}
 use Rattle.std.proofs.lemmas.Result.{on_err_weaker}
-use Rattle.zarrs_codec_traits.specs.Prelude.{Options, Rose, counted, held_bytes, Held, Seen}
-use Rattle.zarr_model.proofs.Choices.{always_ok, always_err}
+use Rattle.zarrs_codec_traits.specs.Prelude.{Options, Rose, held_bytes, Seen}
 use Rattle.zarrs_codec_error.specs.declared.error.CodecError.{CodecError}
 use Rattle.zarrs_codec_error.specs.declared.error.CodecError.TheVariants as codec
 use Rattle.zarrs_codec_traits.specs.Reads.{Keeps, ReadsRanges, IsFailedRead, IsHandleError}
-use Rattle.zarrs_codec_traits.specs.Writes.{Holds, Stays, Stands, Writes, Unasked, MayCountIf, Edits}
+use Rattle.zarrs_codec_traits.specs.Writes.{Holds, Stays, Stands, Writes, MayCountIf, Edits}
 use Rattle.zarrs_codec_traits.proofs.HeldFaultLaws.{unless_of, unless}
 
 -- a fault after an earlier count
@@ -87,32 +86,3 @@ module _ {T : Type 0} (edit : List ℕ → List ℕ) (under : Options) where
   pub edits_unmade : {U E : Type 0} (old new : Seen) (read : U) (e : CodecError) →
       ReadsRanges {E = E} None old new (Ok read) → Edits {T = T} edit true under old new (Err e)
   edits_unmade old new read e reads = edits_kept true old new e reads.keeps (inr reads.asks) (inr reads.taken)
-
-  pub edits_made : {U E : Type 0} (first old new : Seen) (read : U) (value : Option (List ℕ)) (made : List ℕ)
-      (result : Result T CodecError) → ReadsRanges {E = E} None first old (Ok read) → first.held under ≡ Some value
-      → made ≡ edit (held_bytes value) → Writes (Some made) old new result → Unasked old new →
-      Edits edit true under first new result
-  edits_made first old new read value made result reads is same writes unasked =
-      let after : Writes (Some (edit (held_bytes value))) first new result = writes_after _ first old new result
-      reads.keeps (subst (λ (m : List ℕ). Writes (Some m) old new result) same writes) in
-      let asks : new.shown.asks ≡ counted first.shown.asks first.cost = unasked.asks ∙ reads.asks in
-      let taken : new.shown.taken ≡ counted first.shown.taken (first.taking None) = unasked.taken ∙ reads.taken in
-      record {
-        ok = λ other held. subst (λ (v : Option (List ℕ)). Writes (Some (edit (held_bytes v))) first new result)
-            (same_held value other (sym is ∙ held)) after;
-        decodes = always_ok result
-            (let some : IsSome (first.held under) = subst (λ (h : Held). IsSome h) (sym is) refl in some);
-        undecoded = λ none. absurd (unlike (sym is ∙ none));
-        asks = always_ok result asks;
-        asks_err = always_err result (inr asks);
-        taken = always_ok result taken;
-        taken_err = always_err result (inr taken);
-        others = after.others;
-        key = after.key;
-        place = after.place;
-        cost = after.cost;
-        later = after.later;
-      }
-    where
-      unlike : {A : Type 0} {x : A} → Some x ≡ None → ⊥
-      unlike e = cc

@@ -1,17 +1,17 @@
 -- Which errors are no faults of a store.
 use Rattle.std.proofs.Common.{◌≡◌, ◌⊎◌, ℕ, Bool, true, false, Option, Some, None, Result, Ok, Err, IfErr, MatchResult}
-use Rattle.std.proofs.Common.{refl, sym, ap, ◌∙◌, subst, inl, inr, ⊎_elim}
+use Rattle.std.proofs.Common.{refl, sym, ap, ◌∙◌, ⊎_elim}
 use Rattle.zarrs_codec_traits.specs.Prelude.{Kind, ArrayBytes}
 use Rattle.zarr_model.specs.Command as model
 use Rattle.zarrs_storage.specs.declared.store.StorageError.{StorageError}
 use Rattle.zarrs_codec_error.specs.declared.error.CodecError.{CodecError}
 use Rattle.zarrs_codec_error.specs.declared.error.CodecError.TheVariants as codec
 use Rattle.zarrs_codec_array_bytes.specs.Refusals.{BytesAnswer, fine, refused, wrong_length, unfit, other_fill}
-use Rattle.zarrs_codec_array_bytes.specs.Refusals.{no_memory, odd, told_by, sized_answer, validity, lengths_answer}
-use Rattle.zarrs_codec_array_bytes.specs.Refusals.{kind_refusal, then_answer, first_answer, fill_answer, extract_answer}
+use Rattle.zarrs_codec_array_bytes.specs.Refusals.{no_memory, odd, told_by, sized_answer, validity}
+use Rattle.zarrs_codec_array_bytes.specs.Refusals.{kind_refusal, then_answer, first_answer, extract_answer}
 use Rattle.zarrs_codec_array_bytes.specs.Refusals.{Answers}
 use Rattle.zarrs_codec_traits.specs.Errors.{Unserved, unsupported, endianness_missing, unserved_error, IsNoFault}
-use Rattle.zarrs_codec_traits.specs.Errors.{RefusesBy, IsDecodeError, FillAnswers, RefusesAs, IsFormRefusal}
+use Rattle.zarrs_codec_traits.specs.Errors.{RefusesBy, IsDecodeError, FillAnswers, IsFormRefusal}
 
 -- a refusal that a call tells, or that nothing is refused
 abbrev pub is_known : BytesAnswer → Bool
@@ -63,11 +63,6 @@ served_no_fault unserved (Ok v) refuses given = tt
 served_no_fault None (Err e) refuses given = given refl
 served_no_fault (Some why) (Err e) refuses given = ⊎_elim (λ (m : e ≡ codec.OutOfMemory). memory_no_fault e m)
     (λ (w : e ≡ unserved_error why). unserved_no_fault e why w) refuses
-
-pub match_no_fault : {T : Type 0} (P : T → Type 0) (r : Result T CodecError) →
-    MatchResult r P (λ e. e ≡ codec.OutOfMemory) → IfErr r IsNoFault
-match_no_fault P (Ok v) told = tt
-match_no_fault P (Err e) told = memory_no_fault e told
 
 decode_no_fault : {A : Type 0} (wanted : Option A) (says : CodecError → Type 0) (e : CodecError) →
     ((e : CodecError) → says e → IsNoFault e) → IsDecodeError wanted says e → IsNoFault e
@@ -122,10 +117,6 @@ known_first None true next known = known
 pub known_extract : (kind : Kind) (fits : Bool) (number : ℕ) (value : ArrayBytes) →
     is_known (extract_answer kind fits number value) ≡ true
 known_extract kind fits number value = known_first (kind_refusal kind value) fits _ (known_sized _ _ _)
-
-pub known_fill : (b : Bool) → is_known (fill_answer b) ≡ true
-known_fill true = refl
-known_fill false = refl
 
 pub known_form : (told : BytesAnswer) → IsFormRefusal told → is_known told ≡ true
 known_form told is = ⊎_elim (λ (f : told ≡ fine). ap is_known f)

@@ -1,27 +1,25 @@
 -- What a value is decoded into.
-use Rattle.std.specs.Prelude.{◌≡◌, ◌⊎◌, ℕ, zero, suc, ◌*◌, Bool, true, false, List, ◌∷◌, length, Option, Some, None}
-use Rattle.std.specs.Prelude.{Result, Ok, Err}
-use Rattle.zarr_model.specs.Region.{count}
-use Rattle.zarr_model.specs.Element.{Element, Kind, fixed, variable, optional}
+use Rattle.std.specs.Prelude.{◌≡◌, ◌⊎◌, ℕ, zero, suc, ◌*◌, ◌==◌, Bool, true, false, List, ◌∷◌, length, Option, Some, None}
+use Rattle.std.specs.Prelude.{Result, Ok, Err, IfOk}
+use Rattle.zarr_model.specs.Region.{count, count_of}
+use Rattle.zarr_model.specs.Element.{Element, Kind, fixed, variable, optional, kind_of}
 use Rattle.zarr_model.specs.ArrayBytes.{ArrayBytes, meaning}
+use Rattle.zarr_model.specs.Codec.{Level}
 use Rattle.zarr_model.specs.Command.{expected_fixed_length_bytes, expected_optional_bytes}
 use Rattle.zarrs_array_subset.specs.ArraySubset.{region}
 use Rattle.zarrs_codec_array_bytes.specs.Refusals.{BytesAnswer, fine, refused, then_answer, Answers}
 use Rattle.zarrs_codec_error.specs.declared.error.CodecError.{CodecError}
 use Rattle.zarrs_codec_error.specs.declared.error.CodecError.TheVariants as codec
 use Rattle.zarrs_codec_traits.specs.Words.{Gives}
+use Rattle.zarrs_codec_array_bytes_parts.specs.Held.{held_by, IsTargetOf}
 use Rattle.zarrs_codec_array_bytes_parts.specs.Targets.{ArePut, view_answer}
-use Rattle.zarrs_codec_array_bytes_parts.specs.TargetViews.{inner_view}
 use Rattle.zarrs_codec_array_bytes_parts.specs.declared.array_bytes_fixed_disjoint_view.ArrayBytesFixedDisjointView.{
   ArrayBytesFixedDisjointView,
 }
-use Rattle.zarrs_codec_array_bytes_parts.specs.declared.decode_into_target.ArrayBytesDecodeIntoTarget.{
-  ArrayBytesDecodeIntoTarget,
-}
 
--- how many elements the innermost view of a target has
-abbrev pub num_elements_in : ArrayBytesDecodeIntoTarget → ℕ
-num_elements_in target = count (region (inner_view target).part.subset)
+-- how many elements a view has
+abbrev pub num_viewed : ArrayBytesFixedDisjointView → ℕ
+num_viewed view = count (region view.part.subset)
 
 -- elements of a kind have so many masks and then one size, tested from the outermost level on
 abbrev pub kind_answer : Kind → ℕ → BytesAnswer
@@ -67,3 +65,24 @@ pub record IsPut (kind : Kind) (number : ℕ) (wanted : Option (List Element))
   pub bytes : ArrayBytes
   pub means : Gives (meaning kind number bytes) wanted
   pub put : ArePut bytes olds news from to
+
+-- what is refused where a value of a level is decoded into views
+pub record RefusesViews {T : Type 0} (level : Level) (wanted : Option (List Element))
+    (says : CodecError → Type 0) (masks : List ArrayBytesFixedDisjointView)
+    (inner : ArrayBytesFixedDisjointView) (result : Result T CodecError) : Type 0 where
+  -- another number of elements, then a value that does not decode, then what the views answer
+  pub counted : RefusesCount (num_viewed inner == count_of level.shape) (num_viewed inner)
+      (count_of level.shape) result
+  pub exact : (num_viewed inner == count_of level.shape) ≡ true → DecodesInto wanted says
+      (into_answer (kind_of level.data_type) (count_of level.shape) masks inner) result
+
+-- what the views hold then: the elements that the value decodes to, where each belongs
+pub record FillsViews {T : Type 0} (level : Level) (wanted : Option (List Element))
+    (olds news : List ArrayBytesFixedDisjointView) (from to : ArrayBytesFixedDisjointView)
+    (result : Result T CodecError) : Type 0 where
+  -- as a list, where the target is one for a list of the level
+  pub put : IsTargetOf (kind_of level.data_type) (count_of level.shape) olds from
+      → IfOk result (λ _. wanted ≡ Some (held_by news to))
+  -- and in bytes: those that were put, and those that are as before
+  pub written : IfOk result (λ _. IsPut (kind_of level.data_type) (count_of level.shape) wanted
+      olds news from to)

@@ -7,6 +7,8 @@ pub mod Views
 pub mod Words
 pub mod Parts
 pub mod Errors
+pub mod Calls
+pub mod Same
 pub mod Into
 pub mod CodecMetadata
 pub mod CodecOf

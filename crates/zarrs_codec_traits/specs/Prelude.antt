@@ -1,4 +1,5 @@
--- The words that files above this crate import most, of its specs and of those below it, from one place.
+-- The words that files above this crate import most, of its specs and of those below it, from one
+-- place.
 pub use Rattle.zarr_model.specs.Array.{Array, elements_in}
 pub use Rattle.zarr_model.specs.ArrayBytes.{ArrayBytes, are_offsets, array_bytes, ends_from, fixed_bytes, is_mask}
 pub use Rattle.zarr_model.specs.ArrayBytes.{meaning, optional_bytes, pieces, variable_bytes}
@@ -51,6 +52,7 @@ pub use Rattle.zarrs_codec_array_bytes.specs.Selection.{linear}
 pub use Rattle.zarrs_codec_array_bytes.specs.Steps.{kind_seen}
 pub use Rattle.zarrs_codec_array_bytes_parts.specs.Held.{IsTargetOf, held_by}
 pub use Rattle.zarrs_codec_array_bytes_parts.specs.Targets.{ArePut}
+pub use Rattle.zarrs_codec_traits.specs.Calls.{AtLevel, DecodesArray, DecodesParts, DecodesRegion, EncodesArray}
 pub use Rattle.zarrs_codec_traits.specs.Errors.{IsDecodeError, IsFormRefusal, IsNoFault, RefusesAs, RefusesBy, Unserved}
 pub use Rattle.zarrs_codec_traits.specs.Errors.{unserved_at, unserved_error}
 pub use Rattle.zarrs_codec_traits.specs.Held.{Held, IsSoundSeen, Seen, value_part}

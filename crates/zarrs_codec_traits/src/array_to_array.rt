@@ -1,7 +1,7 @@
 //! Codecs that turn the elements of an array into elements of the level below.
 
-ghost use Rattle.std.specs.Prelude.{◌≡◌, ◌≤◌, ◌<◌, ◌^◌, ℕ, true, false, List, length, replicate, Option, Some, None, IsSome, IfOk, MatchResult, option_and_then, option_map};
-ghost use Rattle.zarr_model.specs.Region.{Region, count_of, ends_within, sizes};
+ghost use Rattle.std.specs.Prelude.{◌≡◌, ◌≤◌, ◌<◌, ◌^◌, ℕ, true, false, List, length, replicate, Option, Some, None, IsSome, IfOk, MatchResult, option_map};
+ghost use Rattle.zarr_model.specs.Region.{Region, count_of, ends_within};
 ghost use Rattle.zarr_model.specs.Element as Model;
 ghost use Rattle.zarr_model.specs.Element.{Element, kind_of, fill_element};
 ghost use Rattle.zarr_model.specs.Codec.{Level, ArrayCodec};
@@ -12,10 +12,11 @@ ghost use Rattle.zarrs_data_type.specs.DataType.{type_of};
 ghost use Rattle.zarrs_codec_slices.specs.Filling.{has_size, innermost_fill};
 ghost use Rattle.zarrs_codec_error.specs.declared.error.CodecError.TheVariants as codec;
 ghost use Rattle.zarrs_codec_array_bytes.specs.Raw.{raw_of};
-ghost use Rattle.zarrs_codec_array_bytes.specs.Refusals.{validity, Answers};
+ghost use Rattle.zarrs_codec_traits.specs.Calls.{AtLevel, EncodesArray, DecodesArray, DecodesRegion};
 ghost use Rattle.zarrs_codec_traits.specs.Errors.{unserved_at, RefusesBy, FillAnswers};
+ghost use Rattle.zarrs_codec_traits.specs.Same.{IsSameToArray, TellsSame};
 ghost use Rattle.zarrs_codec_traits.specs.Views.{lengths, level_of};
-ghost use Rattle.zarrs_codec_traits.specs.Words.{list_at, at_box, select, Gives, IsFit, AreBytes};
+ghost use Rattle.zarrs_codec_traits.specs.Words.{IsFit, AreBytes};
 
 use crate::codec_traits::ArrayCodecTraits;
 use std::alloc::Global;
@@ -46,14 +47,9 @@ pub trait ArrayToArrayCodecTraits: ArrayCodecTraits + Sized {
     /// The codec with options of its own, by default the same. It serves and decodes as before, with the same
     /// level, fill value and regions below and the same shape above, and is written as before.
     fn with_codec_specific_options(self, _options: &CodecSpecificOptions) -> Self
-        ensures meaning { meaning result ≡ meaning self }
-        ensures fill { fill_below result ≡ fill_below self }
-        ensures region { region_below result ≡ region_below self }
-        ensures shape { shape_above result ≡ shape_above self }
+        ensures same { IsSameToArray meaning fill_below region_below shape_above self result }
         ensures unserved { Self.unserved result ≡ Self.unserved self }
-        ensures written { Self.written result ≡ Self.written self }
-        ensures decodes_parts { Self.decodes_parts result ≡ Self.decodes_parts self }
-        ensures encodes_parts { Self.encodes_parts result ≡ Self.encodes_parts self }
+        ensures told { TellsSame Self.CodecTraits.own self result }
     {
         self
     }
@@ -173,17 +169,9 @@ pub trait ArrayToArrayCodecTraits: ArrayCodecTraits + Sized {
         options: &CodecOptions,
     ) -> Result<ArrayBytes<'static>, CodecError>
         requires fits { IsFit (lengths shape.now) (type_of data_type.now) }
-        ensures unserved { RefusesBy (unserved_at (Self.unserved self.now)
-            (level_of shape.now data_type.now fill_value.now) (fill_bytes fill_value.now)) result }
-        ensures exact { let level = level_of shape.now data_type.now fill_value.now in
-            unserved_at (Self.unserved self.now) level (fill_bytes fill_value.now) ≡ None
-            → Answers (validity (kind_of level.data_type) (count_of level.shape)
-            (raw_of bytes.entry)) result }
-        ensures value { let level = level_of shape.now data_type.now fill_value.now in
-            unserved_at (Self.unserved self.now) level (fill_bytes fill_value.now) ≡ None
-            → IfOk result (λ v. option_and_then ((meaning self.now).decode_list level)
-            (list_at ((meaning self.now).level_below level) (raw_of v))
-            ≡ list_at level (raw_of bytes.entry)) }
+        ensures at { let level = level_of shape.now data_type.now fill_value.now in
+            AtLevel (unserved_at (Self.unserved self.now) level (fill_bytes fill_value.now))
+            (EncodesArray (meaning self.now) level (raw_of bytes.entry) result) result }
         ensures short { has_long_element (raw_of bytes.entry) ≡ false
             → IfOk result (λ v. has_long_element (raw_of v) ≡ false) };
 
@@ -202,19 +190,9 @@ pub trait ArrayToArrayCodecTraits: ArrayCodecTraits + Sized {
         options: &CodecOptions,
     ) -> Result<ArrayBytes<'static>, CodecError>
         requires fits { IsFit (lengths shape.now) (type_of data_type.now) }
-        ensures unserved { RefusesBy (unserved_at (Self.unserved self.now)
-            (level_of shape.now data_type.now fill_value.now) (fill_bytes fill_value.now)) result }
-        ensures exact { let level = level_of shape.now data_type.now fill_value.now in
-            let below = (meaning self.now).level_below level in
-            unserved_at (Self.unserved self.now) level (fill_bytes fill_value.now) ≡ None
-            → Answers (validity (kind_of below.data_type) (count_of below.shape)
-            (raw_of bytes.entry)) result }
-        ensures value { let level = level_of shape.now data_type.now fill_value.now in
-            (list : List Element)
-            → unserved_at (Self.unserved self.now) level (fill_bytes fill_value.now) ≡ None
-            → list_at ((meaning self.now).level_below level) (raw_of bytes.entry) ≡ Some list
-            → IfOk result (λ v. Gives (list_at level (raw_of v))
-            ((meaning self.now).decode_list level list)) }
+        ensures at { let level = level_of shape.now data_type.now fill_value.now in
+            AtLevel (unserved_at (Self.unserved self.now) level (fill_bytes fill_value.now))
+            (DecodesArray (meaning self.now) level (raw_of bytes.entry) result) result }
         ensures short { has_long_element (raw_of bytes.entry) ≡ false
             → IfOk result (λ v. has_long_element (raw_of v) ≡ false) };
 
@@ -253,29 +231,11 @@ pub trait ArrayToArrayCodecTraits: ArrayCodecTraits + Sized {
     ) -> Result<ArrayBytes<'static>, CodecError>
         requires fits { IsFit (lengths shape.now) (type_of data_type.now) }
         requires inside { ends_within (box_of region.now) (lengths shape.now) ≡ true }
-        ensures unserved { RefusesBy (unserved_at (Self.unserved self.now)
-            (level_of shape.now data_type.now fill_value.now) (fill_bytes fill_value.now)) result }
-        ensures exact { let level = level_of shape.now data_type.now fill_value.now in
-            let below = (meaning self.now).level_below level in
-            let inner = region_below self.now level.shape (box_of region.now) in
-            unserved_at (Self.unserved self.now) level (fill_bytes fill_value.now) ≡ None
-            → Answers (validity (kind_of below.data_type) (count_of (sizes inner))
-            (raw_of bytes.entry)) result }
-        ensures value { let level = level_of shape.now data_type.now fill_value.now in
-            let below = (meaning self.now).level_below level in
-            let inner = region_below self.now level.shape (box_of region.now) in
-            (list xs : List Element)
-            → unserved_at (Self.unserved self.now) level (fill_bytes fill_value.now) ≡ None
-            → length list ≡ count_of below.shape
-            → (meaning self.now).decode_list level list ≡ Some xs
-            → list_at (at_box inner below) (raw_of bytes.entry)
-            ≡ Some (select below.shape inner list)
-            → IfOk result (λ v. list_at (at_box (box_of region.now) level) (raw_of v)
-            ≡ Some (select level.shape (box_of region.now) xs)) }
-        ensures valid { let level = level_of shape.now data_type.now fill_value.now in
-            unserved_at (Self.unserved self.now) level (fill_bytes fill_value.now) ≡ None
-            → IfOk result
-            (λ v. IsSome (list_at (at_box (box_of region.now) level) (raw_of v))) }
+        ensures at { let level = level_of shape.now data_type.now fill_value.now in
+            AtLevel (unserved_at (Self.unserved self.now) level (fill_bytes fill_value.now))
+            (DecodesRegion (meaning self.now) level (box_of region.now)
+            (region_below self.now level.shape (box_of region.now)) (raw_of bytes.entry) result)
+            result }
         ensures short { has_long_element (raw_of bytes.entry) ≡ false
             → IfOk result (λ v. has_long_element (raw_of v) ≡ false) };
 

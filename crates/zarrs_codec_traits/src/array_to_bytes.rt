@@ -1,6 +1,6 @@
 //! Codecs that turn the elements of an array into bytes.
 
-ghost use Rattle.std.specs.Prelude.{◌≡◌, ◌==◌, ◌<◌, ◌^◌, ℕ, Bool, true, false, List, [], ◌∷◌, length, Option, Some, None, IsSome, IfOk, IfErr, IfSome, MatchResult};
+ghost use Rattle.std.specs.Prelude.{◌≡◌, ◌==◌, ◌<◌, ◌^◌, ℕ, Bool, true, false, List, [], length, Option, Some, None, IsSome, IfOk, IfErr, IfSome, MatchResult};
 ghost use Rattle.zarr_model.specs.Region.{Region, count_of, ends_within};
 ghost use Rattle.zarr_model.specs.Element as Model;
 ghost use Rattle.zarr_model.specs.Element.{Element, kind_of};
@@ -17,14 +17,15 @@ ghost use Rattle.zarrs_codec_error.specs.declared.error.CodecError.TheVariants a
 ghost use Rattle.zarrs_codec_array_bytes.specs.Raw.{raw_of};
 ghost use Rattle.zarrs_codec_array_bytes.specs.Refusals.{BytesAnswer, fine, validity, then_answer, Answers};
 ghost use Rattle.zarrs_codec_error.specs.declared.bytes_representation.BytesRepresentation.{BytesRepresentation};
-ghost use Rattle.zarrs_codec_traits.specs.Errors.{unserved_at, IsNoFault, RefusesBy, Serves, RefusesAs, IsDecodeError, IsFormRefusal};
-ghost use Rattle.zarrs_codec_array_bytes_parts.specs.Held.{held_by, IsTargetOf};
+ghost use Rattle.zarrs_codec_traits.specs.Calls.{AtLevel, DecodesParts};
+ghost use Rattle.zarrs_codec_traits.specs.Errors.{unserved_at, IsNoFault, RefusesBy, Serves, IsDecodeError, IsFormRefusal};
 ghost use Rattle.zarrs_codec_array_bytes_parts.specs.Targets.{LeftBehind};
 ghost use Rattle.zarrs_codec_array_bytes_parts.specs.TargetViews.{inner_view, mask_views};
-ghost use Rattle.zarrs_codec_traits.specs.Into.{num_elements_in, into_answer, RefusesCount, DecodesInto, IsPut};
-ghost use Rattle.zarrs_codec_traits.specs.Parts.{ArePartsOf, IsAnswer, request_answer};
+ghost use Rattle.zarrs_codec_traits.specs.Into.{RefusesViews, FillsViews};
+ghost use Rattle.zarrs_codec_traits.specs.Parts.{IsAnswer};
+ghost use Rattle.zarrs_codec_traits.specs.Same.{IsSameToBytes, TellsSame};
 ghost use Rattle.zarrs_codec_traits.specs.Views.{lengths, level_of, options_of, asked_ranges};
-ghost use Rattle.zarrs_codec_traits.specs.Words.{list_at, at_box, select, Gives, IsFit};
+ghost use Rattle.zarrs_codec_traits.specs.Words.{list_at, Gives, IsFit};
 
 use crate::codec_traits::ArrayCodecTraits;
 use crate::decoding::{decode_into_fixed, decode_into_optional};
@@ -66,18 +67,10 @@ pub trait ArrayToBytesCodecTraits: ArrayCodecTraits + Sized {
     /// The codec with options of its own, by default the same. It serves, refuses and decodes as before, asks for the
     /// same ranges, tells the same number of bytes, and is written as before.
     fn with_codec_specific_options(self, _options: &CodecSpecificOptions) -> Self
-        ensures meaning { meaning result ≡ meaning self }
-        ensures says { (under : Options) (level : Level) (value : List ℕ) (e : CodecError)
-            → says result under level value e → says self under level value e }
-        ensures beyond { beyond result ≡ beyond self }
-        ensures takes { (level : Level) → takes self level → takes result level }
-        ensures request { request result ≡ request self }
-        ensures representation { representation result ≡ representation self }
-        ensures compacts { compacts result ≡ compacts self }
+        ensures same { IsSameToBytes meaning says beyond takes request representation compacts
+            self result }
         ensures unserved { Self.unserved result ≡ Self.unserved self }
-        ensures written { Self.written result ≡ Self.written self }
-        ensures decodes_parts { Self.decodes_parts result ≡ Self.decodes_parts self }
-        ensures encodes_parts { Self.encodes_parts result ≡ Self.encodes_parts self }
+        ensures told { TellsSame Self.CodecTraits.own self result }
     {
         self
     }
@@ -167,36 +160,16 @@ pub trait ArrayToBytesCodecTraits: ArrayCodecTraits + Sized {
         options: &CodecOptions,
     ) -> Result<(), CodecError>
         requires fits { IsFit (lengths shape.now) (type_of data_type.now) }
-        ensures unserved { RefusesBy (unserved_at (Self.unserved self.now)
-            (level_of shape.now data_type.now fill_value.now) (fill_bytes fill_value.now)) result }
-        ensures counted { let level = level_of shape.now data_type.now fill_value.now in
-            let num = num_elements_in output_target.entry in
-            unserved_at (Self.unserved self.now) level (fill_bytes fill_value.now) ≡ None
-            → RefusesCount (num == count_of level.shape) num (count_of level.shape) result }
-        ensures exact { let level = level_of shape.now data_type.now fill_value.now in
-            unserved_at (Self.unserved self.now) level (fill_bytes fill_value.now) ≡ None
-            → (num_elements_in output_target.entry == count_of level.shape) ≡ true
-            → DecodesInto (meaning self.now (options_of options.now) level bytes.items)
-            (says self.now (options_of options.now) level bytes.items)
-            (into_answer (kind_of level.data_type) (count_of level.shape)
-            (mask_views output_target.entry) (inner_view output_target.entry)) result }
-        ensures put { let level = level_of shape.now data_type.now fill_value.now in
+        ensures at { let level = level_of shape.now data_type.now fill_value.now in
             let wanted = meaning self.now (options_of options.now) level bytes.items in
-            unserved_at (Self.unserved self.now) level (fill_bytes fill_value.now) ≡ None
-            → IsTargetOf (kind_of level.data_type) (count_of level.shape)
-            (mask_views output_target.entry) (inner_view output_target.entry)
-            → IfOk result (λ _. LeftBehind (λ left. wanted ≡ Some (held_by [] left.0.now))
-            (λ left. wanted ≡ Some (held_by left.1.0.now left.0.now)) output_target.exit) }
-        ensures written { let level = level_of shape.now data_type.now fill_value.now in
-            unserved_at (Self.unserved self.now) level (fill_bytes fill_value.now) ≡ None
-            → IfOk result (λ _. LeftBehind
-            (λ left. IsPut (kind_of level.data_type) (count_of level.shape)
-            (meaning self.now (options_of options.now) level bytes.items) [] []
-            (inner_view output_target.entry) left.0.now)
-            (λ left. IsPut (kind_of level.data_type) (count_of level.shape)
-            (meaning self.now (options_of options.now) level bytes.items)
-            (mask_views output_target.entry) left.1.0.now
-            (inner_view output_target.entry) left.0.now) output_target.exit) }
+            let masks = mask_views output_target.entry in
+            let inner = inner_view output_target.entry in
+            AtLevel (unserved_at (Self.unserved self.now) level (fill_bytes fill_value.now))
+            (RefusesViews level wanted (says self.now (options_of options.now) level bytes.items)
+            masks inner result
+            × LeftBehind (λ left. FillsViews level wanted [] [] inner left.0.now result)
+            (λ left. FillsViews level wanted masks left.1.0.now inner left.0.now result)
+            output_target.exit) result }
         ensures kept { IfErr result (λ _. LeftBehind
             (λ left. left.0.now ≡ inner_view output_target.entry)
             (λ left. (left.0.now ≡ inner_view output_target.entry)
@@ -229,13 +202,10 @@ pub trait ArrayToBytesCodecTraits: ArrayCodecTraits + Sized {
         requires fits { IsFit (lengths shape.now) (type_of data_type.now) }
         ensures stays { compacts self.now ≡ false
             → MatchResult result (λ r. r ≡ None) (λ e. e ≡ codec.OutOfMemory) }
-        ensures same { let level = level_of shape.now data_type.now fill_value.now in
+        ensures value { let level = level_of shape.now data_type.now fill_value.now in
             unserved_at (Self.unserved self.now) level (fill_bytes fill_value.now) ≡ None
-            → IfOk result (λ r. IfSome r (λ v. (under : Options)
-            → meaning self.now under level v.items ≡ meaning self.now under level bytes.items)) }
-        ensures failed { let level = level_of shape.now data_type.now fill_value.now in
-            unserved_at (Self.unserved self.now) level (fill_bytes fill_value.now) ≡ None
-            → IfErr result
+            → MatchResult result (λ r. IfSome r (λ v. (under : Options)
+            → meaning self.now under level v.items ≡ meaning self.now under level bytes.items))
             (IsDecodeError (meaning self.now (options_of options.now) level bytes.items)
             (says self.now (options_of options.now) level bytes.items)) }
     {
@@ -282,39 +252,12 @@ pub trait ArrayToBytesCodecTraits: ArrayCodecTraits + Sized {
         requires inside { ends_within (box_of region.now) (lengths shape.now) ≡ true }
         requires answered { IsAnswer (request self.now (lengths shape.now) (type_of data_type.now)
             (box_of region.now)) (parts_of parts) }
-        ensures unserved { RefusesBy (unserved_at (Self.unserved self.now)
-            (level_of shape.now data_type.now fill_value.now) (fill_bytes fill_value.now)) result }
-        ensures lengths { let level = level_of shape.now data_type.now fill_value.now in
-            unserved_at (Self.unserved self.now) level (fill_bytes fill_value.now) ≡ None
-            → RefusesAs (request_answer
-            (request self.now level.shape level.data_type (box_of region.now))
-            (parts_of parts)) result }
-        ensures value { let level = level_of shape.now data_type.now fill_value.now in
-            (value : List ℕ) (xs : List Element)
-            → unserved_at (Self.unserved self.now) level (fill_bytes fill_value.now) ≡ None
-            → ArePartsOf (request self.now level.shape level.data_type (box_of region.now)) value
-            (parts_of parts) → meaning self.now (options_of options.now) level value ≡ Some xs
-            → MatchResult result (λ v. list_at (at_box (box_of region.now) level) (raw_of v)
-            ≡ Some (select level.shape (box_of region.now) xs)) (λ e. e ≡ codec.OutOfMemory) }
-        ensures cause { let level = level_of shape.now data_type.now fill_value.now in
-            (value : List ℕ)
-            → unserved_at (Self.unserved self.now) level (fill_bytes fill_value.now) ≡ None
-            → ArePartsOf (request self.now level.shape level.data_type (box_of region.now)) value
-            (parts_of parts)
-            → request_answer (request self.now level.shape level.data_type (box_of region.now))
-            (parts_of parts) ≡ fine → IfErr result
-            (IsDecodeError (meaning self.now (options_of options.now) level value)
-            (says self.now (options_of options.now) level value)) }
-        ensures valid { let level = level_of shape.now data_type.now fill_value.now in
-            unserved_at (Self.unserved self.now) level (fill_bytes fill_value.now) ≡ None
-            → IfOk result
-            (λ v. IsSome (list_at (at_box (box_of region.now) level) (raw_of v))) }
-        ensures decodes { let level = level_of shape.now data_type.now fill_value.now in
-            (value : List ℕ)
-            → unserved_at (Self.unserved self.now) level (fill_bytes fill_value.now) ≡ None
-            → request self.now level.shape level.data_type (box_of region.now) ≡ None
-            → parts_of parts ≡ value ∷ []
-            → IfOk result (λ _. IsSome (meaning self.now (options_of options.now) level value)) }
+        ensures at { let level = level_of shape.now data_type.now fill_value.now in
+            AtLevel (unserved_at (Self.unserved self.now) level (fill_bytes fill_value.now))
+            (DecodesParts (request self.now level.shape level.data_type (box_of region.now))
+            (meaning self.now (options_of options.now) level)
+            (says self.now (options_of options.now) level) level (box_of region.now)
+            (parts_of parts) result) result }
         ensures short { IfOk result (λ v. has_long_element (raw_of v) ≡ false) }
         ensures no_fault { IfErr result IsNoFault };
 

@@ -7,6 +7,7 @@ ghost use Rattle.zarrs_codec_error.specs.declared.error.CodecError.TheVariants a
 ghost use Rattle.zarrs_codec_error.specs.declared.bytes_representation.BytesRepresentation.{BytesRepresentation};
 ghost use Rattle.zarrs_codec_error.specs.declared.recommended_concurrency.RecommendedConcurrency.{RecommendedConcurrency};
 ghost use Rattle.zarrs_codec_traits.specs.Errors.{IsNoFault, IsDecodeError};
+ghost use Rattle.zarrs_codec_traits.specs.Same.{TellsSame};
 ghost use Rattle.zarrs_codec_traits.specs.Views.{options_of};
 
 use crate::codec_traits::CodecTraits;
@@ -35,9 +36,7 @@ pub trait BytesToBytesCodecTraits: CodecTraits + Sized {
         ensures says { (under : Options) (value : List ℕ) (e : CodecError)
             → says result under value e → says self under value e }
         ensures representation { representation result ≡ representation self }
-        ensures written { Self.written result ≡ Self.written self }
-        ensures decodes_parts { Self.decodes_parts result ≡ Self.decodes_parts self }
-        ensures encodes_parts { Self.encodes_parts result ≡ Self.encodes_parts self }
+        ensures told { TellsSame Self.CodecTraits.own self result }
     {
         self
     }

@@ -1,17 +1,15 @@
 //! A value decoded into the views of a target.
 
 ghost use Rattle.std.specs.Prelude.{◌≡◌, ◌==◌, [], true, Some, None, IfOk, IfErr};
-ghost use Rattle.zarr_model.specs.Region.{count, count_of};
-ghost use Rattle.zarr_model.specs.Element.{kind_of};
-ghost use Rattle.zarrs_array_subset.specs.ArraySubset.{region as box_of};
+ghost use Rattle.zarr_model.specs.Region.{count_of};
 ghost use Rattle.zarrs_data_type_bytes.specs.FillValue.{fill_bytes};
 ghost use Rattle.zarrs_data_type.specs.DataType.{type_of};
 ghost use Rattle.zarrs_codec_array_bytes.specs.Raw.{raw_of};
-ghost use Rattle.zarrs_codec_array_bytes_parts.specs.Held.{held_by, IsTargetOf};
+ghost use Rattle.zarrs_codec_traits.specs.Calls.{AtLevel};
 ghost use Rattle.zarrs_codec_traits.specs.Errors.{unserved_at, RefusesBy, IsDecodeError};
 ghost use Rattle.zarrs_codec_traits.specs.Views.{lengths, level_of, options_of};
 ghost use Rattle.zarrs_codec_traits.specs.Words.{list_at, Gives, IsFit};
-ghost use Rattle.zarrs_codec_traits.specs.Into.{into_answer, RefusesCount, DecodesInto, IsPut};
+ghost use Rattle.zarrs_codec_traits.specs.Into.{RefusesCount, RefusesViews, FillsViews};
 
 use crate::array_to_bytes::ArrayToBytesCodecTraits;
 use crate::put::{expect_number, put_fixed, put_optional};
@@ -69,27 +67,12 @@ pub(crate) fn decode_into_fixed<C: ArrayToBytesCodecTraits>(
     options: &CodecOptions,
 ) -> Result<(), CodecError>
     requires fits { IsFit (lengths shape.now) (type_of data_type.now) }
-    ensures unserved { RefusesBy (unserved_at (C.unserved codec.now)
-        (level_of shape.now data_type.now fill_value.now) (fill_bytes fill_value.now)) result }
-    ensures counted { let level = level_of shape.now data_type.now fill_value.now in
-        let num = count (box_of view.old.part.subset) in
-        unserved_at (C.unserved codec.now) level (fill_bytes fill_value.now) ≡ None
-        → RefusesCount (num == count_of level.shape) num (count_of level.shape) result }
-    ensures exact { let level = level_of shape.now data_type.now fill_value.now in
-        unserved_at (C.unserved codec.now) level (fill_bytes fill_value.now) ≡ None
-        → (count (box_of view.old.part.subset) == count_of level.shape) ≡ true
-        → DecodesInto (C.meaning codec.now (options_of options.now) level bytes.items)
-        (C.says codec.now (options_of options.now) level bytes.items)
-        (into_answer (kind_of level.data_type) (count_of level.shape) [] view.old) result }
-    ensures put { let level = level_of shape.now data_type.now fill_value.now in
-        unserved_at (C.unserved codec.now) level (fill_bytes fill_value.now) ≡ None
-        → IsTargetOf (kind_of level.data_type) (count_of level.shape) [] view.old
-        → IfOk result (λ _. C.meaning codec.now (options_of options.now) level bytes.items
-        ≡ Some (held_by [] view.new)) }
-    ensures written { let level = level_of shape.now data_type.now fill_value.now in
-        unserved_at (C.unserved codec.now) level (fill_bytes fill_value.now) ≡ None
-        → IfOk result (λ _. IsPut (kind_of level.data_type) (count_of level.shape)
-        (C.meaning codec.now (options_of options.now) level bytes.items) [] [] view.old view.new) }
+    ensures at { let level = level_of shape.now data_type.now fill_value.now in
+        let wanted = C.meaning codec.now (options_of options.now) level bytes.items in
+        AtLevel (unserved_at (C.unserved codec.now) level (fill_bytes fill_value.now))
+        (RefusesViews level wanted (C.says codec.now (options_of options.now) level bytes.items)
+        [] view.old result
+        × FillsViews level wanted [] [] view.old view.new result) result }
     ensures kept { IfErr result (λ _. view.new ≡ view.old) }
 {
     let num = view.num_elements();
@@ -112,28 +95,12 @@ pub(crate) fn decode_into_optional<'a, C: ArrayToBytesCodecTraits>(
     options: &CodecOptions,
 ) -> Result<(), CodecError>
     requires fits { IsFit (lengths shape.now) (type_of data_type.now) }
-    ensures unserved { RefusesBy (unserved_at (C.unserved codec.now)
-        (level_of shape.now data_type.now fill_value.now) (fill_bytes fill_value.now)) result }
-    ensures counted { let level = level_of shape.now data_type.now fill_value.now in
-        let num = count (box_of view.old.part.subset) in
-        unserved_at (C.unserved codec.now) level (fill_bytes fill_value.now) ≡ None
-        → RefusesCount (num == count_of level.shape) num (count_of level.shape) result }
-    ensures exact { let level = level_of shape.now data_type.now fill_value.now in
-        unserved_at (C.unserved codec.now) level (fill_bytes fill_value.now) ≡ None
-        → (count (box_of view.old.part.subset) == count_of level.shape) ≡ true
-        → DecodesInto (C.meaning codec.now (options_of options.now) level bytes.items)
-        (C.says codec.now (options_of options.now) level bytes.items)
-        (into_answer (kind_of level.data_type) (count_of level.shape) masks.old view.old) result }
-    ensures put { let level = level_of shape.now data_type.now fill_value.now in
-        unserved_at (C.unserved codec.now) level (fill_bytes fill_value.now) ≡ None
-        → IsTargetOf (kind_of level.data_type) (count_of level.shape) masks.old view.old
-        → IfOk result (λ _. C.meaning codec.now (options_of options.now) level bytes.items
-        ≡ Some (held_by masks.new view.new)) }
-    ensures written { let level = level_of shape.now data_type.now fill_value.now in
-        unserved_at (C.unserved codec.now) level (fill_bytes fill_value.now) ≡ None
-        → IfOk result (λ _. IsPut (kind_of level.data_type) (count_of level.shape)
-        (C.meaning codec.now (options_of options.now) level bytes.items)
-        masks.old masks.new view.old view.new) }
+    ensures at { let level = level_of shape.now data_type.now fill_value.now in
+        let wanted = C.meaning codec.now (options_of options.now) level bytes.items in
+        AtLevel (unserved_at (C.unserved codec.now) level (fill_bytes fill_value.now))
+        (RefusesViews level wanted (C.says codec.now (options_of options.now) level bytes.items)
+        masks.old view.old result
+        × FillsViews level wanted masks.old masks.new view.old view.new result) result }
     ensures kept { IfErr result (λ _. (view.new ≡ view.old) × (masks.new ≡ masks.old)) }
 {
     let num = view.num_elements();

@@ -26,16 +26,19 @@ pub returns-clause-value : goal.returns-clause-value
 returns-clause-value g c = λ bytes xs are is.
     let here = ap box_of c.last_or.ensures ∙ (sym (map_last box_of c.args.boxes.now c.args.region.now)
     ∙ ap (λ boxes. last_item boxes (box_of c.args.region.now)) c.requires.boxes) in
-    (rw (here, c.deref.ensures.value) at c.decode_parts.ensures.value) bytes xs c.requires.served.served are is
+    let at = rw (here, c.deref.ensures.value) at c.decode_parts.ensures.at in
+    (at.served c.requires.served.served).value bytes xs are is
 
 pub returns-clause-failed : goal.returns-clause-failed
 returns-clause-failed g c = λ bytes are long.
     let here = ap box_of c.last_or.ensures ∙ (sym (map_last box_of c.args.boxes.now c.args.region.now)
     ∙ ap (λ boxes. last_item boxes (box_of c.args.region.now)) c.requires.boxes) in
-    (rw (here, c.deref.ensures.value) at c.decode_parts.ensures.cause) bytes c.requires.served.served are long
+    let at = rw (here, c.deref.ensures.value) at c.decode_parts.ensures.at in
+    (at.served c.requires.served.served).cause bytes are long
 
 pub returns-clause-valid : goal.returns-clause-valid
 returns-clause-valid g c =
     let here = ap box_of c.last_or.ensures ∙ (sym (map_last box_of c.args.boxes.now c.args.region.now)
     ∙ ap (λ boxes. last_item boxes (box_of c.args.region.now)) c.requires.boxes) in
-    (rw (here, c.deref.ensures.value) at c.decode_parts.ensures.valid) c.requires.served.served
+    let at = rw (here, c.deref.ensures.value) at c.decode_parts.ensures.at in
+    (at.served c.requires.served.served).valid

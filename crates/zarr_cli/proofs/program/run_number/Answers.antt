@@ -10,8 +10,7 @@ returns-clause-made g c = λ source.
     made_answers c.args.number (options_of c.args.words.now.options)
     (seen source (g.W.Sink.shown c.args.sink.now) (g.S.Store.shown c.args.store.now))
     (seen source (g.W.Sink.shown c.write_output.new.sink) (g.S.Store.shown c.run_made-output.new.store))
-    c.run_made-output.result c.write_output.result c.run_made-output.ensures.ran c.run_made-output.ensures.fault
-    c.run_made-output.ensures.between c.run_made-output.ensures.complete c.run_made-output.ensures.unchanged refl
+    c.run_made-output.result c.write_output.result (g.met.S.Store.counts_fit c.args.store.now).3 c.run_made-output.ensures refl
     c.write_output.ensures
 
 pub returns-clause-ends : goal.returns-clause-ends
@@ -19,7 +18,7 @@ returns-clause-ends g c = λ known is source.
     let own = of_made c.args.number (options_of c.args.words.now.options) (g.S.Store.shown c.args.store.now)
     (g.S.Store.shown c.run_made-output.new.store) (g.W.Sink.shown c.args.sink.now)
     (g.W.Sink.shown c.write_output.new.sink)
-    c.run_made-output.result c.write_output.result c.run_made-output.ensures.fault c.write_output.ensures in
+    c.run_made-output.result c.write_output.result (g.met.S.Store.counts_fit c.args.store.now).3 c.run_made-output.ensures c.write_output.ensures in
     made_ends known (settings_view c.args.words.now)
     (seen source (g.W.Sink.shown c.args.sink.now) (g.S.Store.shown c.args.store.now))
     (seen source (g.W.Sink.shown c.write_output.new.sink) (g.S.Store.shown c.run_made-output.new.store))
@@ -30,5 +29,5 @@ returns-clause-named g c =
     let own = of_made c.args.number (options_of c.args.words.now.options) (g.S.Store.shown c.args.store.now)
     (g.S.Store.shown c.run_made-output.new.store) (g.W.Sink.shown c.args.sink.now)
     (g.W.Sink.shown c.write_output.new.sink)
-    c.run_made-output.result c.write_output.result c.run_made-output.ensures.fault c.write_output.ensures in
+    c.run_made-output.result c.write_output.result (g.met.S.Store.counts_fit c.args.store.now).3 c.run_made-output.ensures c.write_output.ensures in
     made_named _ _ c.write_output.result own.0

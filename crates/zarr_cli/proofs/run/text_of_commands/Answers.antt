@@ -3,9 +3,11 @@ use Rattle.std.proofs.lemmas.Result.{err_from_is_err_and}
 use Rattle.zarrs_codec_traits.specs.Prelude.{kind, options_of}
 use Rattle.zarr_cli_runs.specs.array.boxes.Command.{command_of}
 use Rattle.zarr_cli_runs.specs.lines.Parts.{IsTextOf}
-use Rattle.zarr_cli.specs.Array.{job, Replied}
+use Rattle.zarr_cli_runs.specs.Job.{job}
+use Rattle.zarr_cli.specs.Array.{Replied}
 use Rattle.zarr_cli.specs.Steps.{RepliesTo}
-use Rattle.zarr_cli.proofs.RunLemmas.{text_did, text_starved, still_early}
+use Rattle.zarr_cli.proofs.RunLemmas.{text_did, text_starved}
+use Rattle.zarr_cli_runs.proofs.JobLaws.{still_early}
 use Rattle.zarr_cli.proofs.run.text_of_commands.Goals as goal
 
 pub returns-in_ok-text_of_replies-in-Ok-clause-did : goal.returns-in_ok-text_of_replies-in-Ok-clause-did

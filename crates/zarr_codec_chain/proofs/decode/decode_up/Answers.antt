@@ -22,14 +22,14 @@ returns-in_err-decoded-clause-value g c = λ bottom list links means.
     let steps = steps_of c.args.codecs.now c.args.levels.now in
     let codec = c.index-codecs-left.result in
     let this = step codec c.index-levels-left.result in
-    let refused = rw c.deref.ensures.value at c.in_err-decoded.ensures.exact in
+    let refused = (rw c.deref.ensures.value at c.in_err-decoded.ensures.at).served in
     let below = (code.meaning codec).level_below (above this) in
     let cause = step-memory code.meaning g.A.ArrayCodecTraits.unserved bottom (c.loop-left.left - 1) c.loop-left.left
     steps this list (raw_of c.loop-left.decoded) (c.in_err-decoded.field-0.0 ≡ OutOfMemory) (back c.args.codecs.now
     c.args.levels.now c.loop-left.left c.index-codecs-left.result c.index-levels-left.result c.requires.count
     c.loop-left-test.true c.loop-left.invariant.within c.index-codecs-left.is c.index-levels-left.is) links
     (c.loop-left.invariant.holds bottom list links means) (λ served mid is.
-    memory_alone below (raw_of c.loop-left.decoded) mid c.in_err-decoded.field-0.0 is (refused served)) in
+    memory_alone below (raw_of c.loop-left.decoded) mid c.in_err-decoded.field-0.0 is (refused served).exact) in
     search rules
 
 pub loop-left-init : goal.loop-left-init
@@ -50,12 +50,12 @@ loop-left-preserved g c = record {
       let code = g.A.ArrayToArrayCodecTraits in
       let steps = steps_of c.args.codecs.now c.args.levels.now in
       let this = step c.index-codecs-left.result c.index-levels-left.result in
-      let decoded = rw c.deref.ensures.value at c.in_ok-decoded.ensures.value in
+      let decoded = (rw c.deref.ensures.value at c.in_ok-decoded.ensures.at).served in
       step-up code.meaning g.A.ArrayCodecTraits.unserved bottom (c.loop-left.left - 1) c.loop-left.left steps this list
       (raw_of c.loop-left.decoded) (raw_of c.in_ok-decoded.decoded)
       (back c.args.codecs.now c.args.levels.now c.loop-left.left c.index-codecs-left.result c.index-levels-left.result
       c.requires.count c.loop-left-test.true c.loop-left.invariant.within c.index-codecs-left.is c.index-levels-left.is)
-      links (c.loop-left.invariant.holds bottom list links means) (λ served mid is. decoded mid served is);
+      links (c.loop-left.invariant.holds bottom list links means) (λ served mid is. (decoded served).value mid is);
   short = λ short. c.in_ok-decoded.ensures.short (c.loop-left.invariant.short short);
 }
 

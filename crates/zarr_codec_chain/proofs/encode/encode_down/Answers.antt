@@ -34,9 +34,9 @@ returns-in_err-encoded-clause-value g c = λ bottom list links means.
     (raw_of c.loop-index.encoded) (front c.args.codecs.now c.args.levels.now n c.index-codecs-index.result
     c.index-levels-index.result c.requires.count c.loop-index-test.true c.index-codecs-index.is c.index-levels-index.is)
     links (c.loop-index.invariant.value bottom list links means) in
-    let refused = rw c.deref.ensures.value at c.in_err-encoded.ensures.exact in
-    let memory =
-    valid_memory (above this) (raw_of c.loop-index.encoded) c.in_err-encoded.field-0.0 ready.1 (refused ready.0) in
+    let refused = (rw c.deref.ensures.value at c.in_err-encoded.ensures.at).served in
+    let memory = valid_memory (above this) (raw_of c.loop-index.encoded) c.in_err-encoded.field-0.0 ready.1
+    (refused ready.0).exact in
     search rules
 
 pub returns-in_err-encoded-clause-refused : goal.returns-in_err-encoded-clause-refused
@@ -49,9 +49,10 @@ returns-in_err-encoded-clause-refused g c = λ bottom links none.
     let first = at-start code.meaning g.A.ArrayCodecTraits.unserved bottom n steps _ this start.0
     (front c.args.codecs.now c.args.levels.now n c.index-codecs-index.result c.index-levels-index.result
     c.requires.count c.loop-index-test.true c.index-codecs-index.is c.index-levels-index.is) links in
-    let refused = rw c.deref.ensures.value at c.in_err-encoded.ensures.exact in
+    let refused = (rw c.deref.ensures.value at c.in_err-encoded.ensures.at).served in
     let told : SaysInvalid (top steps bottom) (raw_of c.args.bytes) c.in_err-encoded.field-0.0 =
-    subst₂ (λ level raw. SaysInvalid level raw c.in_err-encoded.field-0.0) (sym first.1) start.1 (refused first.0) in
+    subst₂ (λ level raw. SaysInvalid level raw c.in_err-encoded.field-0.0) (sym first.1) start.1
+    (refused first.0).exact in
     search rules
 
 pub loop-index-preserved : goal.loop-index-preserved
@@ -63,12 +64,12 @@ loop-index-preserved g c = record {
       let this = step c.index-codecs-index.result c.index-levels-index.result in
       let more = next c.args.codecs.now c.args.levels.now n c.index-codecs-index.result c.index-levels-index.result
       c.requires.count c.loop-index-test.true c.index-codecs-index.is c.index-levels-index.is in
-      let encoded = rw c.deref.ensures.value at c.in_ok-encoded.ensures.value in
+      let encoded = (rw c.deref.ensures.value at c.in_ok-encoded.ensures.at).served in
       step-down code.meaning g.A.ArrayCodecTraits.unserved bottom n (n + 1) steps this list
       (raw_of c.loop-index.encoded) (raw_of c.in_ok-encoded.encoded)
       (front c.args.codecs.now c.args.levels.now n c.index-codecs-index.result c.index-levels-index.result
       c.requires.count c.loop-index-test.true c.index-codecs-index.is c.index-levels-index.is) more links
-      (c.loop-index.invariant.value bottom list links means) (λ served there. encoded served);
+      (c.loop-index.invariant.value bottom list links means) (λ served there. (encoded served).value);
   started = λ bottom links none.
       let code = g.A.ArrayToArrayCodecTraits in
       let steps = steps_of c.args.codecs.now c.args.levels.now in
@@ -78,7 +79,7 @@ loop-index-preserved g c = record {
       let first = at-start code.meaning g.A.ArrayCodecTraits.unserved bottom n steps _ this start.0
       (front c.args.codecs.now c.args.levels.now n c.index-codecs-index.result c.index-levels-index.result
       c.requires.count c.loop-index-test.true c.index-codecs-index.is c.index-levels-index.is) links in
-      let fine_here = (rw c.deref.ensures.value at c.in_ok-encoded.ensures.exact) first.0 in
+      let fine_here = ((rw c.deref.ensures.value at c.in_ok-encoded.ensures.at).served first.0).exact in
       let none_here : list_at (above this) (raw_of c.loop-index.encoded) ≡ None =
       subst₂ (λ level raw. list_at level raw ≡ None) first.1 (sym start.1) none in
       absurd (none_invalid (above this) (raw_of c.loop-index.encoded) none_here fine_here);

@@ -8,7 +8,7 @@ returns g c = λ served.
     let meaning = g.C.ArrayToArrayCodecTraits.meaning c.args.codec.now in
     down_up (list_at level (raw_of c.args.bytes)) (list_at (meaning.level_below level) (raw_of c.in_ok-below.below))
     (list_at level (raw_of c.in_ok-back.back)) (meaning.decode_list level)
-    (c.in_ok-below.ensures.value served)
+    (c.in_ok-below.ensures.at.served served).value
     (fine_valid (kind_of level.data_type) (count_of level.shape) (raw_of c.args.bytes)
-    (c.in_ok-below.ensures.exact served))
-    (λ list e. c.in_ok-back.ensures.value list served e)
+    (c.in_ok-below.ensures.at.served served).exact)
+    (c.in_ok-back.ensures.at.served served).value

@@ -29,8 +29,8 @@ returns-in-Err-text_of_keys-clause-ran g c =
     let is : options_of c.default.result ≡ move_options = ap options_of c.default.ensures in
     not_listed (documented c.args.source.now) (documented c.args.target.now) before now c.rechunk.ensures.source.same
     (subst (λ o. LeavesBand (described_array c.args.target.now) o before.to now.to) is c.rechunk.ensures.left)
-    (g.T.Store.shown c.text_of_keys.new.store) c.in-Ok.ensures.moved.may c.text_of_keys.ensures.same
-    c.in-Err-text_of_keys.status c.in-Err-text_of_keys.ensures.fault
+    (g.T.Store.shown c.text_of_keys.new.store) c.in-Ok.ensures.moved.may c.text_of_keys.ensures.reads.same
+    c.in-Err-text_of_keys.status c.in-Err-text_of_keys.ensures.reads.fault
 
 pub returns-in-Ok-text_of_keys-clause-ran : goal.returns-in-Ok-text_of_keys-clause-ran
 returns-in-Ok-text_of_keys-clause-ran g c =
@@ -43,7 +43,7 @@ returns-in-Ok-text_of_keys-clause-ran g c =
     let asked = c.in-Ok-text_of_keys.ensures.asks in
     moved_and_listed source target before now c.rechunk.ensures.source.same
     (subst (λ o. LeavesBand (described_array c.args.target.now) o before.to now.to) is c.rechunk.ensures.left) last
-    c.in-Ok.ensures.moved.may c.text_of_keys.ensures.same
+    c.in-Ok.ensures.moved.may c.text_of_keys.ensures.reads.same
     c.in-Ok-text_of_keys.text
     (record {
       may = c.in-Ok.ensures.moved.may;
@@ -53,7 +53,7 @@ returns-in-Ok-text_of_keys-clause-ran g c =
           c.in-Ok.ensures.moved.undamaged;
       means = λ array means honest.
           subst (λ (held : Content). Means (layout (described_array c.args.target.now) move_options) held
-          (in_description (described_array c.args.target.now) array)) (sym c.text_of_keys.ensures.same)
+          (in_description (described_array c.args.target.now) array)) (sym c.text_of_keys.ensures.reads.same)
           (subst (λ (o : Options). Means (layout (described_array c.args.target.now) o) now.to.content
           (in_description (described_array c.args.target.now) array)) is
           (c.in-Ok.ensures.moved.moves array (subst (λ (o : Options).
@@ -67,5 +67,5 @@ returns-in-Ok-text_of_keys-clause-ran g c =
           omega (arith, puts, few));
       asked_to = (let first = c.in-Ok.ensures.moved.asked_to in let more = asked.2 in
           (asked.0, asked.1, omega (arith, first, more)));
-      put_to = c.in-Ok-text_of_keys.ensures.puts ∙ c.in-Ok.ensures.moved.put_to;
+      put_to = c.in-Ok-text_of_keys.ensures.reads.puts ∙ c.in-Ok.ensures.moved.put_to;
     })

@@ -10,7 +10,7 @@ returns g c = λ xs served means.
     let bottom = c.in_ok-chunk.chunk.handle.level in
     let held : value_bytes c.in_ok-chunk.chunk.handle.handle.value ≡ Some c.args.value.items =
     ap (λ h. value_bytes h.value) chunk.handle ∙ c.new-handle.ensures in
-    (rw chunk.level at c.partial_decode.ensures.value) (reverse xs)
+    (rw chunk.level at c.partial_decode.ensures.reads.selects.value) (reverse xs)
     (served_below g.B.ArrayCodecTraits.unserved bottom c.args.codec _ _ _ chunk.below chunk.fill chunk.codec
     c.requires.denotes served)
     (ap (option_map reverse)

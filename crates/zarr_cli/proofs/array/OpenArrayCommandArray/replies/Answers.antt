@@ -6,7 +6,8 @@ use Rattle.zarr_cli_runs.specs.array.Access.{by_chunk}
 use Rattle.zarr_cli_runs.specs.array.Plain.{is_bytes_alone}
 use Rattle.zarr_cli_runs.specs.Commands.{CostsRun}
 use Rattle.zarrs_codec_traits.specs.Views.{options_of}
-use Rattle.zarr_cli.specs.Array.{job, Did, Replied}
+use Rattle.zarr_cli_runs.specs.Job.{job, Did}
+use Rattle.zarr_cli.specs.Array.{Replied}
 use Rattle.zarr_cli.specs.Run.{open_costs}
 use Rattle.zarr_cli.proofs.RunLemmas.{array_did}
 use Rattle.zarr_cli.proofs.array.OpenArrayCommandArray.replies.Goals as goal
@@ -21,10 +22,8 @@ returns-clause-did g c =
     (λ held. Replied (open_costs document) (describe document) options commands before now held.items))
     (ap documented_parts c.parts.ensures)
     (array_did (open_costs (documented_parts c.parts.result.now)) (describe (documented_parts c.parts.result.now))
-    options commands before now (g.met.S.Store.counts_fit c.args.store.now).3
+    options commands before now
     (CostsRun (by_chunk (is_bytes_alone (documented_parts c.parts.result.now)))
     (describe (documented_parts c.parts.result.now)) options commands before now)
     (λ paid puts. record { asks = paid.asks; puts = puts; taken = paid.taken })
-    c.replies_of.result c.replies_of.ensures.ran c.replies_of.ensures.costs c.replies_of.ensures.refused
-    c.replies_of.ensures.unchanged c.replies_of.ensures.later c.replies_of.ensures.fault c.replies_of.ensures.between
-    c.replies_of.ensures.complete)
+    c.replies_of.result c.replies_of.ensures.costs c.replies_of.ensures.did)

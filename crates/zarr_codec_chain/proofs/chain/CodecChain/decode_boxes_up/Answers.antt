@@ -113,11 +113,11 @@ loop-left-preserved g c = record {
       let bytes = given-bytes code.meaning g.A.ArrayCodecTraits.unserved code.region_below bottom laws.counted
       (drop n steps) (drop c.loop-left.left steps) this below got.0 (last_item (take n boxes) region) _ (raw_of
       c.loop-left.decoded) here links below_it (c.loop-left.invariant.holds below counted start) got.1.elements in
-      let decoded = rw (c.deref.ensures.value, from) at c.in_ok-decoded.ensures.value in
+      let decoded = (rw (c.deref.ensures.value, from) at c.in_ok-decoded.ensures.at).served in
       let box = last_item (take n boxes) region in
       subst (λ (l : List (Step g.row.A.Denot)). list_at (at_box box (top l bottom)) (raw_of c.in_ok-decoded.decoded) ≡
       Some (select (top l bottom).shape box xs)) (sym here)
-      (decoded got.0 xs link.served got.1.count got.1.decodes bytes);
+      ((decoded link.served).value got.0 xs got.1.count got.1.decodes bytes);
   valid =
       let code = g.A.ArrayToArrayCodecTraits in
       let bottom = bottom_level c.args.levels.now in
@@ -141,10 +141,10 @@ loop-left-preserved g c = record {
       ap (λ (k : ℕ). last_item (take k boxes) region) (sym next) ∙ box-at code.meaning g.A.ArrayCodecTraits.unserved
       code.region_below bottom n steps (drop c.loop-left.left steps) this region here in
       let box = last_item (take n boxes) region in
-      let decoded = rw (c.deref.ensures.value, from) at c.in_ok-decoded.ensures.valid in
+      let decoded = (rw (c.deref.ensures.value, from) at c.in_ok-decoded.ensures.at).served in
       subst (λ (l : List (Step g.row.A.Denot)).
       IsSome (list_at (at_box box (top l bottom)) (raw_of c.in_ok-decoded.decoded))) (sym here)
-      (decoded link.served);
+      (decoded link.served).valid;
   short = λ short. c.in_ok-decoded.ensures.short (c.loop-left.invariant.short short);
 }
 
@@ -172,13 +172,13 @@ returns-in_err-decoded-clause-valid g c =
     ap (λ (k : ℕ). last_item (take k boxes) region) (sym next) ∙ box-at code.meaning g.A.ArrayCodecTraits.unserved
     code.region_below bottom n steps (drop c.loop-left.left steps) this region here in
     let box = last_item (take n boxes) region in
-    let refused = rw (c.deref.ensures.value, from) at c.in_err-decoded.ensures.exact in
+    let refused = (rw (c.deref.ensures.value, from) at c.in_err-decoded.ensures.at).served in
     let given = valid-below code.meaning g.A.ArrayCodecTraits.unserved code.region_below bottom this
     (drop c.loop-left.left steps) box _ (raw_of c.loop-left.decoded) link below_it c.loop-left.invariant.valid in
     let below =
     at_box (code.region_below this.codec (above this).shape box) ((code.meaning this.codec).level_below (above this)) in
     let memory =
-    valid_memory below (raw_of c.loop-left.decoded) c.in_err-decoded.field-0.0 given (refused link.served) in
+    valid_memory below (raw_of c.loop-left.decoded) c.in_err-decoded.field-0.0 given (refused link.served).exact in
     search rules
 
 pub returns : goal.returns

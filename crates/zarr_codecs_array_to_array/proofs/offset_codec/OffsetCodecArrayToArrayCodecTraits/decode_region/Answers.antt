@@ -1,4 +1,4 @@
-use Rattle.std.proofs.Common.{arith}
+use Rattle.std.proofs.Common.{rules, arith}
 use Rattle.zarrs_codec_traits.specs.Prelude.{count, count_of, meaning, region as box_of, raw_of, lengths}
 use Rattle.zarr_model.proofs.RegionLaws.{count_within}
 use Rattle.zarrs_codec_array_bytes.specs.Steps.{kind_seen, bytes_seen}
@@ -29,10 +29,17 @@ shifted-requires-clause-bytes c =
     c.num_elements.ensures (count_within (box_of c.args.region.now) (lengths c.args._shape.now) c.requires.inside)
     c.requires.fits.bytes
 
-pub returns-clause-value : goal.returns-clause-value
-returns-clause-value c = λ list xs served long whole chosen.
+pub returns-clause-at : goal.returns-clause-at
+returns-clause-at c =
     let box = box_of c.args.region.now in
     let kind = kind_seen c.args.data_type.now in
-    part_ok (offset_of c.args.self.now) (lengths c.args._shape.now) box c.shifted.result
-    (λ v. meaning kind (count box) (raw_of v)) (meaning kind (count box) (raw_of c.args.bytes)) list xs
-    (rw c.num_elements.ensures at c.shifted.ensures.value) whole chosen
+    record {
+      unserved = search rules;
+      served = λ served. record {
+        exact = search rules;
+        value = λ list xs long whole chosen. part_ok (offset_of c.args.self.now) (lengths c.args._shape.now) box
+            c.shifted.result (λ v. meaning kind (count box) (raw_of v)) (meaning kind (count box) (raw_of c.args.bytes))
+            list xs (rw c.num_elements.ensures at c.shifted.ensures.value) whole chosen;
+        valid = search rules;
+      };
+    }

@@ -17,10 +17,7 @@ returns-clause-did g c =
     let before = g.S.Store.shown c.args.store.now in
     let now = g.S.Store.shown c.replies_of.new.store in
     array_did (shard_costs (documented_shards array)) (described_shards array) options commands before now
-    (g.met.S.Store.counts_fit c.args.store.now).3
     (CostsRun (by_part (shard_cost (documented_shards array))) (described_shards array) options commands before now)
     (λ paid puts.
     record { puts = puts; reads = λ reads. record { asks = (paid reads).asks; taken = (paid reads).taken } })
-    c.replies_of.result c.replies_of.ensures.ran c.replies_of.ensures.costs c.replies_of.ensures.refused
-    c.replies_of.ensures.unchanged c.replies_of.ensures.later c.replies_of.ensures.fault c.replies_of.ensures.between
-    c.replies_of.ensures.complete
+    c.replies_of.result c.replies_of.ensures.costs c.replies_of.ensures.did

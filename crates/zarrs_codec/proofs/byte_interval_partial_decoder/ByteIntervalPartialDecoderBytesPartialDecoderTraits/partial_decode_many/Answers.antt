@@ -21,8 +21,11 @@ returns-in-Err-clause-cause g c =
     interval_refused part c.args.self.now.byte_offset c.args.self.now.byte_length tells _ _ c.in-Err.error
     c.args.decoded_regions.now c.in-Err.ensures.refused
 
-pub returns-in-Err-clause-same : goal.returns-in-Err-clause-same
-returns-in-Err-clause-same g c = (refl, (refl, g.met.H.BytesPartialDecoderTraits.same_self c.args.self.now.handle))
+pub returns-in-Err-clause-kept : goal.returns-in-Err-clause-kept
+returns-in-Err-clause-kept g c = record {
+  same = (refl, (refl, g.met.H.BytesPartialDecoderTraits.same_self c.args.self.now.handle));
+  tells = λ under asked e told. told;
+}
 
 pub returns-in-Ok-clause-first : goal.returns-in-Ok-clause-first
 returns-in-Ok-clause-first g c =

@@ -47,9 +47,12 @@ returns-in-Ok-partial_decode g c =
     let inside = subst (λ (b : Region). ends_within b below.shape ≡ true) (sym inner)
     (laws.region_inside codec level fill region over.served c.requires.inside) in
     let fits = subst (λ (s : List ℕ). ends_within (box_of c.in-Ok.inner) s ≡ true) (sym over.below.shape) inside in
-    let read = c.in-Ok-partial_decode.ensures in
+    let read = c.in-Ok-partial_decode.ensures.reads.selects in
+    let kept = c.in-Ok-partial_decode.ensures.kept in
     let raw = raw_of c.in-Ok-partial_decode.bytes in
-    let exact = (rw c.deref-in-Ok-partial_decode.ensures.value at c.decode_region.ensures.exact) over.served in
+    let decoded =
+    (rw c.deref-in-Ok-partial_decode.ensures.value at c.decode_region.ensures.at).served over.served in
+    let exact = decoded.exact in
     record {
       gives = λ served.
           let ok = below_served at.unserved old.unserved (fill_element (kind_of level.data_type) fill) served in
@@ -68,10 +71,9 @@ returns-in-Ok-partial_decode g c =
                 above.0 (read.value above.0 ok above.1.0) in
                 let moved = subst (λ (b : Region). list_at (at_box b below) raw ≡ Some (select below.shape b above.0))
                 inner given in
-                (rw c.deref-in-Ok-partial_decode.ensures.value at c.decode_region.ensures.value) above.0 xs over.served
-                long above.1.1 moved;
-            valid = (rw c.deref-in-Ok-partial_decode.ensures.value at c.decode_region.ensures.valid) over.served;
-            failed = λ fit. valid_fails (at_box (at.region_below level.shape region) below) raw _ c.decode_region.result
+                decoded.value above.0 xs long above.1.1 moved;
+            valid = decoded.valid;
+            failed = valid_fails (at_box (at.region_below level.shape region) below) raw _ c.decode_region.result
                 there exact (inl (inl refl));
             decodes = λ present all.
                 let whole = subst (λ (b : Region). old.whole (Some b) ≡ true) (sym inner) all in
@@ -84,7 +86,7 @@ returns-in-Ok-partial_decode g c =
       named = refused_never old.unserved c.in-Ok-partial_decode.bytes c.decode_region.result (read.named fits);
       below = below_still handle (box_of c.in-Ok.inner) (at.region_below level.shape region) c.args.handle.now
           c.partial_decode.new.self c.in-Ok-partial_decode.bytes c.decode_region.result inner
-          (record { reads = read.reads; same = read.same; tells = read.tells; fault = tt; short = read.short })
+          (record { reads = read.reads; same = kept.same; tells = kept.tells; fault = tt; short = read.short })
           c.decode_region.ensures.short (answers_no_fault c.decode_region.result _
           (known_validity (kind_of below.data_type) (count_of (sizes (at.region_below level.shape region))) raw) exact);
     }
@@ -101,11 +103,12 @@ returns-in-Ok g c =
     let inside = subst (λ (b : Region). ends_within b (level_below at).shape ≡ true) (sym inner)
     (laws.region_inside codec at.level at.fill region over.served c.requires.inside) in
     let fits = subst (λ (s : List ℕ). ends_within (box_of c.in-Ok.inner) s ≡ true) (sym over.below.shape) inside in
-    let read = c.in-Err-partial_decode.ensures in
+    let read = c.in-Err-partial_decode.ensures.reads.selects in
+    let kept = c.in-Err-partial_decode.ensures.kept in
     reads_failed g.H.ArrayPartialDecoderTraits at (options_of c.args.options.now) (in_box region) (box_of c.in-Ok.inner)
     c.args.handle.now c.partial_decode.new.self c.in-Err-partial_decode.error inner
     (λ ok. read.failed ok fits) (read.named fits)
-    (record { reads = read.reads; same = read.same; tells = read.tells; fault = read.fault; short = λ served few. tt })
+    (record { reads = read.reads; same = kept.same; tells = kept.tells; fault = read.fault; short = λ served few. tt })
 
 pub returns : goal.returns
 returns g c =

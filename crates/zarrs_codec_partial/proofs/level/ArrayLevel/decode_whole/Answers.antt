@@ -41,10 +41,11 @@ returns-in-Ok-partial_decode g c =
     let inside =
     subst (λ (b : Region). ends_within b below.shape ≡ true) (sym c.in-Ok.ensures) (whole_inside below.shape) in
     let fits = subst (λ (s : List ℕ). ends_within all s ≡ true) (sym over.below.shape) inside in
-    let read = c.in-Ok-partial_decode.ensures in
+    let read = c.in-Ok-partial_decode.ensures.reads.selects in
+    let kept = c.in-Ok-partial_decode.ensures.kept in
     let raw = raw_of c.in-Ok-partial_decode.bytes in
-    let decoded = rw c.deref.ensures.value at c.decode.ensures.value in
-    let exact = (rw c.deref.ensures.value at c.decode.ensures.exact) over.served in
+    let decoded = (rw c.deref.ensures.value at c.decode.ensures.at).served over.served in
+    let exact = decoded.exact in
     record {
       gives = λ served.
           let ok = below_served at.unserved old.unserved (fill_element (kind_of level.data_type) fill) served in
@@ -62,10 +63,10 @@ returns-in-Ok-partial_decode g c =
                 let given = all_means at.meaning at.fill_below level fill old over.below all raw above.0 c.in-Ok.ensures
                 long (read.value above.0 ok above.1.0) in
                 decoded_means (at.meaning.decode_list level) level above.0 xs c.decode.result above.1.1
-                (decoded above.0 over.served given);
+                (decoded.value above.0 given);
             valid = decoded_valid (at.meaning.decode_list level) level below raw c.decode.result there
-                (λ ys e. decoded ys over.served e);
-            failed = λ fit. valid_fails below raw _ c.decode.result there exact (inl (inl refl));
+                decoded.value;
+            failed = valid_fails below raw _ c.decode.result there exact (inl (inl refl));
             decodes = λ present whole.
                 let read_whole = subst (λ (b : Region). old.whole (Some b) ≡ true) (sym c.in-Ok.ensures) whole in
                 always_ok c.decode.result
@@ -81,7 +82,7 @@ returns-in-Ok-partial_decode g c =
       named = refused_never old.unserved c.in-Ok-partial_decode.bytes c.decode.result (read.named fits);
       below = below_still handle all (whole below.shape) c.args.handle.now c.partial_decode.new.self
           c.in-Ok-partial_decode.bytes c.decode.result c.in-Ok.ensures
-          (record { reads = read.reads; same = read.same; tells = read.tells; fault = tt; short = read.short })
+          (record { reads = read.reads; same = kept.same; tells = kept.tells; fault = tt; short = read.short })
           c.decode.ensures.short (answers_no_fault c.decode.result _
           (known_validity (kind_of below.data_type) (count_of below.shape) raw) exact);
     }
@@ -95,11 +96,12 @@ returns-in-Ok g c =
     let inside =
     subst (λ (b : Region). ends_within b below.shape ≡ true) (sym c.in-Ok.ensures) (whole_inside below.shape) in
     let fits = subst (λ (s : List ℕ). ends_within all s ≡ true) (sym over.below.shape) inside in
-    let read = c.in-Err-partial_decode.ensures in
+    let read = c.in-Err-partial_decode.ensures.reads.selects in
+    let kept = c.in-Err-partial_decode.ensures.kept in
     reads_failed g.H.ArrayPartialDecoderTraits at (options_of c.args.options.now) every_element all c.args.handle.now
     c.partial_decode.new.self c.in-Err-partial_decode.error c.in-Ok.ensures
     (λ ok. read.failed ok fits) (read.named fits)
-    (record { reads = read.reads; same = read.same; tells = read.tells; fault = read.fault; short = λ served few. tt })
+    (record { reads = read.reads; same = kept.same; tells = kept.tells; fault = read.fault; short = λ served few. tt })
 
 pub returns : goal.returns
 returns g c =

@@ -42,18 +42,19 @@ returns-clause-hands g c =
     denoted (fill_element (kind_of level.data_type) fill) some in
     filled_by at.meaning at.fill_below level fill own (laws.denotes codec level fill served own) (laws.fills codec level
     fill served own (element_bytes (kind_of level.data_type) fill level.fill c.fill_is_bytes.ensures own))) in
+    let encoded = (rw c.deref.ensures.value at c.encode.ensures.at).served served in
     record {
       hands = hands_given at.meaning at.fill_below level fill (options_of c.args.options.now) (raw_of c.args.bytes)
           c.encode.result facts
           (λ list filled means. sym (ap not c.if-is_dropped.false)
           ∙ c.is_dropped.ensures (count_of level.shape) list (lengths_some c.args.self.now.shape.items) means)
-          ((rw c.deref.ensures.value at c.encode.ensures.value) served) c.encode.ensures.short;
+          encoded.value c.encode.ensures.short;
       failed = λ some there. valid_fails_memory level (raw_of c.args.bytes) c.encode.result there
-          ((rw c.deref.ensures.value at c.encode.ensures.exact) served);
+          encoded.exact;
     }
 
 pub returns-clause-no_fault : goal.returns-clause-no_fault
 returns-clause-no_fault g c =
     let level = (codec_seen g.C.ArrayCodecTraits g.C.ArrayToArrayCodecTraits c.args.self.now).level in
     answers_no_fault c.encode.result _ (known_validity (kind_of level.data_type) (count_of level.shape)
-    (raw_of c.args.bytes)) ((rw c.deref.ensures.value at c.encode.ensures.exact) c.requires.all.served)
+    (raw_of c.args.bytes)) ((rw c.deref.ensures.value at c.encode.ensures.at).served c.requires.all.served).exact

@@ -27,15 +27,8 @@ returns-in-Ok-Some g c =
     asked_so (sym c.requires.asked)
     (box_parts_read (box_of c.args.region.now) request (parts_of c.in-Ok-Some.parts) c.requires.asked
     (g.met.H.BytesPartialDecoderTraits.sound c.args.handle.now) given c.in-Ok-Some.ensures.reads
-    c.in-Ok-Some.ensures.same c.in-Ok-Some.ensures.tells (record {
-      value = rw c.deref.ensures.value at decoded.value;
-      lengths = rw c.deref.ensures.value at decoded.lengths;
-      cause = rw c.deref.ensures.value at decoded.cause;
-      valid = rw c.deref.ensures.value at decoded.valid;
-      decodes = rw c.deref.ensures.value at decoded.decodes;
-      short = decoded.short;
-      no_fault = decoded.no_fault;
-    }))
+    c.in-Ok-Some.ensures.kept.same c.in-Ok-Some.ensures.kept.tells (rw c.deref.ensures.value at decoded.at).served
+    decoded.short decoded.no_fault)
 
 pub returns-in-Ok-None : goal.returns-in-Ok-None
 returns-in-Ok-None g c =
@@ -45,7 +38,7 @@ returns-in-Ok-None g c =
     c.in-Ok-None.field-0-is c.in-Ok-None.ensures.value in
     asked_so (sym c.requires.asked)
     (absent_parts_read (g.met.H.BytesPartialDecoderTraits.sound c.args.handle.now) given c.in-Ok-None.ensures.reads
-    c.in-Ok-None.ensures.same c.in-Ok-None.ensures.tells c.fill_box.ensures)
+    c.in-Ok-None.ensures.kept.same c.in-Ok-None.ensures.kept.tells c.fill_box.ensures)
 
 pub returns-in-Err : goal.returns-in-Err
 returns-in-Err g c =
@@ -55,5 +48,5 @@ returns-in-Err g c =
     asked_so (sym c.requires.asked)
     (parts_not_read (g.met.H.BytesPartialDecoderTraits.sound c.args.handle.now)
     (λ served value invalid. asks value c.args.ranges.now served c.requires.inside c.requires.asked invalid)
-    c.in-Err.ensures.reads c.in-Err.ensures.same c.in-Err.ensures.tells g.met.H.BytesPartialDecoderTraits.no_fault
-    c.in-Err.ensures.cause)
+    c.in-Err.ensures.reads c.in-Err.ensures.kept.same c.in-Err.ensures.kept.tells
+    g.met.H.BytesPartialDecoderTraits.no_fault c.in-Err.ensures.cause)

@@ -10,24 +10,17 @@ returns-in-Ok g c =
     let is = c.in-Ok-Some.ensures.value ∙ ap (λ v. Some (value_bytes v)) c.in-Ok-Some.field-0-is in
     let decoded = c.decode_parts.ensures in
     asked_so (sym c.requires.whole) (box_value_read (box_of c.args.region.now) c.in-Ok-Some.value.items request
-    (parts_of c.in-Ok.parts) c.requires.whole c.in-Ok.ensures is c.in-Ok-Some.ensures.reads c.in-Ok-Some.ensures.same
-    c.in-Ok-Some.ensures.tells (record {
-      value = rw c.deref.ensures.value at decoded.value;
-      lengths = rw c.deref.ensures.value at decoded.lengths;
-      cause = rw c.deref.ensures.value at decoded.cause;
-      valid = rw c.deref.ensures.value at decoded.valid;
-      decodes = rw c.deref.ensures.value at decoded.decodes;
-      short = decoded.short;
-      no_fault = decoded.no_fault;
-    }))
+    (parts_of c.in-Ok.parts) c.requires.whole c.in-Ok.ensures is c.in-Ok-Some.ensures.reads
+    c.in-Ok-Some.ensures.kept.same c.in-Ok-Some.ensures.kept.tells (rw c.deref.ensures.value at decoded.at).served
+    decoded.short decoded.no_fault)
 
 pub returns-in-Ok-None : goal.returns-in-Ok-None
 returns-in-Ok-None g c =
     let is = c.in-Ok-None.ensures.value ∙ ap (λ v. Some (value_bytes v)) c.in-Ok-None.field-0-is in
     asked_so (sym c.requires.whole)
     (absent_read (g.met.H.BytesPartialDecoderTraits.sound c.args.handle.now) is c.in-Ok-None.ensures.reads
-    c.in-Ok-None.ensures.same c.in-Ok-None.ensures.tells c.fill_box.ensures)
+    c.in-Ok-None.ensures.kept.same c.in-Ok-None.ensures.kept.tells c.fill_box.ensures)
 
 pub returns-in-Err : goal.returns-in-Err
-returns-in-Err g c = asked_so (sym c.requires.whole) (not_read c.in-Err.ensures.reads c.in-Err.ensures.same
-    c.in-Err.ensures.tells g.met.H.BytesPartialDecoderTraits.no_fault c.in-Err.ensures.cause)
+returns-in-Err g c = asked_so (sym c.requires.whole) (not_read c.in-Err.ensures.reads c.in-Err.ensures.kept.same
+    c.in-Err.ensures.kept.tells g.met.H.BytesPartialDecoderTraits.no_fault c.in-Err.ensures.cause)

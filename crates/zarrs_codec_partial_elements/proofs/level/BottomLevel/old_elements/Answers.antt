@@ -10,8 +10,8 @@ returns-in-Ok-Some g c =
     let is = c.in-Ok-Some.ensures.value ∙ ap (λ v. Some (value_bytes v)) c.in-Ok-Some.field-0-is in
     let decoded = c.decode-in-Ok-Some.ensures in
     old_so
-    (value_read c.in-Ok-Some.value.items is c.in-Ok-Some.ensures.reads c.in-Ok-Some.ensures.same
-    c.in-Ok-Some.ensures.tells g.met.C.ArrayToBytesCodecTraits.no_fault
+    (value_read c.in-Ok-Some.value.items is c.in-Ok-Some.ensures.reads c.in-Ok-Some.ensures.kept.same
+    c.in-Ok-Some.ensures.kept.tells g.met.C.ArrayToBytesCodecTraits.no_fault
     (rw c.deref.ensures.value at decoded.unserved) (rw c.deref.ensures.value at decoded.value) decoded.short)
     (inl (sym (sound.all_there (options_of c.args.options.now) (Some c.in-Ok-Some.value.items) is)))
 
@@ -19,15 +19,15 @@ pub returns-in-Ok : goal.returns-in-Ok
 returns-in-Ok g c =
     let is = c.in-Ok-None.ensures.value ∙ ap (λ v. Some (value_bytes v)) c.in-Ok-None.field-0-is in
     old_so (absent_read (g.met.H.BytesPartialDecoderTraits.sound c.args.handle.now) is c.in-Ok-None.ensures.reads
-    c.in-Ok-None.ensures.same c.in-Ok-None.ensures.tells c.fill_whole.ensures) (inr c.in-Ok.ensures.denotes)
+    c.in-Ok-None.ensures.kept.same c.in-Ok-None.ensures.kept.tells c.fill_whole.ensures) (inr c.in-Ok.ensures.denotes)
 
 pub returns-in-Err-expect_denoted : goal.returns-in-Err-expect_denoted
 returns-in-Err-expect_denoted g c =
     let is = c.in-Ok-None.ensures.value ∙ ap (λ v. Some (value_bytes v)) c.in-Ok-None.field-0-is in
     let told = c.in-Err-expect_denoted.ensures in
     old_unfilled (g.met.H.BytesPartialDecoderTraits.sound c.args.handle.now) is told.refused told.told
-    c.in-Ok-None.ensures.reads c.in-Ok-None.ensures.same
+    c.in-Ok-None.ensures.reads c.in-Ok-None.ensures.kept.same
 
 pub returns-in-Err : goal.returns-in-Err
-returns-in-Err g c = old_not (not_read c.in-Err.ensures.reads c.in-Err.ensures.same c.in-Err.ensures.tells
+returns-in-Err g c = old_not (not_read c.in-Err.ensures.reads c.in-Err.ensures.kept.same c.in-Err.ensures.kept.tells
     g.met.H.BytesPartialDecoderTraits.no_fault c.in-Err.ensures.cause)

@@ -1,19 +1,13 @@
 use Rattle.zarrs_codec_traits.proofs.array_to_bytes.ArrayToBytesCodecTraits.decode_into.Goals as goal
 
-pub returns-in-Fixed-clause-put : goal.returns-in-Fixed-clause-put
-returns-in-Fixed-clause-put g c = rw c.in-Fixed.is c.decode_into_fixed.ensures.put
-
-pub returns-in-Fixed-clause-written : goal.returns-in-Fixed-clause-written
-returns-in-Fixed-clause-written g c = rw c.in-Fixed.is c.decode_into_fixed.ensures.written
+pub returns-in-Fixed-clause-at : goal.returns-in-Fixed-clause-at
+returns-in-Fixed-clause-at g c = rw c.in-Fixed.is c.decode_into_fixed.ensures.at
 
 pub returns-in-Fixed-clause-kept : goal.returns-in-Fixed-clause-kept
 returns-in-Fixed-clause-kept g c = rw c.in-Fixed.is c.decode_into_fixed.ensures.kept
 
-pub returns-in-Optional-clause-put : goal.returns-in-Optional-clause-put
-returns-in-Optional-clause-put g c = rw c.in-Optional.is c.decode_into_optional.ensures.put
-
-pub returns-in-Optional-clause-written : goal.returns-in-Optional-clause-written
-returns-in-Optional-clause-written g c = rw c.in-Optional.is c.decode_into_optional.ensures.written
+pub returns-in-Optional-clause-at : goal.returns-in-Optional-clause-at
+returns-in-Optional-clause-at g c = rw c.in-Optional.is c.decode_into_optional.ensures.at
 
 pub returns-in-Optional-clause-kept : goal.returns-in-Optional-clause-kept
 returns-in-Optional-clause-kept g c = rw c.in-Optional.is c.decode_into_optional.ensures.kept
