@@ -1,10 +1,8 @@
 -- The part of a chunk that a read of a region asks for.
 use Rattle.std.proofs.Common.{◌≡◌, ℕ, Bool, true, false, ◌==◌, not, if◌then◌else◌, List, Option, Some, None, refl, ap}
-use Rattle.std.proofs.Common.{ap₂, subst, eq-eqb}
+use Rattle.std.proofs.Common.{ap₂}
 use Rattle.zarr_model.specs.Prelude.{Region, count, overlap_of, is_in_part, part_of_box, Options, Description}
 use Rattle.zarr_model.specs.Prelude.{finds_shared}
-use Rattle.zarrs_array_subset.specs.Boxes.{is_within}
-use Rattle.zarr_array_boxes.proofs.ShareLaws.{overlap_inside}
 use Rattle.zarr_array.specs.Asked.{part_asked, chunk_asked, finds_asked}
 
 -- a box that is what a region shares with a chunk is asked for so
@@ -14,17 +12,6 @@ pub shared_asked : (description : Description) (region : Region) (chunk : List �
     part_asked (description.grid.chunk_box chunk) within ≡ chunk_asked description (Some region) chunk
 shared_asked description region chunk within is many =
     ap₂ (λ (n : ℕ) (w : Region). if not (n == count (description.grid.chunk_box chunk)) then Some w else None) many is
-
--- all of a chunk that lies inside the region is asked for
-pub asked_whole : (description : Description) (region own : Region) (chunk : List ℕ) → own ≡
-    description.grid.chunk_box chunk → is_within own region ≡ true → chunk_asked description (Some region) chunk ≡ None
-asked_whole description region own chunk own_is within =
-    let inside : is_within (description.grid.chunk_box chunk) region ≡ true =
-    subst (λ b. is_within b region ≡ true) own_is within in
-    let all :
-    (count (overlap_of region (description.grid.chunk_box chunk)) == count (description.grid.chunk_box chunk)) ≡ true =
-    eq-eqb _ _ (ap count (overlap_inside region (description.grid.chunk_box chunk) inside)) in
-    ap (λ (b : Bool). if not b then Some (part_of_box region (description.grid.chunk_box chunk)) else None) all
 
 -- a value holds it where it holds what is shared
 pub asked_shared :

@@ -7,13 +7,13 @@ use Rattle.std.proofs.Math.Path.{fun_ext}
 use Rattle.std.proofs.lemmas.Bool.{and_parts}
 use Rattle.std.proofs.lemmas.List.{take_all}
 use Rattle.std.proofs.lemmas.List.Sums.{sum_by-append}
-use Rattle.zarr_model.specs.Prelude.{Region, ArrayBytes, CoversShape, chunks_meeting, Options, Content, IsSound, layout}
+use Rattle.zarr_model.specs.Prelude.{Region, ArrayBytes, CoversShape, chunks_meeting, Options, IsSound, layout}
 use Rattle.zarr_model.specs.Prelude.{Shown, Command, read, write, erase, Refusal, Description, refusal, Answer}
 use Rattle.zarr_model.specs.Prelude.{chunks_under, command_chunks, asks_store, asks_of, counted}
 use Rattle.zarr_model.proofs.NeededLaws.{read_needs, write_needs}
 use Rattle.zarr_model.proofs.StepLaws.{calls-lift}
 use Rattle.zarrs_storage.specs.Store.{SameContent}
-use Rattle.zarr_array.specs.Access.{Cost, PartCost, Costs, by_chunk, by_part}
+use Rattle.zarr_array.specs.Access.{Cost, Costs, by_chunk, by_part}
 use Rattle.zarr_array.specs.Pays.{Pays, cost_of, costs_of, PaysRead, PaysChanges, PaysPart, CountsFirst}
 use Rattle.zarr_array.specs.declared.command_error.SessionErrorKind.{SessionErrorKind}
 use Rattle.zarr_array.specs.declared.command_error.SessionErrorKind.TheVariants.{OutOfMemory}
@@ -21,8 +21,7 @@ use Rattle.zarr_array_boxes.specs.Command.{is_read, AreReads}
 use Rattle.zarr_array.specs.Costs.{read_cost, only_reads, OnlyReads, CostsOn}
 use Rattle.zarr_array.specs.Ended.{Ended}
 use Rattle.zarr_array.specs.Runs.{RunsOn}
-use Rattle.zarr_array.proofs.StepRuns.{no_chunks, no_calls}
-use Rattle.zarr_array.proofs.TakenLaws.{one_takes, refused_takes, erase_takes, more_takes}
+use Rattle.zarr_array.proofs.TakenLaws.{one_takes, erase_takes, more_takes}
 
 abbrev pub fails_at : ℕ → ℕ → SessionErrorKind → Ended
 fails_at m k kind = Err (record { at = Some (m, k); kind = kind })
@@ -179,37 +178,6 @@ module _ (description : Description) (options : Options) where
       none true = omega (arith, fits)
       none false = omega (arith, fits)
   starved_costs (by_part cost) command store fits = λ reads. tt
-
-  -- a refused command costs nothing
-  refused_cost : (cost : PartCost) (command : Command) (store : Content) → command_chunks description command ≡ [] →
-      read_cost cost description options store command ≡ record { asks = 0; taken = 0 }
-  refused_cost cost (read region) store none = ap (costs_of (cost_of cost description options region store)) none
-  refused_cost cost (write region bytes) store none = refl
-  refused_cost cost (erase chunk) store none = refl
-
-  pub refused_costs : (costs : Costs) (command : Command) (why : Refusal) (store : Shown) (answers : List Answer) →
-      refusal description command ≡ Some why → store.asks ≤ 2 ^ 64 - 1 → store.taken ≤ 2 ^ 64 - 1 →
-      CostsOn costs description options (command ∷ []) store store (Ok answers)
-  refused_costs (by_chunk alone) command why store answers refused fits room = record {
-    asks = let none = no_calls description command why refused asks_store in omega (arith, fits, none);
-    stopped = tt;
-    taken = λ told. refused_takes description options command why store refused room;
-  }
-  refused_costs (by_part cost) command why store answers refused fits room =
-      let none : read_cost cost description options store.content command ≡ record { asks = 0; taken = 0 } =
-      refused_cost cost command store.content (no_chunks description command why refused) in
-      λ reads. record {
-        asks = omega (arith, fits, ap (λ (c : Cost). c.asks) none);
-        taken = omega (arith, room, ap (λ (c : Cost). c.taken) none);
-      }
-
-  -- no command
-  pub none_costs : (costs : Costs) (store : Shown) → store.asks ≤ 2 ^ 64 - 1 → store.taken ≤ 2 ^ 64 - 1 →
-      CostsOn costs description options [] store store (Ok [])
-  none_costs (by_chunk alone) store fits room =
-      record { asks = omega (arith, fits); stopped = tt; taken = λ told array tells. omega (arith, room) }
-  none_costs (by_part cost) store fits room =
-      λ reads. record { asks = omega (arith, fits); taken = omega (arith, room) }
 
   pub unbegun_costs : (costs : Costs) (commands : List Command) (store : Shown) →
       CostsOn costs description options commands store store (Err (record { at = None; kind = OutOfMemory }))

@@ -1,8 +1,8 @@
 -- How fetching a chunk ends.
 use Rattle.std.proofs.Common.{◌≡◌, ◌⊎◌, ℕ, ◌≤◌, Bool, true, false, not, if◌then◌else◌, List, length, Option, Some, None}
 use Rattle.std.proofs.Common.{option_map, Err, refl, sym, ◌∙◌, subst, inl, inr, ⊎_elim}
-use Rattle.zarrs_codec.specs.Prelude.{Region, ends_within, Element, Level, Options, Shown, chunk_content, decode_bytes}
-use Rattle.zarrs_codec.specs.Prelude.{layout, counted, SameContent, first_invalid, Held, IsHandleError}
+use Rattle.zarrs_codec.specs.Prelude.{Region, ends_within, Element, Level, Options, Shown, decode_bytes}
+use Rattle.zarrs_codec.specs.Prelude.{counted, SameContent, first_invalid, Held, IsHandleError}
 use Rattle.zarrs_storage.specs.declared.byte_range.ByteRange.{ByteRange}
 use Rattle.zarrs_codec_error.specs.declared.error.CodecError.{CodecError}
 use Rattle.zarr_codec_chain.specs.Chain.{first_level, bottom_level, decoded}

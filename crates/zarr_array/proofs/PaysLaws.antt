@@ -1,17 +1,15 @@
 -- What fetching chunks costs, one after another.
-use Rattle.std.proofs.Common.{◌≡◌, ℕ, ◌+◌, ◌-◌, ◌*◌, ◌^◌, ◌<◌, ◌≤◌, true, List, [], ◌∷◌, length, take, filter}
-use Rattle.std.proofs.Common.{if◌then◌else◌, is_some, slice_get, Some, unwrap_or, refl, sym, ap, ap₂, ◌∙◌, subst, arith}
+use Rattle.std.proofs.Common.{◌≡◌, ℕ, ◌+◌, ◌-◌, ◌*◌, ◌^◌, ◌<◌, ◌≤◌, List, length, take, filter}
+use Rattle.std.proofs.Common.{if◌then◌else◌, is_some, slice_get, Some, unwrap_or, sym, ap, ◌∙◌, subst, arith}
 use Rattle.std.proofs.Common.{inl, inr, ⊎_elim}
 use Rattle.std.specs.List.{sum_by}
 use Rattle.std.proofs.lemmas.List.{take_all}
 use Rattle.std.proofs.lemmas.List.Sums.{sum_by_more}
 use Rattle.std.proofs.lemmas.Option.{slice_get_within, get_or_from_slice_get}
-use Rattle.zarr_model.specs.Prelude.{Region, count, contains, tuples, starts, sizes, whole, overlap_of, moved_back}
+use Rattle.zarr_model.specs.Prelude.{Region, count, contains, tuples, overlap_of}
 use Rattle.zarr_model.specs.Prelude.{part_of_box, kind, fixed_size, Options, Content, Shown, Description, counted}
 use Rattle.zarr_model.specs.Prelude.{present_in, read_bytes, write_bytes}
 use Rattle.zarr_model.proofs.MeetingLaws.{shared_count}
-use Rattle.zarrs_array_subset.specs.Boxes.{is_within}
-use Rattle.zarr_array_boxes.proofs.ShareLaws.{overlap_inside}
 use Rattle.zarr_array.specs.Access.{Cost, Costs, by_chunk, by_part}
 use Rattle.zarr_array.specs.Pays.{Pays, PaysWhole, PaysBox, PaysShared, PaysAtMost, PaysChange, cost_of, costs_of}
 use Rattle.zarr_array.specs.Pays.{PaysFirst, PaysRead, PaysChanges, PaysPart}
@@ -64,38 +62,6 @@ pays_shared (by_chunk alone) description options region within chunk before now 
 pays_shared (by_part cost) description options region within chunk before now rank is as_many paid =
     subst (λ w. Pays (cost options chunk w (before.content (description.key chunk))) before now) is paid
 
--- and all of a chunk that lies inside the region
-moved_all : (box : Region) → moved_back box (starts box) ≡ whole (sizes box)
-moved_all [] = refl
-moved_all (span ∷ box) = ap₂ (λ n rest. (record { start = n; size = span.size }) ∷ rest) (omega arith) (moved_all box)
-
-as_many : (box : Region) → count (whole (sizes box)) ≡ count box
-as_many [] = refl
-as_many (span ∷ box) = ap (λ n. span.size * n) (as_many box)
-
-whole_paid : (costs : Costs) (description : Description) (options : Options) (chunk : List ℕ) (before now : Shown) →
-    PaysWhole costs description options chunk before now →
-    PaysBox costs description options (whole (sizes (description.grid.chunk_box chunk))) chunk before now
-whole_paid (by_chunk alone) description options chunk before now paid = record {
-  asks = paid.asks;
-  taken = λ told. paid.taken told ∙ ap (λ (n : ℕ). counted before.taken
-      (if present_in description before.content chunk then unwrap_or (fixed_size (kind description)) 0 * n else 0))
-      (sym (as_many (description.grid.chunk_box chunk)));
-}
-whole_paid (by_part cost) description options chunk before now paid = paid
-
-pub pays_inside : (costs : Costs) (description : Description) (options : Options) (region own : Region) (chunk : List ℕ)
-    (before now : Shown) → own ≡ description.grid.chunk_box chunk → is_within own region ≡ true →
-    length region ≡ length (description.grid.chunk_box chunk) →
-    PaysWhole costs description options chunk before now → PaysShared costs description options region chunk before now
-pays_inside costs description options region own chunk before now own_is within rank paid =
-    let box = description.grid.chunk_box chunk in
-    let inside : is_within box region ≡ true = subst (λ b. is_within b region ≡ true) own_is within in
-    let all : overlap_of region box ≡ box = overlap_inside region box inside in
-    pays_shared costs description options region (whole (sizes box)) chunk before now rank
-    (sym (ap (λ b. moved_back b (starts box)) all ∙ moved_all box)) (as_many box ∙ sym (ap count all))
-    (whole_paid costs description options chunk before now paid)
-
 -- a chunk that was not fetched cost nothing, or was asked for once
 pub pays_nothing : (costs : Costs) (before now : Shown) → now.asks ≡ before.asks → PaysAtMost costs before now
 pays_nothing (by_chunk alone) before now same = inl same
@@ -105,11 +71,6 @@ pub pays_whole : (costs : Costs) (description : Description) (options : Options)
     PaysWhole costs description options chunk before now → PaysAtMost costs before now
 pays_whole (by_chunk alone) description options chunk before now paid = inr paid.asks
 pays_whole (by_part cost) description options chunk before now paid = tt
-
-pub pays_share : (costs : Costs) (description : Description) (options : Options) (region : Region) (chunk : List ℕ)
-    (before now : Shown) → PaysShared costs description options region chunk before now → PaysAtMost costs before now
-pays_share (by_chunk alone) description options region chunk before now paid = inr paid.asks
-pays_share (by_part cost) description options region chunk before now paid = tt
 
 -- what was put asks for nothing
 pub pays_change : (costs : Costs) (description : Description) (options : Options) (chunk : List ℕ)

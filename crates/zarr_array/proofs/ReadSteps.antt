@@ -1,13 +1,12 @@
 -- The steps of reading a region.
-use Rattle.std.proofs.Common.{◌≡◌, ℕ, ◌+◌, ◌-◌, ◌^◌, ◌<◌, ◌≤◌, ◌⊎◌, true, false, List, [], length, slice_get, Option}
-use Rattle.std.proofs.Common.{Some, IsSome, unwrap_or, refl, sym, ap, ◌∙◌, subst, subst₂, arith, le_trans, inl}
+use Rattle.std.proofs.Common.{[], ◌≡◌, ℕ, ◌+◌, ◌-◌, ◌^◌, ◌<◌, ◌≤◌, ◌⊎◌, true, false, List, length, slice_get, Option}
+use Rattle.std.proofs.Common.{Some, IsSome, unwrap_or, refl, sym, ap, ◌∙◌, subst, subst₂, arith, le_trans}
 use Rattle.std.proofs.lemmas.Option.{slice_get_within}
 use Rattle.zarr_model.specs.Prelude.{Region, count, ends_within, Element, Kind, kind, ArrayBytes, meaning}
-use Rattle.zarr_model.specs.Prelude.{has_long_element, Array, elements_in, chunks_meeting, HasMet, Options, box_content}
+use Rattle.zarr_model.specs.Prelude.{has_long_element, Array, chunks_meeting, HasMet, Options, box_content}
 use Rattle.zarr_model.specs.Prelude.{chunk_content, Shown, Description, layout, finds_shared}
-use Rattle.zarrs_codec_traits.specs.Prelude.{SameContent, Copied}
-use Rattle.zarr_array_boxes.specs.Elements.{list_in}
-use Rattle.zarr_array_boxes.proofs.ReadLaws.{HasRead, read-start, read-step, read-end, chunk_copied}
+use Rattle.zarrs_codec_traits.specs.Prelude.{SameContent}
+use Rattle.zarr_array_boxes.proofs.ReadLaws.{HasRead, read-start, read-step, read-end}
 use Rattle.zarr_array_boxes.proofs.DecodeLaws.{each-step, each-all}
 use Rattle.zarr_array.specs.Access.{Access, IsServed, described}
 use Rattle.zarrs_codec_traits.proofs.EditLaws.{rose_later}
@@ -16,15 +15,13 @@ use Rattle.zarr_array.specs.declared.command_error.SessionErrorKind.TheVariants.
 use Rattle.zarr_array.specs.declared.command_error.SessionErrorKind.TheVariants.{OutOfMemory}
 use Rattle.zarr_array.specs.Asked.{chunk_asked, finds_asked}
 use Rattle.zarr_array.specs.Chunk.{FailsToFetch}
-use Rattle.zarr_array.specs.CommandError.{before_chunks}
-use Rattle.zarr_array.specs.Fetch.{HasRead as HasReadOnly, chunk_list, HasElements, NotFetched}
-use Rattle.zarr_array.specs.Shared.{HoldsShared, IsReadable, IsHeldShared}
-use Rattle.zarr_array.specs.declared.shared.FetchedChunk.{FetchedChunk}
-use Rattle.zarr_array.specs.Pays.{PaysShared, PaysFirst}
+use Rattle.zarr_array.specs.Fetch.{NotFetched}
+use Rattle.zarr_array.specs.Shared.{IsReadable}
+use Rattle.zarr_array.specs.Pays.{PaysFirst}
 use Rattle.zarr_array.specs.Read.{HasReadCause, FailsToRead, HasReadChunk, HasReadList, HasReadRegion, NotReadRegion}
 use Rattle.zarr_array.proofs.AskedLaws.{asked_shared}
 use Rattle.zarr_array.proofs.PartWayLaws.{met-chunks}
-use Rattle.zarr_array.proofs.PaysLaws.{pays_none, pays_more, pays_all, pays_stops, pays_ends, pays_at_start}
+use Rattle.zarr_array.proofs.PaysLaws.{pays_none, pays_more, pays_all, pays_stops, pays_ends}
 use Rattle.zarr_array.proofs.TellsLaws.{told_why}
 
 -- a chunk that could not be fetched stops the reading of its region
@@ -82,42 +79,6 @@ module _ (array : Access) (options : Options) (region : Region) where
   readable_by chunk value =
       IsSome (box_content (layout (described array) options) ((described array).grid.chunk_box chunk) value) ⊎
       (finds_shared (described array) options region chunk value ≡ true)
-
-  -- a chunk that was fetched was put into the region's elements
-  pub chunk_put : (chunk : List ℕ) (bytes : ArrayBytes) (of_kind : Kind) (over own : Region) (old new : List Element)
-      (before now : Shown) → HasReadOnly before now → HasElements array options chunk before bytes →
-      of_kind ≡ kind (described array) → over ≡ region → own ≡ (described array).grid.chunk_box chunk →
-      Copied over own (list_in of_kind own bytes) old new →
-      PaysShared array.costs (described array) options region chunk before now →
-      HasReadChunk array options region chunk old new before now
-  chunk_put chunk bytes of_kind over own old new before now asked held kind_is over_is own_is put taken =
-      let moved : Copied region ((described array).grid.chunk_box chunk) (chunk_list array chunk bytes) old new =
-      subst (λ b. Copied region b (list_in (kind (described array)) b bytes) old new) own_is
-      (subst₂ (λ k r. Copied r own (list_in k own bytes) old new) kind_is over_is put) in
-      record {
-        has_read = asked;
-        readable = inl (subst IsSome (sym held.elements) refl);
-        copied = λ plain has. chunk_copied (layout (described array) options) before.content region chunk
-            (chunk_list array chunk bytes) old new plain held.elements moved has;
-        as_long = moved.as_long;
-        paid = taken;
-      }
-
-  -- what a chunk that was fetched shares with the region was put into the region's elements
-  pub shared_read : (chunk : List ℕ) (held : FetchedChunk) (old new : List Element) (before now : Shown) →
-      HasReadOnly before now → IsHeldShared array options region chunk before held →
-      ((list : List Element) → HoldsShared array region chunk list held →
-      Copied region ((described array).grid.chunk_box chunk) list old new) →
-      PaysShared array.costs (described array) options region chunk before now →
-      HasReadChunk array options region chunk old new before now
-  shared_read chunk held old new before now asked is put taken = record {
-    has_read = asked;
-    readable = is.readable;
-    copied = λ plain has. subst (λ xs. Copied region ((described array).grid.chunk_box chunk) xs old new)
-        (sym (is.content (elements_in ((described array).grid.chunk_box chunk) plain) has)) (put is.list is.holds);
-    as_long = (put is.list is.holds).as_long;
-    paid = taken;
-  }
 
   pub none_read : (list : List Element) (store : Shown) → length list ≡ count region → store.asks ≤ 2 ^ 64 - 1 →
       store.taken ≤ 2 ^ 64 - 1 → HasReadSome array options region 0 list store store
@@ -212,17 +173,5 @@ module _ (array : Access) (options : Options) (region : Region) where
     failed = record { few = omega (arith, all); cause = tt };
     readable = λ place chunk below. read.readable place chunk;
     paid = pays_ends (described array) options region met array.costs k before now all read.paid;
-    told = tt;
-  }
-
-  -- memory ran out before the first chunk
-  pub starved_reading : (store : Shown) → store.asks ≤ 2 ^ 64 - 1 →
-      NotReadRegion array options region store store before_chunks
-  starved_reading store fits = record {
-    same = λ key. refl;
-    later = omega arith;
-    failed = record { few = omega arith; cause = tt };
-    readable = λ place chunk below e. absurd (omega (arith, below));
-    paid = pays_at_start array.costs (length met) store fits;
     told = tt;
   }

@@ -1,7 +1,7 @@
 -- Commands that run one after another.
-use Rattle.std.proofs.Common.{◌≡◌, ℕ, zero, suc, ◌+◌, ◌-◌, ◌^◌, ◌<◌, ◌≤◌, ◌&&◌, true, List, [], ◌∷◌, ◌++◌, length, take}
-use Rattle.std.proofs.Common.{drop, map, get_or, slice_get, Option, Some, Result, Ok, Err, IfErr, Vec, None, IsSome}
-use Rattle.std.proofs.Common.{add-one, is_some, refl, sym, ap, ap₂, ◌∙◌, subst, arith, le_trans, inl}
+use Rattle.std.proofs.Common.{◌≡◌, ℕ, zero, suc, ◌+◌, ◌-◌, ◌<◌, ◌≤◌, ◌&&◌, true, List, [], ◌∷◌, ◌++◌, length, take}
+use Rattle.std.proofs.Common.{drop, map, get_or, slice_get, Option, Some, Ok, Err, IsSome}
+use Rattle.std.proofs.Common.{add-one, is_some, refl, sym, ap, ap₂, ◌∙◌, subst, arith, le_trans}
 use Rattle.std.specs.List.{list_all}
 use Rattle.std.proofs.lemmas.Bool.{and_parts}
 use Rattle.std.proofs.lemmas.List.{take-append-drop, map-append, take_all, length-map}
@@ -11,94 +11,25 @@ use Rattle.zarr_model.specs.Prelude.{stored_array, Command, Description, layout,
 use Rattle.zarr_model.specs.Prelude.{puts_chunks, puts_of, LeavesKeys, ServesArray, ServesWhole, AreRefused}
 use Rattle.zarr_model.specs.Prelude.{IsUntouched, refusal_in, Shown, RanOver}
 use Rattle.zarr_model.proofs.StoreLaws.{stored_array-meant, Means-from_whole}
-use Rattle.zarr_model.proofs.SessionLaws.{serves_from_whole, ServesWhole-append, LeavesKeys-none, LeavesKeys-append}
+use Rattle.zarr_model.proofs.SessionLaws.{serves_from_whole, ServesWhole-append, LeavesKeys-append}
 use Rattle.zarr_model.proofs.SessionLaws.{LeavesKeys-more}
-use Rattle.zarr_model.proofs.StepLaws.{KeepsDamage-none, KeepsDamage-append, place-lifts, calls-lift, undecoded-lifts}
+use Rattle.zarr_model.proofs.StepLaws.{KeepsDamage-append, place-lifts, calls-lift, undecoded-lifts}
 use Rattle.zarr_model.proofs.StepLaws.{stopped-lifts, starved-lifts}
 use Rattle.zarr_model.proofs.NeededLaws.{one_more_erased}
-use Rattle.zarr_model.proofs.SeenLaws.{SeesNoDamage-none, SeesNoDamage-append}
+use Rattle.zarr_model.proofs.SeenLaws.{SeesNoDamage-append}
 use Rattle.zarr_model.proofs.JoinLaws.{RanOver-append, answers-meant}
 use Rattle.zarr_model.proofs.LiftLaws.{left-lifts}
-use Rattle.zarr_model.proofs.RanLaws.{RanOver-none}
 use Rattle.zarr_array_boxes.specs.Command.{is_read, AreReads}
 use Rattle.zarr_array.specs.Session.{HasSessionCause, FailsAt, is_store}
 use Rattle.zarr_array.proofs.HasRun.{HasRun}
-use Rattle.zarr_array.proofs.StoredLaws.{stores-none, stores-append, stays-append, stays-changed, stands-append}
+use Rattle.zarr_array.proofs.StoredLaws.{stores-append, stays-append, stays-changed, stands-append}
 use Rattle.zarr_array.specs.Stored.{DamageStands}
 use Rattle.zarr_array.specs.declared.command_error.SessionErrorKind.{SessionErrorKind}
 use Rattle.zarr_array.specs.declared.command_error.SessionErrorKind.TheVariants.{NotOpened, ChunkDecode, Store}
 use Rattle.zarr_array.specs.declared.command_error.SessionErrorKind.TheVariants.{OutOfMemory}
 use Rattle.zarr_array.proofs.SessionSteps.{only_memory, refused_at, noticed-lifts, only_memory_unmet}
 use Rattle.zarr_array.proofs.DecodedLaws.{decoded-lifts}
-use Rattle.zarr_array_boxes.specs.declared.command.Reply.{Reply}
-use Rattle.zarr_array.specs.declared.error.SessionError.{SessionError}
-use Rattle.zarr_array.specs.Ended.{ended}
 use Rattle.zarr_array.specs.Runs.{RunsOn}
-
--- an error of commands is that of their end
-pub err_of : {Z : Type 0} (P : SessionError → Type 0) (result : Result (Vec Reply Z) SessionError) →
-    IfErr (ended result) P → IfErr result P
-err_of P (Ok replies) h = tt
-err_of P (Err error) h = h
-
--- no command
-pub none_ran : (array : Description) (options : Options) (store : Shown) → store.puts ≤ 2 ^ 64 - 1 →
-    RunsOn array options [] store store (Ok [])
-none_ran array options store few = record {
-  serves = λ honest. record {
-    answers_match = λ meant means. tt;
-    left = record {
-      array_left = λ meant means. means;
-      whole_chunks = λ meant means. means;
-      presence = λ meant chunk means is_chunk. refl;
-      keys = LeavesKeys-none array options store.content;
-    };
-  };
-  complete = λ honest calm. tt;
-  refusals = refl;
-  refused = λ all. record { content = λ key. refl; asks = refl; taken = refl; puts = refl };
-  puts = omega (arith, few);
-  unmet = λ unmet calm. tt;
-  mended = RanOver-none array options store.content;
-  answers = λ unmet meant means. tt;
-  undamaged = SeesNoDamage-none array options store.content;
-  erased = λ none meant chunk is_chunk. refl;
-  damage = KeepsDamage-none array options store.content;
-  stored = stores-none array options [] store.content store.content (λ chunk. refl);
-  keys = LeavesKeys-none array options store.content;
-  later = omega arith;
-  failed = tt;
-}
-
--- memory ran out before any command
-pub none_begun : (array : Description) (options : Options) (commands : List Command) (store : Shown) →
-    RunsOn array options commands store store (Err (record { at = None; kind = OutOfMemory }))
-none_begun array options commands store = record {
-  serves = tt;
-  complete = λ honest calm. refl;
-  refusals = tt;
-  refused = λ all. record { content = λ key. refl; asks = refl; taken = refl; puts = refl };
-  unmet = λ unmet calm. refl;
-  mended = tt;
-  answers = tt;
-  puts = tt;
-  undamaged = tt;
-  erased = tt;
-  damage = tt;
-  stored = tt;
-  keys = record { same_chunks = λ chunk is_chunk e. refl; other_keys = λ key apart. refl };
-  later = omega arith;
-  failed = record {
-    place = tt;
-    puts = refl;
-    keys = record { same_chunks = λ chunk is_chunk e. refl; other_keys = λ key apart. refl };
-    stored = λ chunk is_chunk. inl refl;
-    damage = λ chunk is_chunk damaged none. refl;
-    left = λ key. refl;
-    decoded = tt;
-    cause = λ key. refl;
-  };
-}
 
 untouched_then : (before mid now : Shown) → IsUntouched before mid → IsUntouched mid now → IsUntouched before now
 untouched_then before mid now first second = record {

@@ -2,19 +2,13 @@
 use Rattle.std.proofs.Common.{◌≡◌, ℕ, List, Option, refl, subst, arith}
 use Rattle.zarr_model.specs.Prelude.{Region, Options, Shown}
 use Rattle.zarr_array.specs.Access.{Access}
-use Rattle.zarr_array.specs.Fetch.{HasRead, NotFetched}
-use Rattle.zarr_array.specs.Pays.{PaysAtMost}
+use Rattle.zarr_array.specs.Fetch.{NotFetched}
 use Rattle.zarr_array.specs.declared.command_error.SessionErrorKind.{SessionErrorKind}
 use Rattle.zarr_array.specs.declared.command_error.SessionErrorKind.TheVariants.{OutOfMemory}
 use Rattle.zarr_array.proofs.PaysLaws.{pays_nothing}
 
 module _ (asked : Option Region) (array : Access) (options : Options) (chunk : List ℕ) where
-  -- memory ran out after it, or before
-  pub starved_after : (before now : Shown) → HasRead before now → PaysAtMost array.costs before now →
-      NotFetched asked array options chunk before now OutOfMemory
-  starved_after before now has paid =
-      record { same = has.same; paid = paid; puts = has.puts; later = has.later; failed = tt; told = tt }
-
+  -- memory ran out before it
   pub starved_before : (store : Shown) → NotFetched asked array options chunk store store OutOfMemory
   starved_before store = record {
     same = λ key. refl;

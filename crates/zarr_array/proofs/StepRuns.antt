@@ -1,17 +1,16 @@
 -- Commands that ran: a refused one, and a read; and one that wanted memory at once.
-use Rattle.std.proofs.Common.{◌≡◌, ℕ, zero, suc, ◌+◌, ◌-◌, ◌^◌, ◌<◌, ◌≤◌, ◌&&◌, Bool, true, false, if◌then◌else◌, List}
-use Rattle.std.proofs.Common.{[], ◌∷◌, length, slice_get, Contains, Some, None, IsSome, is_some, refl, sym, ap, ◌∙◌}
-use Rattle.std.proofs.Common.{subst, arith, ◌⊎◌, inl, inr}
-use Rattle.std.specs.List.{list_any}
-use Rattle.std.proofs.lemmas.Bool.{true≢false, or_from}
+use Rattle.std.proofs.Common.{◌≡◌, ℕ, ◌+◌, ◌-◌, ◌^◌, ◌≤◌, ◌&&◌, Bool, true, false, if◌then◌else◌, List}
+use Rattle.std.proofs.Common.{[], ◌∷◌, slice_get, Some, None, IsSome, is_some, refl, sym, ap, ◌∙◌}
+use Rattle.std.proofs.Common.{subst, arith, ◌⊎◌, inl}
+use Rattle.std.proofs.lemmas.Bool.{true≢false}
 use Rattle.zarr_model.specs.Prelude.{Region, Element, ArrayBytes, Array, elements_in, chunks_meeting, CoversShape}
-use Rattle.zarr_model.specs.Prelude.{Options, Content, HasMet, chunk_content, passes_over, Shown, Command, read, write}
-use Rattle.zarr_model.specs.Prelude.{erase, Refusal, Description, kind, layout, refusal, elements, answered}
-use Rattle.zarr_model.specs.Prelude.{answered_refused, Matches, after, present_in, present_under, chunks_under}
-use Rattle.zarr_model.specs.Prelude.{command_chunks, puts_chunks, calls_of, is_among, changes_chunk, counted}
-use Rattle.zarr_model.specs.Prelude.{erases_chunk, IsDamageSeen, SeesNoDamage, KeepsDamage, IsSound, reply_of, array_of}
+use Rattle.zarr_model.specs.Prelude.{Options, HasMet, chunk_content, passes_over, Shown, Command, read}
+use Rattle.zarr_model.specs.Prelude.{Description, kind, layout, refusal, elements, answered}
+use Rattle.zarr_model.specs.Prelude.{Matches, after, present_in, present_under, chunks_under}
+use Rattle.zarr_model.specs.Prelude.{command_chunks, puts_chunks, counted}
+use Rattle.zarr_model.specs.Prelude.{IsSound, reply_of, array_of}
 use Rattle.zarr_model.proofs.FailureLaws.{cut_short-start}
-use Rattle.zarr_model.proofs.StepLaws.{LeavesKeys-same, refused-serves, read-serves, KeepsDamage-read}
+use Rattle.zarr_model.proofs.StepLaws.{LeavesKeys-same, read-serves, KeepsDamage-read}
 use Rattle.zarr_model.proofs.FailureLaws.{meeting_is}
 use Rattle.zarr_model.proofs.SeenLaws.{SeesNoDamage-read}
 use Rattle.zarr_model.proofs.RanLaws.{RanOver-unchanged, changes-stay}
@@ -23,75 +22,6 @@ use Rattle.zarr_array.specs.Session.{FailsAt}
 use Rattle.zarr_array.proofs.DecodedLaws.{decoded-start}
 
 -- a refused command has no chunks: it asks for none, erases none and sees no damage
-module _ (description : Description) (command : Command) (why : Refusal) (refused : refusal description command ≡
-    Some why) where
-  pub no_chunks : command_chunks description command ≡ []
-  no_chunks = ap (λ w. chunks_under description w command) refused
-
-  pub no_calls : (makes : Command → Bool) → calls_of makes description command ≡ 0
-  no_calls makes = choice (makes command) (length (command_chunks description command)) (ap length no_chunks)
-    where
-      choice : (b : Bool) (n : ℕ) → n ≡ 0 → (if b then n else 0) ≡ 0
-      choice true n e = e
-      choice false n e = refl
-
-  erases_none : (chunk : List ℕ) → erases_chunk description chunk command ≡ false
-  erases_none chunk = by_command command no_chunks
-    where
-      by_command : (c : Command) → command_chunks description c ≡ [] → erases_chunk description chunk c ≡ false
-      by_command (read region) e = refl
-      by_command (write region value) e = refl
-      by_command (erase other) e = ap (λ chunks. is_among chunks chunk) e
-
-  changes_none : (chunk : List ℕ) → list_any (changes_chunk description chunk) (command ∷ []) ≡ false
-  changes_none chunk = or_from (changes_chunk description chunk command) false (by_command command no_chunks) refl
-    where
-      by_command : (c : Command) → command_chunks description c ≡ [] → changes_chunk description chunk c ≡ false
-      by_command (read region) e = refl
-      by_command (write region value) e = ap (λ chunks. is_among chunks chunk) e
-      by_command (erase other) e = ap (λ chunks. is_among chunks chunk) e
-
-  pub KeepsDamage-refused : (options : Options) (old new : Content) → ((key : List ℕ) → new key ≡ old key) →
-      KeepsDamage description options (command ∷ []) old new
-  KeepsDamage-refused options old new same = record {
-    each = λ chunk is_chunk. inr
-        (same (description.key chunk), or_from (erases_chunk description chunk command) false (erases_none chunk) refl);
-    stands = λ chunk is_chunk damaged none. same (description.key chunk);
-  }
-
-  pub SeesNoDamage-refused : (options : Options) (store : Content) →
-      SeesNoDamage description options (command ∷ []) store
-  SeesNoDamage-refused options store = record { no_key = unmet }
-    where
-      unmet : (key : List ℕ) → IsDamageSeen description options (command ∷ []) store key → ⊥
-      unmet key (zero, other, is, asks, chunk, met, its_key, none, damaged, _) =
-          let same : command ≡ other = cc in
-          let found : Contains [] chunk = subst (λ chunks. Contains chunks chunk) no_chunks
-          (subst (λ c. Contains (command_chunks description c) chunk) (sym same) met) in
-          let below : found.0 < 0 = found.1 in
-          absurd (omega (arith, below))
-      unmet key (suc m, other, is, _, _, _, _, _, _, _) = cc
-
-  -- a refused command ran
-  pub refused-ran : (options : Options) (store : Shown) → store.puts ≤ 2 ^ 64 - 1 →
-      HasRun description options (command ∷ []) store store (answered_refused why ∷ [])
-  refused-ran options store few = record {
-    serves = refused-serves description options command why store.content store.content refused (λ key. refl);
-    refusals = ap (λ w. w ∷ []) (sym refused);
-    refused = λ all. record { content = λ key. refl; asks = refl; taken = refl; puts = refl };
-    puts = let none = no_calls puts_chunks in omega (arith, few, none);
-    damage = KeepsDamage-refused options store.content store.content (λ key. refl);
-    undamaged = SeesNoDamage-refused options store.content;
-    erased = λ none array chunk is_chunk. sym (ap (λ w. present_under description options w command
-        (after description command array) (present_in description store.content) chunk) refused);
-    stored = stores-none description options (command ∷ []) store.content store.content changes_none;
-    over = RanOver-unchanged description options command store.content store.content (answered_refused why)
-        (λ array. ap (λ w. array_of description w command array) refused) (λ key. refl)
-        (KeepsDamage-refused options store.content store.content (λ key. refl))
-        (λ unmet array meant.
-        subst (λ w. Matches (kind description) (answered_refused why) (reply_of w command array)) (sym refused) refl);
-    later = omega arith;
-  }
 
 -- an accepted read ran, if it left the content, its chunks decoded or were passed over, and its bytes are the region of
 -- each array that has the chunks met

@@ -1,5 +1,5 @@
 -- The bytes that commands take, one after another.
-use Rattle.std.proofs.Common.{◌≡◌, ℕ, ◌+◌, ◌-◌, ◌^◌, ◌≤◌, List, [], ◌∷◌, ◌++◌, Option, Some, None, sym, ap, ◌∙◌, arith}
+use Rattle.std.proofs.Common.{◌≡◌, ℕ, ◌+◌, ◌-◌, ◌^◌, ◌≤◌, List, [], ◌∷◌, ◌++◌, Option, None, sym, ap, ◌∙◌, arith}
 use Rattle.std.proofs.Common.{Ok}
 use Rattle.zarr_model.specs.Prelude.{CoversShape, Options, IsSound, layout, Shown, Command, erase, Refusal, Description}
 use Rattle.zarr_model.specs.Prelude.{refusal, Answer, present_in, bytes_under, counted, TakesNeeded}
@@ -18,12 +18,6 @@ one_takes description options command why before now is taken array tells =
   where
     and_none : (n : ℕ) → n ≡ n + 0
     and_none n = omega arith
-
-pub refused_takes : (description : Description) (options : Options) (command : Command) (why : Refusal) (store :
-    Shown) → refusal description command ≡ Some why → store.taken ≤ 2 ^ 64 - 1 →
-    TakesNeeded description options (command ∷ []) store store
-refused_takes description options command why store is fits =
-    one_takes description options command (Some why) store store is (omega (arith, fits))
 
 pub erase_takes : (description : Description) (options : Options) (chunk : List ℕ) (before now : Shown) →
     refusal description (erase chunk) ≡ None → now.taken ≡ before.taken → before.taken ≤ 2 ^ 64 - 1 →

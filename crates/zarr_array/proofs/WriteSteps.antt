@@ -1,7 +1,7 @@
 -- The steps of writing to a region.
-use Rattle.std.proofs.Common.{◌≡◌, ℕ, ◌+◌, ◌-◌, ◌^◌, ◌≤◌, false, List, [], length, slice_get, Some, None, IsSome}
-use Rattle.std.proofs.Common.{Result, Ok, Err, refl, sym, ap, ◌∙◌, subst, subst₂, arith, le_trans, inl, inr, ⊎_elim}
-use Rattle.zarr_model.specs.Prelude.{Region, count, Element, Kind, kind, ArrayBytes, meaning, has_long_element}
+use Rattle.std.proofs.Common.{◌≡◌, ℕ, ◌+◌, ◌-◌, ◌^◌, ◌≤◌, false, List, length, slice_get, Some, None}
+use Rattle.std.proofs.Common.{Result, Ok, Err, sym, ap, ◌∙◌, subst, subst₂, arith, le_trans, inl, inr, ⊎_elim}
+use Rattle.zarr_model.specs.Prelude.{Region, count, Element, Kind, kind, ArrayBytes, meaning}
 use Rattle.zarr_model.specs.Prelude.{written_elements, Array, chunks_meeting, Options, Shown, layout, chunk_content}
 use Rattle.zarr_model.specs.Prelude.{counted}
 use Rattle.zarr_model.proofs.BytesLaws.{length-meaning}
@@ -14,7 +14,7 @@ use Rattle.zarr_array.specs.declared.command_error.SessionErrorKind.TheVariants.
 use Rattle.zarr_array.specs.declared.command_error.SessionErrorKind.TheVariants.{OutOfMemory}
 use Rattle.zarr_array.specs.Chunk.{storage_kind, FailsToFetch}
 use Rattle.zarr_array.specs.CommandError.{before_chunks}
-use Rattle.zarr_array.specs.Fetch.{HasRead, chunk_list, MeanChunk, HasElements, NotFetched}
+use Rattle.zarr_array.specs.Fetch.{HasRead, chunk_list, HasElements, NotFetched}
 use Rattle.zarr_array.specs.Pays.{PaysWhole, PaysChanges}
 use Rattle.zarr_array.specs.Store.{StoresElements}
 use Rattle.zarr_array.specs.Write.{region_change, FailsToChange, HasWrittenChunk, NotWrittenChunk}
@@ -114,14 +114,6 @@ module _ (array : Access) (region : Region) (chunk : List ℕ) (of_kind : Kind) 
       subst₂ (λ k b. Copied b region (list_in k region bytes) (list_in k b value) (list_in k b list)) kind_is lies
       copied
 
-  -- what the chunk has become can be stored
-  pub mean_so : (list : ArrayBytes) (elements : List Element) → meaning of_kind (count own) list ≡ Some elements →
-      has_long_element list ≡ false → MeanChunk array chunk list
-  mean_so list elements means short = record {
-    means = subst IsSome (sym (subst₂ (λ k b. meaning k (count b) list ≡ Some elements) kind_is lies means)) refl;
-    short = short;
-  }
-
 -- those that a region meets
 module _ (array : Access) (options : Options) (region : Region) (bytes : ArrayBytes) where
   abbrev met : List (List ℕ)
@@ -181,12 +173,6 @@ module _ (array : Access) (options : Options) (region : Region) (bytes : ArrayBy
     told = told_why (described array) array.says options None chunk now kind
         (met-chunks (described array).grid region k chunk here) stop.told;
   }
-
-  -- a region that meets no chunk
-  pub none_to_write : IsServed (described array) → (store : Shown) → met ≡ [] → store.asks ≤ 2 ^ 64 - 1 →
-      store.taken ≤ 2 ^ 64 - 1 → store.puts ≤ 2 ^ 64 - 1 → HasWrittenRegion array options region bytes store store
-  none_to_write served store none fits room few =
-      all_written 0 store store (sym (ap length none)) (none_written served store fits room few)
 
   -- memory ran out before the first chunk
   pub starved_writing : IsServed (described array) → (store : Shown) → store.asks ≤ 2 ^ 64 - 1 →

@@ -52,7 +52,7 @@ impl OpenArray {
         ensures told { IfErr result (λ error. TellsWhy (Some (region_of_subset region.now))
             (documented self.now) (options_of options.now) (S.shown store.new) error.kind) }
     {
-        Ok(run_read(&self.parts, alloc, region, store, options)?)
+        Ok(run_read(&self.parts, alloc, region, &mut None, store, options)?)
     }
 
     /// Writes elements to a region of the array, in its row-major order: done, or why it is refused. The bytes are of the
@@ -89,7 +89,7 @@ impl OpenArray {
         ensures told { IfErr result (λ error. TellsWhy None (documented self.now)
             (options_of options.now) (S.shown store.new) error.kind) }
     {
-        Ok(run_write(&self.parts, alloc, region, bytes, store, options)?)
+        Ok(run_write(&self.parts, alloc, region, bytes, &mut None, store, options)?)
     }
 
     /// Erases the chunk of these indices, so that all its elements are the fill value: done, or why it is refused.

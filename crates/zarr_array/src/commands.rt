@@ -1,10 +1,10 @@
 //! Commands over a store on any array that gives access to its chunks.
 
-ghost use Rattle.std.specs.Prelude.{IfErr, ◌≡◌, [], ◌∷◌, map, Some, None};
+ghost use Rattle.std.specs.Prelude.{IfErr, IfSome, ◌≡◌, [], ◌∷◌, map, Some, None};
 ghost use Rattle.zarrs_codec_traits.specs.Prelude.{raw_of, region, SameContent, options_of};
 ghost use Rattle.zarr_model.specs.Prelude.{read, write, erase};
 ghost use Rattle.zarr_array_boxes.specs.Command.{command_of, region_read, region_at, AreReads};
-ghost use Rattle.zarr_array.specs.Access.{described};
+ghost use Rattle.zarr_array.specs.Access.{described, IsInHand};
 ghost use Rattle.zarr_array.specs.Tells.{TellsOfSome};
 ghost use Rattle.zarr_array.specs.Costs.{CostsOn};
 ghost use Rattle.zarr_array.specs.Ended.{ended, ended_step};
@@ -22,7 +22,8 @@ use zarrs_codec_array_bytes::ArrayBytes;
 use zarrs_codec_error::CodecOptions;
 use zarrs_storage::{StorageError, Store};
 
-/// Reads a region of an array: its elements in row-major order, or why it is refused.
+/// Reads a region of an array: its elements in row-major order, or why it is refused. `hand` has levels
+/// from command to command, so that the next one need not make them anew; at first it has none.
 ///
 /// # Errors
 /// What a chunk's value or the store told, or want of memory, and how many chunks were finished.
@@ -30,9 +31,11 @@ pub fn run_read<C: ChunkAccess, S: Store>(
     array: &C,
     alloc: Global,
     subset: &ArraySubset,
+    hand: &mut Option<C::Levels>,
     store: &mut S,
     options: &CodecOptions,
 ) -> Result<Reply, CommandError>
+    requires hand { IfSome hand.old (IsInHand (C.serves array.now)) }
     ensures runs { RunsOn (described (C.seen array.now)) (options_of options.now)
         (read (region subset.now) ∷ [])
         (S.shown store.old) (S.shown store.new) (ended_step result) }
@@ -45,15 +48,17 @@ pub fn run_read<C: ChunkAccess, S: Store>(
     ensures told { IfErr result (λ error. TellsOfSome (Some (region subset.now))
         (described (C.seen array.now)) (C.seen array.now).says (options_of options.now)
         (S.shown store.new) error.kind) }
+    ensures hand { IfSome hand.new (IsInHand (C.serves array.now)) }
 {
     if let Some(refusal) = region_refusal(array, subset) {
         return Ok(Reply::Refused(refusal));
     }
-    let elements = read_elements(array, alloc, subset, store, options)?;
+    let elements = read_elements(array, alloc, subset, hand, store, options)?;
     Ok(Reply::Elements(elements))
 }
 
-/// Writes elements to a region of an array, in its row-major order: done, or why it is refused.
+/// Writes elements to a region of an array, in its row-major order: done, or why it is refused. `hand` is that of
+/// `run_read`.
 ///
 /// # Errors
 /// What a chunk's value or the store told, or want of memory, and how many chunks were finished.
@@ -62,9 +67,11 @@ pub fn run_write<C: ChunkAccess, S: Store>(
     alloc: Global,
     subset: &ArraySubset,
     bytes: &ArrayBytes<'_>,
+    hand: &mut Option<C::Levels>,
     store: &mut S,
     options: &CodecOptions,
 ) -> Result<Reply, CommandError>
+    requires hand { IfSome hand.old (IsInHand (C.serves array.now)) }
     ensures runs { RunsOn (described (C.seen array.now)) (options_of options.now)
         (write (region subset.now) (raw_of bytes.now) ∷ [])
         (S.shown store.old) (S.shown store.new) (ended_step result) }
@@ -79,11 +86,12 @@ pub fn run_write<C: ChunkAccess, S: Store>(
     ensures told { IfErr result (λ error. TellsOfSome None
         (described (C.seen array.now)) (C.seen array.now).says (options_of options.now)
         (S.shown store.new) error.kind) }
+    ensures hand { IfSome hand.new (IsInHand (C.serves array.now)) }
 {
     if let Some(refusal) = write_refusal(array, subset, bytes) {
         return Ok(Reply::Refused(refusal));
     }
-    write_elements(array, alloc, subset, bytes, store, options)?;
+    write_elements(array, alloc, subset, bytes, hand, store, options)?;
     Ok(Reply::Done)
 }
 
@@ -131,9 +139,11 @@ fn run_command<C: ChunkAccess, S: Store>(
     array: &C,
     alloc: Global,
     command: &Command,
+    hand: &mut Option<C::Levels>,
     store: &mut S,
     options: &CodecOptions,
 ) -> Result<Reply, CommandError>
+    requires hand { IfSome hand.old (IsInHand (C.serves array.now)) }
     ensures runs { RunsOn (described (C.seen array.now)) (options_of options.now)
         (command_of command.now ∷ [])
         (S.shown store.old) (S.shown store.new) (ended_step result) }
@@ -148,10 +158,13 @@ fn run_command<C: ChunkAccess, S: Store>(
     ensures told { IfErr result (λ error. TellsOfSome (region_read (command_of command.now))
         (described (C.seen array.now)) (C.seen array.now).says (options_of options.now)
         (S.shown store.new) error.kind) }
+    ensures hand { IfSome hand.new (IsInHand (C.serves array.now)) }
 {
     match command {
-        Command::Read(subset) => run_read(array, alloc, subset, store, options),
-        Command::Write(subset, bytes) => run_write(array, alloc, subset, bytes, store, options),
+        Command::Read(subset) => run_read(array, alloc, subset, hand, store, options),
+        Command::Write(subset, bytes) => {
+            run_write(array, alloc, subset, bytes, hand, store, options)
+        }
         Command::Erase(chunk_indices) => run_erase(array, alloc, chunk_indices, store, options),
     }
 }
@@ -187,8 +200,9 @@ pub fn run_commands<C: ChunkAccess, S: Store>(
         Ok(replies) => replies,
         Err(_) => return Err(SessionError::before_commands(SessionErrorKind::OutOfMemory)),
     };
+    let mut hand = None;
     for (number, command) in commands.iter().enumerate() {
-        match run_command(array, alloc, command, store, options) {
+        match run_command(array, alloc, command, &mut hand, store, options) {
             Ok(reply) => replies.push(reply).unwrap(),
             Err(error) => {
                 return Err(SessionError {

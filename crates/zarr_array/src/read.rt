@@ -1,9 +1,8 @@
 //! Reading a region, chunk by chunk.
 
-ghost use Rattle.std.specs.Prelude.{◌≡◌, ◌+◌, ◌<◌, ◌*◌, ◌^◌, true, length, MatchResult, IfOk, IfSome};
+ghost use Rattle.std.specs.Prelude.{◌≡◌, ◌+◌, ◌<◌, ◌*◌, ◌^◌, true, length, MatchResult, IfSome};
 ghost use Rattle.zarrs_codec_traits.specs.Prelude.{count, ends_within, kind, fixed_size, region};
 ghost use Rattle.zarrs_codec_traits.specs.Prelude.{size_in, raw_of, options_of};
-ghost use Rattle.zarrs_array_subset.specs.Boxes.{is_within};
 ghost use Rattle.zarr_array_boxes.specs.BoxElements.{list_held};
 ghost use Rattle.zarr_array.specs.Access.{described, IsInHand};
 ghost use Rattle.zarr_array.specs.RegionChunks.{met_chunk_at, AreMetChunks, IsMet};
@@ -21,42 +20,7 @@ use zarrs_codec_error::CodecOptions;
 use zarrs_storage::Store;
 
 impl<C: ChunkAccess> RegionChunks<'_, C> {
-    // Takes the elements of the chunk at a place, which lies inside the region.
-    fn read_whole<S: Store>(
-        &self,
-        alloc: Global,
-        levels: &C::Levels,
-        place: ChunkPlace,
-        elements: &mut BoxElements<'_>,
-        store: &mut S,
-        options: &CodecOptions,
-    ) -> Result<(), SessionErrorKind>
-        requires levels { C.serves self.now.array.now place.indices.items levels.now }
-        requires place { IsMet (described (C.seen self.now.array.now)) (region self.now.subset.now)
-            place }
-        requires inside { is_within (region place.subset) (region self.now.subset.now) ≡ true }
-        requires holds { HoldsRegion (C.seen self.now.array.now) (region self.now.subset.now)
-            elements.old }
-        ensures read { ReadsChunk (C.seen self.now.array.now) (options_of options.now)
-            (region self.now.subset.now) place.indices.items elements.old elements.new
-            (S.shown store.old) (S.shown store.new) result }
-        ensures holds { HoldsRegion (C.seen self.now.array.now) (region self.now.subset.now)
-            elements.new }
-        ensures kept { S.kept store.old store.new }
-    {
-        match self
-            .array
-            .fetch_elements(alloc, &place, levels, store, options)
-        {
-            Ok(chunk) => {
-                elements.put(alloc, &chunk, &place.subset)?;
-                Ok(())
-            }
-            Err(error) => Err(chunk_error(place.key, error)),
-        }
-    }
-
-    // Takes the elements that it shares with the region.
+    // Takes the elements that the chunk at a place shares with the region.
     fn read_shared<S: Store>(
         &self,
         alloc: Global,
@@ -87,20 +51,20 @@ impl<C: ChunkAccess> RegionChunks<'_, C> {
         }
     }
 
-    // Takes the elements that the chunk of a number shares with the region: all, where it lies inside the region. The
-    // levels in hand serve where they are of its shape; the answer is those that served.
+    // Takes the elements that the chunk of a number shares with the region. The levels in hand serve where they are of its
+    // shape; those that served are in hand then.
     fn read_chunk<S: Store>(
         &self,
         alloc: Global,
         number: u64,
-        hand: Option<C::Levels>,
+        hand: &mut Option<C::Levels>,
         elements: &mut BoxElements<'_>,
         store: &mut S,
         options: &CodecOptions,
-    ) -> Result<C::Levels, SessionErrorKind>
+    ) -> Result<(), SessionErrorKind>
         requires met { AreMetChunks (C.seen self.now.array.now) self.now }
         requires below { number < count (region self.now.chunks) }
-        requires hand { IfSome hand (IsInHand (C.serves self.now.array.now)) }
+        requires hand { IfSome hand.old (IsInHand (C.serves self.now.array.now)) }
         requires holds { HoldsRegion (C.seen self.now.array.now) (region self.now.subset.now)
             elements.old }
         ensures read { ReadsChunk (C.seen self.now.array.now) (options_of options.now)
@@ -108,28 +72,27 @@ impl<C: ChunkAccess> RegionChunks<'_, C> {
             (S.shown store.old) (S.shown store.new) result }
         ensures holds { HoldsRegion (C.seen self.now.array.now) (region self.now.subset.now)
             elements.new }
-        ensures hand { IfOk result (IsInHand (C.serves self.now.array.now)) }
+        ensures hand { IfSome hand.new (IsInHand (C.serves self.now.array.now)) }
         ensures kept { S.kept store.old store.new }
     {
         let place = self.place(alloc, number)?;
-        let levels = self.array.levels_at(alloc, hand, &place)?;
-        if place.subset.inbounds(self.subset) {
-            self.read_whole(alloc, &levels, place, elements, store, options)?;
-            return Ok(levels);
-        }
+        let levels = self.array.levels_at(alloc, hand.take(), &place)?;
         self.read_shared(alloc, &levels, place, elements, store, options)?;
-        Ok(levels)
+        *hand = Some(levels);
+        Ok(())
     }
 
     // Reads each chunk, once, into the region's elements.
     fn read_chunks<S: Store>(
         &self,
         alloc: Global,
+        hand: &mut Option<C::Levels>,
         elements: &mut BoxElements<'_>,
         store: &mut S,
         options: &CodecOptions,
     ) -> Result<(), CommandError>
         requires met { AreMetChunks (C.seen self.now.array.now) self.now }
+        requires hand { IfSome hand.old (IsInHand (C.serves self.now.array.now)) }
         requires holds { HoldsRegion (C.seen self.now.array.now) (region self.now.subset.now)
             elements.old }
         requires as_long { length (list_held elements.old) ≡ count (region self.now.subset.now) }
@@ -141,12 +104,12 @@ impl<C: ChunkAccess> RegionChunks<'_, C> {
             (region self.now.subset.now) (S.shown store.old) (S.shown store.new)) }
         ensures holds { HoldsRegion (C.seen self.now.array.now) (region self.now.subset.now)
             elements.new }
+        ensures hand { IfSome hand.new (IsInHand (C.serves self.now.array.now)) }
         ensures kept { S.kept store.old store.new }
     {
-        let mut hand = None;
         for number in 0..self.num_chunks() {
             match self.read_chunk(alloc, number, hand, elements, store, options) {
-                Ok(levels) => hand = Some(levels),
+                Ok(()) => {}
                 Err(kind) => {
                     return Err(CommandError {
                         chunks_done: number,
@@ -162,11 +125,13 @@ impl<C: ChunkAccess> RegionChunks<'_, C> {
     fn read_all<S: Store>(
         &self,
         alloc: Global,
+        hand: &mut Option<C::Levels>,
         elements: BoxElements<'_>,
         store: &mut S,
         options: &CodecOptions,
     ) -> Result<ArrayBytes<'static>, CommandError>
         requires met { AreMetChunks (C.seen self.now.array.now) self.now }
+        requires hand { IfSome hand.old (IsInHand (C.serves self.now.array.now)) }
         requires holds { HoldsRegion (C.seen self.now.array.now) (region self.now.subset.now)
             elements }
         requires as_long { length (list_held elements) ≡ count (region self.now.subset.now) }
@@ -175,10 +140,11 @@ impl<C: ChunkAccess> RegionChunks<'_, C> {
             (region self.now.subset.now) (S.shown store.old) (S.shown store.new) (raw_of v))
             (NotReadRegion (C.seen self.now.array.now) (options_of options.now)
             (region self.now.subset.now) (S.shown store.old) (S.shown store.new)) }
+        ensures hand { IfSome hand.new (IsInHand (C.serves self.now.array.now)) }
         ensures kept { S.kept store.old store.new }
     {
         let mut elements = elements;
-        match self.read_chunks(alloc, &mut elements, store, options) {
+        match self.read_chunks(alloc, hand, &mut elements, store, options) {
             Ok(()) => match elements.into_bytes(alloc) {
                 Ok(bytes) => Ok(bytes),
                 Err(_) => Err(CommandError {
@@ -193,6 +159,7 @@ impl<C: ChunkAccess> RegionChunks<'_, C> {
 
 /// The elements of a region inside an array, in row-major order, which have room. Each chunk that the region meets is
 /// fetched once, in row-major order; the room for all elements is taken before the first where they are of one size.
+/// `hand` has levels from command to command, so that the next one need not make them anew; at first it has none.
 ///
 /// # Errors
 /// What a chunk's value or the store told, or want of memory, and how many chunks were finished.
@@ -200,9 +167,11 @@ pub fn read_elements<C: ChunkAccess, S: Store>(
     array: &C,
     alloc: Global,
     subset: &ArraySubset,
+    hand: &mut Option<C::Levels>,
     store: &mut S,
     options: &CodecOptions,
 ) -> Result<ArrayBytes<'static>, CommandError>
+    requires hand { IfSome hand.old (IsInHand (C.serves array.now)) }
     requires inside { ends_within (region subset.now) (described (C.seen array.now)).shape ≡ true }
     requires few { count (region subset.now) + 1 < 2 ^ 64 }
     requires room { count (region subset.now)
@@ -212,11 +181,12 @@ pub fn read_elements<C: ChunkAccess, S: Store>(
         (S.shown store.old) (S.shown store.new) (raw_of v))
         (NotReadRegion (C.seen array.now) (options_of options.now) (region subset.now)
         (S.shown store.old) (S.shown store.new)) }
+    ensures hand { IfSome hand.new (IsInHand (C.serves array.now)) }
     ensures kept { S.kept store.old store.new }
 {
     let elements = BoxElements::filled(alloc, array.data_type(), array.fill_value(), subset)?;
     match RegionChunks::meeting(array, alloc, subset)? {
-        Some(met) => met.read_all(alloc, elements, store, options),
+        Some(met) => met.read_all(alloc, hand, elements, store, options),
         None => {
             let bytes = elements.into_bytes(alloc)?;
             Ok(bytes)

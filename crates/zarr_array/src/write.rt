@@ -1,6 +1,6 @@
 //! Writing to a region, chunk by chunk.
 
-ghost use Rattle.std.specs.Prelude.{◌≡◌, ◌+◌, ◌<◌, ◌^◌, true, MatchResult, IfOk, IfSome};
+ghost use Rattle.std.specs.Prelude.{◌≡◌, ◌+◌, ◌<◌, ◌^◌, true, MatchResult, IfSome};
 ghost use Rattle.zarrs_codec_traits.specs.Prelude.{count, ends_within, region, raw_of, options_of};
 ghost use Rattle.zarr_array.specs.Access.{described, IsInHand};
 ghost use Rattle.zarr_array.specs.RegionChunks.{met_chunk_at, AreMetChunks, IsMet};
@@ -67,20 +67,20 @@ impl<C: ChunkAccess> RegionChunks<'_, C> {
         }
     }
 
-    // Writes to the chunk of a number. The levels in hand serve where they are of its shape; the answer is those that
-    // served.
+    // Writes to the chunk of a number. The levels in hand serve where they are of its shape; those that served are in hand
+    // then.
     fn write_chunk<S: Store>(
         &self,
         alloc: Global,
         number: u64,
-        hand: Option<C::Levels>,
+        hand: &mut Option<C::Levels>,
         bytes: &ArrayBytes<'_>,
         store: &mut S,
         options: &CodecOptions,
-    ) -> Result<C::Levels, SessionErrorKind>
+    ) -> Result<(), SessionErrorKind>
         requires met { AreMetChunks (C.seen self.now.array.now) self.now }
         requires below { number < count (region self.now.chunks) }
-        requires hand { IfSome hand (IsInHand (C.serves self.now.array.now)) }
+        requires hand { IfSome hand.old (IsInHand (C.serves self.now.array.now)) }
         requires writable { IsWritable (C.seen self.now.array.now) (region self.now.subset.now)
             (raw_of bytes.now) }
         ensures written { let array = C.seen self.now.array.now in
@@ -90,37 +90,40 @@ impl<C: ChunkAccess> RegionChunks<'_, C> {
             (met_chunk_at self.now number) (S.shown store.old) (S.shown store.new))
             (NotWrittenChunk array (options_of options.now) change
             (met_chunk_at self.now number) (S.shown store.old) (S.shown store.new)) }
-        ensures hand { IfOk result (IsInHand (C.serves self.now.array.now)) }
+        ensures hand { IfSome hand.new (IsInHand (C.serves self.now.array.now)) }
     {
         let place = self.place(alloc, number)?;
-        let levels = self.array.levels_at(alloc, hand, &place)?;
+        let levels = self.array.levels_at(alloc, hand.take(), &place)?;
         self.write_at(alloc, &levels, place, bytes, store, options)?;
-        Ok(levels)
+        *hand = Some(levels);
+        Ok(())
     }
 
     // Writes to each chunk, in row-major order.
     fn write_chunks<S: Store>(
         &self,
         alloc: Global,
+        hand: &mut Option<C::Levels>,
         bytes: &ArrayBytes<'_>,
         store: &mut S,
         options: &CodecOptions,
     ) -> Result<(), CommandError>
         requires met { AreMetChunks (C.seen self.now.array.now) self.now }
+        requires hand { IfSome hand.old (IsInHand (C.serves self.now.array.now)) }
         requires writable { IsWritable (C.seen self.now.array.now) (region self.now.subset.now)
             (raw_of bytes.now) }
-        ensures { MatchResult result
+        ensures written { MatchResult result
             (λ _. HasWrittenRegion (C.seen self.now.array.now) (options_of options.now)
             (region self.now.subset.now) (raw_of bytes.now) (S.shown store.old)
             (S.shown store.new))
             (NotWrittenRegion (C.seen self.now.array.now) (options_of options.now)
             (region self.now.subset.now) (raw_of bytes.now) (S.shown store.old)
             (S.shown store.new)) }
+        ensures hand { IfSome hand.new (IsInHand (C.serves self.now.array.now)) }
     {
-        let mut hand = None;
         for number in 0..self.num_chunks() {
             match self.write_chunk(alloc, number, hand, bytes, store, options) {
-                Ok(levels) => hand = Some(levels),
+                Ok(()) => {}
                 Err(kind) => {
                     return Err(CommandError {
                         chunks_done: number,
@@ -134,7 +137,8 @@ impl<C: ChunkAccess> RegionChunks<'_, C> {
 }
 
 /// Writes array bytes that mean the elements of a region inside an array, in row-major order, to it. Each chunk that the
-/// region meets is fetched once, in row-major order, and then stored or erased by one call.
+/// region meets is fetched once, in row-major order, and then stored or erased by one call. `hand` has levels from
+/// command to command.
 ///
 /// # Errors
 /// What a chunk's value or the store told, or want of memory, and how many chunks were finished.
@@ -143,19 +147,22 @@ pub fn write_elements<C: ChunkAccess, S: Store>(
     alloc: Global,
     subset: &ArraySubset,
     bytes: &ArrayBytes<'_>,
+    hand: &mut Option<C::Levels>,
     store: &mut S,
     options: &CodecOptions,
 ) -> Result<(), CommandError>
+    requires hand { IfSome hand.old (IsInHand (C.serves array.now)) }
     requires inside { ends_within (region subset.now) (described (C.seen array.now)).shape ≡ true }
     requires writable { IsWritable (C.seen array.now) (region subset.now) (raw_of bytes.now) }
-    ensures { MatchResult result
+    ensures written { MatchResult result
         (λ _. HasWrittenRegion (C.seen array.now) (options_of options.now) (region subset.now)
         (raw_of bytes.now) (S.shown store.old) (S.shown store.new))
         (NotWrittenRegion (C.seen array.now) (options_of options.now) (region subset.now)
         (raw_of bytes.now) (S.shown store.old) (S.shown store.new)) }
+    ensures hand { IfSome hand.new (IsInHand (C.serves array.now)) }
 {
     let Some(met) = RegionChunks::meeting(array, alloc, subset)? else {
         return Ok(());
     };
-    met.write_chunks(alloc, bytes, store, options)
+    met.write_chunks(alloc, hand, bytes, store, options)
 }

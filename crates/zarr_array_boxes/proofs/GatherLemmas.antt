@@ -16,10 +16,10 @@ use Rattle.zarrs_codec_array_bytes.proofs.CheckLaws.{still_short, below_twice}
 use Rattle.zarrs_codec_array_bytes.proofs.ExtractLaws.{lengths_kept}
 use Rattle.zarrs_codec_array_bytes_parts.specs.Pairs.{are_alike}
 use Rattle.zarr_array_boxes.specs.Elements.{blanks}
-use Rattle.zarr_array_boxes.specs.Joined.{bytes_joined}
-use Rattle.zarr_array_boxes.proofs.JoinLaws.{joined_means}
-use Rattle.zarr_array_boxes.proofs.MeansLaws.{some_list, alike_means}
-use Rattle.zarr_array_boxes.proofs.ShortLaws.{some_short, joined_short}
+use Rattle.zarrs_codec_array_bytes_parts.specs.Joined.{bytes_joined}
+use Rattle.zarrs_codec_array_bytes_parts.proofs.JoinLaws.{joined_means, joined_short}
+use Rattle.zarrs_codec_array_bytes_parts.proofs.MeansLaws.{some_list, alike_means}
+use Rattle.zarr_array_boxes.proofs.ShortLaws.{some_short}
 
 -- a list of one element has its first
 one_alone : (list : List Element) → length list ≡ 1 → list ≡ get_or list 0 null ∷ []

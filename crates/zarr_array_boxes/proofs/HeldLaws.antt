@@ -4,7 +4,7 @@ use Rattle.zarr_model.specs.Region.{count}
 use Rattle.zarrs_codec_slices.proofs.ReplaceLaws.{length-replaced}
 use Rattle.zarrs_codec_array_bytes.specs.Raw.{raw_of}
 use Rattle.zarr_array_boxes.specs.Elements.{blanks}
-use Rattle.zarr_array_boxes.specs.Placed.{placed_bytes}
+use Rattle.zarrs_codec_array_bytes_parts.specs.OwnedArrayBytes.{owned_raw}
 use Rattle.zarr_array_boxes.specs.Given.{given_indices, given_list}
 use Rattle.zarr_array_boxes.specs.BoxElements.{fixed_kind, fixed_box, listed_kind, listed_box, held_box, held_list}
 use Rattle.zarr_array_boxes.specs.BoxElements.{box_held, list_held}
@@ -15,7 +15,7 @@ use Rattle.zarr_array_boxes.proofs.PutLaws.{list_long, blanks_long}
 
 held-long : (elements : Held) → length (held_list elements) ≡ count (held_box elements)
 held-long (held.Fixed elements) =
-    list_long (fixed_kind elements) (fixed_box elements) (placed_bytes elements.elements) elements.means
+    list_long (fixed_kind elements) (fixed_box elements) (owned_raw elements.elements) elements.means
 held-long (held.Listed elements) =
     length-replaced (given_indices elements.given) (given_list (listed_kind elements) elements.given)
     (blanks (listed_kind elements) (count (listed_box elements)) (raw_of elements.blank))

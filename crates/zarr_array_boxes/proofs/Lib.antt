@@ -1,9 +1,6 @@
 pub mod ShareLaws
 pub mod SharedPartLaws
-pub mod JoinLaws
-pub mod MeansLaws
 pub mod PutLaws
-pub mod PlacedLaws
 pub mod ShortLaws
 pub mod GivenLaws
 pub mod PlaceRunLaws

@@ -1,15 +1,15 @@
 -- Which number stands at each place, by runs in the order in which they were given and in rising order.
 use Rattle.std.proofs.Common.{IsPermutation, ◌^◌, ◌≡◌, ℕ, zero, suc, ◌+◌, ◌-◌, ◌<◌, ◌≤◌, ◌==◌, ◌&&◌, ◌||◌, Bool, true}
-use Rattle.std.proofs.Common.{false, nat_le, nat_lt, if◌then◌else◌, List, [], ◌∷◌, ◌++◌, length, take, drop, set}
+use Rattle.std.proofs.Common.{false, nat_le, nat_lt, if◌then◌else◌, List, [], ◌∷◌, ◌++◌, length, take, drop}
 use Rattle.std.proofs.Common.{get_or, replicate, arith, ap, ap₂, sym, refl, ◌∙◌, subst, true≢false, inl, inr, ◌⊎◌}
 use Rattle.std.specs.List.{range_with_len, list_any, All}
-use Rattle.std.proofs.lemmas.Bool.{cond-true, cond-false, and_parts, and_from, cases_Bool, leb-true, le-leb, lt-ltb}
-use Rattle.std.proofs.lemmas.Bool.{ltb-true, or_parts, cases_lt}
+use Rattle.std.proofs.lemmas.Bool.{cond-true, cond-false, and_parts, and_from, leb-true, le-leb, lt-ltb}
+use Rattle.std.proofs.lemmas.Bool.{ltb-true, cases_lt}
 use Rattle.std.proofs.lemmas.Bool.Decides.{nat_tests}
 use Rattle.std.proofs.lemmas.List.Elements.{All-nil, All-cons, All-head, All-tail}
 use Rattle.std.proofs.lemmas.List.{length-append, length-replicate, get_or_append_left, get_or-append_right}
 use Rattle.std.proofs.lemmas.List.{get_or-replicate, drop_more, drop_all, append_assoc, append-nil, same_lists}
-use Rattle.std.proofs.lemmas.List.{get_or_default, length-set, get_or-set_same, get_or-set_other}
+use Rattle.std.proofs.lemmas.List.{get_or_default}
 use Rattle.std.proofs.lemmas.Grind.{flat_map-append}
 use Rattle.std.proofs.lemmas.List.Sorted.{All-permutation, IsPermutation-sym}
 use Rattle.zarrs_codec_slices.proofs.ReplaceLaws.{length-replaced, get_or-replaced}
@@ -353,9 +353,6 @@ pub record HasNumbered (runs : List (ℕ × ℕ)) (i total : ℕ) (out : List Gi
   pub all : out ++ numbered_from total (drop i runs) ≡ numbered_from 0 runs
   pub count : total + length (run_numbers (drop i runs)) ≡ length (run_numbers runs)
 
-pub none_numbered : (runs : List (ℕ × ℕ)) → HasNumbered runs 0 0 []
-none_numbered runs = record { all = refl; count = omega arith }
-
 pub one_numbered : (runs : List (ℕ × ℕ)) (i total behind : ℕ) (out more : List GivenRun) → i < length runs →
     behind ≡ total + (get_or runs i (0, 0)).1 →
     more ≡ out ++ (record { place = (get_or runs i (0, 0)).0; number = total; len = (get_or runs i (0, 0)).1 }) ∷ [] →
@@ -374,14 +371,6 @@ one_numbered runs i total behind out more h behind_is more_is so_far =
           ∙ (ap (λ l. out ++ numbered_from total l) (sym rest) ∙ so_far.all));
       count = omega (arith, behind_is, long, so_far.count);
     }
-
-pub all_numbered : (runs : List (ℕ × ℕ)) (i total : ℕ) (out : List GivenRun) → length runs ≤ i →
-    HasNumbered runs i total out → (out ≡ numbered_from 0 runs) × (total ≡ length (run_numbers runs))
-all_numbered runs i total out end so_far =
-    let none : drop i runs ≡ [] = drop_all i runs end in (
-      sym (append-nil out) ∙ (ap (λ l. out ++ numbered_from total l) (sym none) ∙ so_far.all),
-      omega (arith, ap (λ l. length (run_numbers l)) none, so_far.count),
-    )
 
 -- one element so many times
 pub blanks_step : (blank : ℕ) (picks more all : List (ℕ × ℕ)) (n i : ℕ) → i < n → more ≡ picks ++ (blank, 1) ∷ [] →
@@ -417,10 +406,6 @@ pub record HasPlaced (runs : List GivenRun) (count total i next : ℕ) (out : Li
   pub rises : AreRising next (drop i runs) → AreRising 0 runs
   pub numbers : run_numbers out ++ numbers_over total count next (drop i runs) ≡ numbers_over total count 0 runs
   pub below : AreRunsBelow (total + 1) out
-
-pub none_placed : (runs : List GivenRun) (count total : ℕ) → HasPlaced runs count total 0 0 []
-none_placed runs count total =
-    record { low = omega arith; rises = λ h. h; numbers = refl; below = λ k h. absurd (omega (arith, h)) }
 
 pub one_placed : (runs : List GivenRun) (count total i next : ℕ) (run : GivenRun) (out gap more : List (ℕ × ℕ)) →
     drop i runs ≡ run ∷ drop (i + 1) runs → IsGivenWithin count total run → next ≤ run.place →
@@ -459,19 +444,12 @@ one_placed runs count total i next run out gap more rest_is within low gap_is mo
 
 module _ (runs : List GivenRun) (count total i next : ℕ) (out more : List (ℕ × ℕ)) (end : length runs ≤ i) (more_is :
     more ≡ out ++ replicate (count - next) (total, 1)) (all : HasPlaced runs count total i next out) where
-  pub all_rising : AreRising 0 runs
-  all_rising = all.rises (subst (AreRising next) (sym (drop_all i runs end)) tt)
-
   pub all_placed : run_numbers more ≡ numbers_over total count 0 runs
   all_placed =
       ap run_numbers more_is
       ∙ (flat_map-append (λ run. range_with_len run.0 run.1) out (replicate (count - next) (total, 1))
       ∙ (ap (λ l. run_numbers out ++ l) (blank_numbers total (count - next))
       ∙ (ap (λ l. run_numbers out ++ numbers_over total count next l) (sym (drop_all i runs end)) ∙ all.numbers)))
-
-  pub all_below : AreRunsBelow (total + 1) more
-  all_below = subst (AreRunsBelow (total + 1)) (sym more_is)
-      (append_below (total + 1) out (replicate (count - next) (total, 1)) all.below (blanks_below total (count - next)))
 
 -- the first numbers of a run are written to their places
 abbrev first_of : GivenRun → ℕ → GivenRun
@@ -481,60 +459,6 @@ pub record HasPutSome (run : GivenRun) (offset : ℕ) (old new : List ℕ) : Typ
   pub long : length new ≡ length old
   pub each : (place : ℕ) → place < length old →
       get_or new place 0 ≡ given_at place (get_or old place 0) (first_of run offset ∷ [])
-
-pub none_put : (run : GivenRun) (old : List ℕ) → HasPutSome run 0 old old
-none_put run old = record {
-  long = refl;
-  each = λ place h. sym (past_run place (get_or old place 0) (first_of run 0) [] (nowhere place));
-}
-  where
-    nowhere : (place : ℕ) → has_place place (first_of run 0) ≡ false
-    nowhere place = go (cases_lt place run.place)
-      where
-        go : (place < run.place) ⊎ (run.place ≤ place) → has_place place (first_of run 0) ≡ false
-        go (inl low) = out_before place (first_of run 0) low
-        go (inr high) = out_behind place (first_of run 0) (omega (arith, high))
-
-pub one_put : (run : GivenRun) (offset number : ℕ) (old mid new : List ℕ) → run.place + offset < length old →
-    number ≡ run.number + offset → new ≡ set mid (run.place + offset) number →
-    HasPutSome run offset old mid → HasPutSome run (offset + 1) old new
-one_put run offset number old mid new within number_is new_is so_far = record {
-  long = ap length new_is ∙ (length-set mid (run.place + offset) number ∙ so_far.long);
-  each = λ place h. go place h (cases_lt place run.place)
-      (cases_lt place (run.place + offset)) (cases_lt place (run.place + (offset + 1)));
-}
-  where
-    same_at : (place : ℕ) → place < length old → (place ≡ run.place + offset → ⊥) →
-        get_or new place 0 ≡ given_at place (get_or old place 0) (first_of run offset ∷ [])
-    same_at place h other = ap (λ l. get_or l place 0) new_is
-        ∙ (get_or-set_other mid (run.place + offset) place number 0 other ∙ so_far.each place h)
-
-    go : (place : ℕ) → place < length old → (place < run.place) ⊎ (run.place ≤ place) → (place < run.place + offset) ⊎
-        (run.place + offset ≤ place) → (place < run.place + (offset + 1)) ⊎ (run.place + (offset + 1) ≤ place) →
-        get_or new place 0 ≡ given_at place (get_or old place 0) (first_of run (offset + 1) ∷ [])
-    go place h (inl before) b c =
-        same_at place h (λ e. omega (arith, e, before))
-        ∙ (past_run place (get_or old place 0) (first_of run offset) [] (out_before place (first_of run offset) before)
-        ∙ sym (past_run place (get_or old place 0)
-        (first_of run (offset + 1)) [] (out_before place (first_of run (offset + 1)) before)))
-    go place h (inr low) (inl earlier) c =
-        same_at place h (λ e. omega (arith, e, earlier))
-        ∙
-        (of_run place (get_or old place 0) (first_of run offset) [] (inside_run place (first_of run offset) low earlier)
-        ∙ sym (of_run place (get_or old place 0)
-        (first_of run (offset + 1)) [] (inside_run place (first_of run (offset + 1)) low (omega (arith, earlier)))))
-    go place h (inr low) (inr high) (inl here) =
-        let is : place ≡ run.place + offset = omega (arith, high, here) in
-        ap₂ (λ l p. get_or l p 0) new_is is
-        ∙ (get_or-set_same mid (run.place + offset) number 0
-        (subst (λ n. run.place + offset < n) (sym so_far.long) within)
-        ∙ (omega (arith, number_is, is) ∙ sym (of_run place (get_or old place 0)
-        (first_of run (offset + 1)) [] (inside_run place (first_of run (offset + 1)) low here))))
-    go place h (inr low) (inr high) (inr behind) =
-        same_at place h (λ e. omega (arith, e, behind))
-        ∙ (past_run place (get_or old place 0) (first_of run offset) [] (out_behind place (first_of run offset) high)
-        ∙ sym (past_run place (get_or old place 0)
-        (first_of run (offset + 1)) [] (out_behind place (first_of run (offset + 1)) behind)))
 
 -- the first i runs are
 given_at-append : (place before : ℕ) (xs ys : List GivenRun) →

@@ -1,30 +1,30 @@
 -- Pieces that are put in their places.
-use Rattle.std.proofs.Common.{◌≡◌, ℕ, ◌-◌, ◌<◌, ◌≤◌, true, List, [], ◌∷◌, ◌++◌, length, set, get_or, replicate, Option}
-use Rattle.std.proofs.Common.{Some, None, IsSome, is_some, unwrap_or, arith, ap, ap₂, sym, refl, ◌∙◌, subst, inl, inr}
-use Rattle.std.proofs.Common.{◌⊎◌}
-use Rattle.std.proofs.lemmas.Bool.{cases_lt}
-use Rattle.std.proofs.lemmas.List.{length-append, length-map, length-replicate, get_or_append_left, get_or-append_right}
+use Rattle.std.proofs.Common.{◌≡◌, ℕ, ◌<◌, true, List, [], ◌∷◌, ◌++◌, length, set, get_or, replicate, Option}
+use Rattle.std.proofs.Common.{Some, None, IsSome, is_some, unwrap_or, arith, ap, ap₂, sym, refl, ◌∙◌, subst}
+use Rattle.std.proofs.lemmas.List.{length-append, length-map, length-replicate}
 use Rattle.zarr_model.specs.Region.{Region, count, count_of, starts, sizes, tuples, place, linear_index}
-use Rattle.zarr_model.specs.Element.{Element, null, Kind}
+use Rattle.zarr_model.specs.Element.{Element, null, Kind, fixed_size}
 use Rattle.zarr_model.specs.ArrayBytes.{ArrayBytes, meaning}
 use Rattle.zarr_model.proofs.BytesLaws.{length-meaning}
 use Rattle.zarrs_array_subset.specs.Boxes.{overlap_of, moved_back}
 use Rattle.zarrs_codec_slices.specs.Overlap.{Copied}
-use Rattle.zarrs_codec_slices.specs.Picking.{picked, replaced}
+use Rattle.zarrs_codec_slices.specs.Picking.{picked, replaced, size_in}
 use Rattle.zarrs_codec_slices.specs.PickedRuns.{run_numbers, AreRunsBelow}
 use Rattle.zarrs_codec_slices.proofs.ReplaceLaws.{length-replaced}
 use Rattle.zarrs_codec_array_bytes.specs.Selection.{linear}
 use Rattle.zarr_array_boxes.specs.Elements.{list_in, blanks, PutsOverlap}
 use Rattle.zarr_array_boxes.specs.Shared.{shared_in}
-use Rattle.zarr_array_boxes.specs.Joined.{bytes_joined}
-use Rattle.zarr_array_boxes.specs.Grown.{grown_bytes}
+use Rattle.zarrs_codec_array_bytes_parts.specs.Joined.{bytes_joined}
+use Rattle.zarrs_codec_array_bytes_parts.specs.Overlaps.{CopiesOverlap}
+use Rattle.zarrs_codec_array_bytes_parts.specs.OwnedArrayBytes.{owned_raw}
 use Rattle.zarr_array_boxes.specs.Given.{given_runs, given_indices, given_meaning, given_list, given_alike}
 use Rattle.zarr_array_boxes.specs.Given.{given_joined}
 use Rattle.zarr_array_boxes.specs.declared.given.Given.{Given}
 use Rattle.zarr_array_boxes.proofs.ShareLaws.{places-moved, shares_first, shares_second, shared_copied, all_long}
 use Rattle.zarr_array_boxes.proofs.ShareLaws.{all_picked}
-use Rattle.zarr_array_boxes.proofs.JoinLaws.{joined_means}
-use Rattle.zarr_array_boxes.proofs.MeansLaws.{some_list, alike_means}
+use Rattle.zarrs_codec_array_bytes_parts.proofs.JoinLaws.{joined_means}
+use Rattle.zarrs_codec_array_bytes_parts.proofs.MeansLaws.{some_list, alike_means}
+use Rattle.zarrs_codec_array_bytes_parts.proofs.OverlapLaws.{copied_means}
 
 -- as many places in the one box as in the other
 pub shared_long : (target source : Region) → length target ≡ length source →
@@ -40,35 +40,52 @@ pub list_long : (kind : Kind) (box : Region) (bytes : ArrayBytes) → IsSome (me
 list_long kind box bytes h =
     length-meaning kind (count box) bytes (list_in kind box bytes) (some_list (meaning kind (count box) bytes) h)
 
--- what new array bytes that mean the replaced list are
-pub puts_overlap : (kind : Kind) (target source : Region) (bytes old new : ArrayBytes) → length target ≡ length source →
+-- new array bytes that mean a list which took the elements that two boxes share
+puts_list : (kind : Kind) (target source : Region) (bytes old new : ArrayBytes) (list : List Element) →
+    meaning kind (count target) new ≡ Some list →
+    Copied target source (list_in kind source bytes) (list_in kind target old) list →
+    PutsOverlap kind target source bytes old new
+puts_list kind target source bytes old new list is copied =
+    let listed : list_in kind target new ≡ list = ap (λ o. unwrap_or o []) is in
+    record {
+      held = is ∙ ap Some (sym listed);
+      copied = subst (λ l. Copied target source (list_in kind source bytes) (list_in kind target old) l) (sym listed)
+          copied;
+    }
+
+-- those that mean the replaced list are so, and elements of one size that were copied level by level
+puts_overlap : (kind : Kind) (target source : Region) (bytes old new : ArrayBytes) → length target ≡ length source →
     IsSome (meaning kind (count source) bytes) → IsSome (meaning kind (count target) old) →
     meaning kind (count target) new ≡ Some (replaced (shared_in target (overlap_of target source))
     (picked null (shared_in source (overlap_of target source)) (list_in kind source bytes)) (list_in kind target old)) →
     PutsOverlap kind target source bytes old new
 puts_overlap kind target source bytes old new rank means was is =
-    let listed : list_in kind target new ≡ replaced (shared_in target (overlap_of target source))
-    (picked null (shared_in source (overlap_of target source)) (list_in kind source bytes)) (list_in kind target old) =
-    ap (λ o. unwrap_or o []) is in
-    record {
-      held = is ∙ ap Some (sym listed);
-      copied = subst (λ l. Copied target source (list_in kind source bytes) (list_in kind target old) l) (sym listed)
-          (shared_copied target source rank null (list_in kind source bytes) (list_in kind target old)
-          (list_long kind source bytes means) (list_long kind target old was));
-    }
+    puts_list kind target source bytes old new _ is
+    (shared_copied target source rank null (list_in kind source bytes) (list_in kind target old)
+    (list_long kind source bytes means) (list_long kind target old was))
+
+pub puts_copied : (kind : Kind) (size : ℕ) (target source : Region) (bytes old new : ArrayBytes) →
+    size ≡ size_in (fixed_size kind) → 0 < size_in (fixed_size kind) → IsSome (meaning kind (count source) bytes) →
+    IsSome (meaning kind (count target) old) → CopiesOverlap size target source bytes old new →
+    PutsOverlap kind target source bytes old new
+puts_copied kind size target source bytes old new size_is some means was copies =
+    let it = copied_means kind target source bytes old new (list_in kind source bytes) (list_in kind target old) some
+    (some_list (meaning kind (count source) bytes) means) (some_list (meaning kind (count target) old) was)
+    (subst (λ s. CopiesOverlap s target source bytes old new) size_is copies) in
+    puts_list kind target source bytes old new it.list it.means it.copied
 
 -- what was given before, and more behind it
 pub given_long : (kind : Kind) (given : Option Given) → IsSome (given_meaning kind given) →
     length (given_list kind given) ≡ length (given_indices given)
 given_long kind None h = refl
-given_long kind (Some given) h = length-meaning kind (length (run_numbers given.runs.items)) (grown_bytes given.grown)
+given_long kind (Some given) h = length-meaning kind (length (run_numbers given.runs.items)) (owned_raw given.grown)
     (given_list kind (Some given)) (some_list (given_meaning kind (Some given)) h)
 
 pub given_alike_means : (kind : Kind) (given : Option Given) (m : ℕ) (piece : ArrayBytes) (ys : List Element) →
     IsSome (given_meaning kind given) → meaning kind m piece ≡ Some ys → given_alike given piece ≡ true
 given_alike_means kind None m piece ys h e = refl
 given_alike_means kind (Some given) m piece ys h e =
-    alike_means kind (length (run_numbers given.runs.items)) m (grown_bytes given.grown) piece
+    alike_means kind (length (run_numbers given.runs.items)) m (owned_raw given.grown) piece
     (given_list kind (Some given)) ys (some_list (given_meaning kind (Some given)) h) e
 
 pub given_more : (kind : Kind) (given : Option Given) (indices more : List ℕ)
@@ -80,9 +97,9 @@ given_more kind None indices more bytes piece ys h means is joins =
     ap₂ (λ i b. meaning kind (length i) b) is joins ∙ means
 given_more kind (Some given) indices more bytes piece ys h means is joins =
     ap₂ (λ i b. meaning kind (length i) b) is joins
-    ∙ (ap (λ n. meaning kind n (bytes_joined (grown_bytes given.grown) piece))
+    ∙ (ap (λ n. meaning kind n (bytes_joined (owned_raw given.grown) piece))
     (length-append (run_numbers given.runs.items) more)
-    ∙ joined_means kind (length (run_numbers given.runs.items)) (length more) (grown_bytes given.grown) piece
+    ∙ joined_means kind (length (run_numbers given.runs.items)) (length more) (owned_raw given.grown) piece
     (given_list kind (Some given)) ys (some_list (given_meaning kind (Some given)) h) means)
 
 replaced-append : {A : Type 0} (indices more : List ℕ) (xs ys list : List A) → length indices ≡ length xs →
@@ -101,13 +118,13 @@ module _ (kind : Kind) (box source : Region) (base : List Element) (bytes piece 
     (piece_means : meaning kind (length (shared_in source (overlap_of box source))) piece ≡
     Some (picked null (shared_in source (overlap_of box source)) (list_in kind source bytes)))
     (places : run_numbers new.runs.items ≡ given_indices given ++ shared_in box (overlap_of box source))
-    (joins : grown_bytes new.grown ≡ given_joined given piece) where
+    (joins : owned_raw new.grown ≡ given_joined given piece) where
   abbrev taken : List Element
   taken = picked null (shared_in source (overlap_of box source)) (list_in kind source bytes)
 
   pub new_means : given_meaning kind (Some new) ≡ Some (given_list kind given ++ taken)
   new_means = given_more kind given (run_numbers new.runs.items) (shared_in box (overlap_of box source))
-      (grown_bytes new.grown) piece taken given_means
+      (owned_raw new.grown) piece taken given_means
       (ap (λ n. meaning kind n piece) (shared_long box source rank) ∙ piece_means) places joins
 
   pub listed_copied :
@@ -167,7 +184,7 @@ pub took : (kind : Kind) (box source part at : Region) (shape : List ℕ) (base 
     meaning kind (length (shared_in source part)) piece ≡ Some (picked null (shared_in source part) xs)) →
     run_numbers new.runs.items ≡ given_indices before ++ linear shape (tuples at) →
     (AreRunsBelow (count_of shape) (given_runs before) → AreRunsBelow (count_of shape) new.runs.items) →
-    grown_bytes new.grown ≡ given_joined before piece →
+    owned_raw new.grown ≡ given_joined before piece →
     Took kind box source base bytes given new
 took kind box source part at shape base bytes piece before given new rank base_long given_means below means part_is
     at_is shape_is before_is selected places within joins =
@@ -176,7 +193,7 @@ took kind box source part at shape base bytes piece before given new rank base_l
     let new_places : run_numbers new.runs.items ≡ given_indices given ++ shared_in box (overlap_of box source) =
     places ∙ (ap (λ g. given_indices g ++ linear shape (tuples at)) before_is
     ∙ ap₂ (λ s a. given_indices given ++ linear s (tuples a)) shape_is at_box) in
-    let new_joins : grown_bytes new.grown ≡ given_joined given piece =
+    let new_joins : owned_raw new.grown ≡ given_joined given piece =
     joins ∙ ap (λ g. given_joined g piece) before_is in
     let new_within : AreRunsBelow (count_of (sizes box)) (given_runs before) →
     AreRunsBelow (count_of (sizes box)) new.runs.items =
@@ -215,15 +232,11 @@ updated_puts kind box source part at shape bytes old piece new rank means was pa
     (ap (λ s. meaning kind (count_of s) new) (sym shape_is)
     ∙ (updated xs ys old_is piece_is ∙ ap₂ (λ s a. Some (replaced (linear s (tuples a)) ys xs)) shape_is at_box))
 
--- one element that is the fill value means a list, and so often as it is asked it is that list
-pub blank_some : (fill : Option Element) (kind : Kind) (raw : ArrayBytes) → IsSome fill →
-    ((x : Element) → fill ≡ Some x → meaning kind 1 raw ≡ Some (x ∷ [])) → IsSome (meaning kind 1 raw)
-blank_some None kind raw h filled = cc
-blank_some (Some x) kind raw h filled = ap is_some (filled x refl)
-
-pub blanks_are : (kind : Kind) (number : ℕ) (raw : ArrayBytes) (x : Element) → meaning kind 1 raw ≡ Some (x ∷ []) →
-    blanks kind number raw ≡ replicate number x
-blanks_are kind number raw x is = ap (λ o. replicate number (get_or (unwrap_or o []) 0 null)) is
+-- so many elements that are all the fill value mean a list
+pub filled_some : (fill : Option Element) (number : ℕ) (list : Option (List Element)) → IsSome fill →
+    ((x : Element) → fill ≡ Some x → list ≡ Some (replicate number x)) → IsSome list
+filled_some None number list h filled = cc
+filled_some (Some x) number list h filled = ap is_some (filled x refl)
 
 pub blanks_long : (kind : Kind) (number : ℕ) (raw : ArrayBytes) → length (blanks kind number raw) ≡ number
 blanks_long kind number raw = length-replicate number (get_or (unwrap_or (meaning kind 1 raw) []) 0 null)

@@ -1,11 +1,10 @@
 -- A region is read chunk by chunk.
-use Rattle.std.proofs.Common.{◌≡◌, ℕ, zero, suc, ◌+◌, ◌<◌, true, false, List, [], ◌∷◌, length, get_or, slice_get, Some}
+use Rattle.std.proofs.Common.{[], ◌≡◌, ℕ, zero, suc, ◌+◌, ◌<◌, true, false, List, ◌∷◌, length, get_or, slice_get, Some}
 use Rattle.std.proofs.Common.{sym, ap, ◌∙◌, subst, arith, ⊎_elim}
 use Rattle.std.proofs.lemmas.Bool.{cases_Bool, cases_eq, cond-true, cond-false, true≢false}
 use Rattle.std.proofs.lemmas.List.{length-map, get_or-map, same_lists}
 use Rattle.zarr_model.specs.Prelude.{Region, count, contains, tuples, place, tuple_at, ends_within, Array, elements_in}
-use Rattle.zarr_model.specs.Prelude.{Grid, IsChunk, chunks_meeting, CoversShape, Element, Content, Layout}
-use Rattle.zarr_model.specs.Prelude.{chunk_content}
+use Rattle.zarr_model.specs.Prelude.{Grid, IsChunk, chunks_meeting, CoversShape}
 use Rattle.zarr_model.proofs.RegionLaws.{length-tuples, get_or-tuples, contains-tuple_at, place_below, tuple_at-place}
 use Rattle.zarr_model.proofs.ArrayLaws.{inside_shape}
 use Rattle.zarr_model.proofs.SessionLaws.{share_tuple-from}
@@ -82,14 +81,3 @@ read-end {E} shape grid region chunks array list covers inside are read =
         listed_below [] n x e = cc
         listed_below (y ∷ ys) zero x e = omega arith
         listed_below (y ∷ ys) (suc n) x e = let rest : n < length ys = listed_below ys n x e in omega arith
-
--- what a chunk's elements give to a region is the array's part, for each array that the chunk has
-pub chunk_copied : (place : Layout Element) (store : Content) (region : Region) (chunk : List ℕ)
-    (list old new : List Element) (array : Array Element) →
-    chunk_content place store chunk ≡ Some list → Copied region (place.grid.chunk_box chunk) list old new →
-    chunk_content place store chunk ≡ Some (elements_in (place.grid.chunk_box chunk) array) →
-    Copied region (place.grid.chunk_box chunk) (elements_in (place.grid.chunk_box chunk) array) old new
-chunk_copied place store region chunk list old new array decoded copied has =
-    let both : Some list ≡ Some (elements_in (place.grid.chunk_box chunk) array) = sym decoded ∙ has in
-    let same : list ≡ elements_in (place.grid.chunk_box chunk) array = cc in
-    subst (λ xs. Copied region (place.grid.chunk_box chunk) xs old new) same copied

@@ -6,18 +6,16 @@ use Rattle.std.proofs.lemmas.Bool.{cond-true, and_parts, and_from, leb-true, le-
 use Rattle.std.proofs.lemmas.Bool.Decides.{nat_tests}
 use Rattle.std.proofs.lemmas.List.{length-map, get_or-map, same_lists, get_or_default}
 use Rattle.std.proofs.lemmas.Simd.{map-map}
-use Rattle.zarr_model.specs.Region.{Span, Region, starts, sizes, count, count_of, whole, contains, place, tuple_at}
-use Rattle.zarr_model.specs.Region.{tuples, linear_index, ends_within}
+use Rattle.zarr_model.specs.Region.{Span, Region, starts, sizes, count, whole, contains, place, tuple_at}
+use Rattle.zarr_model.specs.Region.{tuples, linear_index}
 use Rattle.zarr_model.proofs.RegionLaws.{place_below, contains-tuple_at, get_or-tuples, length-tuples, tuple_at-place}
 use Rattle.zarr_model.proofs.RegionLaws.{place-tuple_at, count_whole}
 use Rattle.zarrs_array_subset.specs.Boxes.{is_within, overlap_of, moved_back, starts_past}
 use Rattle.zarrs_array_subset.proofs.MoveLaws.{overlap_is_both}
 use Rattle.zarr_array_boxes.specs.Shared.{shared_in}
 use Rattle.zarrs_codec_slices.specs.Overlap.{Copied}
-use Rattle.zarrs_codec_slices.specs.Picking.{AllBelow, picked, replaced, last_given}
+use Rattle.zarrs_codec_slices.specs.Picking.{picked, replaced, last_given}
 use Rattle.zarrs_codec_slices.proofs.ReplaceLaws.{get_or-replaced, length-replaced}
-use Rattle.zarrs_codec_slices.proofs.RowLaws.{indices_below}
-use Rattle.zarrs_chunk_grid_iterators.proofs.BoxFacts.{box_inside}
 
 -- the last element that is given to a place, where each that is given to it is one and the same
 given_same : {X A : Type 0} (k : ℕ) (p : X → ℕ) (f : X → A) (xs : List X) (before value : A) →
@@ -179,11 +177,6 @@ module _ {A : Type 0} (target source : Region) (rank : length target ≡ length 
     each = λ k d below. ap (λ l. get_or l k d) (ap₂ (λ l g. replaced l g old)
         (places-moved target part (shares_first target source rank)) given_is) ∙ copied_at k d below;
   }
-
--- the linear indices of a box inside a shape are below its count
-pub places_below : (shape : List ℕ) (box : Region) → ends_within box shape ≡ true →
-    AllBelow (count_of shape) (map (linear_index shape) (tuples box))
-places_below shape box h = indices_below shape (tuples box) (box_inside box shape h)
 
 -- what a box shares with a region that it lies within is the box
 same_span : (a b : ℕ) (m n : ℕ) → b ≤ a → a + m ≤ b + n → (max b a ≡ a) × (min (b + n) (a + m) - max b a ≡ m)

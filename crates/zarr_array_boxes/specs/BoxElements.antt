@@ -8,7 +8,7 @@ use Rattle.zarrs_codec_slices.specs.Picking.{replaced}
 use Rattle.zarrs_codec_array_bytes.specs.Raw.{raw_of}
 use Rattle.zarrs_codec_array_bytes.specs.Steps.{kind_seen}
 use Rattle.zarr_array_boxes.specs.Elements.{list_in, blanks}
-use Rattle.zarr_array_boxes.specs.Placed.{placed_bytes}
+use Rattle.zarrs_codec_array_bytes_parts.specs.OwnedArrayBytes.{owned_raw}
 use Rattle.zarr_array_boxes.specs.Given.{given_indices, given_list, has_long_given}
 use Rattle.zarr_array_boxes.specs.declared.fixed.FixedBox.{FixedBox}
 use Rattle.zarr_array_boxes.specs.declared.listed.ListedBox.{ListedBox}
@@ -25,7 +25,7 @@ fixed_box elements = region elements.subset.now
 
 abbrev pub fixed_list : FixedBox → List Element
 fixed_list elements =
-    list_in (fixed_kind elements) (fixed_box elements) (placed_bytes elements.elements)
+    list_in (fixed_kind elements) (fixed_box elements) (owned_raw elements.elements)
 
 -- the kind, the box and the list of elements of any kind
 abbrev pub listed_kind : ListedBox → Kind

@@ -1,10 +1,7 @@
 pub mod Elements
 pub mod Shared
 pub mod SharedBox
-pub mod Joined
-pub mod Grown
 pub mod Given
 pub mod PlaceRuns
-pub mod Placed
 pub mod BoxElements
 pub mod Command

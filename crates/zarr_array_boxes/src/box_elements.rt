@@ -1,4 +1,4 @@
-//! A box of elements that grows.
+//! Elements over a box, into which those of other boxes are put.
 
 ghost use Rattle.std.specs.Prelude.{◌≡◌, ◌+◌, ◌*◌, ◌<◌, ◌^◌, false, Some, IsSome, length, replicate, IfOk, OnOk};
 ghost use Rattle.zarr_model.specs.Region.{count};
@@ -74,8 +74,8 @@ impl<'a> BoxElements<'a> {
         })
     }
 
-    /// Takes the elements that bytes over another box share with this one. After an error the elements are whatever
-    /// they are.
+    /// Takes the elements that bytes over another box share with this one. After an error no clause says which
+    /// elements there are.
     ///
     /// # Errors
     /// [`AllocError`] where memory runs out.

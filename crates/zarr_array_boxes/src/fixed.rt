@@ -1,6 +1,6 @@
 //! Elements of one size over a box.
 
-ghost use Rattle.std.specs.Prelude.{◌≡◌, ◌+◌, ◌*◌, ◌<◌, ◌^◌, false, Some, IsSome, length, replicate, IfOk};
+ghost use Rattle.std.specs.Prelude.{◌≡◌, ◌+◌, ◌*◌, ◌<◌, ◌^◌, true, false, Some, IsSome, length, replicate, IfOk};
 ghost use Rattle.zarr_model.specs.Region.{count};
 ghost use Rattle.zarr_model.specs.Element.{Element, fill_element};
 ghost use Rattle.zarr_model.specs.ArrayBytes.{meaning};
@@ -9,18 +9,79 @@ ghost use Rattle.zarrs_array_subset.specs.ArraySubset.{region};
 ghost use Rattle.zarrs_data_type_bytes.specs.FillValue.{fill_bytes};
 ghost use Rattle.zarrs_codec_slices.specs.Overlap.{Copied};
 ghost use Rattle.zarrs_codec_array_bytes.specs.Raw.{raw_of};
+ghost use Rattle.zarrs_codec_array_bytes.specs.Refusals.{holds_fixed};
 ghost use Rattle.zarrs_codec_array_bytes.specs.Steps.{kind_seen, bytes_seen};
+ghost use Rattle.zarrs_codec_array_bytes_parts.specs.OwnedArrayBytes.{owned_raw};
 ghost use Rattle.zarr_array_boxes.specs.Elements.{list_in, PutsOverlap};
-ghost use Rattle.zarr_array_boxes.specs.Placed.{placed_bytes};
 
-use crate::placed::{Placed, filled_places, into_array_bytes, placed_from, put_elements};
 use std::alloc::{AllocError, Global};
 use zarrs_array_subset::ArraySubset;
 use zarrs_codec_array_bytes::ArrayBytes;
+use zarrs_codec_array_bytes::array_bytes::step::element_size;
+use zarrs_codec_array_bytes_parts::OwnedArrayBytes;
 use zarrs_data_type::DataType;
 use zarrs_data_type_bytes::FillValue;
 
-/// A chunk of elements of one size, with those that a box shares with it replaced.
+// So many elements that are all the fill value.
+fn filled_elements(
+    alloc: Global,
+    data_type: &DataType,
+    number: u64,
+    fill_value: &FillValue,
+) -> Result<OwnedArrayBytes, AllocError>
+    requires denotes { IsSome (fill_element (kind_seen data_type.now)
+        (fill_bytes fill_value.now)) }
+    requires count { number + 1 < 2 ^ 64 }
+    requires bytes { number * bytes_seen data_type.now < 2 ^ 64 }
+    ensures means { IfOk result
+        (λ v. IsSome (meaning (kind_seen data_type.now) number (owned_raw v))) }
+    ensures elements { (x : Element)
+        → fill_element (kind_seen data_type.now) (fill_bytes fill_value.now) ≡ Some x
+        → IfOk result (λ v. meaning (kind_seen data_type.now) number (owned_raw v)
+        ≡ Some (replicate number x)) }
+{
+    match ArrayBytes::new_fill_value(alloc, data_type, number, fill_value) {
+        Ok(bytes) => OwnedArrayBytes::owned_from(alloc, bytes),
+        Err(_) => Err(AllocError),
+    }
+}
+
+// Copies the elements that bytes over a box share with the box of these elements.
+fn put_elements(
+    into: &mut OwnedArrayBytes,
+    data_type: &DataType,
+    into_subset: &ArraySubset,
+    bytes: &ArrayBytes<'_>,
+    subset: &ArraySubset,
+)
+    requires some { 0 < bytes_seen data_type.now }
+    requires rank { length (region into_subset.now) ≡ length (region subset.now) }
+    requires held { IsSome (meaning (kind_seen data_type.now)
+        (count (region into_subset.now)) (owned_raw into.old)) }
+    requires means { IsSome (meaning (kind_seen data_type.now)
+        (count (region subset.now)) (raw_of bytes.now)) }
+    ensures puts { PutsOverlap (kind_seen data_type.now) (region into_subset.now)
+        (region subset.now) (raw_of bytes.now) (owned_raw into.old) (owned_raw into.new) }
+    ensures fixed { holds_fixed (owned_raw into.new) ≡ true }
+{
+    into.copy_overlap(into_subset, bytes, subset, element_size(data_type));
+}
+
+// The elements as array bytes, in the same memory.
+#[tactic(auto, using(zarrs_codec_array_bytes_parts::proofs::MeansLaws::fixed_sound, zarrs_codec_array_bytes_parts::proofs::MeansLaws::fixed_short))]
+fn array_bytes_of(
+    elements: OwnedArrayBytes,
+    alloc: Global,
+) -> Result<ArrayBytes<'static>, AllocError>
+    requires { holds_fixed (owned_raw elements) ≡ true }
+    ensures value { IfOk result (λ v. raw_of v ≡ owned_raw elements) }
+    ensures short { IfOk result (λ v. has_long_element (raw_of v) ≡ false) }
+{
+    let bytes = elements.into_array_bytes(alloc)?;
+    Ok(bytes)
+}
+
+/// A chunk of elements of one size, with those that a box shares with it replaced, in the memory of the chunk.
 pub(crate) fn put_fixed(
     alloc: Global,
     data_type: &DataType,
@@ -40,9 +101,9 @@ pub(crate) fn put_fixed(
         (raw_of v)) }
     ensures short { IfOk result (λ v. has_long_element (raw_of v) ≡ false) }
 {
-    let mut elements = placed_from(alloc, chunk)?;
+    let mut elements = OwnedArrayBytes::owned_from(alloc, chunk)?;
     put_elements(&mut elements, data_type, chunk_subset, bytes, subset);
-    into_array_bytes(elements, alloc)
+    array_bytes_of(elements, alloc)
 }
 
 /// Elements of one size, optional or not, over a box.
@@ -50,10 +111,10 @@ pub(crate) fn put_fixed(
 pub(crate) struct FixedBox<'a> {
     pub(crate) data_type: &'a DataType,
     pub(crate) subset: &'a ArraySubset,
-    pub(crate) elements: Placed,
+    pub(crate) elements: OwnedArrayBytes,
     ghost some: { 0 < bytes_seen data_type.now },
     ghost means: { IsSome (meaning (kind_seen data_type.now) (count (region subset.now))
-        (placed_bytes elements)) },
+        (owned_raw elements)) },
 }
 
 impl<'a> FixedBox<'a> {
@@ -77,7 +138,7 @@ impl<'a> FixedBox<'a> {
             → fill_element (kind_seen data_type.now) (fill_bytes fill_value.now) ≡ Some x
             → IfOk result (λ v. fixed_list v ≡ replicate (count (region subset.now)) x) }
     {
-        let elements = filled_places(alloc, data_type, subset.num_elements(), fill_value)?;
+        let elements = filled_elements(alloc, data_type, subset.num_elements(), fill_value)?;
         Ok(FixedBox {
             data_type,
             subset,
@@ -116,6 +177,6 @@ impl<'a> FixedBox<'a> {
             subset: _,
             elements,
         } = self;
-        into_array_bytes(elements, alloc)
+        array_bytes_of(elements, alloc)
     }
 }

@@ -6,21 +6,21 @@ ghost use Rattle.zarrs_array_subset.specs.ArraySubset.{region};
 ghost use Rattle.zarrs_codec_slices.specs.PickedRuns.{run_numbers, AreRunsBelow};
 ghost use Rattle.zarrs_codec_array_bytes.specs.Raw.{raw_of};
 ghost use Rattle.zarrs_codec_array_bytes.specs.Selection.{linear};
-ghost use Rattle.zarr_array_boxes.specs.Grown.{grown_bytes};
+ghost use Rattle.zarrs_codec_array_bytes_parts.specs.OwnedArrayBytes.{owned_raw};
 ghost use Rattle.zarr_array_boxes.specs.Given.{given_runs, given_indices, given_alike, given_joined};
 
-use crate::grown::{Grown, append, grown_from};
 use std::alloc::{AllocError, Global};
 use zarrs_array_subset::ArraySubset;
 use zarrs_chunk_grid_indexer::{Indexer, append_contiguous_linearised_indices};
 use zarrs_codec_array_bytes::ArrayBytes;
+use zarrs_codec_array_bytes_parts::OwnedArrayBytes;
 
 /// Elements, one after another, and the runs of linear indices of the places that they were given to, each as its start
 /// and its length.
 #[derive(Drop)]
 pub(crate) struct Given {
     pub(crate) runs: Vec<(u64, u64)>,
-    pub(crate) grown: Grown,
+    pub(crate) grown: OwnedArrayBytes,
 }
 
 // Appends the runs of linear indices of a box in a shape.
@@ -57,7 +57,7 @@ pub(crate) fn with_piece(
     ensures within { AreRunsBelow (count_of shape.now) (given_runs given)
         → IfOk result (λ v. AreRunsBelow (count_of shape.now) v.runs.items) }
     ensures bytes { IfOk result
-        (λ v. grown_bytes v.grown ≡ given_joined given (raw_of piece.now)) }
+        (λ v. owned_raw v.grown ≡ given_joined given (raw_of piece.now)) }
 {
     match given {
         Some(given) => {
@@ -66,13 +66,13 @@ pub(crate) fn with_piece(
                 mut grown,
             } = given;
             append_places(&mut runs, alloc, at, shape)?;
-            append(&mut grown, piece)?;
+            grown.append(piece)?;
             Ok(Given { runs, grown })
         }
         None => {
             let mut runs = Vec::new(alloc);
             append_places(&mut runs, alloc, at, shape)?;
-            let grown = grown_from(alloc, piece)?;
+            let grown = OwnedArrayBytes::copied_from(alloc, piece)?;
             Ok(Given { runs, grown })
         }
     }

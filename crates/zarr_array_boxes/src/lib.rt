@@ -1,16 +1,14 @@
-//! Commands on regions of an array, and their replies; and elements of any data type over boxes: a box of elements that grows
-//! by pieces of chunks, and a chunk into which the elements are put that a box shares with it.
+//! Commands on regions of an array, and their replies; and elements of any data type over boxes: those of a region, into
+//! which chunks are put, and those of a chunk, into which a region is put.
 #![tactic(auto)]
 
 mod box_elements;
 mod command;
 mod fixed;
 mod given;
-mod grown;
 mod listed;
 mod overlap;
 mod place_runs;
-mod placed;
 mod refusal;
 mod shared;
 

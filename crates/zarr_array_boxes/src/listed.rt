@@ -18,7 +18,6 @@ ghost use Rattle.zarr_array_boxes.specs.Elements.{list_in, blanks};
 ghost use Rattle.zarr_array_boxes.specs.Given.{given_runs, given_indices, given_meaning, given_list, has_long_given};
 
 use crate::given::{Given, with_piece};
-use crate::grown::{append, into_array_bytes};
 use crate::place_runs::picks_over_blank;
 use crate::shared::{part_in, piece_in, shared_part};
 use std::alloc::{AllocError, Global};
@@ -82,8 +81,8 @@ fn with_given(
         → IfOk result (λ v. has_long_element (raw_of v) ≡ false) }
 {
     let Given { runs, mut grown } = given;
-    append(&mut grown, blank)?;
-    let elements = into_array_bytes(grown, alloc)?;
+    grown.append(blank)?;
+    let elements = grown.into_array_bytes(alloc)?;
     let picks = picks_over_blank(alloc, count, &runs)?;
     let size = element_size(data_type);
     match select_runs(alloc, &picks.runs, picks.total + 1, &elements, size) {

@@ -16,35 +16,35 @@ use std::alloc::{AllocError, Global};
 use zarrs_array_subset::ArraySubset;
 use zarrs_codec_array_bytes::ArrayBytes;
 use zarrs_codec_array_bytes::array_bytes::step::element_size;
-use zarrs_codec_array_bytes_parts::update_array_bytes;
+use zarrs_codec_array_bytes_parts::update_owned_array_bytes;
 use zarrs_data_type::{DataType, type_size};
 
 // A chunk of elements of any kind, with those that a box shares with it replaced.
 fn put_listed(
     alloc: Global,
     data_type: &DataType,
-    chunk: &ArrayBytes<'_>,
+    chunk: ArrayBytes<'static>,
     chunk_subset: &ArraySubset,
     bytes: &ArrayBytes<'_>,
     subset: &ArraySubset,
 ) -> Result<ArrayBytes<'static>, AllocError>
     requires rank { length (region chunk_subset.now) ≡ length (region subset.now) }
     requires chunk { HaveRoom (kind_seen data_type.now) (bytes_seen data_type.now)
-        (region chunk_subset.now) (raw_of chunk.now) }
+        (region chunk_subset.now) (raw_of chunk) }
     requires bytes { HaveRoom (kind_seen data_type.now) (bytes_seen data_type.now)
         (region subset.now) (raw_of bytes.now) }
     ensures puts { IfOk result (λ v. PutsOverlap (kind_seen data_type.now)
-        (region chunk_subset.now) (region subset.now) (raw_of bytes.now) (raw_of chunk.now)
+        (region chunk_subset.now) (region subset.now) (raw_of bytes.now) (raw_of chunk.entry)
         (raw_of v)) }
     ensures short { has_long_element (raw_of bytes.now) ≡ false
-        → has_long_element (raw_of chunk.now) ≡ false
+        → has_long_element (raw_of chunk.entry) ≡ false
         → IfOk result (λ v. has_long_element (raw_of v) ≡ false) }
 {
     let part = shared_part(alloc, chunk_subset, subset)?;
     let piece = piece_in(alloc, data_type, bytes, subset, &part)?;
     let at = part_in(alloc, &part, chunk_subset)?;
     let size = type_size(data_type);
-    match update_array_bytes(alloc, chunk, chunk_subset.shape(), &at, &piece, size) {
+    match update_owned_array_bytes(alloc, chunk, chunk_subset.shape(), &at, &piece, size) {
         Ok(bytes) => Ok(bytes),
         Err(_) => Err(AllocError),
     }
@@ -80,7 +80,7 @@ pub fn put_overlap(
         → IfOk result (λ v. has_long_element (raw_of v) ≡ false) }
 {
     if element_size(data_type) == 0 {
-        return put_listed(alloc, data_type, &chunk, chunk_subset, bytes, subset);
+        return put_listed(alloc, data_type, chunk, chunk_subset, bytes, subset);
     }
     put_fixed(alloc, data_type, chunk, chunk_subset, bytes, subset)
 }

@@ -1,6 +1,6 @@
 -- The chain of an array's codecs is the one that its document describes, and its levels serve each chunk.
 use Rattle.std.proofs.Common.{◌≡◌, ℕ, ◌+◌, ◌*◌, ◌^◌, ◌<◌, ◌≤◌, Bool, true, false, List, [], ◌∷◌, length, map, Option}
-use Rattle.std.proofs.Common.{Some, None, is_some, IsSome, unwrap_or, refl, sym, ap, ◌∙◌, subst, arith}
+use Rattle.std.proofs.Common.{Some, None, is_some, unwrap_or, refl, sym, ap, ◌∙◌, subst, arith}
 use Rattle.std.proofs.lemmas.List.{length-map}
 use Rattle.zarr_model.specs.Prelude.{count, count_of, Element, null, kind, kind_of, fixed_size, fill_element}
 use Rattle.zarr_model.specs.Prelude.{has_long_element, Options, Level, Chain, ArrayCodec, decode_chain}
@@ -73,10 +73,6 @@ denoted None e = cc
 pub fill_denotes : (array : ArrayParts) →
     fill_element (kind_of (type_of array.data_type)) (fill_bytes array.fill) ≡ Some (described_parts array).fill
 fill_denotes array = denoted (fill_element (kind_of (type_of array.data_type)) (fill_bytes array.fill)) array.filled
-
-pub fill_denotes_some : (array : ArrayParts) →
-    IsSome (fill_element (kind_of (type_of array.data_type)) (fill_bytes array.fill))
-fill_denotes_some array = subst IsSome (sym (fill_denotes array)) refl
 
 -- the shape of a chunk has the array's rank, and can be counted and addressed
 pub shape_ranked : (array : ArrayParts) (chunk dims : List ℕ) → IsChunk (described_parts array).grid chunk →
@@ -173,14 +169,3 @@ module _ (array : ArrayParts) (chain : BasicChain) (forms : chain_form chain ≡
             value) (chain_means array chain forms options);
         takes = chunk_taken chunk levels is_chunk served level;
       }
-
--- levels in hand are those of a chunk of their shape
-pub fitted_shape : (array : ArrayParts) (chain : BasicChain) (levels : ChunkLevels) (dims : List ℕ) →
-    (first_level levels).shape ≡ dims →
-    ServesShape array (first_level levels).shape chain levels → ServesShape array dims chain levels
-fitted_shape array chain levels dims same serves = subst (λ s. ServesShape array s chain levels) same serves
-
-pub in_hand : (array : ArrayParts) (chain : BasicChain) (levels : ChunkLevels) (dims : List ℕ) →
-    ServesShape array dims chain levels → ServesShape array (first_level levels).shape chain levels
-in_hand array chain levels dims serves =
-    subst (λ s. ServesShape array s chain levels) (sym (ap (λ (l : Level). l.shape) serves.level)) serves

@@ -5,16 +5,14 @@ use Rattle.std.specs.Fmt.{digits}
 use Rattle.serde_json.proofs.OnLiterals.{serde_json_on_literals}
 use Rattle.zarr_model.specs.Prelude.{DataType, default_keys, v2_keys, bool_type, int_type, uint_type, string_type}
 use Rattle.zarr_model.specs.Prelude.{bytes_type, optional_type}
-use Rattle.zarrs_metadata_values.specs.Reading.{object_or_empty, whole_numbers, is_number, is_text}
+use Rattle.zarrs_metadata_values.specs.Reading.{object_or_empty, whole_numbers, positive_number, is_number, is_text}
 use Rattle.zarrs_metadata_parts.specs.DataTypeV2.{data_type_v2_of}
-use Rattle.zarrs_metadata_parts.specs.MetadataV3.{object_extension, extension_of, extensions_of}
+use Rattle.zarrs_metadata_parts.specs.MetadataV3.{object_extension, extension_of}
 use Rattle.zarrs_metadata_parts.specs.AdditionalFields.{is_array_key}
-use Rattle.zarrs_metadata.specs.ArrayMetadata.{extensions_or_none, is_array, named_fields, required_fields}
-use Rattle.zarrs_metadata.specs.ArrayMetadata.{optional_fields, with_optional_fields, array_members}
-use Rattle.zarrs_metadata_parts.specs.DimensionNames.{dimension_names}
-use Rattle.zarrs_metadata_v2.specs.CodecsV2.{compressor_of, filters_of}
-use Rattle.zarrs_metadata_v2.specs.ArrayMetadataV2.{array_order_of, separator_of_text, positive_number}
-use Rattle.zarrs_metadata_v2.specs.ArrayMetadataV2.{positive_numbers, required_v2, optional_v2, with_optional_fields_v2}
+use Rattle.zarrs_metadata_parts.specs.Fields.{is_kind}
+use Rattle.zarrs_metadata.specs.ArrayMetadata.{extensions_or_none, named_fields, required_fields, optional_fields}
+use Rattle.zarrs_metadata.specs.ArrayMetadata.{array_members}
+use Rattle.zarrs_metadata_v2.specs.ArrayMetadataV2.{array_order_of, separator_of_text, required_v2, optional_v2}
 use Rattle.zarrs_metadata_v2.specs.ArrayMetadataV2.{array_v2_members}
 use Rattle.zarr_basics.specs.GridConfigurations.{chunk_shape_in}
 use Rattle.zarr_basics.specs.GridForms.{regular}
@@ -37,9 +35,8 @@ use Rattle.zarr_array_open.specs.Opening.{chunk_too_large, document_of, open_bui
 -- what opening a text computes by
 unfoldable pub opening : ⊤
 unfolding serde_json_on_literals object_or_empty whole_numbers is_number is_text object_extension extension_of
-    extensions_of is_array_key dimension_names extensions_or_none is_array named_fields required_fields optional_fields
-    with_optional_fields array_members chunk_shape_in given_separator given_order offset_in order_in inner_in
-    document_of
+    is_array_key extensions_or_none is_kind named_fields required_fields optional_fields array_members chunk_shape_in
+    given_separator given_order offset_in order_in inner_in document_of
 opening = tt
 
 -- a document line of a shape, a chunk shape and a fill
@@ -328,8 +325,8 @@ long_refused = (refl, refl)
 
 -- what a document of version 2 computes by
 unfoldable pub opening_2 : ⊤
-unfolding opening data_type_v2_of compressor_of filters_of array_order_of separator_of_text positive_number
-    positive_numbers required_v2 optional_v2 with_optional_fields_v2 array_v2_members
+unfolding opening data_type_v2_of array_order_of separator_of_text positive_number required_v2 optional_v2
+    array_v2_members
 opening_2 = tt
 
 -- a document line of version 2 with these chunk lengths, fields behind them and fill

@@ -2,12 +2,13 @@
 use Rattle.std.proofs.Common.{◌≡◌, Bool, true, false, if◌then◌else◌, Option, Some, None, Result, Ok, Err, refl, ap, ◌∙◌}
 use Rattle.serde_json.specs.Data.{Data}
 use Rattle.serde_json.specs.Written.{has_float}
+use Rattle.zarrs_metadata_values.specs.Forms.{first}
 use Rattle.zarrs_metadata_values.specs.Reading.{FailsReading, from_json, or_invalid}
 use Rattle.zarrs_metadata_values.specs.declared.error.MetadataError.{MetadataError}
 use Rattle.zarrs_metadata_values.specs.declared.error.MetadataError.TheVariants.{InvalidJson, FloatNumber}
 use Rattle.zarrs_metadata_values.specs.declared.error.MetadataError.TheVariants.{InvalidMetadata, OutOfMemory}
 use Rattle.zarrs_metadata.specs.ArrayMetadata.{ArrayFields}
-use Rattle.zarrs_metadata.specs.AnyArray.{AnyArray, array_3, any_array_of}
+use Rattle.zarrs_metadata.specs.AnyArray.{AnyArray, any_array_of}
 use Rattle.zarr_array_open.specs.Opening.{unsupported_version, expect_version_3, fields_if, fields_read}
 use Rattle.zarr_array_open.specs.OpenError.{open_refusal_of, unread_as}
 use Rattle.zarr_array_open.specs.Parts.{StopsBy}
@@ -30,9 +31,9 @@ text_read None document is = absurd cc
 text_read (Some d) document is = value_read (has_float d) (any_array_of d) document is
 
 -- a document of version 3 is read, and one of version 2 refused
-pub read_3 : (o : Option Data) (fields : ArrayFields) → from_json any_array_of o ≡ Ok (array_3 fields) →
+pub read_3 : (o : Option Data) (fields : ArrayFields) → from_json any_array_of o ≡ Ok (first fields) →
     fields_read o ≡ Ok fields
-read_3 o fields is = text_read o (array_3 fields) is
+read_3 o fields is = text_read o (first fields) is
 
 pub read_2 : (o : Option Data) (document : AnyArray) → from_json any_array_of o ≡ Ok document →
     expect_version_3 document ≡ Err unsupported_version → fields_read o ≡ Err unsupported_version

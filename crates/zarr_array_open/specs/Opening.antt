@@ -10,7 +10,8 @@ use Rattle.zarrs_codec_traits.specs.Prelude.{innermost_fill, Unserved}
 use Rattle.zarrs_plugin.specs.Registry.{Names, find}
 use Rattle.zarrs_metadata_parts.specs.AdditionalField.{AdditionalField}
 use Rattle.zarrs_metadata.specs.ArrayMetadata.{ArrayFields}
-use Rattle.zarrs_metadata.specs.AnyArray.{AnyArray, array_3, array_2, any_array_of}
+use Rattle.zarrs_metadata_values.specs.Forms.{first, second}
+use Rattle.zarrs_metadata.specs.AnyArray.{AnyArray, any_array_of}
 use Rattle.zarrs_data_type.specs.FillMetadata.{fill_of}
 use Rattle.zarrs_plugin.specs.Making.{Unmade, unsupported, config, other}
 use Rattle.zarrs_data_type.specs.Making.{type_by}
@@ -213,8 +214,8 @@ document_of names fields = do
 
 -- an array document is of version 3, or of version 2, which is not opened
 abbrev pub expect_version_3 : AnyArray → Result ArrayFields OpenRefusal
-expect_version_3 (array_3 fields) = Ok fields
-expect_version_3 (array_2 fields) = Err unsupported_version
+expect_version_3 (first fields) = Ok fields
+expect_version_3 (second fields) = Err unsupported_version
 
 -- the fields of a value without floats that is a version 3 array document
 abbrev pub fields_if : Bool → Option AnyArray → Result ArrayFields OpenRefusal

@@ -14,10 +14,10 @@ use crate::inner_shape::inner_lengths;
 use serde_json::{Map, Value};
 use std::alloc::Global;
 use zarrs_array_subset::ChunkShape;
+use zarrs_metadata_parts::fields::required_part;
 use zarrs_metadata_parts::json::{expect_text, member, read_whole_numbers, required};
 use zarrs_metadata_parts::making::configured;
-use zarrs_metadata_parts::reading::read_extensions;
-use zarrs_metadata_parts::{MetadataError, MetadataV3};
+use zarrs_metadata_parts::{MetadataError, MetadataV3, Part};
 
 /// How a chunk keeps inner chunks, by a configuration.
 #[derive(Drop)]
@@ -98,7 +98,7 @@ fn read_inner_codecs(
     ensures { Reads (λ v. extensions_seen v.items) result
         (inner_codecs_in (members_view members.now.entries)) }
 {
-    read_extensions(alloc, required(members, "codecs")?)
+    required_part(alloc, members, "codecs")
 }
 
 // Whether the index has a CRC-32C behind it.
@@ -107,7 +107,7 @@ fn read_index_codecs(alloc: Global, members: &Map<String, Value>) -> Result<bool
     ensures { Reads (λ checked. checked) result
         (index_codecs_in (members_view members.now.entries)) }
 {
-    let codecs = read_extensions(alloc, required(members, "index_codecs")?)?;
+    let codecs: Vec<MetadataV3> = Part::read(alloc, required(members, "index_codecs")?)?;
     read_checked(&codecs)
 }
 

@@ -31,7 +31,7 @@ fn expect_little_bytes(metadata: &MetadataV3) -> Result<(), MetadataError>
     expect_text(order, "little")
 }
 
-// Whether an extension is `crc32c`, which has no configuration.
+// Whether an extension is `crc32c`, with no configuration or an empty one.
 fn is_crc32c(metadata: &MetadataV3) -> bool
     ensures { result ≡ is_crc32c (extension_seen metadata.now) }
 {

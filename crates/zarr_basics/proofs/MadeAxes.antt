@@ -1,5 +1,5 @@
 -- Axes that are made of lists of lengths.
-use Rattle.std.proofs.Common.{◌≡◌, ℕ, zero, suc, ◌+◌, ◌<◌, ◌≤◌, ◌&&◌, Bool, true, false, List, [], ◌∷◌, ◌++◌, length}
+use Rattle.std.proofs.Common.{◌≡◌, ℕ, zero, suc, ◌+◌, ◌<◌, ◌&&◌, Bool, true, false, List, [], ◌∷◌, ◌++◌, length}
 use Rattle.std.proofs.Common.{map, take, drop, get_or, Vec, Global, refl, sym, ap, ap₂, ◌∙◌, arith}
 use Rattle.std.proofs.lemmas.List.{take_more, drop_more}
 use Rattle.std.specs.declared.num.NonZeroU64.{NonZeroU64}
@@ -57,22 +57,5 @@ module _ (shape : List ℕ) (lengths : List (List ℕ)) (k : ℕ) (made : List (
 
   pub not_made : cuts (get_or shape k 0) (get_or lengths k []) ≡ false → are_cut shape lengths ≡ false
   not_made cut = rest_is ∙ ap (λ b. b && are_cut (drop (k + 1) shape) (drop (k + 1) lengths)) cut
-
-pub all_made : (shape : List ℕ) (lengths : List (List ℕ)) (k : ℕ) (made : List (List ℕ)) → AreMade shape lengths k
-    made → length lengths ≤ k → length lengths ≡ length shape → (made ≡ lengths) × (are_cut shape lengths ≡ true)
-all_made shape lengths k made before h rank =
-    (before.made_are ∙ whole k lengths h, before.rest ∙ ap₂ are_cut (none k shape (omega arith)) (none k lengths h))
-  where
-    whole : {X : Type 0} (k : ℕ) (l : List X) → length l ≤ k → take k l ≡ l
-    whole zero [] h = refl
-    whole (suc k) [] h = refl
-    whole zero (x ∷ l) h = absurd (omega arith)
-    whole (suc k) (x ∷ l) h = ap (λ r. x ∷ r) (whole k l (omega arith))
-
-    none : {X : Type 0} (k : ℕ) (l : List X) → length l ≤ k → drop k l ≡ []
-    none zero [] h = refl
-    none (suc k) [] h = refl
-    none zero (x ∷ l) h = absurd (omega arith)
-    none (suc k) (x ∷ l) h = none k l (omega arith)
 
 pub ruleset of_making = (other_rank, none_made)

@@ -1,21 +1,19 @@
 -- The chunk that has the fill value everywhere.
-use Rattle.std.proofs.Common.{◌≡◌, ℕ, false, List, replicate, Some, IsSome, Result, Ok, Err, IfOk, MatchResult, refl}
-use Rattle.std.proofs.Common.{subst, length, subst₂, sym, ◌<◌, ◌^◌}
+use Rattle.std.proofs.Common.{◌≡◌, ℕ, List, replicate, Some, IsSome, Result, Ok, Err, IfOk, MatchResult}
+use Rattle.std.proofs.Common.{subst}
 use Rattle.std.specs.declared.num.NonZeroU64.{NonZeroU64}
-use Rattle.zarrs_codec_traits.specs.Prelude.{count_of, Element, Kind, fixed, variable, optional, kind_of, fill_element}
-use Rattle.zarrs_codec_traits.specs.Prelude.{fixed_size, meaning, Level, fill_bytes, type_of, raw_of, Answers}
-use Rattle.zarrs_codec_traits.specs.Prelude.{fill_answer, lengths, level_of, list_at, has_long_element}
+use Rattle.zarrs_codec_traits.specs.Prelude.{count_of, Element, kind_of, fill_element}
+use Rattle.zarrs_codec_traits.specs.Prelude.{meaning, Level, fill_bytes, type_of, raw_of, Answers}
+use Rattle.zarrs_codec_traits.specs.Prelude.{fill_answer, lengths, level_of, list_at}
 use Rattle.zarrs_data_type_bytes.specs.declared.fill_value.FillValue.{FillValue}
 use Rattle.zarrs_data_type.specs.declared.data_type.DataType.{DataType}
-use Rattle.zarrs_codec_slices.specs.Filling.{has_size, inner_fill, innermost_fill, filled_with}
-use Rattle.zarrs_codec_slices.proofs.FilledLaws.{element_fits, filled_short}
+use Rattle.zarrs_codec_slices.specs.Filling.{has_size}
+use Rattle.zarrs_codec_slices.proofs.FilledLaws.{element_fits}
 use Rattle.zarrs_codec_error.specs.declared.error.CodecError.{CodecError}
 use Rattle.zarrs_codec_error.specs.declared.error.CodecError.TheVariants as codec
 use Rattle.zarrs_codec_array_bytes.specs.declared.array_bytes.ArrayBytes as code
 use Rattle.zarrs_codec_array_bytes.proofs.ToldLaws.{fill_memory}
 use Rattle.zarr_model.proofs.ElementLaws.{denoted}
-use Rattle.zarr_codec_chain.specs.declared.levels.ChunkLevels.{ChunkLevels}
-use Rattle.zarr_codec_chain.specs.Chain.{first_level, first_fill, blank_chunk, HasFill}
 
 pub filled_gives : (level : Level) (number : ℕ) (fill : List ℕ) (r : Result code.ArrayBytes CodecError) →
     number ≡ count_of level.shape → fill_element (kind_of level.data_type) fill ≡ Some level.fill →
@@ -41,20 +39,3 @@ pub filled_value : (shape : List NonZeroU64) (data_type : DataType) (value : Fil
     data_type value).shape) (level_of shape data_type value).fill)) (λ e. e ≡ codec.OutOfMemory)
 filled_value shape data_type value number r same there answers filled =
     filled_gives (level_of shape data_type value) number (fill_bytes value) r same (denoted _ there) answers filled
-
--- what is asked of the fill value of a chain, by its first level
-pub has_fill : (levels : ChunkLevels) (level : Level) (fill : List ℕ) → first_level levels ≡ level →
-    first_fill levels ≡ fill → fill_element (kind_of level.data_type) fill ≡ Some level.fill →
-    length (innermost_fill (kind_of level.data_type) fill) < 2 ^ 32 → HasFill levels
-has_fill levels level fill same under denotes short = record {
-  denotes = subst₂ (λ l f. fill_element (kind_of l.data_type) f ≡ Some l.fill) (sym same) (sym under) denotes;
-  short = subst₂ (λ l f. has_long_element (blank_chunk l f) ≡ false) (sym same) (sym under)
-      (filled_short (kind_of level.data_type) (count_of level.shape) fill short);
-}
-
--- elements of one size are never too long
-pub sized_short : (kind : Kind) (number size : ℕ) (fill : List ℕ) → fixed_size kind ≡ Some size →
-    has_long_element (filled_with kind number fill) ≡ false
-sized_short (fixed n) number size fill same = refl
-sized_short variable number size fill same = cc
-sized_short (optional kind) number size fill same = sized_short kind number size (inner_fill kind fill) same

@@ -1,11 +1,10 @@
 -- The box of a list at the bottom, and results.
-use Rattle.std.proofs.Common.{◌≡◌, List, [], length, Option, Some, IsSome, Result, Ok, Err, IfOk, IfErr, MatchResult}
+use Rattle.std.proofs.Common.{◌≡◌, List, [], length, Option, Some, IsSome, Result, Ok, Err, IfOk, MatchResult}
 use Rattle.std.proofs.Common.{refl, sym, ap, ◌∙◌, subst}
 use Rattle.std.proofs.lemmas.Option.{same_Some}
 use Rattle.zarr_codec_chain.specs.Prelude.{Element, ArrayBytes, Region, raw_of, Level, ArrayCodec, list_at, at_box}
 use Rattle.zarr_codec_chain.specs.Prelude.{select, steps_of, first_of, elements_above}
 use Rattle.zarrs_codec_error.specs.declared.error.CodecError.{CodecError}
-use Rattle.zarrs_codec_error.specs.declared.error.CodecError.TheVariants as codec
 use Rattle.zarrs_codec_array_bytes.specs.declared.array_bytes.ArrayBytes as code
 use Rattle.zarr_codec_chain.specs.declared.representation.ChunkRepresentation.{ChunkRepresentation}
 use Rattle.zarr_codec_chain.proofs.StepLaws.{top_is}
@@ -45,8 +44,3 @@ pub ok_there : {T E X : Type 0} (f : T → Option X) (x : X) (Q : E → Type 0) 
     MatchResult r (λ v. f v ≡ Some x) Q → IfOk r (λ v. IsSome (f v))
 ok_there f x Q (Ok v) is = subst IsSome (sym is) refl
 ok_there f x Q (Err e) is = tt
-
-pub starves : {T : Type 0} (P : T → Type 0) (fails : CodecError → Type 0) (r : Result T CodecError) →
-    MatchResult r P (λ e. e ≡ codec.OutOfMemory) → fails codec.OutOfMemory → IfErr r fails
-starves P fails (Ok v) is memory = tt
-starves P fails (Err e) is memory = subst fails (sym is) memory

@@ -17,7 +17,7 @@ use std::num::NonZeroU64;
 use zarr_codec_chain::{ChunkLevels, CodecChain};
 use zarrs_array_subset::ArraySubset;
 use zarrs_codec_array_bytes::ArrayBytes;
-use zarrs_codec_array_bytes_parts::update_array_bytes;
+use zarrs_codec_array_bytes_parts::update_owned_array_bytes;
 use zarrs_codec_error::{CodecError, CodecOptions};
 use zarrs_codec_traits::{
     ArrayToArrayCodecTraits, ArrayToBytesCodecTraits, BytesToBytesCodecTraits, shape_numbers,
@@ -28,7 +28,7 @@ use zarrs_storage::{Store, StoreKey};
 // The elements of a shape with those of a box inside it replaced.
 fn with_region(
     alloc: Global,
-    whole: &ArrayBytes<'_>,
+    whole: ArrayBytes<'static>,
     shape: &[NonZeroU64],
     data_type: &DataType,
     region: &ArraySubset,
@@ -37,32 +37,32 @@ fn with_region(
     requires fits { IsFit (lengths shape.now) (type_of data_type.now) }
     requires inside { ends_within (box_of region.now) (lengths shape.now) ≡ true }
     ensures value { let kind = kind_of (type_of data_type.now) in (old new : List Element)
-        → meaning kind (count_of (lengths shape.now)) (raw_of whole.now) ≡ Some old
+        → meaning kind (count_of (lengths shape.now)) (raw_of whole.entry) ≡ Some old
         → meaning kind (count (box_of region.now)) (raw_of bytes.now) ≡ Some new
         → MatchResult result (λ v. meaning kind (count_of (lengths shape.now)) (raw_of v) ≡ Some
         (with_box (lengths shape.now) (box_of region.now) new old)) (λ e. e ≡ codec.OutOfMemory) }
-    ensures short { has_long_element (raw_of whole.now) ≡ false → StaysShort bytes.now result }
+    ensures short { has_long_element (raw_of whole.entry) ≡ false → StaysShort bytes.now result }
 {
     let numbers = shape_numbers(alloc, shape)?;
-    update_array_bytes(alloc, whole, &numbers, region, bytes, type_size(data_type))
+    update_owned_array_bytes(alloc, whole, &numbers, region, bytes, type_size(data_type))
 }
 
 // A chunk with the elements of a region replaced.
 fn updated(
     levels: &ChunkLevels,
     alloc: Global,
-    whole: &ArrayBytes<'_>,
+    whole: ArrayBytes<'static>,
     region: &ArraySubset,
     bytes: &ArrayBytes<'_>,
 ) -> Result<ArrayBytes<'static>, CodecError>
     requires fits { IsFit (first_level levels.now).shape (first_level levels.now).data_type }
     requires inside { ends_within (box_of region.now) (first_level levels.now).shape ≡ true }
     ensures value { let level = first_level levels.now in (old new : List Element)
-        → levels_list levels.now whole.now ≡ Some old
+        → levels_list levels.now whole.entry ≡ Some old
         → list_at (at_box (box_of region.now) level) (raw_of bytes.now) ≡ Some new
         → MatchResult result (λ v. levels_list levels.now v
         ≡ Some (with_box level.shape (box_of region.now) new old)) (λ e. e ≡ codec.OutOfMemory) }
-    ensures short { has_long_element (raw_of whole.now) ≡ false → StaysShort bytes.now result }
+    ensures short { has_long_element (raw_of whole.entry) ≡ false → StaysShort bytes.now result }
 {
     with_region(
         alloc,
@@ -104,7 +104,7 @@ pub fn write<
         (raw_of bytes.now) key.now (S.shown store.old) (S.shown store.new) result }
 {
     let whole = fetch(chain, levels, alloc, key, store, options)?;
-    let chunk = updated(levels, alloc, &whole, region, bytes)?;
+    let chunk = updated(levels, alloc, whole, region, bytes)?;
     put(chain, levels, alloc, key, chunk, store, options)?;
     Ok(())
 }

@@ -1,5 +1,5 @@
 -- The texts of replies are ASCII, so they are UTF-8.
-use Rattle.std.proofs.Common.{◌≡◌, ◌<◌, ℕ, List, [], ◌∷◌, ◌++◌, true, codes, nat_lt, get_or, flat_map, IsUtf8, refl}
+use Rattle.std.proofs.Common.{◌≡◌, ℕ, List, [], ◌∷◌, ◌++◌, true, codes, nat_lt, get_or, IsUtf8, refl}
 use Rattle.std.proofs.Common.{arith}
 use Rattle.std.specs.List.{list_all}
 use Rattle.std.specs.Str.{IsAscii}

@@ -7,7 +7,7 @@ use Rattle.zarr_cli_runs.specs.array.parts.Opening.{OpenRefusal, OpenAnswer, ope
 use Rattle.zarr_cli_runs.specs.array.parts.declared.open_error.OpenError.TheVariants as OpenError
 use Rattle.zarr_cli_runs.specs.Opening.{IsRefusal, IsOpenFault}
 use Rattle.zarr_cli_runs.specs.array.parts.OpenError.{open_refusal_of}
-use Rattle.zarr_cli_runs.specs.Ending.{Ending, IsOrMemory, IsGivenLine, ending_line, IsBeforeStore, IsWritten}
+use Rattle.zarr_cli_runs.specs.Ending.{Ending, IsOrMemory, IsWritten}
 use Rattle.zarr_cli_runs.specs.Ending as end
 use Rattle.zarr_cli_runs.specs.Status.{ending_of, refused_by}
 use Rattle.zarr_cli_runs.specs.declared.status.Status.{Status}
@@ -22,7 +22,7 @@ use Rattle.zarr_cli.specs.declared.lines.InputFault.TheVariants as Fault
 use Rattle.zarr_cli.specs.Written.{EndsWith}
 use Rattle.zarr_cli.specs.ProgramInput.{input_limit, document_line, input_entries, HasLongInput, HasBadLine}
 use Rattle.zarr_cli.specs.ProgramInput.{HasRefusedDocument}
-use Rattle.zarr_cli.specs.Program.{Run, LeavesInput}
+use Rattle.zarr_cli.specs.Program.{Run}
 use Rattle.zarr_cli.specs.Status.{fault_status}
 use Rattle.zarr_cli.specs.ProgramSteps.{RefusesInput, IsEarlyFault, IsPlainFault}
 use Rattle.zarr_cli.specs.Seen.{ProgramSeen}

@@ -1,5 +1,5 @@
 -- The status of an ending.
-use Rattle.std.proofs.Common.{◌≡◌, Bool, ℕ, List, Option, Some, None, refl, sym, ap, subst}
+use Rattle.std.proofs.Common.{◌≡◌, Bool, List, Option, Some, None, refl, sym, subst}
 use Rattle.zarr_cli_runs.specs.array.parts.Opening.{OpenRefusal}
 use Rattle.zarr_cli_runs.specs.array.parts.OpenError.{open_refusal_of}
 use Rattle.zarr_model.specs.Prelude.{Options, Description, Command, Shown}
@@ -21,28 +21,15 @@ no_document : (why : Option OpenRefusal) (ending : Ending) → IsOther ending �
 no_document None ending other e = subst IsOther (sym e) other
 no_document (Some why) ending other e = subst IsOther (sym e) other
 
-same_line : (a b : ℕ) → end.bad_input a ≡ end.bad_input b → a ≡ b
-same_line a b e = cc
-
 pub is_done : (status : Status) → ending_of status ≡ end.done → status ≡ Done
 is_done Done e = refl
 is_done (Document error) e = absurd (no_document (open_refusal_of error) end.done tt e)
 is_done status e = absurd (cc)
 
-pub is_bad_input : (status : Status) (line : ℕ) → ending_of status ≡ end.bad_input line → status ≡ BadInput line
-is_bad_input (BadInput other) line e = ap BadInput (same_line other line e)
-is_bad_input (Document error) line e = absurd (no_document (open_refusal_of error) (end.bad_input line) tt e)
-is_bad_input status line e = absurd (cc)
-
 pub is_write : (status : Status) → ending_of status ≡ end.write_fault → status ≡ Write
 is_write Write e = refl
 is_write (Document error) e = absurd (no_document (open_refusal_of error) end.write_fault tt e)
 is_write status e = absurd (cc)
-
-pub is_too_long : (status : Status) → ending_of status ≡ end.too_long → status ≡ TooLong
-is_too_long TooLong e = refl
-is_too_long (Document error) e = absurd (no_document (open_refusal_of error) end.too_long tt e)
-is_too_long status e = absurd (cc)
 
 -- commands end after they began with the store
 pub begun : (once : Bool) (description : Description) (options : Options) (commands : List Command)

@@ -1,11 +1,10 @@
 -- Lines that are read one after another.
 use Rattle.std.proofs.Common.{◌≡◌, ℕ, zero, suc, ◌+◌, ◌-◌, ◌<◌, ◌≤◌, Bool, true, false, ◌==◌, List, [], ◌∷◌, ◌++◌}
-use Rattle.std.proofs.Common.{length, take, drop, get_or, map, flat_map, count_by, IsUtf8, String, string_bytes, refl}
+use Rattle.std.proofs.Common.{length, take, get_or, map, count_by, IsUtf8, String, string_bytes, refl}
 use Rattle.std.proofs.Common.{sym, ap, ◌∙◌, subst, arith, cond, eqb-true, eq-eqb, true≢false, ⊎_elim, ◌⊎◌, inl, inr}
 use Rattle.std.proofs.Common.{append_assoc, append-nil, length-append, length-take, take_all, take_at, drop_at}
-use Rattle.std.specs.List.{All}
 use Rattle.std.specs.Str.{IsValidUpTo, is_utf8}
-use Rattle.std.specs.Str.Lossy.{utf8_valid_len, valid_len_up_to}
+use Rattle.std.specs.Str.Lossy.{valid_len_up_to}
 use Rattle.std.proofs.lemmas.List.{length-map}
 use Rattle.std.proofs.lemmas.List.Splits.{slice_split_at, slice_split_none, length-slice_split}
 use Rattle.std.proofs.lemmas.Str.{IsUtf8-nil, IsUtf8-from_ascii, IsUtf8-append, IsUtf8-take, IsUtf8-drop}

@@ -1,25 +1,25 @@
 -- What a run of lines owes is what a run of the input owes that has them.
-use Rattle.std.proofs.Common.{◌≡◌, true, ℕ, ◌+◌, ◌<◌, ◌≤◌, false, List, [], length, Some, None, IsUtf8, ◌⊎◌, inl, inr}
-use Rattle.std.proofs.Common.{refl, sym, ap, ◌∙◌, subst, arith}
+use Rattle.std.proofs.Common.{◌≡◌, true, ℕ, ◌+◌, ◌<◌, ◌≤◌, false, List, [], length, Some, None, IsUtf8, inl, inr}
+use Rattle.std.proofs.Common.{sym, ap, ◌∙◌, subst, arith}
 use Rattle.std.proofs.lemmas.Option.{same_Some}
-use Rattle.zarr_model.specs.Prelude.{Command, Rose, SeesNoDamage, Shown, AreRefused, IsUntouched, Told, counted}
+use Rattle.zarr_model.specs.Prelude.{Command, SeesNoDamage, Shown, AreRefused, IsUntouched, counted}
 use Rattle.zarr_model.specs.Prelude.{all_asks, all_puts}
 use Rattle.zarr_cli_runs.specs.array.parts.Document.{ArrayDocument, describe}
-use Rattle.zarr_cli_runs.specs.array.parts.Opening.{OpenRefusal, opened, not_opened, open_builtin}
+use Rattle.zarr_cli_runs.specs.array.parts.Opening.{opened, not_opened, open_builtin}
 use Rattle.zarr_cli_runs.specs.lines.Text.{input_lines, commands_of, good_lines}
-use Rattle.zarr_cli_runs.specs.Ending.{Ending, IsWritten, IsGiven, IsGivenFront, IsOrMemory}
+use Rattle.zarr_cli_runs.specs.Ending.{Ending, IsWritten, IsOrMemory}
 use Rattle.zarr_cli_runs.specs.Ending as end
 use Rattle.zarr_cli_runs.specs.Between.{LeavesBetween}
 use Rattle.zarr_cli_runs.specs.Commands.{TakesRun}
 use Rattle.zarr_cli_runs.specs.Keys.{IsDumpAsks}
 use Rattle.zarr_cli_runs.proofs.DocumentLawsBelow.{same_opened}
 use Rattle.zarr_cli.specs.Words.{Settings, ReadsBy, HasBadWords}
-use Rattle.zarr_cli.specs.Lines.{LinesRun, IsOutOfForm, line_entries}
+use Rattle.zarr_cli.specs.Lines.{LinesRun, IsOutOfForm}
 use Rattle.zarr_cli_runs.specs.Job.{IsUnasked}
 use Rattle.zarr_cli.specs.Run.{open_costs, CostsAll}
 use Rattle.zarr_cli.specs.Answers.{AnswersLines, IsOfLines, outside}
 use Rattle.zarr_cli.specs.ProgramInput.{input_limit, command_grammar, document_line, lines_after_document}
-use Rattle.zarr_cli.specs.ProgramInput.{input_entries, with_entries, store_after_keys, IsBadLine, HasBadLine}
+use Rattle.zarr_cli.specs.ProgramInput.{input_entries, with_entries, store_after_keys, HasBadLine}
 use Rattle.zarr_cli.specs.Program.{Run}
 use Rattle.zarr_cli.specs.Seen.{ProgramSeen}
 use Rattle.zarr_cli.specs.ProgramAnswers.{AnswersWords, Ends}

@@ -1,5 +1,5 @@
 -- A run that is made from a number: its array, its summary, and what it owes.
-use Rattle.std.proofs.Common.{◌≡◌, Bool, true, ℕ, ◌+◌, ◌-◌, ◌^◌, ◌≤◌, List, [], Some, None, Result, Ok, Err, IfOk, IfErr, MatchResult}
+use Rattle.std.proofs.Common.{◌≡◌, Bool, true, ℕ, ◌-◌, ◌^◌, ◌≤◌, List, [], Some, None, Result, Ok, Err, IfErr, MatchResult}
 use Rattle.std.proofs.Common.{Vec, ◌⊎◌, ⊎_elim, inl, inr, refl, sym, ap, ◌∙◌, subst}
 use Rattle.std.specs.declared.alloc.Global.{Global}
 use Rattle.zarr_model.specs.Prelude.{Options, Description, Command, Shown, Given, Rose, IsDamageSeen, SeesNoDamage}
@@ -10,7 +10,7 @@ use Rattle.zarr_cli_runs.specs.Commands.{IsChangedKey, IsRunFault, EndsAtDamage}
 use Rattle.zarr_cli_runs.specs.Job.{job, Did}
 use Rattle.zarr_cli_runs.proofs.JobLaws.{alone_fault, no_key}
 use Rattle.zarr_cli_runs.proofs.BetweenLaws.{between_ran, between_last}
-use Rattle.zarr_cli_runs.specs.Ending.{Ending, IsGiven, IsGivenFront, IsGivenLine, ending_line, IsBeforeStore}
+use Rattle.zarr_cli_runs.specs.Ending.{IsGiven, IsGivenFront, IsGivenLine, ending_line, IsBeforeStore}
 use Rattle.zarr_cli_runs.specs.Ending.{IsWritten, damaged_chunk}
 use Rattle.zarr_cli_runs.specs.Ending as end
 use Rattle.zarr_cli_runs.specs.Status.{ending_of}

@@ -1,15 +1,13 @@
 -- The causes that lie in an input exclude one another, and a run in form.
-use Rattle.std.proofs.Common.{◌≡◌, ℕ, ◌+◌, ◌<◌, ◌≤◌, List, length, Option, Some, None, is_some, IsUtf8, inl, inr, sym}
+use Rattle.std.proofs.Common.{◌≡◌, ℕ, ◌+◌, ◌<◌, List, length, is_some, IsUtf8, inl, inr, sym}
 use Rattle.std.proofs.Common.{ap, ◌∙◌, subst, arith}
 use Rattle.std.specs.Str.{IsValidUpTo}
 use Rattle.std.proofs.lemmas.Str.{utf8_valid_len-IsUtf8, utf8_valid_len-IsValidUpTo}
-use Rattle.zarr_cli_runs.specs.array.parts.Document.{ArrayDocument}
 use Rattle.zarr_cli_runs.specs.array.parts.Opening.{OpenRefusal, opened, not_opened, open_builtin}
 use Rattle.zarr_cli_runs.specs.lines.Text.{good_lines, line_at}
 use Rattle.zarr_cli_runs.proofs.TextLaws.{good_lines_all}
 use Rattle.zarr_cli.specs.Program.{Run}
 use Rattle.zarr_cli.specs.ProgramInput.{command_grammar, document_line, lines_after_document, IsBadLine}
-use Rattle.zarr_cli_runs.specs.Opening.{IsRefusal}
 use Rattle.zarr_cli_runs.proofs.DocumentLawsBelow.{same_opened}
 
 -- UTF-8 has no first bad byte
@@ -57,8 +55,3 @@ one_bad_line input a b (inr (utf8, document, opens, below, e)) (inl (m, second, 
 one_bad_line input a b (inr (utf8, document, opens, below, e)) (inr (again, other, opens_other, below_other, k)) =
     let same : document ≡ other = same_opened document other (sym opens ∙ opens_other) in
     e ∙ (ap (λ d. good_lines (command_grammar d) (lines_after_document input) + 2) same ∙ sym k)
-
-pub never_refused : (words : List (List ℕ)) (input : List ℕ) (why : Option OpenRefusal) → Run words input →
-    IsRefusal why (open_builtin (document_line input)) → ⊥
-never_refused words input None run refused = refused
-never_refused words input (Some why) run refused = run_not_refused words input why run refused

@@ -1,6 +1,6 @@
 -- From the commands of lines to what a run of the lines owes.
-use Rattle.std.proofs.Common.{◌≡◌, ℕ, ◌+◌, ◌<◌, ◌≤◌, false, List, length, drop, map, Some, is_some, Result, Ok, Err}
-use Rattle.std.proofs.Common.{IfOk, IfErr, MatchResult, Vec, ◌⊎◌, inl, inr, refl, sym, ap, ◌∙◌, subst, arith}
+use Rattle.std.proofs.Common.{◌≡◌, ℕ, false, List, length, drop, map, is_some, Result, Ok, Err}
+use Rattle.std.proofs.Common.{MatchResult, Vec, ◌⊎◌, inl, inr, refl, sym, ap, ◌∙◌, subst, arith}
 use Rattle.std.specs.declared.alloc.Global.{Global}
 use Rattle.std.proofs.lemmas.Option.{same_Some}
 use Rattle.zarr_model.specs.Prelude.{Command, Description, kind, with_keys, Shown, Rose, SeesNoDamage, AreRefused}

@@ -1,15 +1,14 @@
 -- What was read so far, with more behind it.
 use Rattle.std.proofs.Common.{◌≡◌, ℕ, ◌+◌, ◌<◌, ◌≤◌, Some, Result, Ok, Err, OnOk, IfErr, Bool, true, false, ◌==◌, List}
-use Rattle.std.proofs.Common.{[], ◌∷◌, ◌++◌, length, map, flat_map, IsUtf8, String, string_bytes, refl, sym, ap, ◌∙◌}
+use Rattle.std.proofs.Common.{[], ◌∷◌, ◌++◌, length, map, IsUtf8, String, string_bytes, refl, sym, ap, ◌∙◌}
 use Rattle.std.proofs.Common.{subst, arith, ◌⊎◌, ⊎_elim, append_assoc, append-nil}
 use Rattle.std.specs.declared.alloc.Global.{Global}
-use Rattle.std.specs.List.{All}
 use Rattle.std.proofs.lemmas.List.{map-append}
 use Rattle.std.proofs.lemmas.List.Elements.{All-append, All-nil}
 use Rattle.std.proofs.lemmas.List.{length-map}
 use Rattle.std.proofs.lemmas.Str.{IsUtf8-append, IsUtf8-string_bytes}
 use Rattle.std.specs.Str.{IsValidUpTo}
-use Rattle.zarr_model.specs.Prelude.{Told, Rose}
+use Rattle.zarr_model.specs.Prelude.{Told}
 use Rattle.zarr_cli.specs.declared.lines.InputFault.{InputFault}
 use Rattle.zarr_cli.specs.declared.lines.InputFault.TheVariants.{Read, TooLong, NotUtf8, OutOfMemory}
 use Rattle.zarr_cli.specs.Input.{input_limit, IsInputFault}
@@ -110,17 +109,6 @@ front_kept taken more old new good none same longer still read =
         subst NoNewline (sym longer) (All-append (λ b. (b == 10) ≡ false) old.line.items more behind.1 none),
       );
     }
-
--- nothing was read
-pub none_read : (so_far : LinesSoFar) → so_far.lines.items ≡ [] → so_far.line.items ≡ [] → so_far.bad ≡ false →
-    AreRead [] so_far
-none_read so_far no_lines empty good = record {
-  whole = subst (λ items. AreWhole (map string_bytes items)) (sym no_lines) tt;
-  behind = [];
-  joined = ap (λ items. with_newlines (map string_bytes items) ++ []) (sym no_lines);
-  is_behind = subst (λ b. IsBehind b so_far.line.items []) (sym good)
-      (sym empty, subst NoNewline (sym empty) (All-nil (λ b. (b == 10) ≡ false)));
-}
 
 -- a line that ended is no UTF-8
 pub bad_told : (input : List ℕ) (so_far : LinesSoFar) → so_far.bad ≡ true → AreRead input so_far →

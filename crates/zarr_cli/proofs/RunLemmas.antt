@@ -1,5 +1,5 @@
 -- Commands that ran, their text, a dump behind them, and key lines before them.
-use Rattle.std.proofs.Common.{◌≡◌, ℕ, ◌<◌, ◌≤◌, false, List, [], ◌++◌, length, Vec, Result, Ok, Err, IfOk, IfErr, OnOk}
+use Rattle.std.proofs.Common.{◌≡◌, ℕ, ◌≤◌, false, List, [], ◌++◌, length, Vec, Result, Ok, Err, IfOk, IfErr, OnOk}
 use Rattle.std.proofs.Common.{OnErr, refl, sym, ap, ◌∙◌, subst, arith, le_trans}
 use Rattle.std.specs.declared.alloc.Global.{Global}
 use Rattle.zarr_model.specs.Prelude.{Command, Description, kind, replies, counted, all_puts, LeavesArray, SeesNoDamage}
@@ -19,7 +19,7 @@ use Rattle.zarr_cli_runs.proofs.BetweenLaws.{between_keys, between_set, between_
 use Rattle.zarr_cli_runs.proofs.JobLaws.{did_behind, earlier_fault, no_key, untouched_earlier}
 use Rattle.zarr_cli_runs.specs.declared.status.Status.{Status}
 use Rattle.zarr_cli_runs.specs.declared.status.Status.TheVariants.{Store, OutOfMemory}
-use Rattle.zarr_cli_runs.specs.lines.Parts.{IsTextOf}
+use Rattle.zarr_cli_runs.specs.lines.Parts.{IsTextOfReplies}
 use Rattle.zarr_cli.specs.Words.{Settings}
 use Rattle.zarr_cli.specs.Lines.{IsKeyOf, with_entries}
 use Rattle.zarr_cli.specs.Run.{RunCosts, Counts, counts_of, Prints, SetsPart}
@@ -73,7 +73,7 @@ module _ (costs : RunCosts) (description : Description) (options : Options) (com
 
   pub text_did : (held : Vec Reply Global) (text : Vec ℕ Global) →
       Did what (Unit {0}) before now (Ok held) (λ h. Replied costs description options commands before now h.items) →
-      IsTextOf (kind description) held.items text.items →
+      IsTextOfReplies (kind description) held.items text.items →
       Did what (Unit {0}) before now (Ok text) (λ t. RepliesTo costs description options commands before now t.items)
   text_did held text did is = record {
     done = record {

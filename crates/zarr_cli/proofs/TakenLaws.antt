@@ -1,13 +1,8 @@
 -- What was taken from a source.
-use Rattle.std.proofs.Common.{◌≡◌, ℕ, ◌+◌, ◌<◌, ◌≤◌, List, [], ◌∷◌, ◌++◌, length, take, Option, Some, None, IsSome, ◌↔◌}
-use Rattle.std.proofs.Common.{rules, refl, sym, ap, ◌∙◌, arith, append_assoc, append-nil, length-append}
+use Rattle.std.proofs.Common.{◌≡◌, ℕ, ◌+◌, ◌<◌, List, [], ◌∷◌, ◌++◌, length, take, Option, Some, None, IsSome, ◌↔◌}
+use Rattle.std.proofs.Common.{rules, refl, sym, ap, ◌∙◌, append_assoc, append-nil}
 use Rattle.zarr_model.specs.Prelude.{ReadsNext}
 use Rattle.zarr_cli.specs.Steps.{HasTaken}
-
--- nothing was taken yet
-pub taken_none : (left : Option (List ℕ)) → HasTaken left [] left
-taken_none None = tt
-taken_none (Some left) = refl
 
 abbrev none_left : Option (List ℕ)
 none_left = None
@@ -55,13 +50,3 @@ pub nothing_read : (new old buffer left : List ℕ) (got : ℕ) → new ≡ old 
     new ≡ left
 nothing_read new old buffer left got appended none same =
     appended ∙ (ap (λ n. old ++ take n buffer) none ∙ (append-nil old ∙ same))
-
--- what was taken was there
-pub taken_length : (before now : Option (List ℕ)) (taken : List ℕ) → HasTaken before taken now → (left : List ℕ) →
-    before ≡ Some left → length taken ≤ length left
-taken_length None now taken h left e = absurd (cc)
-taken_length (Some all) None taken h left e = absurd h
-taken_length (Some all) (Some rest) taken h left e =
-    let same : left ≡ all = cc in
-    let parts : left ≡ taken ++ rest = same ∙ h in
-    omega (arith, ap length parts, length-append taken rest)

@@ -1,37 +1,12 @@
 -- The words, one after another.
-use Rattle.std.proofs.Common.{◌≡◌, ℕ, ◌+◌, ◌<◌, Bool, true, false, List, ◌∷◌, codes, bytes_eq, length, drop, get_or}
+use Rattle.std.proofs.Common.{◌≡◌, ℕ, ◌+◌, ◌<◌, Bool, List, ◌∷◌, length, drop, get_or}
 use Rattle.std.proofs.Common.{Option, Some, None, inl, inr, option_and_then, String, string_bytes, refl, sym, ap, ap₂}
 use Rattle.std.proofs.Common.{add-one, ◌∙◌, subst}
 use Rattle.std.proofs.Math.Seq.{drop-cons}
 use Rattle.zarr_model.specs.Prelude.{Options}
-use Rattle.zarr_model.proofs.FailureLaws.{same_bytes}
-use Rattle.zarr_cli.specs.Words.{Settings, is_known, with_word, with_words, settings_of, unless_made, reading_settings}
-use Rattle.zarr_cli.specs.Words.{HasNoReading, ReadsBy, MakesFrom, MakesNothing}
+use Rattle.zarr_cli.specs.Words.{Settings, is_known, with_words, settings_of, unless_made, reading_settings}
+use Rattle.zarr_cli.specs.Words.{ReadsBy, MakesFrom, MakesNothing}
 use Rattle.zarr_cli.specs.Status.{words_of}
-
--- a word that takes no number, if it is one
-abbrev TakesWord : List (List ℕ) → Settings → List ℕ → Type 0
-TakesWord words settings word = with_words is_known false (word ∷ words) settings ≡
-    option_and_then (with_words is_known false words) (with_word word settings)
-
-pub takes_word : (word : List ℕ) (words : List (List ℕ)) (settings : Settings) →
-    bytes_eq word (codes "--make") ≡ false → TakesWord words settings word
-takes_word word words settings other = go (bytes_eq word (codes "--dump"))
-    (bytes_eq word (codes "--store-empty-chunks")) (bytes_eq word (codes "--no-checksums")) refl refl refl
-  where
-    go : (a b d : Bool) → bytes_eq word (codes "--dump") ≡ a → bytes_eq word (codes "--store-empty-chunks") ≡ b →
-        bytes_eq word (codes "--no-checksums") ≡ d → TakesWord words settings word
-    go true b d e f h = subst (TakesWord words settings) (sym (same_bytes word (codes "--dump") e)) refl
-    go false true d e f h =
-        subst (TakesWord words settings) (sym (same_bytes word (codes "--store-empty-chunks") f)) refl
-    go false false true e f h = subst (TakesWord words settings) (sym (same_bytes word (codes "--no-checksums") h)) refl
-    go false false false e f h = rw e (rw f (rw h (rw other refl)))
-
--- the word that takes one
-pub takes_number : (word : List ℕ) (words : List (List ℕ)) (settings : Settings) → word ≡ codes "--make" →
-    with_words is_known false (word ∷ words) settings ≡ with_words is_known true words settings
-takes_number word words settings same = subst (λ w.
-    with_words is_known false (w ∷ words) settings ≡ with_words is_known true words settings) (sym same) refl
 
 -- the word at a place, and those behind it
 pub words_left : {Z : Type 0} (words : List (String Z)) (i : ℕ) (word : String Z) → i < length words →
@@ -41,16 +16,6 @@ words_left words i word within here =
     let dropped : drop i words ≡ word ∷ drop (i + 1) words =
     drop-cons words i word within ∙ ap₂ (λ w n. w ∷ drop n words) (sym here) (sym (add-one i)) in
     ap words_of dropped
-
--- one word more
-pub word_taken : {Z : Type 0} (words : List (String Z)) (i : ℕ) (word : String Z)
-    (pending next_pending : Bool) (settings next : Settings) → i < length words → word ≡ get_or words i word →
-    with_words is_known pending (string_bytes word ∷ words_of (drop (i + 1) words)) settings ≡
-    with_words is_known next_pending (words_of (drop (i + 1) words)) next →
-    with_words is_known pending (words_of (drop i words)) settings ≡ settings_of (words_of words) →
-    with_words is_known next_pending (words_of (drop (i + 1) words)) next ≡ settings_of (words_of words)
-word_taken words i word pending next_pending settings next within here is so_far =
-    sym is ∙ (ap (λ l. with_words is_known pending l settings) (sym (words_left words i word within here)) ∙ so_far)
 
 pub word_refused : {Z : Type 0} (words : List (String Z)) (i : ℕ) (word : String Z)
     (pending : Bool) (settings : Settings) → i < length words → word ≡ get_or words i word →
@@ -115,8 +80,3 @@ reads_by words settings is = go (settings_of words) refl is
         option_and_then (λ (s : Settings). unless_made s.make s) o ≡ Some settings → ReadsBy words settings
     go None known one = absurd cc
     go (Some s) known one = at s known s.make refl one
-
--- and else they do not
-pub reads_none : (words : List (List ℕ)) (settings : Settings) → ReadsBy words settings → HasNoReading words → ⊥
-reads_none words settings reads none = let both : Some settings ≡ None = sym (reading_is words settings reads) ∙ none in
-    cc

@@ -1,7 +1,7 @@
 -- How many elements array bytes are, and when they are valid.
-use Rattle.std.proofs.Common.{◌≡◌, ℕ, zero, suc, ◌+◌, ◌-◌, ◌*◌, ◌<◌, Bool, true, false, ◌==◌, ◌&&◌, List, [], ◌∷◌, ◌++◌}
-use Rattle.std.proofs.Common.{length, take, get_or, flat_map, Option, Some, None, IsSome, is_some, unwrap_or, Result}
-use Rattle.std.proofs.Common.{Ok, Err, is_ok, refl, sym, ap, ◌∙◌, subst, arith, add-one, eqb-true, append_assoc}
+use Rattle.std.proofs.Common.{◌≡◌, ℕ, zero, suc, ◌+◌, ◌-◌, ◌*◌, ◌<◌, Bool, true, false, ◌==◌, List, [], ◌∷◌, ◌++◌}
+use Rattle.std.proofs.Common.{length, take, get_or, Option, Some, None, IsSome, is_some, unwrap_or, Result}
+use Rattle.std.proofs.Common.{Ok, Err, is_ok, refl, sym, ap, ◌∙◌, arith, add-one, eqb-true, append_assoc}
 use Rattle.std.proofs.Common.{append-nil}
 use Rattle.std.proofs.lemmas.Bool.{and_parts}
 use Rattle.std.proofs.Math.Seq.{take-length}
@@ -13,9 +13,8 @@ use Rattle.zarr_model.proofs.BytesLaws.{length-meaning, mask_length, refusal-mea
 use Rattle.zarrs_codec_array_bytes.specs.Refusals.{told, validity}
 use Rattle.zarrs_codec_array_bytes.proofs.CheckLaws.{sized_fine}
 use Rattle.zarr_cli_lines.specs.ElementText.{element_text, elements_text}
-use Rattle.zarr_cli_lines.specs.Place.{list_of_kind, element_at, text_at, count_in}
+use Rattle.zarr_cli_lines.specs.Place.{list_of_kind, text_at, count_in}
 use Rattle.zarrs_codec_error.specs.declared.error.CodecError.{CodecError}
-use Rattle.zarrs_codec_error.specs.declared.error.CodecError.TheVariants as codec
 use Rattle.zarrs_codec_array_bytes.specs.Refusals.{sized_answer}
 use Rattle.zarrs_codec_array_bytes.specs.Levels.{inner_length}
 use Rattle.zarrs_codec_array_bytes.proofs.ToldLaws.{says_some}

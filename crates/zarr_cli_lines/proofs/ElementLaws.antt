@@ -6,13 +6,7 @@ use Rattle.std.proofs.lemmas.Bool.{cond-true}
 use Rattle.hex.specs.Hex.{IsBytes}
 use Rattle.hex.proofs.HexLemmas.{decode_of-encode_lower}
 use Rattle.zarr_model.specs.Prelude.{Element, of_bytes, null, some, Kind, fixed, variable, optional, IsOfKind}
-use Rattle.zarr_cli_lines.specs.ElementText.{hex_of, hex_text, fixed_element, element_of, element_text}
-
--- the bytes of an element are bytes
-abbrev pub HoldsBytes : Element → Type 0
-HoldsBytes (of_bytes value) = IsBytes value
-HoldsBytes null = Unit {0}
-HoldsBytes (some element) = HoldsBytes element
+use Rattle.zarr_cli_lines.specs.ElementText.{hex_of, hex_text, fixed_element, element_of, element_text, HoldsBytes}
 
 hex_of-text : (value : List ℕ) → IsBytes value → hex_of (hex_text value) ≡ Some value
 hex_of-text value h = ap result_ok (decode_of-encode_lower value h)

@@ -2,7 +2,7 @@
 use Rattle.std.proofs.Common.{◌≡◌, ◌≢◌, ℕ, suc, ◌+◌, ◌*◌, ◌<◌, ◌≤◌, ◌==◌, ◌++◌, Bool, true, false, List, [], ◌∷◌}
 use Rattle.std.proofs.Common.{length, get_or, take, drop, map, flat_map, Option, Some, None, option_map}
 use Rattle.std.proofs.Common.{option_and_then, Result, Ok, Err, refl, sym, ap, subst, ◌∙◌, arith, cond, eq-eqb}
-use Rattle.std.proofs.Common.{eqb-true, append-nil, append_assoc, length-append, slice_index, ◌/◌, ◌%◌}
+use Rattle.std.proofs.Common.{eqb-true, append-nil, append_assoc, length-append, ◌/◌}
 use Rattle.std.specs.Option.{option_map_or}
 use Rattle.std.specs.Borrow.{Bor}
 use Rattle.std.specs.Result.{result_ok}
@@ -14,7 +14,7 @@ use Rattle.std.proofs.lemmas.Slice.{take-put_mid}
 use borrow.Rule.Slice.PartMut.{put_mid}
 use Rattle.std.proofs.lemmas.List.Elements.{All-cons}
 use Rattle.std.proofs.lemmas.List.Splits.{slice_split-cons_yes, slice_split-cons_no, slice_split_none, slice_split_at}
-use Rattle.hex.specs.Hex.{encode_with, encode_lower, lower_digits, is_hex_digit, decode_of, decode_sized}
+use Rattle.hex.specs.Hex.{is_hex_digit, decode_of, decode_sized}
 use Rattle.hex.specs.declared.error.FromHexError.{FromHexError}
 use Rattle.hex.proofs.HexLemmas.{decode_of-ok, decode_sized-twice}
 use Rattle.zarr_model.specs.Prelude.{Element, fixed, of_bytes, bytes_of}

@@ -1,3 +1,4 @@
+pub mod ElementLaws
 pub mod ElementSplits
 pub mod FixedLemmas
 pub mod TextLemmas
@@ -5,7 +6,6 @@ pub mod PutLaws
 pub mod ListLaws
 pub mod PlaceLaws
 pub mod CountLaws
-pub mod ElementLaws
 pub mod TextLaws
 pub mod SplitLemmas
 pub mod LineLemmas

@@ -10,17 +10,6 @@ use Rattle.zarr_cli_lines.specs.Text.{split_at, all_some, box_of, command_of_wor
 use Rattle.zarr_cli_lines.specs.Text.{entries_onto, first_entries, lines_after_entries, element_of}
 use Rattle.zarr_cli_lines.proofs.SplitLemmas.{split_nonempty}
 
--- values that are all there, with one more of them before
-pub all_some-step : {A : Type 0} (x : A) (before : List A) (rest : List (Option A)) (all : Option (List A)) →
-    option_map (λ xs. before ++ xs) (all_some (Some x ∷ rest)) ≡ all →
-    option_map (λ xs. (before ++ x ∷ []) ++ xs) (all_some rest) ≡ all
-all_some-step {A} x before rest all e = go (all_some rest) e
-  where
-    go : (o : Option (List A)) → option_map (λ xs. before ++ xs) (option_map (λ xs. x ∷ xs) o) ≡ all →
-        option_map (λ xs. (before ++ x ∷ []) ++ xs) o ≡ all
-    go None e = e
-    go (Some xs) e = ap Some (append_assoc before (x ∷ []) xs) ∙ e
-
 -- no command but a write has three words
 pub no_longer_line : (kind : Kind) (word first rest : List ℕ) → ¬ (word ≡ codes "write") →
     None ≡ command_of_words kind (word ∷ first ∷ split_at 32 rest)

@@ -1,15 +1,16 @@
 -- Elements that are put one after another are the array bytes of their list.
-use Rattle.std.proofs.Common.{◌≡◌, ℕ, ◌+◌, ◌<◌, true, false, List, [], ◌∷◌, ◌++◌, length, map, flat_map, Option, Some}
-use Rattle.std.proofs.Common.{None, option_map, refl, sym, ap, ap₂, ◌∙◌, subst, arith, append_assoc, append-nil}
+use Rattle.std.proofs.Common.{[], ◌≡◌, ℕ, ◌+◌, true, List, ◌∷◌, ◌++◌, length, map, flat_map, nat_lt, Option, Some}
+use Rattle.std.proofs.Common.{None, option_map, unwrap_or, subst, refl, sym, ap, ap₂, ◌∙◌, arith, append_assoc, append-nil}
+use Rattle.std.proofs.lemmas.Bool.{and_from, lt-ltb}
 use Rattle.std.proofs.lemmas.List.{length-append, map-append}
 use Rattle.zarrs_codec_slices.specs.Picking.{are_within}
 use Rattle.zarrs_codec_slices.proofs.ValueLaws.{gathered_within}
 use Rattle.zarr_model.specs.Element.{Element, Kind, fixed, variable, optional}
 use Rattle.zarr_model.specs.ArrayBytes.{ArrayBytes, fixed_bytes, variable_bytes, optional_bytes, bytes_of, mask_byte}
 use Rattle.zarr_model.specs.ArrayBytes.{held, ends_from, array_bytes}
-use Rattle.zarr_cli_lines.specs.ElementText.{all_some}
-use Rattle.zarr_cli_lines.specs.Growing.{AreListed}
-use Rattle.zarr_cli_lines.specs.Put.{put_element, put_elements, PutsElement}
+use Rattle.zarrs_codec_array_bytes.specs.Refusals.{kind_refusal}
+use Rattle.zarrs_codec_array_bytes_parts.specs.OwnedArrayBytes.{are_sound}
+use Rattle.zarr_cli_lines.specs.Put.{put_element, put_elements}
 
 joined_more : (list : List Element) (element : Element) →
     flat_map bytes_of (list ++ element ∷ []) ≡ flat_map bytes_of list ++ bytes_of element
@@ -54,59 +55,28 @@ put_list kind list (element ∷ elements) =
     ap (put_elements kind elements) (put_more kind list element) ∙
     (put_list kind (list ++ element ∷ []) elements ∙ ap (array_bytes kind) (append_assoc list (element ∷ []) elements))
 
--- one step of the walk over words, and a word that is no element
-pub word_put : (kind : Kind) (o : Option Element) (options : List (Option Element)) (before now : ArrayBytes) →
-    PutsElement kind o true before now →
-    option_map (λ es. put_elements kind es now) (all_some options) ≡
-    option_map (λ es. put_elements kind es before) (all_some (o ∷ options))
-word_put kind None options before now puts = absurd puts
-word_put kind (Some element) options before now puts =
-    ap (λ b. option_map (λ es. put_elements kind es b) (all_some options)) puts ∙ twice (all_some options)
-  where
-    twice : (os : Option (List Element)) → option_map (λ es. put_elements kind es (put_element kind element before))
-        os ≡ option_map (λ es. put_elements kind es before) (option_map (λ es. element ∷ es) os)
-    twice None = refl
-    twice (Some es) = refl
-
-pub word_none : (kind : Kind) (o : Option Element) (options : List (Option Element)) (before now : ArrayBytes) →
-    PutsElement kind o false before now → all_some (o ∷ options) ≡ None
-word_none kind None options before now puts = refl
-word_none kind (Some element) options before now puts = absurd puts
-
 -- all of them
 pub all_put : (kind : Kind) (o : Option (List Element)) (start : ArrayBytes) → start ≡ array_bytes kind [] →
     option_map (λ es. put_elements kind es start) o ≡ option_map (array_bytes kind) o
 all_put kind None start is = refl
 all_put kind (Some es) start is = ap Some (ap (put_elements kind es) is ∙ put_list kind [] es)
 
--- the parts of what is listed
-pub listed_under : (kind : Kind) (under : ArrayBytes) (mask : List ℕ) →
-    AreListed (optional kind) (optional_bytes under mask) → AreListed kind under
-listed_under kind under mask (list, is) = (map (held kind) list, ap under_of is)
-  where
-    under_of : ArrayBytes → ArrayBytes
-    under_of (optional_bytes u m) = u
-    under_of b = b
+-- a list's are of its kind
+pub listed_of : (kind : Kind) (list : List Element) → kind_refusal kind (array_bytes kind list) ≡ None
+listed_of (fixed n) list = refl
+listed_of variable list = refl
+listed_of (optional kind) list = listed_of kind (map (held kind) list)
 
-pub listed_parts : (value offsets : List ℕ) → AreListed variable (variable_bytes value offsets) →
-    (0 < length offsets) × (are_within value offsets ≡ true)
-listed_parts value offsets (list, is) =
-    let same_value : value ≡ flat_map bytes_of list = ap value_of is in
-    let same_offsets : offsets ≡ 0 ∷ ends_from 0 (map bytes_of list) = ap offsets_of is in (
-      omega (arith, ap length same_offsets),
-      ap₂ (λ v o. are_within v o) same_value same_offsets ∙ gathered_within bytes_of list,
-    )
-  where
-    value_of : ArrayBytes → List ℕ
-    value_of (variable_bytes v o) = v
-    value_of b = []
+-- and sound
+listed_sound : (kind : Kind) (list : List Element) → are_sound (array_bytes kind list) ≡ true
+listed_sound (fixed n) list = refl
+listed_sound variable list =
+    and_from (nat_lt 0 (length (0 ∷ ends_from 0 (map bytes_of list))))
+    (are_within (flat_map bytes_of list) (0 ∷ ends_from 0 (map bytes_of list))) (lt-ltb 0
+    (length (0 ∷ ends_from 0 (map bytes_of list))) (omega arith)) (gathered_within bytes_of list)
+listed_sound (optional kind) list = listed_sound kind (map (held kind) list)
 
-    offsets_of : ArrayBytes → List ℕ
-    offsets_of (variable_bytes v o) = o
-    offsets_of b = []
-
--- what was grown is listed
-pub grown_listed : (kind : Kind) (o : Option (List Element)) (bytes : ArrayBytes) →
-    Some bytes ≡ option_map (array_bytes kind) o → AreListed kind bytes
-grown_listed kind None bytes is = absurd (cc)
-grown_listed kind (Some list) bytes is = (list, cc)
+pub grown_sound : (kind : Kind) (o : Option (List Element)) (bytes : ArrayBytes) →
+    Some bytes ≡ option_map (array_bytes kind) o → are_sound bytes ≡ true
+grown_sound kind (Some list) bytes is = subst (λ b. are_sound b ≡ true) (sym (ap (λ o. unwrap_or o bytes) is)) (listed_sound kind list)
+grown_sound kind None bytes is = cc

@@ -1,8 +1,8 @@
 -- The bytes of the element at a place.
-use Rattle.std.proofs.Common.{◌≡◌, ℕ, zero, suc, ◌+◌, ◌-◌, ◌*◌, ◌<◌, ◌≤◌, ◌++◌, append_assoc, Bool, true, false, ◌==◌}
+use Rattle.std.proofs.Common.{◌≡◌, ℕ, zero, suc, ◌+◌, ◌-◌, ◌*◌, ◌<◌, ◌≤◌, Bool, true, false, ◌==◌}
 use Rattle.std.proofs.Common.{◌&&◌, nat_le, List, [], ◌∷◌, length, map, take, drop, get_or, codes, Option, Some, None}
 use Rattle.std.proofs.Common.{IsSome, unwrap_or, option_map, refl, sym, ap, ◌∙◌, subst, arith, if◌then◌else◌, eqb-true}
-use Rattle.std.proofs.Math.Nat.{mul-le-mul_right, suc-mul}
+use Rattle.std.proofs.Math.Nat.{suc-mul}
 use Rattle.std.proofs.lemmas.Bool.{and_parts, leb-true, cond-true}
 use Rattle.std.proofs.lemmas.List.{drop-drop}
 use Rattle.zarr_model.specs.Element.{Element, of_bytes, null, Kind, fixed, variable, optional}
@@ -37,15 +37,6 @@ fixed_at size elements index value is =
     there_only (length value == elements * size) (Some (map of_bytes (pieces elements size value))) is.valid in
     ap (λ o. get_or (unwrap_or o []) index null) (cond-true (length value == elements * size)
     (Some (map of_bytes (pieces elements size value))) None parts.0) ∙ piece_at elements size index value is.inside
-
-pub fixed_within : (size elements index : ℕ) (value : List ℕ) →
-    IsElementPlace (fixed size) elements (fixed_bytes value) index → index * size + size ≤ length value
-fixed_within size elements index value is =
-    let parts =
-    there_only (length value == elements * size) (Some (map of_bytes (pieces elements size value))) is.valid in
-    let all : length value ≡ elements * size = eqb-true _ _ parts.0 in
-    let more : (index + 1) * size ≤ elements * size = mul-le-mul_right size (omega (arith, is.inside)) in
-    omega (arith, all, more)
 
 -- what is between two offsets
 between_at : (first i : ℕ) (offsets value : List ℕ) → i < length offsets →
@@ -185,8 +176,3 @@ held_at kind inner elements index bytes under mask same parts is there =
       sym (ap (λ k. text_at k elements bytes index) same) ∙ (ap (λ b.
           text_at (optional inner) elements b index) parts ∙ held_text inner elements index under mask masked there),
     )
-
-pub text_put : (before middle now text : List ℕ) (b : ℕ) (rest : List ℕ) → middle ≡ before ++ b ∷ [] → text ≡ b ∷ rest →
-    now ≡ middle ++ rest → now ≡ before ++ text
-text_put before middle now text b rest first is put =
-    put ∙ (ap (λ t. t ++ rest) first ∙ (append_assoc before (b ∷ []) rest ∙ ap (λ t. before ++ t) (sym is)))

@@ -1,9 +1,10 @@
 -- What the text of an element puts at the end of array bytes.
-use Rattle.std.proofs.Common.{◌≡◌, ◌≢◌, ℕ, true, false, ◌==◌, List, [], ◌∷◌, ◌++◌, length, codes, Option, Some, None}
+use Rattle.std.proofs.Common.{[], ◌≡◌, ◌≢◌, ℕ, true, false, ◌==◌, List, ◌∷◌, ◌++◌, length, codes, Option, Some, None}
 use Rattle.std.proofs.Common.{option_map, option_and_then, refl, sym, ap, ◌∙◌, subst, eq-eqb}
 use Rattle.std.proofs.lemmas.Bool.{cond-true, cond-false, ne_eqb}
 use Rattle.zarr_model.specs.Element.{Element, of_bytes, null, some, Kind, fixed, variable, optional, blank}
-use Rattle.zarr_model.specs.ArrayBytes.{ArrayBytes, fixed_bytes, variable_bytes, optional_bytes}
+use Rattle.zarr_model.specs.ArrayBytes.{ArrayBytes, fixed_bytes, variable_bytes, optional_bytes, held}
+use Rattle.zarrs_codec_array_bytes.specs.Refusals.{kind_refusal}
 use Rattle.zarr_cli_lines.specs.ElementText.{hex_of, fixed_element, element_of}
 use Rattle.zarr_cli_lines.specs.Put.{put_element, PutsElement}
 
@@ -103,3 +104,22 @@ pub some_none : (kind : Kind) (text rest : List ℕ) (before now above over : Ar
 some_none kind text rest before now above over is puts =
     subst (λ o. PutsElement (optional kind) o false above over) (sym (ap (element_of (optional kind)) is
     ∙ element_some kind rest)) (none_puts kind (element_of kind rest) before now above over puts)
+
+-- array bytes stay of their kind
+put_kept : (kind : Kind) (element : Element) (bytes : ArrayBytes) → kind_refusal kind bytes ≡ None →
+    kind_refusal kind (put_element kind element bytes) ≡ None
+put_kept (fixed n) element (fixed_bytes value) is = refl
+put_kept (fixed n) element (variable_bytes value offsets) is = cc
+put_kept (fixed n) element (optional_bytes under mask) is = cc
+put_kept variable element (fixed_bytes value) is = cc
+put_kept variable element (variable_bytes value offsets) is = refl
+put_kept variable element (optional_bytes under mask) is = cc
+put_kept (optional kind) element (fixed_bytes value) is = cc
+put_kept (optional kind) element (variable_bytes value offsets) is = cc
+put_kept (optional kind) element (optional_bytes under mask) is = put_kept kind (held kind element) under is
+
+pub puts_kept : (kind : Kind) (o : Option Element) (before now : ArrayBytes) → PutsElement kind o true before now →
+    kind_refusal kind before ≡ None → kind_refusal kind now ≡ None
+puts_kept kind (Some element) before now puts is =
+    subst (λ b. kind_refusal kind b ≡ None) (sym puts) (put_kept kind element before is)
+puts_kept kind None before now puts is = absurd puts

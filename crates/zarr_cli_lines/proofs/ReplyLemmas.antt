@@ -1,5 +1,5 @@
 -- The text of a reply, for each reply of the model that it matches.
-use Rattle.std.proofs.Common.{◌≡◌, ℕ, List, ◌∷◌, ◌++◌, length, Some, codes, refl, ap, ◌∙◌, append_assoc}
+use Rattle.std.proofs.Common.{◌≡◌, ℕ, List, ◌++◌, length, Some, codes, ap, ◌∙◌, append_assoc}
 use Rattle.zarr_model.specs.Prelude.{Kind, ArrayBytes, meaning, Reply, elements, done, refused, Refusal, answered}
 use Rattle.zarr_model.specs.Prelude.{answered_done, answered_refused, Matches, refusal_name, Element}
 use Rattle.zarr_cli_lines.specs.Text.{elements_text, reply_text}

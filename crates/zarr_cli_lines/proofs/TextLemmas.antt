@@ -7,7 +7,6 @@ use Rattle.std.proofs.lemmas.Slice.{take-put_mid}
 use Rattle.std.proofs.Math.Nat.{suc-mul}
 use Rattle.std.proofs.lemmas.Option.{same_Some}
 use borrow.Rule.Slice.PartMut.{put_mid}
-use Rattle.hex.specs.Hex.{encode_lower}
 use Rattle.zarr_model.specs.Prelude.{Element, of_bytes, Kind, fixed, ArrayBytes, fixed_bytes, variable_bytes}
 use Rattle.zarr_model.specs.Prelude.{optional_bytes, meaning, pieces}
 use Rattle.zarr_model.proofs.Choices.{some_now}

@@ -5,7 +5,7 @@ use Rattle.std.specs.List.{slice_split}
 use Rattle.std.specs.Option.{option_map_or}
 use Rattle.std.specs.Borrow.{Bor}
 use Rattle.std.specs.Result.{result_ok}
-use Rattle.hex.specs.Hex.{encode_lower, decode_of}
+use Rattle.hex.specs.Hex.{IsBytes, encode_lower, decode_of}
 use Rattle.zarr_model.specs.Prelude.{Element, of_bytes, null, some, Kind, fixed, variable, optional}
 
 -- the parts of a text between the bytes that are this one
@@ -52,3 +52,9 @@ element_text (some element) = 43 ∷ element_text element
 -- the text of elements: a space before each one
 abbrev pub elements_text : List Element → List ℕ
 elements_text list = flat_map (λ element. 32 ∷ element_text element) list
+
+-- the bytes of an element are bytes
+abbrev pub HoldsBytes : Element → Type 0
+HoldsBytes (of_bytes value) = IsBytes value
+HoldsBytes null = Unit {0}
+HoldsBytes (some element) = HoldsBytes element

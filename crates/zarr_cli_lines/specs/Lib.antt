@@ -1,7 +1,6 @@
 pub use Rattle.zarr_array_boxes.specs as boxes
 pub mod ElementText
 pub mod Fixed
-pub mod Growing
 pub mod Put
 pub mod Place
 pub mod Text

@@ -37,8 +37,8 @@ IsLineFault (OutOfForm good) grammar lines =
 IsLineFault OutOfMemory grammar lines = Unit {0}
 
 -- a text has the lines of each list of the model's replies that these are
-abbrev pub IsTextOf : Kind → List Reply → List ℕ → Type 0
-IsTextOf kind held text = (answers : List Model.Reply) →
+abbrev pub IsTextOfReplies : Kind → List Reply → List ℕ → Type 0
+IsTextOfReplies kind held text = (answers : List Model.Reply) →
     AllZip (Matches kind) (map answer_of held) answers → text ≡ replies_text answers
 
 -- the line of a reply was appended to a text, for each reply of the model that this one is

@@ -1,5 +1,5 @@
 -- Array bytes with one element more.
-use Rattle.std.specs.Prelude.{◌≡◌, Bool, true, false, List, [], ◌∷◌, ◌++◌, length, Option, Some, None}
+use Rattle.std.specs.Prelude.{[], ◌≡◌, Bool, true, false, List, ◌∷◌, ◌++◌, length, Option, Some, None}
 use Rattle.zarr_model.specs.Element.{Element, Kind, fixed, variable, optional}
 use Rattle.zarr_model.specs.ArrayBytes.{ArrayBytes, fixed_bytes, variable_bytes, optional_bytes, bytes_of, mask_byte}
 use Rattle.zarr_model.specs.ArrayBytes.{held}

@@ -1,15 +1,20 @@
 //! One element of a line.
 
-ghost use Rattle.std.specs.Prelude.{◌≡◌, IfOk};
+ghost use Rattle.std.specs.Prelude.{◌≡◌, None, IfOk};
 ghost use Rattle.zarr_model.specs.Element.{fixed, variable, optional};
 ghost use Rattle.zarr_model.specs.ArrayBytes.{fixed_bytes, variable_bytes, optional_bytes};
+ghost use Rattle.zarrs_codec_array_bytes.specs.Refusals.{kind_refusal};
+ghost use Rattle.zarrs_codec_array_bytes.specs.Steps.{kind_seen};
+ghost use Rattle.zarrs_codec_array_bytes_parts.specs.OwnedArrayBytes.{owned_raw};
 ghost use Rattle.zarr_cli_lines.specs.ElementText.{element_of};
-ghost use Rattle.zarr_cli_lines.specs.Growing.{kind_in, bytes_in};
 ghost use Rattle.zarr_cli_lines.specs.Put.{PutsElement};
 
 use crate::digits::parse_hex;
-use crate::growing::{Growing, push_blank};
+use crate::growing::push_blank;
 use std::alloc::{AllocError, Global};
+use zarrs_codec_array_bytes::array_bytes::step::{Step, step_of};
+use zarrs_codec_array_bytes_parts::OwnedArrayBytes;
+use zarrs_data_type::DataType;
 
 // Appends the element of a text of a fixed kind, if it is one.
 #[tactic(auto, using(crate::proofs::PutLaws::fixed_put, crate::proofs::PutLaws::fixed_none, crate::proofs::PutLaws::fixed_other))]
@@ -57,47 +62,55 @@ fn push_variable(
 #[tactic(auto, using(crate::proofs::PutLaws::null_put, crate::proofs::PutLaws::optional_none, crate::proofs::PutLaws::some_put, crate::proofs::PutLaws::some_none))]
 fn push_optional(
     alloc: Global,
-    under: &mut Growing,
+    under: &mut OwnedArrayBytes,
     mask: &mut Vec<u8>,
+    inner: &DataType,
     text: &str,
 ) -> Result<bool, AllocError>
-    ensures kind { kind_in under.new ≡ kind_in under.old }
-    ensures put { IfOk result (λ put. PutsElement (optional (kind_in under.old))
-        (element_of (optional (kind_in under.old)) text.now) put
-        (optional_bytes (bytes_in under.old) mask.old.items)
-        (optional_bytes (bytes_in under.new) mask.new.items)) }
+    requires { kind_refusal (kind_seen inner.now) (owned_raw under.old) ≡ None }
+    ensures { IfOk result (λ put. PutsElement (optional (kind_seen inner.now))
+        (element_of (optional (kind_seen inner.now)) text.now) put
+        (optional_bytes (owned_raw under.old) mask.old.items)
+        (optional_bytes (owned_raw under.new) mask.new.items)) }
 {
     if text == "-" {
-        push_blank(under)?;
+        push_blank(under, inner)?;
         mask.push(0)?;
         return Ok(true);
     }
     let Some(held) = text.strip_prefix('+') else {
         return Ok(false);
     };
-    if !push_element(alloc, under, held)? {
+    if !push_element(alloc, under, inner, held)? {
         return Ok(false);
     }
     mask.push(1)?;
     Ok(true)
 }
 
-/// Appends the element of a text, if the text is one of the kind. Else the elements may have a part of it.
+/// Appends the element of a text, if the text is one of the data type. Else the elements may have a part of it.
 ///
 /// An error comes only for want of memory.
 #[cycle(push)]
 pub(crate) fn push_element(
     alloc: Global,
-    into: &mut Growing,
+    into: &mut OwnedArrayBytes,
+    data_type: &DataType,
     text: &str,
 ) -> Result<bool, AllocError>
-    ensures kind { kind_in into.new ≡ kind_in into.old }
-    ensures put { IfOk result (λ put. PutsElement (kind_in into.old)
-        (element_of (kind_in into.old) text.now) put (bytes_in into.old) (bytes_in into.new)) }
+    requires { kind_refusal (kind_seen data_type.now) (owned_raw into.old) ≡ None }
+    ensures { IfOk result (λ put. PutsElement (kind_seen data_type.now)
+        (element_of (kind_seen data_type.now) text.now) put (owned_raw into.old)
+        (owned_raw into.new)) }
 {
-    match into {
-        Growing::Fixed(size, value) => push_fixed(alloc, value, *size, text),
-        Growing::Variable(value, offsets) => push_variable(alloc, value, offsets, text),
-        Growing::Optional(under, mask) => push_optional(alloc, under, mask, text),
+    match (step_of(data_type), into) {
+        (Step::Fixed(size), OwnedArrayBytes::Fixed(value)) => push_fixed(alloc, value, size, text),
+        (Step::Variable, OwnedArrayBytes::Variable(value, offsets)) => {
+            push_variable(alloc, value, offsets, text)
+        }
+        (Step::Optional(inner), OwnedArrayBytes::Optional(under, mask)) => {
+            push_optional(alloc, under, mask, inner, text)
+        }
+        _ => unreachable!(),
     }
 }

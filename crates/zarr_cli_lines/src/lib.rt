@@ -9,6 +9,7 @@ pub mod entry;
 mod fixed;
 mod growing;
 mod indices;
+pub mod laws;
 pub mod list;
 pub mod parse;
 mod parts;

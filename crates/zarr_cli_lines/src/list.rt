@@ -1,32 +1,30 @@
 //! The elements of a write, with one space between two.
 
-ghost use Rattle.std.specs.Prelude.{◌≡◌, map, IfOk, IfSome, option_map};
-ghost use Rattle.zarr_model.specs.Element.{variable};
-ghost use Rattle.zarr_model.specs.ArrayBytes.{variable_bytes, array_bytes};
+ghost use Rattle.std.specs.Prelude.{◌≡◌, map, IfOk, option_map};
+ghost use Rattle.zarr_model.specs.ArrayBytes.{array_bytes};
 ghost use Rattle.zarrs_codec_array_bytes.specs.Raw.{raw_of};
 ghost use Rattle.zarrs_codec_array_bytes.specs.Steps.{kind_seen};
+ghost use Rattle.zarrs_codec_array_bytes_parts.specs.OwnedArrayBytes.{owned_raw};
 ghost use Rattle.zarr_cli_lines.specs.ElementText.{all_some, element_of, words_left};
-ghost use Rattle.zarr_cli_lines.specs.Growing.{kind_in, bytes_in, AreListed};
 
 use crate::element::push_element;
 use crate::element_parts::cut;
 use crate::fixed::parse_fixed;
-use crate::growing::{Growing, no_elements};
+use crate::growing::no_elements;
 use std::alloc::{AllocError, Global};
-use std::borrow::CowSlice;
+use zarrs_codec_array_bytes::ArrayBytes;
 use zarrs_codec_array_bytes::array_bytes::step::{Step, step_of};
-use zarrs_codec_array_bytes::{ArrayBytes, ArrayBytesVariableLength};
+use zarrs_codec_array_bytes_parts::OwnedArrayBytes;
 use zarrs_data_type::DataType;
 
 // The elements in a text, if each is one of this type.
+#[tactic(auto, using(crate::proofs::PutLaws::puts_kept))]
 fn grow_elements(
     alloc: Global,
     text: Option<&str>,
     data_type: &DataType,
-) -> Result<Option<Growing>, AllocError>
-    ensures kind { IfOk result (λ value.
-        IfSome value (λ elements. kind_in elements ≡ kind_seen data_type.now)) }
-    ensures bytes { IfOk result (λ value. option_map bytes_in value
+) -> Result<Option<OwnedArrayBytes>, AllocError>
+    ensures { IfOk result (λ value. option_map owned_raw value
         ≡ option_map (array_bytes (kind_seen data_type.now))
         (all_some (map (element_of (kind_seen data_type.now)) (words_left text.entry)))) }
 {
@@ -34,7 +32,7 @@ fn grow_elements(
     let mut left = text;
     'elements: while let Some(text) = left {
         let (word, rest) = cut(text, ' ');
-        if !push_element(alloc, &mut elements, word)? {
+        if !push_element(alloc, &mut elements, data_type, word)? {
             return Ok(None);
         }
         left = rest;
@@ -42,30 +40,8 @@ fn grow_elements(
     Ok(Some(elements))
 }
 
-// Elements of any size as array bytes.
-fn between(value: Vec<u8>, offsets: Vec<usize>) -> ArrayBytes<'static>
-    requires { AreListed variable (variable_bytes value.items offsets.items) }
-    ensures { raw_of result ≡ variable_bytes value.items offsets.items }
-{
-    ArrayBytes::Variable(ArrayBytesVariableLength::from_gathered(value, offsets))
-}
-
-// The elements as array bytes.
-fn into_array_bytes(alloc: Global, elements: Growing) -> Result<ArrayBytes<'static>, AllocError>
-    requires { AreListed (kind_in elements) (bytes_in elements) }
-    ensures { IfOk result (λ bytes. raw_of bytes ≡ bytes_in elements) }
-{
-    match elements {
-        Growing::Fixed(_, value) => Ok(ArrayBytes::from(value)),
-        Growing::Variable(value, offsets) => Ok(between(value, offsets)),
-        Growing::Optional(under, mask) => {
-            let under = into_array_bytes(alloc, Box::into_inner(under))?;
-            under.with_optional_mask(alloc, CowSlice::Owned(mask))
-        }
-    }
-}
-
-// The same, of any type.
+// The same, as array bytes.
+#[tactic(auto, using(crate::proofs::ListLaws::grown_sound))]
 fn parse_others(
     alloc: Global,
     text: Option<&str>,
@@ -76,7 +52,7 @@ fn parse_others(
         (all_some (map (element_of (kind_seen data_type.now)) (words_left text.entry)))) }
 {
     match grow_elements(alloc, text, data_type)? {
-        Some(elements) => Ok(Some(into_array_bytes(alloc, elements)?)),
+        Some(elements) => Ok(Some(elements.into_array_bytes(alloc)?)),
         None => Ok(None),
     }
 }

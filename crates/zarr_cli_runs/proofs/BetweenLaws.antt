@@ -1,10 +1,10 @@
 -- What a run leaves, also where it ended early.
-use Rattle.std.proofs.Common.{◌≡◌, ◌+◌, ◌-◌, ◌^◌, ◌<◌, ◌≤◌, ℕ, zero, suc, true, false, take, slice_get, Bool, List, []}
+use Rattle.std.proofs.Common.{◌≡◌, ◌-◌, ◌^◌, ◌<◌, ◌≤◌, ℕ, zero, suc, true, false, take, slice_get, Bool, List, []}
 use Rattle.std.proofs.Common.{length, Option, Some, None, IsSome, inl, inr, ⊎_elim, ◌⊎◌, refl, sym, ap, ◌∙◌, subst}
 use Rattle.std.proofs.Common.{subst₂, arith, not}
 use Rattle.std.proofs.Math.Path.{fun_ext}
 use Rattle.std.proofs.lemmas.Option.{same_Some, slice_get_within, get_or_from_slice_get}
-use Rattle.zarr_model.specs.Prelude.{Element, Array, Means, undamaged, is_damaged, Options, Content, IsHonest, IsChunk}
+use Rattle.zarr_model.specs.Prelude.{Element, Array, Means, is_damaged, Options, Content, IsHonest, IsChunk}
 use Rattle.zarr_model.specs.Prelude.{Refusal, read, write, erase, asks_store, with_keys, Command, Description, layout}
 use Rattle.zarr_model.specs.Prelude.{chunk_content, Shown, Rose, EndsBetween, SetsSome, LeavesArray, LeavesKeys}
 use Rattle.zarr_model.specs.Prelude.{AsksUpTo, PutsUpTo, counted, begun, IsLeftAt, IsLeftBut, IsStarved, IsUndecoded}

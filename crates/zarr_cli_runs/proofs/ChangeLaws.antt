@@ -1,10 +1,9 @@
 -- Which keys a run may change.
-use Rattle.std.proofs.Common.{◌≡◌, ℕ, Bool, true, false, List, [], ◌∷◌, ◌||◌, Option, Some, None, is_some, bytes_eq}
-use Rattle.std.proofs.Common.{refl, ap, ◌∙◌, subst}
-use Rattle.std.specs.List.{list_any, list_all}
-use Rattle.std.proofs.lemmas.Bool.{and_parts}
-use Rattle.zarr_model.specs.Prelude.{IsChunk, Options, Content, Command, read, write, erase, Refusal, Description}
-use Rattle.zarr_model.specs.Prelude.{refusal, chunks_under, changes_chunk, is_among, LeavesKeys, AreRefused}
+use Rattle.std.proofs.Common.{◌≡◌, ℕ, Bool, true, false, List, Option, Some, None, bytes_eq}
+use Rattle.std.proofs.Common.{refl, ap, subst}
+use Rattle.std.specs.List.{list_any}
+use Rattle.zarr_model.specs.Prelude.{IsChunk, Options, Content, Command, Description}
+use Rattle.zarr_model.specs.Prelude.{changes_chunk, LeavesKeys}
 use Rattle.zarr_model.proofs.FailureLaws.{same_bytes, bytes_eq-refl}
 use Rattle.zarr_cli_runs.specs.Commands.{IsChangedKey}
 
@@ -36,29 +35,3 @@ same_unless_changed array options commands old new leaves key unchanged =
     by_test chunk is_chunk its_key apart true e = unchanged (chunk, is_chunk, e, its_key)
     by_test chunk is_chunk its_key apart false e =
         apart (subst (λ k. new k ≡ old k) its_key (leaves.same_chunks chunk is_chunk e))
-
--- refused commands change no key
-refused_changes : (array : Description) (chunk : List ℕ) (command : Command) → is_some (refusal array command) ≡ true →
-    changes_chunk array chunk command ≡ false
-refused_changes array chunk command refused = by_command command (refusal array command) refl refused
-  where
-    by_command : (c : Command) (why : Option Refusal) → refusal array c ≡ why → is_some why ≡ true →
-        changes_chunk array chunk c ≡ false
-    by_command c None e some = cc
-    by_command (read region) (Some why) e some = refl
-    by_command (write region value) (Some why) e some =
-        ap (λ w. is_among (chunks_under array w (write region value)) chunk) e
-    by_command (erase other) (Some why) e some = ap (λ w. is_among (chunks_under array w (erase other)) chunk) e
-
-pub refused_unchanged : (array : Description) (commands : List Command) → AreRefused array commands → (key : List ℕ) →
-    ¬ IsChangedKey array commands key
-refused_unchanged array commands all key (chunk, is_chunk, changed, its_key) =
-    let none : list_any (changes_chunk array chunk) commands ≡ false = go commands all in cc
-  where
-    go : (commands : List Command) → AreRefused array commands → list_any (changes_chunk array chunk) commands ≡ false
-    go [] all = refl
-    go (command ∷ commands) all =
-        let parts =
-        and_parts (is_some (refusal array command)) (list_all (λ c. is_some (refusal array c)) commands) all in
-        ap (λ b. b || list_any (changes_chunk array chunk) commands) (refused_changes array chunk command parts.0)
-        ∙ go commands parts.1

@@ -1,21 +1,16 @@
 -- The lines of the final keys.
-use Rattle.std.proofs.Common.{◌≡◌, ℕ, suc, ◌+◌, ◌-◌, ◌^◌, ◌<◌, ◌≤◌, false, true, List, [], ◌∷◌, ◌++◌, length, map}
-use Rattle.std.proofs.Common.{Contains, Option, Some, None, IsSome, unwrap_or, Result, Ok, Err, IfErr, OnOk, refl, sym}
-use Rattle.std.proofs.Common.{ap, ◌∙◌, subst, arith, append-nil}
+use Rattle.std.proofs.Common.{◌≡◌, ℕ, suc, ◌+◌, ◌-◌, ◌<◌, true, List, [], ◌∷◌, ◌++◌, length, map}
+use Rattle.std.proofs.Common.{Contains, Option, Some, None, IsSome, unwrap_or, Result, Ok, Err, OnOk, refl, sym}
+use Rattle.std.proofs.Common.{ap, ◌∙◌, subst, arith}
 use Rattle.std.specs.Ordering.{nat_cmp}
 use Rattle.std.specs.Cmp.Lexicographic.{slice_cmp}
 use Rattle.std.specs.List.Sorted.{IsStrictlySortedBy}
 use Rattle.std.proofs.lemmas.List.{length-map}
-use Rattle.zarrs_codec_traits.specs.Prelude.{Content, Shown, Rose, counted, ListsKeys, IsFault, IsPlain}
-use Rattle.zarrs_storage.specs.declared.store.StorageError.{StorageError}
-use Rattle.zarrs_storage.specs.declared.store.StorageError.TheVariants.{Failed}
-use Rattle.zarrs_storage.specs.declared.store.StorageError.TheVariants as Storage
+use Rattle.zarrs_codec_traits.specs.Prelude.{Content, Shown, counted, ListsKeys}
 use Rattle.zarrs_storage.proofs.ListLemmas.{AreEntriesOf, is_sorted-entries, find-listed}
 use Rattle.zarr_cli_lines.specs.Text.{entries_text}
-use Rattle.zarr_cli_runs.specs.Keys.{ListsStore, Dumps, IsDumpFault, entries_at, storage_status}
+use Rattle.zarr_cli_runs.specs.Keys.{ListsStore, Dumps, entries_at}
 use Rattle.zarr_cli_runs.specs.declared.status.Status.{Status}
-use Rattle.zarr_cli_runs.specs.declared.status.Status.TheVariants.{Done, BadWords, BadInput, Document, Chunk, Store}
-use Rattle.zarr_cli_runs.specs.declared.status.Status.TheVariants.{Read, Write, TooLong, OutOfMemory}
 
 -- the keys of the entries at some keys are these
 keys_at : (store : Content) (keys : List (List ℕ)) → map (λ entry. entry.0) (entries_at store keys) ≡ keys
@@ -45,10 +40,6 @@ lists_store store keys lists = record {
   held = find-listed store (entries_at store keys) (subst (ListsKeys store) (sym (keys_at store keys)) lists)
       (are_entries store keys (λ key here. (lists.held key).0 here));
 }
-
--- a count that fits stays by nothing more, and counts add up
-pub counted_none : (n : ℕ) → n ≤ 2 ^ 64 - 1 → n ≡ counted n 0
-counted_none n fits = omega (arith, fits)
 
 pub counted_more : (n mid now a b : ℕ) → mid ≡ counted n a → now ≡ counted mid (0 + b) → now ≡ counted n (a + b)
 counted_more n mid now a b first second = omega (arith, first, second)
@@ -87,37 +78,3 @@ pub store_dumped :
 store_dumped before mid now keys text new_text (Ok value) lists same kept unput first second lines =
     dumped before mid now keys text new_text lists same kept unput first second lines
 store_dumped before mid now keys text new_text (Err status) lists same kept unput first second lines = tt
-
--- no dump
-pub none_dumped : (store : Shown) (text : List ℕ) → store.asks ≤ 2 ^ 64 - 1 → Dumps false store store text text
-none_dumped store text fits = record {
-  text = ([], refl, sym (append-nil text));
-  same = refl;
-  asks = (0, refl, counted_none store.asks fits);
-  puts = refl;
-}
-
--- faults of a dump
-pub status_fault : (error : StorageError) (before now : Shown) → IsPlain error →
-    (IsFault error → Rose before.faults now.faults) → IsDumpFault before now (storage_status error)
-status_fault Failed before now plain cause = cause tt
-status_fault (Storage.InvalidByteRange range) before now plain cause = absurd plain
-status_fault Storage.OutOfMemory before now plain cause = tt
-
-fault_earlier : (before mid now : Shown) (status : Status) → before.faults ≤ mid.faults → IsDumpFault mid now status →
-    IsDumpFault before now status
-fault_earlier before mid now Store later fault = omega (arith, later, fault)
-fault_earlier before mid now OutOfMemory later fault = tt
-fault_earlier before mid now Done later fault = fault
-fault_earlier before mid now BadWords later fault = fault
-fault_earlier before mid now (BadInput line) later fault = fault
-fault_earlier before mid now (Document error) later fault = fault
-fault_earlier before mid now (Chunk key) later fault = fault
-fault_earlier before mid now Read later fault = fault
-fault_earlier before mid now Write later fault = fault
-fault_earlier before mid now TooLong later fault = fault
-
-pub dump_fault-earlier : {T : Type 0} (before mid now : Shown) (result : Result T Status) → before.faults ≤ mid.faults →
-    IfErr result (λ status. IsDumpFault mid now status) → IfErr result (λ status. IsDumpFault before now status)
-dump_fault-earlier before mid now (Ok value) later fault = tt
-dump_fault-earlier before mid now (Err status) later fault = fault_earlier before mid now status later fault

@@ -1,11 +1,10 @@
 -- The made document, keys that were counted, and replies that were summed up.
 use Rattle.std.proofs.Common.{◌≡◌, ℕ, List, length, map, Option, Some, None, Result, Ok, Err, IfOk, IfErr, refl, sym}
 use Rattle.std.proofs.Common.{ap, ◌∙◌, subst}
-use Rattle.std.proofs.Math.Path.{fun_ext}
 use Rattle.std.specs.List.{AllZip}
 use Rattle.zarr_model.specs.Prelude.{fixed, Options, Matches, Description, Command, Shown, kind, all_asks, counted}
 use Rattle.zarr_model.specs.Prelude.{LeavesArray}
-use Rattle.zarrs_storage.specs.Store.{ListsKeys, SameContent}
+use Rattle.zarrs_storage.specs.Store.{ListsKeys}
 use Rattle.zarr_cli_runs.specs.array.parts.Document.{ArrayDocument, describe}
 use Rattle.zarr_cli_runs.specs.array.parts.Opening.{OpenRefusal, OpenAnswer, opened}
 use Rattle.zarr_cli_runs.specs.array.parts.OpenError.{open_refusal_of}
@@ -72,13 +71,6 @@ pub made_fails : (answer : OpenAnswer) (result : Result OpenArray Status) → an
     OpensLine result answer → IfErr result (λ status. status ≡ OutOfMemory)
 made_fails answer (Ok array) opens is = tt
 made_fails answer (Err status) opens is = only_memory answer made_document status opens is
-
--- keys that were counted
-pub keys_counted : (before now : Shown) (keys : List (List ℕ)) (n : ℕ) → ListsKeys before.content keys →
-    SameContent before now → n ≡ length keys →
-    (all : List (List ℕ)) × ListsKeys now.content all × (n ≡ length all)
-keys_counted before now keys n lists same is =
-    (keys, subst (λ content. ListsKeys content keys) (sym (fun_ext same)) lists, is)
 
 -- replies and keys that were summed up
 pub summed_up : (description : Description) (n count : ℕ) (options : Options) (commands : List Command)

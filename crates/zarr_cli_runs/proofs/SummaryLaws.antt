@@ -15,7 +15,7 @@ use Rattle.zarr_array.specs.boxes.declared.command.Reply.{Reply}
 use Rattle.zarr_array.specs.boxes.declared.command.Reply.TheVariants.{Elements, Done, Refused}
 use Rattle.zarr_cli_lines.specs.Place.{fixed_part}
 use Rattle.zarr_cli_lines.specs.Text.{replies_text}
-use Rattle.zarr_cli_lines.specs.Parts.{IsTextOf}
+use Rattle.zarr_cli_lines.specs.Parts.{IsTextOfReplies}
 use Rattle.zarr_cli_runs.specs.Summary.{ok_count, done_count, refused_count, element_count, summary_lines, summary_text}
 use Rattle.zarr_cli_runs.specs.Tally.{ok_held, done_held, refused_held, elements_held, summary_held}
 
@@ -84,7 +84,7 @@ same_summary n keys text some held replies h lines =
 
 -- the text with a summary of replies is that with the summary of each list that they match
 pub summarised : (n keys : ℕ) (lines before now : List ℕ) → 0 < n → (held : List Reply) (replies : List Model.Reply) →
-    now ≡ before ++ summary_held n held keys lines → IsTextOf (fixed n) held lines →
+    now ≡ before ++ summary_held n held keys lines → IsTextOfReplies (fixed n) held lines →
     AllZip (Matches (fixed n)) (map answer_of held) replies → now ≡ before ++ summary_text replies keys
 summarised n keys lines before now some held replies put text h =
     put ∙ ap (λ text. before ++ text) (same_summary n keys lines some held replies h (text replies h))

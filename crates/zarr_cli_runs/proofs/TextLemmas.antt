@@ -9,10 +9,10 @@ use Rattle.zarr_model.specs.Command as Model
 use Rattle.zarr_array.specs.boxes.Command.{answer_of}
 use Rattle.zarr_array.specs.boxes.declared.command.Reply.{Reply}
 use Rattle.zarr_cli_lines.specs.Text.{line_of, reply_text, replies_text}
-use Rattle.zarr_cli_lines.specs.Parts.{IsTextOf, AppendsReply}
+use Rattle.zarr_cli_lines.specs.Parts.{IsTextOfReplies, AppendsReply}
 
 -- no replies have no text
-pub no_text : (kind : Kind) (held : List Reply) (text : List ℕ) → text ≡ [] → IsTextOf kind (take 0 held) text
+pub no_text : (kind : Kind) (held : List Reply) (text : List ℕ) → text ≡ [] → IsTextOfReplies kind (take 0 held) text
 no_text kind held text none [] h = none
 no_text kind held text none (answer ∷ answers) h = absurd h
 
@@ -46,8 +46,8 @@ joined_last (x ∷ front) last = ap (λ l. line_of (reply_text x) ++ l) (joined_
 
 -- one line more
 pub one_line_more : (kind : Kind) (held : List Reply) (i : ℕ) (reply : Reply) (before now : List ℕ) → i < length held →
-    get_or held i reply ≡ reply → IsTextOf kind (take i held) before → AppendsReply kind reply before now →
-    IsTextOf kind (take (i + 1) held) now
+    get_or held i reply ≡ reply → IsTextOfReplies kind (take i held) before → AppendsReply kind reply before now →
+    IsTextOfReplies kind (take (i + 1) held) now
 one_line_more kind held i reply before now inside here so_far put answers h =
     let whole : take (i + 1) held ≡ take i held ++ reply ∷ [] =
     ap (λ n. take n held) (add-one i) ∙ (take-suc held i reply inside ∙ ap (λ r. take i held ++ r ∷ []) here) in
@@ -60,6 +60,6 @@ one_line_more kind held i reply before now inside here so_far put answers h =
 
 -- all of them
 pub all_lines : (kind : Kind) (held : List Reply) (i : ℕ) (text : List ℕ) → i ≡ length held →
-    IsTextOf kind (take i held) text → IsTextOf kind held text
+    IsTextOfReplies kind (take i held) text → IsTextOfReplies kind held text
 all_lines kind held i text last so_far =
-    subst (λ l. IsTextOf kind l text) (ap (λ n. take n held) last ∙ take-length held) so_far
+    subst (λ l. IsTextOfReplies kind l text) (ap (λ n. take n held) last ∙ take-length held) so_far

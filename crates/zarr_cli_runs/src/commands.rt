@@ -5,7 +5,7 @@ ghost use Rattle.zarrs_codec_traits.specs.Prelude.{fixed, options_of, kind_seen}
 ghost use Rattle.zarrs_codec_traits.specs.Prelude.{AreRefused, IsUntouched};
 ghost use Rattle.zarr_array.specs.Access.{described, is_once};
 ghost use Rattle.zarr_array.specs.boxes.Command.{command_of, AreReads};
-ghost use Rattle.zarr_cli_lines.specs.Parts.{IsTextOf};
+ghost use Rattle.zarr_cli_lines.specs.Parts.{IsTextOfReplies};
 ghost use Rattle.zarr_cli_runs.specs.Commands.{RepliedBy, CostsRun, session_status};
 ghost use Rattle.zarr_cli_runs.specs.Job.{job, Did};
 
@@ -27,7 +27,7 @@ pub fn text_of_replies(
     data_type: &DataType,
 ) -> Result<Vec<u8>, AllocError>
     requires { (n : ℕ) → kind_seen data_type.now ≡ fixed n → 0 < n }
-    ensures { IfOk result (λ text. IsTextOf (kind_seen data_type.now) replies.now text.items) }
+    ensures { IfOk result (λ text. IsTextOfReplies (kind_seen data_type.now) replies.now text.items) }
 {
     let mut text = Vec::new(alloc);
     for reply in replies {

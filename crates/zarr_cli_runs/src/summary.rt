@@ -6,7 +6,7 @@ ghost use Rattle.zarrs_codec_traits.specs.Prelude.{Matches, fixed};
 ghost use Rattle.zarr_model.specs.Command as Model;
 ghost use Rattle.zarr_array.specs.boxes.Command.{answer_of};
 ghost use Rattle.zarr_cli_runs.specs.Summary.{number_line, digest_line, summary_lines, summary_text};
-ghost use Rattle.zarr_cli_lines.specs.Parts.{IsTextOf};
+ghost use Rattle.zarr_cli_lines.specs.Parts.{IsTextOfReplies};
 ghost use Rattle.zarr_cli_runs.specs.Tally.{summary_held};
 
 use crate::making_commands::COMMANDS;
@@ -77,7 +77,7 @@ pub fn push_summary(
     keys: usize,
 ) -> Result<(), AllocError>
     requires some { 0 < size }
-    requires lines { IsTextOf (fixed size) replies.now lines.now }
+    requires lines { IsTextOfReplies (fixed size) replies.now lines.now }
     ensures held { OnOk result (text.new.items ≡ text.old.items
         ++ summary_held size replies.now keys lines.now) }
     ensures replies { OnOk result ((answers : List Model.Reply) →

@@ -1,25 +1,17 @@
 -- Levels that are put below others, and why one is not.
-use Rattle.std.proofs.Common.{◌≡◌, ⊎_elim, inl, ℕ, List, [], ◌∷◌, ◌++◌, Option, Some, None, refl, sym, ap, ap₂, ◌∙◌}
+use Rattle.std.proofs.Common.{◌≡◌, ℕ, List, [], ◌∷◌, ◌++◌, Option, None, refl, sym, ap, ap₂, ◌∙◌}
 use Rattle.std.proofs.Common.{subst, subst₂}
 use Rattle.zarrs_codec_traits.specs.Prelude.{Level, ArrayCodec, Unserved, unserved_at, IsFit}
-use Rattle.zarrs_codec_error.specs.declared.error.CodecError.{CodecError}
 use Rattle.zarrs_codec_error.specs.declared.error.CodecError.TheVariants as codec
 use Rattle.zarr_codec_chain.specs.declared.representation.ChunkRepresentation.{ChunkRepresentation}
 use Rattle.zarr_codec_chain.specs.Levels.{level_at, fill_at, first_of, first_fill_of, Step, above, top, Serving, AreFit}
 use Rattle.zarr_codec_chain.specs.Levels.{IsLink, AreLinked}
-use Rattle.zarr_codec_chain.specs.Building.{Filling, IsReady, first_reason, levels_unserved, FailsToBuild}
+use Rattle.zarr_codec_chain.specs.Building.{Filling, IsReady, first_reason, levels_unserved}
 
 -- levels that are equal
 pub ready_as : (level next : Level) (fill below : List ℕ) → level ≡ next → fill ≡ below → IsReady next below →
     IsReady level fill
 ready_as level next fill below same under ready = subst₂ (λ l f. IsReady l f) (sym same) (sym under) ready
-
--- the first reason, if a call was refused by it
-pub first_fails : (first later : Option Unserved) (e : CodecError) → FailsToBuild first e →
-    FailsToBuild (first_reason first later) e
-first_fails None later e fails =
-    ⊎_elim (λ (memory : e ≡ codec.OutOfMemory). inl memory) (λ (none : ⊥). absurd none) fails
-first_fails (Some why) later e fails = fails
 
 -- a level more at the end
 pub first_more : (levels : List ChunkRepresentation) (at : ChunkRepresentation) (next : Level) →

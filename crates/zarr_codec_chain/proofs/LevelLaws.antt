@@ -56,14 +56,6 @@ module _ {A : Type 0} (meaning : A → ArrayCodec) (unserved : Serving A) (botto
   nothing-above (step ∷ steps) =
       ap (option_and_then ((meaning step.codec).decode_list (above step))) (nothing-above steps)
 
-  -- where the levels from one on give nothing, all give nothing
-  pub nothing-from : (n : ℕ) (steps : List (Step A)) (below : Option (List Element)) →
-      elements_above meaning (drop n steps) below ≡ None → elements_above meaning steps below ≡ None
-  nothing-from zero steps below none = none
-  nothing-from (suc n) [] below none = none
-  nothing-from (suc n) (step ∷ steps) below none =
-      ap (option_and_then ((meaning step.codec).decode_list (above step))) (nothing-from n steps below none)
-
   -- what stands at a level of the walk up
   pub some-list : (o wanted : Option (List Element)) → Gives o wanted →
       (list : List Element) × (o ≡ Some list) × (wanted ≡ Some list)

@@ -130,16 +130,6 @@ length-boxes region_below [] region = refl
 length-boxes region_below (step ∷ steps) region =
     ap suc (length-boxes region_below steps (region_below step.codec (above step).shape region))
 
--- where all codecs give a list, so do the last ones
-pub some-at : {A : Type 0} (meaning : A → ArrayCodec) (n : ℕ) (steps : List (Step A)) (below : Option (List Element))
-    (xs : List Element) → elements_above meaning steps below ≡ Some xs →
-    (list : List Element) × (elements_above meaning (drop n steps) below ≡ Some list)
-some-at meaning zero steps below xs e = (xs, e)
-some-at meaning (suc n) [] below xs e = (xs, e)
-some-at meaning (suc n) (step ∷ steps) below xs e =
-    let parts = then_some ((meaning step.codec).decode_list (above step)) (elements_above meaning steps below) xs e in
-    some-at meaning n steps below parts.0 parts.1
-
 -- what a codec is given, where it gives a list
 pub record IsGiven {A : Type 0} (meaning : A → ArrayCodec) (step : Step A) (rest : List (Step A))
     (below : Option (List Element)) (xs list : List Element) : Type 0 where
@@ -205,13 +195,6 @@ inside-bottom meaning unserved region_below bottom law (step ∷ steps) region l
     inside-bottom meaning unserved region_below bottom law steps (region_below step.codec (above step).shape region)
     links.1
     (inside-next meaning unserved region_below bottom law (step ∷ steps) steps step region refl links inside)
-
-pub some-bottom : {A : Type 0} (meaning : A → ArrayCodec) (steps : List (Step A)) (below : Option (List Element))
-    (xs : List Element) → elements_above meaning steps below ≡ Some xs → (list : List Element) × (below ≡ Some list)
-some-bottom meaning [] below xs e = (xs, e)
-some-bottom meaning (step ∷ steps) below xs e =
-    some-bottom meaning steps below _
-    (then_some ((meaning step.codec).decode_list (above step)) (elements_above meaning steps below) xs e).1
 
 -- the array bytes that a codec is given are valid at the box below
 pub valid-below : {A : Type 0} (meaning : A → ArrayCodec) (unserved : Serving A) (region_below : Boxing A)

@@ -11,7 +11,7 @@ use Rattle.zarrs_metadata_parts.specs.MetadataV3.{Extension, extension_of, objec
 use Rattle.zarrs_plugin.specs.Registry.{Names, find}
 use Rattle.zarrs_metadata_parts.specs.Making.{or_config}
 use Rattle.zarr_codecs.specs.Inner.{inner_in}
-use Rattle.zarr_codecs.specs.CodecForm.{optional_over, optional_by, form_by, nesting, form_within, codec_named}
+use Rattle.zarr_codecs.specs.CodecForm.{optional_over, optional_form_by, form_by, nesting, form_within, codec_named}
 use Rattle.zarr_codecs.specs.declared.codec_kind.CodecKind.{CodecKind}
 use Rattle.zarr_codecs.specs.declared.codec_kind.CodecKind.TheVariants as kind
 
@@ -103,7 +103,7 @@ same_within (suc n) (suc m) names e few some = go (same_within n m names) (find 
         form_within n names x ≡ form_within m names x
 
     inner : Same → (i : Option Extension) → inner_in e.configuration ≡ i →
-        optional_by (form_within n names) i ≡ optional_by (form_within m names) i
+        optional_form_by (form_within n names) i ≡ optional_form_by (form_within m names) i
     inner same None is = refl
     inner same (Some x) is =
         let below = inner_within e.configuration x is in
@@ -121,7 +121,7 @@ same_within (suc n) (suc m) names e few some = go (same_within n m names) (find 
     go same (Some kind.Sha256) = refl
 
 pub inner_named : (names : Names CodecKind) (c : Option Members) (e : Extension) → inner_in c ≡ Some e →
-    optional_by (form_within (nesting c) names) (inner_in c) ≡ optional_over (codec_named names e)
+    optional_form_by (form_within (nesting c) names) (inner_in c) ≡ optional_over (codec_named names e)
 inner_named names c e is =
     let below = inner_within c e is in
     rw is (ap optional_over (same_within (nesting c) (suc (nesting e.configuration)) names e below (omega arith)))

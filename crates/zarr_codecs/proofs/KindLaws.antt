@@ -1,15 +1,14 @@
 -- What is made of a configuration.
-use Rattle.std.proofs.Common.{◌≡◌, Option, Some, None, option_map, Result, Ok, Err, if◌then◌else◌, Bool, true, false}
+use Rattle.std.proofs.Common.{◌≡◌, Option, Some, None, option_map, Ok, Err, if◌then◌else◌, Bool, true, false}
 use Rattle.std.proofs.Common.{refl, ap}
 use Rattle.serde_json.specs.Data.{Members, no_members}
 use Rattle.zarrs_codec_traits.specs.Prelude.{is_none_or_empty, or_config}
-use Rattle.zarrs_plugin.specs.Making.{Unmade, config, IsUnmade}
+use Rattle.zarrs_plugin.specs.Making.{config, IsUnmade}
 use Rattle.zarrs_plugin.specs.declared.error.PluginKind.{PluginKind}
-use Rattle.zarrs_plugin.specs.declared.error.PluginKind.TheVariants as kinds
 use Rattle.zarrs_plugin.specs.declared.error.PluginCreateError.{PluginCreateError}
 use Rattle.zarrs_plugin.specs.declared.error.PluginCreateError.TheVariants.{Unsupported, Config, Other, OutOfMemory}
 use Rattle.zarrs_codec_traits.specs.Making.{none_form}
-use Rattle.zarr_codecs.specs.CodecForm.{CodecForm, if_none, optional_over}
+use Rattle.zarr_codecs.specs.CodecForm.{CodecForm, if_none}
 
 pub made_form : {X Y : Type 0} (f : X → Y) (o : Option X) (x : X) → or_config o ≡ Ok x →
     or_config (option_map f o) ≡ Ok (f x)
@@ -50,12 +49,3 @@ refused_none form kind error configuration e = go error (is_none_or_empty config
     go (Unsupported error) false e = absurd e
 
 pub ruleset of_kinds = (made_form, refused_form, made_none, refused_none)
-
--- the codec inside an optional one
-pub refused_inner : (error : PluginCreateError) (form : Result CodecForm Unmade) → IsUnmade kinds.Codec error form →
-    IsUnmade kinds.Codec error (optional_over form)
-refused_inner OutOfMemory form e = tt
-refused_inner error (Err why) e = e
-refused_inner Config (Ok form) e = absurd e
-refused_inner Other (Ok form) e = absurd e
-refused_inner (Unsupported error) (Ok form) e = absurd e

@@ -59,10 +59,10 @@ optional_over (Ok (array_codec codec)) = Err config
 optional_over (Ok (byte_codec codec)) = Err config
 optional_over (Err why) = Err why
 
-abbrev pub optional_by : (Extension → Result CodecForm Unmade) → Option Extension
+abbrev pub optional_form_by : (Extension → Result CodecForm Unmade) → Option Extension
     → Result CodecForm Unmade
-optional_by made None = Err config
-optional_by made (Some inner) = optional_over (made inner)
+optional_form_by made None = Err config
+optional_form_by made (Some inner) = optional_over (made inner)
 
 -- the configurations of each kind, with the codecs that they say; the codec inside another is made
 -- by its own name
@@ -71,7 +71,7 @@ abbrev pub kind_form : (Extension → Result CodecForm Unmade) → CodecKind →
 kind_form made kind.Bytes configuration = bytes_form configuration
 kind_form made kind.VlenUtf8 configuration = if_none (to_bytes (plain_vlen true)) configuration
 kind_form made kind.VlenBytes configuration = if_none (to_bytes (plain_vlen false)) configuration
-kind_form made kind.Optional configuration = optional_by made (inner_in configuration)
+kind_form made kind.Optional configuration = optional_form_by made (inner_in configuration)
 kind_form made kind.Offset configuration = offset_form configuration
 kind_form made kind.Transpose configuration = transpose_form configuration
 kind_form made kind.Sha256 configuration = if_none (byte_codec checksum) configuration

@@ -1,15 +1,15 @@
 -- Array bytes that an offset was put on or taken off.
-use Rattle.std.proofs.Common.{◌≡◌, ℕ, zero, suc, ◌*◌, ◌^◌, ◌<◌, ◌≤◌, ◌==◌, ℤ, Bool, true, false, List, [], ◌∷◌, length}
-use Rattle.std.proofs.Common.{drop, map, Option, Some, None, IsSome, option_and_then, Result, Ok, Err, IfOk, refl, sym}
+use Rattle.std.proofs.Common.{◌≡◌, ℕ, zero, suc, ◌*◌, ◌^◌, ◌<◌, ◌≤◌, ◌==◌, ℤ, true, List, length}
+use Rattle.std.proofs.Common.{drop, map, Option, Some, None, option_and_then, Result, Ok, Err, IfOk, refl, sym}
 use Rattle.std.proofs.Common.{ap, ◌∙◌, subst, arith}
 use Rattle.std.specs.List.{AllByRecursion}
 use Rattle.std.proofs.lemmas.Bool.{cond-true}
 use Rattle.std.proofs.Math.Nat.{mul-le-mul_right}
 use Rattle.zarrs_codec_traits.specs.Prelude.{Region, Element, of_bytes, Kind, fixed, ArrayBytes, fixed_bytes}
 use Rattle.zarrs_codec_traits.specs.Prelude.{variable_bytes, optional_bytes, meaning, pieces, is_fixed, fine, validity}
-use Rattle.zarrs_codec_traits.specs.Prelude.{AreBytes, Gives, select}
+use Rattle.zarrs_codec_traits.specs.Prelude.{AreBytes, select}
 use Rattle.zarr_model.specs.Codec.{element_less, opposite}
-use Rattle.zarr_model.specs.Command.{bytes_refusal, has_long_element, unexpected_chunk_decoded_size}
+use Rattle.zarr_model.specs.Command.{bytes_refusal, unexpected_chunk_decoded_size}
 use Rattle.zarr_model.proofs.ListLaws.{bytes-drop, bytes-take}
 use Rattle.zarr_model.proofs.RefusalLaws.{not_refused}
 use Rattle.zarrs_codec_array_bytes.proofs.CheckLaws.{sized_fine, fixed_kind}
@@ -76,24 +76,12 @@ shifted_meant kind n number raw is valid proper =
     subst (λ (k : Kind). AreMeant (meaning k number raw)) (sym is)
     (meant n number raw (refused kind n number raw is valid) proper)
 
-pub shifted_short : (amount n : ℕ) (raw new : ArrayBytes) → is_fixed raw ≡ true → new ≡ raised_raw amount n raw →
-    has_long_element new ≡ false
-shifted_short amount n (fixed_bytes value) new one is = ap has_long_element is
-shifted_short amount n (variable_bytes value offsets) new one is = cc
-shifted_short amount n (optional_bytes under mask) new one is = cc
-
 -- what is put on is taken off again
 pub encoded_back : (z : ℤ) (given made : Option (List Element)) → made ≡ list_less (opposite z) given → AreMeant given →
     option_and_then (λ list. Some (map (element_less z) list)) made ≡ given
 encoded_back z (Some list) made is proper =
     ap (option_and_then (λ list. Some (map (element_less z) list))) is ∙ ap Some (list_back z list proper)
 encoded_back z None made is proper = absurd proper
-
-pub decoded_gives : (z : ℤ) (given made : Option (List Element)) (list : List Element) → made ≡ list_less z given →
-    given ≡ Some list → Gives made (Some (map (element_less z) list))
-decoded_gives z given made list is same =
-    let e = is ∙ ap (list_less z) same in
-    record { same = e; there = subst (λ (o : Option (List Element)). IsSome o) (sym e) refl }
 
 pub decoded_part :
     (z : ℤ) (shape : List ℕ) (box : Region) (given made : Option (List Element)) (list xs : List Element) →
@@ -103,23 +91,12 @@ decoded_part z shape box given made list xs is whole same =
     let xs_is : map (element_less z) list ≡ xs = cc in
     is ∙ (ap (list_less z) same ∙ ap Some (select-less z shape box list ∙ ap (select shape box) xs_is))
 
-pub decoded_valid : (z : ℤ) (given made : Option (List Element)) → made ≡ list_less z given → AreMeant given →
-    IsSome made
-decoded_valid z (Some list) made is meant = subst (λ (o : Option (List Element)). IsSome o) (sym is) refl
-decoded_valid z None made is meant = absurd meant
-
 -- the same of what a call answered
 pub encoded_ok : {T E : Type 0} (z : ℤ) (r : Result T E) (seen : T → Option (List Element)) (given :
     Option (List Element)) → IfOk r (λ v. seen v ≡ list_less (opposite z) given) → IfOk r (λ _. AreMeant given) →
     IfOk r (λ v. option_and_then (λ list. Some (map (element_less z) list)) (seen v) ≡ given)
 encoded_ok z (Ok v) seen given is meant = encoded_back z given (seen v) is meant
 encoded_ok z (Err e) seen given is meant = tt
-
-pub decoded_ok : {T E : Type 0} (z : ℤ) (r : Result T E) (seen : T → Option (List Element)) (given :
-    Option (List Element)) (list : List Element) → IfOk r (λ v. seen v ≡ list_less z given) → given ≡ Some list →
-    IfOk r (λ v. Gives (seen v) (Some (map (element_less z) list)))
-decoded_ok z (Ok v) seen given list is same = decoded_gives z given (seen v) list is same
-decoded_ok z (Err e) seen given list is same = tt
 
 pub part_ok : {T E : Type 0} (z : ℤ) (shape : List ℕ) (box : Region) (r : Result T E) (seen : T → Option (List Element))
     (given : Option (List Element)) (list xs : List Element) → IfOk r (λ v. seen v ≡ list_less z given) →
@@ -128,12 +105,6 @@ pub part_ok : {T E : Type 0} (z : ℤ) (shape : List ℕ) (box : Region) (r : Re
 part_ok z shape box (Ok v) seen given list xs is whole same =
     decoded_part z shape box given (seen v) list xs is whole same
 part_ok z shape box (Err e) seen given list xs is whole same = tt
-
-pub valid_ok :
-    {T E : Type 0} (z : ℤ) (r : Result T E) (seen : T → Option (List Element)) (given : Option (List Element)) →
-    IfOk r (λ v. seen v ≡ list_less z given) → IfOk r (λ _. AreMeant given) → IfOk r (λ v. IsSome (seen v))
-valid_ok z (Ok v) seen given is meant = decoded_valid z given (seen v) is meant
-valid_ok z (Err e) seen given is meant = tt
 
 -- a part of elements whose bytes fit
 pub part_bytes : (result part whole size : ℕ) → result ≡ part → part ≤ whole → whole * size < 2 ^ 64 →

@@ -1,6 +1,6 @@
 -- The level below an offset, and elements that it is put on or taken off.
 use Rattle.std.proofs.Common.{◌≡◌, ℕ, zero, suc, ◌^◌, ◌<◌, ◌≤◌, ◌==◌, ℤ, Bool, true, false, List, [], ◌∷◌, length, map}
-use Rattle.std.proofs.Common.{replicate, get_or, Option, Some, None, IsSome, unwrap_or, refl, sym, ap, ap₂, ◌∙◌, subst}
+use Rattle.std.proofs.Common.{replicate, get_or, Some, None, refl, sym, ap, ap₂, ◌∙◌, subst}
 use Rattle.std.proofs.Common.{arith, eq-eqb, eqb-true}
 use Rattle.std.specs.List.{AllByRecursion}
 use Rattle.std.proofs.lemmas.Bool.{cond-true}
@@ -70,18 +70,6 @@ below_short z t fill served short =
     let here : length fill < 2 ^ 32 = subst (λ (k : Kind). length (innermost_fill k fill) < 2 ^ 32) k.1 short in
     let below : length (bytes_less z fill) < 2 ^ 32 = omega (arith, here, length-less z fill) in
     subst (λ (k : Kind). length (innermost_fill k (bytes_less z fill)) < 2 ^ 32) (sym k.1) below
-
--- the fill element of the level below
-pub below_level : (z : ℤ) (t : DataType) (fill : List ℕ) → offset_type_unserved t ≡ None →
-    IsSome (fill_element (kind_of t) fill) →
-    unwrap_or (fill_element (kind_of t) (bytes_less z fill)) null ≡
-    element_less z (unwrap_or (fill_element (kind_of t) fill) null)
-below_level z t fill served there = go (fill_element (kind_of t) fill) refl there
-  where
-    go : (o : Option Element) → fill_element (kind_of t) fill ≡ o → IsSome o →
-        unwrap_or (fill_element (kind_of t) (bytes_less z fill)) null ≡ element_less z (unwrap_or o null)
-    go (Some x) is there = ap (λ (o : Option Element). unwrap_or o null) (below_denotes z t fill x served is)
-    go None is there = cc
 
 pub same_count : (shape : List ℕ) → count_of shape ≤ count_of shape
 same_count shape = omega arith

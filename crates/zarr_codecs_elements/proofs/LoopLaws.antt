@@ -1,18 +1,18 @@
 -- What loops over orders and shapes keep.
 use Rattle.std.proofs.Common.{◌≡◌, ℕ, zero, suc, ◌+◌, ◌-◌, ◌*◌, ◌<◌, ◌≤◌, ◌==◌, Bool, true, false, not, ◌&&◌, ◌||◌}
-use Rattle.std.proofs.Common.{nat_lt, List, [], ◌∷◌, ◌++◌, length, map, set, get_or, drop, take, replicate, flat_map}
+use Rattle.std.proofs.Common.{nat_lt, List, [], ◌∷◌, ◌++◌, length, map, set, get_or, drop, take, flat_map}
 use Rattle.std.proofs.Common.{arith, ap, ap₂, sym, refl, ◌∙◌, subst, eqb-true, eq-eqb, ◌^◌, Result, Ok, Err, IfOk}
 use Rattle.std.specs.List.{list_all, list_any, range_with_len}
 use Rattle.std.proofs.lemmas.Bool.{and_parts, and_from, lt-ltb}
 use Rattle.std.proofs.lemmas.Bool.Decides.{nat_tests}
-use Rattle.std.proofs.lemmas.List.{drop_more, append_assoc, append-nil, length-set, length-map, length-replicate}
-use Rattle.std.proofs.lemmas.List.{get_or-set_same, get_or-set_other, get_or-replicate, get_or-take, length-take-le}
+use Rattle.std.proofs.lemmas.List.{drop_more, append_assoc, append-nil, length-set, length-map}
+use Rattle.std.proofs.lemmas.List.{get_or-set_same, get_or-set_other, get_or-take, length-take-le}
 use Rattle.std.proofs.lemmas.List.{take_more, take_all}
 use Rattle.std.proofs.lemmas.List.Folds.{list_any_more, list_all_more, list_any-append}
 use Rattle.std.proofs.Math.Nat.{add-mul, le-mul_of_pos_right, mul_comm}
 use Rattle.std.proofs.lemmas.List.Concat.{flat_map_single}
 use Rattle.zarrs_codec_traits.specs.Prelude.{count_of, whole, contains, permuted, AllBelow}
-use Rattle.zarr_codecs_elements.specs.Order.{are_apart, is_order, scattered, row_major, dot}
+use Rattle.zarr_codecs_elements.specs.Order.{are_apart, is_order, scattered, dot}
 use Rattle.zarr_codecs_elements.specs.Moved.{strided, moved_steps}
 use Rattle.zarr_codecs_elements.proofs.OrderLaws.{order_below, place_of}
 use Rattle.zarr_codecs_elements.proofs.CountLaws.{other, none_of, count_of-permuted}
@@ -22,14 +22,6 @@ use Rattle.zarr_model.proofs.RegionLaws.{count_whole, place_below}
 -- the numbers of an order are below its length
 pub all_below : (order : List ℕ) (n : ℕ) → is_order order ≡ true → n ≡ length order → AllBelow n order
 all_below order n e same = λ k h. subst (λ m. get_or order k 0 < m) (sym same) (order_below order k e h)
-
--- one more number of an order
-pub one_permuted : (order numbers out all : List ℕ) (i : ℕ) → i < length order →
-    out ++ permuted (drop i order) numbers ≡ all →
-    (out ++ get_or numbers (get_or order i 0) 0 ∷ []) ++ permuted (drop (i + 1) order) numbers ≡ all
-one_permuted order numbers out all i h e =
-    append_assoc out (get_or numbers (get_or order i 0) 0 ∷ []) (permuted (drop (i + 1) order) numbers)
-    ∙ (ap (λ l. out ++ permuted l numbers) (sym (drop_more order i 0 h)) ∙ e)
 
 -- one more place, the last one first
 back_one : (order : List ℕ) (next : ℕ) → 0 < next → next ≤ length order →
@@ -52,20 +44,6 @@ one_place order places start next some within e =
     ap (λ l. set l (get_or order (next - 1) 0) (next - 1)) e
     ∙ sym (ap₂ (λ a b. scattered a b start) (back_one order next some within)
     (range_back next (length order) some within))
-
-pub one_step : (order shape steps start : List ℕ) (next step : ℕ) → 0 < next → next ≤ length order →
-    step ≡ count_of (permuted (drop next order) shape) →
-    steps ≡ scattered (drop next order) (row_major (permuted (drop next order) shape)) start →
-    (set steps (get_or order (next - 1) 0) step ≡
-    scattered (drop (next - 1) order) (row_major (permuted (drop (next - 1) order) shape)) start)
-    × (step * get_or shape (get_or order (next - 1) 0) 0 ≡ count_of (permuted (drop (next - 1) order) shape))
-one_step order shape steps start next step some within step_is steps_are =
-    let here = back_one order next some within in (
-      ap₂ (λ l s. set l (get_or order (next - 1) 0) s) steps_are step_is
-          ∙ sym (ap (λ l. scattered l (row_major (permuted l shape)) start) here),
-      mul_comm step (get_or shape (get_or order (next - 1) 0) 0) ∙ (ap (λ m.
-          get_or shape (get_or order (next - 1) 0) 0 * m) step_is ∙ sym (ap (λ l. count_of (permuted l shape)) here)),
-    )
 
 -- what is counted fits
 pub positive_parts : (n k : ℕ) → 0 < n * k → (0 < n) × (0 < k)
@@ -95,10 +73,6 @@ parts_fit order shape e long some fits k =
     let same : count_of (permuted (drop k order) shape) ≡ count_of (drop k (permuted order shape)) =
     ap count_of (drop_permuted order shape k) in
     omega (arith, all, part, same, fits)
-
-pub shape_below : (order shape : List ℕ) → is_order order ≡ true → length shape ≡ length order →
-    AllBelow (length shape) order
-shape_below order shape e long = λ k h. subst (λ n. get_or order k 0 < n) (sym long) (order_below order k e h)
 
 -- the greatest of the numbers over a shape is the place of its last tuple
 last_inside : (shape : List ℕ) → 0 < count_of shape → contains (whole shape) (map (λ n. n - 1) shape) ≡ true
@@ -138,9 +112,6 @@ run_below limit from len step i h fits =
     ap (λ n. n * step) (let e : len - 1 ≡ len - 1 - i + i = omega arith in e) in
     omega (arith, grown, same, fits)
 
-pub run_fits : (from len step i : ℕ) → i < len → from + (len - 1) * step < 2 ^ 64 → from + i * step < 2 ^ 64
-run_fits from len step i h fits = run_below (2 ^ 64) from len step i h fits
-
 pub one_more : {A : Type 0} (f : ℕ → A) (out all : List A) (i len : ℕ) → i < len →
     out ++ map f (range_with_len i (len - i)) ≡ all →
     (out ++ f i ∷ []) ++ map f (range_with_len (i + 1) (len - (i + 1))) ≡ all
@@ -148,11 +119,6 @@ one_more f out all i len h e =
     append_assoc out (f i ∷ []) (map f (range_with_len (i + 1) (len - (i + 1))))
     ∙ (ap (λ n. out ++ map f (range_with_len i n)) (let same : suc (len - (i + 1)) ≡ len - i = omega (arith, h) in same)
     ∙ e)
-
-pub none_more : {A : Type 0} (f : ℕ → A) (out all : List A) (i len : ℕ) → len ≤ i →
-    out ++ map f (range_with_len i (len - i)) ≡ all → out ≡ all
-none_more f out all i len h e = sym (append-nil out)
-    ∙ (ap (λ n. out ++ map f (range_with_len i n)) (let none : 0 ≡ len - i = omega (arith, h) in none) ∙ e)
 
 -- a part of a shape after another
 pub next_part : (f : ℕ → List ℕ) (out new all : List ℕ) (i len : ℕ) → i < len → new ≡ out ++ f i →
@@ -174,27 +140,12 @@ pub last_part : (len step from : ℕ) (rest steps : List ℕ) → length rest �
 last_part len step from [] steps e = sym (flat_map_single (λ i. from + i * step) (range_with_len 0 len))
 last_part len step from (n ∷ rest) steps e = absurd (omega (arith, e))
 
-part_below : (limit from len step i : ℕ) (rest : List ℕ) (steps : List ℕ) → i < len → from + dot
-    (map (λ n. n - 1) (len ∷ rest)) (step ∷ steps) < limit → from + i * step + dot (map (λ n. n - 1) rest) steps < limit
-part_below limit from len step i rest steps h fits =
-    let moved : from + dot (map (λ n. n - 1) rest) steps + (len - 1) * step < limit = omega (arith, fits) in
-    let run = run_below limit (from + dot (map (λ n. n - 1) rest) steps) len step i h moved in
-    omega (arith, run)
-
 -- the numbers that were met
 pub record AreSeen (i : ℕ) (order : List ℕ) (seen : List Bool) : Type 0 where
   pub long : length seen ≡ length order
   pub each : (d : ℕ) → d < length order → get_or seen d false ≡ list_any (λ y. d == y) (take i order)
   pub below : list_all (λ d. nat_lt d (length order)) (take i order) ≡ true
   pub apart : are_apart (take i order) ≡ true
-
-pub none_seen : (order : List ℕ) (seen : List Bool) → seen ≡ replicate (length order) false → AreSeen 0 order seen
-none_seen order seen e = record {
-  long = ap length e ∙ length-replicate (length order) false;
-  each = λ d h. ap (λ l. get_or l d false) e ∙ get_or-replicate (length order) d false false h;
-  below = refl;
-  apart = refl;
-}
 
 pub apart_at : (xs : List ℕ) (i j : ℕ) → are_apart xs ≡ true → i < j → j < length xs → get_or xs i 0 ≡ get_or xs j 0 → ⊥
 apart_at [] i j e a b same = absurd (omega arith)
@@ -294,27 +245,3 @@ run_is (Ok v) shape steps old new from some has none is =
     is ∙ ap (λ l. old ++ l) (last_part (get_or shape 0 0) (get_or steps 0 0) from
     (take (length shape - 1) (drop 1 shape)) (take (length steps - 1) (drop 1 steps)) none
     ∙ sym (ap₂ (λ a b. strided a b from) (split_first shape some) (split_first steps has)))
-
-pub parts_are : (shape steps old new : List ℕ) (from : ℕ) → 0 < length shape → 0 < length steps →
-    new ≡ old ++ flat_map (λ i. strided (take (length shape - 1) (drop 1 shape))
-    (take (length steps - 1) (drop 1 steps)) (from + i * get_or steps 0 0)) (range_with_len 0 (get_or shape 0 0)) →
-    new ≡ old ++ strided shape steps from
-parts_are shape steps old new from some has is =
-    is ∙ ap (λ l. old ++ l) (sym (ap₂ (λ a b. strided a b from) (split_first shape some) (split_first steps has)))
-
-pub rest_below : (limit : ℕ) (shape steps : List ℕ) (from i : ℕ) → 0 < length shape → 0 < length steps →
-    i < get_or shape 0 0 → from + dot (map (λ n. n - 1) shape) steps < limit →
-    from + i * get_or steps 0 0 + dot (map (λ n. n - 1) (take (length shape - 1) (drop 1 shape)))
-    (take (length steps - 1) (drop 1 steps)) < limit
-rest_below limit shape steps from i some has low fits =
-    part_below limit from (get_or shape 0 0) (get_or steps 0 0) i (take (length shape - 1) (drop 1 shape))
-    (take (length steps - 1) (drop 1 steps)) low
-    (subst (λ l. from + dot (map (λ n. n - 1) l) (get_or steps 0 0 ∷ take (length steps - 1) (drop 1 steps))
-    < limit) (split_first shape some)
-    (subst (λ l. from + dot (map (λ n. n - 1) shape) l < limit) (split_first steps has) fits))
-
-pub rest_fits : (shape steps : List ℕ) (from i : ℕ) → 0 < length shape → 0 < length steps → i < get_or shape 0 0 →
-    from + dot (map (λ n. n - 1) shape) steps < 2 ^ 64 →
-    from + i * get_or steps 0 0 + dot (map (λ n. n - 1) (take (length shape - 1) (drop 1 shape)))
-    (take (length steps - 1) (drop 1 steps)) < 2 ^ 64
-rest_fits shape steps from i some has low fits = rest_below (2 ^ 64) shape steps from i some has low fits

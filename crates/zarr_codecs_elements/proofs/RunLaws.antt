@@ -108,14 +108,6 @@ runs_below number run (p ∷ runs) all =
     (range_below (number * run) (p * run) run (piece_ends p number run (number * run) (all 0 (omega arith)) refl))
     (runs_below number run runs (below_rest number p runs all))
 
--- the bytes of runs are those of their elements
-pub runs_gathered : (size number run : ℕ) (value runs : List ℕ) → AllBelow number runs → flat_map (picked_piece (run
-    * size) number value value) runs ≡ flat_map (picked_piece size (number * run) value value) (in_runs run runs)
-runs_gathered size number run value runs all =
-    picked_below (run * size) number value runs all
-    ∙ (runs_are_pieces size run value runs
-    ∙ sym (picked_below size (number * run) value (in_runs run runs) (runs_below number run runs all)))
-
 pub long_of_runs : (size number run : ℕ) (value : List ℕ) → length value ≡ number * run * size →
     length value ≡ number * (run * size)
 long_of_runs size number run value long = long ∙ mul_assoc number run size

@@ -4,7 +4,6 @@ use Rattle.std.proofs.Common.{ap, ◌∙◌, subst, arith}
 use Rattle.std.proofs.lemmas.Bool.{and_parts, and_from, ltb-true, lt-ltb}
 use Rattle.std.proofs.lemmas.List.{length-map}
 use Rattle.zarrs_codec_traits.specs.Prelude.{Span, Region, starts, sizes, permuted, permuted_box, region_of, is_box}
-use Rattle.zarrs_codec_traits.specs.Prelude.{AllBelow}
 use Rattle.zarr_codecs_elements.specs.Order.{is_order}
 use Rattle.zarr_codecs_elements.proofs.OrderLaws.{order_below, length-permuted, permuted_at}
 
@@ -44,8 +43,3 @@ pub region_is : (order : List ℕ) (box : Region) →
 region_is [] box = refl
 region_is (d ∷ order) box = ap (λ (rest : Region).
     record { start = get_or (starts box) d 0; size = get_or (sizes box) d 0 } ∷ rest) (region_is order box)
-
-pub box_below : (order : List ℕ) (box : Region) (number : ℕ) → is_order order ≡ true → length box ≡ length order →
-    number ≡ length box → AllBelow number order
-box_below order box number e long is =
-    λ k h. subst (λ n. get_or order k 0 < n) (sym (is ∙ long)) (order_below order k e h)

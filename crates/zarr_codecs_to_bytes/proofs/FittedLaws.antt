@@ -6,7 +6,7 @@ use Rattle.std.specs.List.{AllByRecursion}
 use Rattle.std.proofs.lemmas.Bool.{cond-true, leb-true}
 use Rattle.std.proofs.lemmas.List.{length-append, length-replicate, length-take-le, take-append-le, drop-take}
 use Rattle.std.proofs.Math.Nat.{mul-le-mul_right}
-use Rattle.zarrs_codec_traits.specs.Prelude.{Span, Region, count_of, ends_within, Element, DataType, of_bytes, Kind}
+use Rattle.zarrs_codec_traits.specs.Prelude.{Span, Region, count_of, ends_within, DataType, of_bytes, Kind}
 use Rattle.zarrs_codec_traits.specs.Prelude.{fixed, kind_of, pieces, bytes_table, slice_of, slices_of, first_invalid}
 use Rattle.zarr_model.specs.Codec.{ByteOrder, Level, Options, bytes_codec, decode_array_to_bytes, decode_fixed}
 use Rattle.zarr_model.specs.Codec.{from_order, component_size}

@@ -46,10 +46,6 @@ steps-add zero n r = let none : 0 + n ≡ n = omega arith in ap (λ k. bit_steps
 steps-add (suc m) n r = let one : suc m + n ≡ suc (m + n) = omega arith in
     ap (λ k. bit_steps k r) one ∙ steps-add m n (bit_step r)
 
-steps-zero : (n : ℕ) → bit_steps n 0 ≡ 0
-steps-zero zero = refl
-steps-zero (suc n) = steps-zero n
-
 -- steps over a number that stands above as many bits leave it alone
 steps-over : (k m : ℕ) → bit_steps k (m * 2 ^ k) ≡ m
 steps-over zero m = omega arith

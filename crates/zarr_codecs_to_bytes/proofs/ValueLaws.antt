@@ -5,7 +5,7 @@ use Rattle.std.proofs.Common.{refl, sym, ap, ap₂, ◌∙◌, subst, arith, if�
 use Rattle.std.proofs.Common.{append-nil, slice_index_or}
 use Rattle.std.specs.List.{AllByRecursion}
 use Rattle.std.proofs.lemmas.List.{length-append, drop_at, length-drop, length-map, map-append, take-append-le}
-use Rattle.std.proofs.lemmas.List.{drop-append-le, drop-drop, drop_all, length-take}
+use Rattle.std.proofs.lemmas.List.{drop-append-le, drop-drop, length-take}
 use Rattle.zarr_model.proofs.VlenLaws.{decode_vlen-of}
 use Rattle.std.proofs.Math.Seq.{take-length, drop-cons}
 use Rattle.std.proofs.lemmas.Bool.{and_parts, and_from, le-leb, leb-true, leb-false, lt-leb, cond-true, cond-false}
@@ -212,12 +212,6 @@ step_items out new all value rest i from some so_far made =
     ∙ (append_assoc out (low_bytes 4 (length piece) ++ piece) more
     ∙ (ap (λ offsets. out ++ items_of (between_offsets (from ∷ offsets) value)) (sym (drop_next rest i some)) ∙ so_far))
 
-pub walked : (out all value rest : List ℕ) (i from : ℕ) → length rest ≤ i →
-    out ++ items_of (between_offsets (from ∷ drop i rest) value) ≡ all → out ≡ all
-walked out all value rest i from over so_far =
-    sym (append-nil out)
-    ∙ (ap (λ offsets. out ++ items_of (between_offsets (from ∷ offsets) value)) (sym (drop_all i rest over)) ∙ so_far)
-
 -- no item there
 pub none_left : (left : ℕ) (items bytes offsets : List ℕ) (all : Option (List Element)) → 0 < left →
     ((k : ℕ) → decode_items (suc k) items ≡ None) →
@@ -257,9 +251,6 @@ pub next_values : (left elements : ℕ) (item bytes offsets new_bytes new_offset
 next_values left elements item bytes offsets new_bytes new_offsets some most values small made ends =
     let count : elements - (left - 1) ≡ suc (elements - left) = omega (arith, some, most) in
     rw (count, made, ends) (more_values (elements - left) bytes offsets item values small)
-
-pub first_values : AreValues 0 [] (0 ∷ [])
-first_values = record { rise = refl; short = refl }
 
 -- what a value has is what the model says of it
 values_of : (list : List (List ℕ)) → flat_map (λ element. low_bytes 4 (length (bytes_of element)) ++ bytes_of element)

@@ -1,8 +1,8 @@
 -- Lengths that are laid one after another.
-use Rattle.std.proofs.Common.{◌≡◌, ℕ, zero, suc, ◌+◌, ◌-◌, ◌<◌, ◌≤◌, ◌==◌, ◌&&◌, nat_lt, Bool, true, false, List, []}
+use Rattle.std.proofs.Common.{◌≡◌, ℕ, zero, suc, ◌+◌, ◌-◌, ◌<◌, ◌≤◌, ◌&&◌, nat_lt, Bool, true, false, List, []}
 use Rattle.std.proofs.Common.{◌∷◌, ◌++◌, length, take, drop, sum, get_or, refl, sym, ap, ap₂, ◌∙◌, subst, arith}
 use Rattle.std.proofs.lemmas.Bool.{and_parts, ltb-true, lt-ltb, eqb-true}
-use Rattle.std.proofs.lemmas.List.{take_more, drop_more, take_all}
+use Rattle.std.proofs.lemmas.List.{take_more, drop_more}
 use Rattle.std.proofs.lemmas.List.Sums.{sum_by_more, sum_by-cons}
 use Rattle.zarr_model.specs.Prelude.{starts_from, cuts, IsRising}
 
@@ -66,9 +66,6 @@ pub record AreLaid (extent : ℕ) (all : List ℕ) (k left : ℕ) (kept starts :
   pub left_is : left ≡ extent - sum (take k all)
   pub rest : cuts extent all ≡ cuts left (drop k all)
 
-pub none_laid : (extent : ℕ) (all : List ℕ) → AreLaid extent all 0 extent [] []
-none_laid extent all = record { kept_are = refl; starts_are = refl; left_is = omega arith; rest = refl }
-
 true_and : (b : Bool) → b ≡ true → (c : Bool) → (b && c) ≡ c
 true_and true e c = refl
 true_and false e c = cc
@@ -106,23 +103,6 @@ module _ (extent : ℕ) (all : List ℕ) (k left : ℕ) (kept starts : List ℕ)
             (cuts (left - get_or all k 0) (drop (k + 1) all))
             ∙ ap (λ m. cuts (left - m) (drop (k + 1) all)) (sym is));
       }
-
--- all of them are kept, and nothing is left
-pub all_laid : (extent : ℕ) (all : List ℕ) (k left : ℕ) (kept starts : List ℕ) →
-    AreLaid extent all k left kept starts → length all ≤ k → (kept ≡ all) × (starts ≡ starts_from 0 kept)
-    × (cuts extent all ≡ (left == 0))
-all_laid extent all k left kept starts laid h =
-    let same : take k all ≡ all = take_all k all h in (
-      laid.kept_are ∙ same,
-      laid.starts_are ∙ ap (starts_from 0) (sym laid.kept_are),
-      laid.rest ∙ ap (cuts left) (nothing k all h),
-    )
-  where
-    nothing : (k : ℕ) (l : List ℕ) → length l ≤ k → drop k l ≡ []
-    nothing zero [] h = refl
-    nothing (suc k) [] h = refl
-    nothing zero (x ∷ l) h = absurd (omega arith)
-    nothing (suc k) (x ∷ l) h = nothing k l (omega arith)
 
 pub laid_next : (extent : ℕ) (all : List ℕ) (k left : ℕ) (kept starts : List ℕ) (own left' start : ℕ)
     (kept' starts' : List ℕ) →

@@ -21,9 +21,6 @@ module _ {A : Type 0} (f : ℕ → List A) (span : Span) where
   abbrev picked : ℕ → List A
   picked index = cond (is_in index span) (f index) []
 
-  shared : ℕ → ℕ → List ℕ
-  shared a n = range_with_len (max a span.start) (min (a + n) (span.start + span.size) - max a span.start)
-
   at_none : (a n : ℕ) → n ≡ 0 → flat_map f (range_with_len a n) ≡ []
   at_none a n e = ap (λ m. flat_map f (range_with_len a m)) e
 

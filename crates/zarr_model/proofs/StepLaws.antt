@@ -12,7 +12,7 @@ use Rattle.zarr_model.specs.Grid.{IsChunk, CoversShape}
 use Rattle.zarr_model.specs.Codec.{Options}
 use Rattle.zarr_model.specs.Store.{Content, Layout, IsHonest, WhollyMeans, box_content, chunk_content}
 use Rattle.zarr_model.specs.Command.{Command, read, Refusal, Description, kind, layout, refusal, reply_of, array_of}
-use Rattle.zarr_model.specs.Command.{after, Answer, answered_refused, Matches, elements, array_after}
+use Rattle.zarr_model.specs.Command.{after, Answer, Matches, elements, array_after}
 use Rattle.zarr_model.specs.Cost.{command_chunks, asks_store, calls_of, counted, present_in, present_under}
 use Rattle.zarr_model.specs.Failure.{ChunkHas, IsCutShort, FailedAt}
 use Rattle.zarr_model.specs.Shown.{Shown}
@@ -58,17 +58,6 @@ serves-unchanged description options command old new answer same stays present r
       ap is_some (same (description.key chunk)) ∙ sym (ap (λ p. p chunk) (present array (present_in description old)));
   keys = LeavesKeys-same description options (command ∷ []) old new same;
 }
-
-pub refused-serves : (description : Description) (options : Options) (command : Command) (why : Refusal) (old new :
-    Content) → refusal description command ≡ Some why → ((key : List ℕ) → new key ≡ old key) →
-    ServesWhole description options (command ∷ []) old new (answered_refused why ∷ [])
-refused-serves description options command why old new is same =
-    serves-unchanged description options command old new (answered_refused why) same
-    (λ array. ap (λ w. array_of description w command array) is)
-    (λ array present.
-    ap (λ w. present_under description options w command (after description command array) present) is)
-    (λ array meant.
-    subst (λ w. Matches (kind description) (answered_refused why) (reply_of w command array)) (sym is) refl)
 
 read_after : (description : Description) (why : Option Refusal) (region : Region) (array : Array Element) →
     array_of description why (read region) array ≡ array

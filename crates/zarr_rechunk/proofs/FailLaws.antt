@@ -80,17 +80,6 @@ write_fails target options b bytes before now k s at accepted is cause told =
 -- an error of a band is one of reading or writing it
 module _ (source target : ArrayDocument) (options : Options) (b : Region) (from_before from_now to_before to_now :
     Shown) where
-  pub read_failed : (k : RechunkErrorKind) → ReadFails source options b from_before from_now k →
-      BandFails source target options b from_before from_now to_before to_now k
-  read_failed (rechunk.SourceChunk key error) h = h
-  read_failed rechunk.SourceStore h = h
-  read_failed rechunk.OutOfMemory h = tt
-  read_failed rechunk.ShapeMismatch h = absurd h
-  read_failed rechunk.DataTypeMismatch h = absurd h
-  read_failed rechunk.BandTooLarge h = absurd h
-  read_failed (rechunk.TargetChunk key error) h = absurd h
-  read_failed rechunk.TargetStore h = absurd h
-
   write_failed : (k : RechunkErrorKind) → WriteFails target options b to_before to_now k →
       BandFails source target options b from_before from_now to_before to_now k
   write_failed (rechunk.TargetChunk key error) h = h
@@ -106,10 +95,6 @@ module _ (source target : ArrayDocument) (options : Options) (b : Region) (from_
       to_now) → IfErr r (BandFails source target options b from_before from_now to_before to_now)
   written_failed (Ok v) h = tt
   written_failed (Err k) h = write_failed k h
-
-  pub memory_failed : (k : RechunkErrorKind) → k ≡ rechunk.OutOfMemory →
-      BandFails source target options b from_before from_now to_before to_now k
-  memory_failed k is = subst (BandFails source target options b from_before from_now to_before to_now) (sym is) tt
 
 -- the cause of an error at a band, over the stores as they were before the bands that were moved
 module _ (source target : ArrayDocument) (options : Options) (list : List Region)

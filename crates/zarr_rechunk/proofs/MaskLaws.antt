@@ -8,7 +8,7 @@ use Rattle.zarrs_codec_traits.specs.Prelude.{ArrayBytes, optional_bytes, ends_fr
 use Rattle.zarrs_codec_slices.specs.Picking.{are_within, value_of}
 use Rattle.zarrs_codec_slices.proofs.ValueLaws.{gathered_within}
 use Rattle.zarrs_codec_array_bytes.proofs.CheckLaws.{mask_long, inner_long}
-use Rattle.zarr_rechunk.specs.Cleared.{kept_piece, kept_value, kept_flag, pieces_under, values_under, mask_under}
+use Rattle.zarr_rechunk.specs.Cleared.{kept_piece, kept_value, pieces_under, values_under, mask_under}
 
 next_of : (xs : List ℕ) (i : ℕ) → i < length xs → drop i xs ≡ get_or xs i 0 ∷ drop (i + 1) xs
 next_of xs i more =
@@ -135,24 +135,6 @@ pub length-mask_under : (above mask : List ℕ) → length mask ≡ length above
 length-mask_under [] mask same = refl
 length-mask_under (b ∷ above) [] same = same
 length-mask_under (b ∷ above) (flag ∷ mask) same = ap suc (length-mask_under above mask (omega (arith, same)))
-
-pub mask_more : (i : ℕ) (above mask done new all : List ℕ) → i < length above → length mask ≡ length above →
-    new ≡ done ++ kept_flag (get_or above i 0) (get_or mask i 0) ∷ [] →
-    done ++ mask_under (drop i above) (drop i mask) ≡ all →
-    new ++ mask_under (drop (i + 1) above) (drop (i + 1) mask) ≡ all
-mask_more i above mask done new all more same is so_far =
-    let first : drop i above ≡ get_or above i 0 ∷ drop (i + 1) above = next_of above i more in
-    let second : drop i mask ≡ get_or mask i 0 ∷ drop (i + 1) mask = next_of mask i (omega (arith, more, same)) in
-    ap (λ d. d ++ mask_under (drop (i + 1) above) (drop (i + 1) mask)) is
-    ∙ (append_assoc done
-    (kept_flag (get_or above i 0) (get_or mask i 0) ∷ []) (mask_under (drop (i + 1) above) (drop (i + 1) mask))
-    ∙ (ap (λ m. done ++ mask_under m (get_or mask i 0 ∷ drop (i + 1) mask)) (sym first)
-    ∙ (ap (λ m. done ++ mask_under (drop i above) m) (sym second) ∙ so_far)))
-
-pub mask_end : (i : ℕ) (above mask done all : List ℕ) → length above ≤ i →
-    done ++ mask_under (drop i above) (drop i mask) ≡ all → done ≡ all
-mask_end i above mask done all end so_far =
-    sym (append-nil done) ∙ (ap (λ m. done ++ mask_under m (drop i mask)) (sym (drop_all i above end)) ∙ so_far)
 
 -- what stands under a mask that is one under a mask
 pub mask_fits : (size : ℕ) (above mask : List ℕ) (under : ArrayBytes) →

@@ -1,13 +1,13 @@
 -- All bands of the target are moved.
 use Rattle.std.proofs.Common.{◌≡◌, ℕ, zero, suc, ◌+◌, ◌==◌, true, false, Bool, not, nat_le, List, [], ◌∷◌, length, take}
-use Rattle.std.proofs.Common.{filter, slice_get, Option, Some, None, IsSome, is_some, Result, Ok, Err, OnOk, IfErr, inr}
+use Rattle.std.proofs.Common.{slice_get, Option, Some, None, IsSome, is_some, Result, Ok, Err, OnOk, IfErr, inr}
 use Rattle.std.proofs.Common.{refl, sym, ap, ap₂, ◌∙◌, subst, take_all, arith, eq-eqb}
 use Rattle.std.specs.List.{list_any}
 use Rattle.std.proofs.Math.Path.{fun_ext}
 use Rattle.std.proofs.lemmas.Bool.{and_parts, or_parts}
-use Rattle.zarr_model.specs.Prelude.{Region, count, ends_within, Element, Array, Kind, chunks, kind, kind_of, DataType}
+use Rattle.zarr_model.specs.Prelude.{Region, count, ends_within, Element, Array, Kind, kind, kind_of, DataType}
 use Rattle.zarr_model.specs.Prelude.{fixed_size, ArrayBytes, array_bytes, meaning, has_long_element, Options}
-use Rattle.zarr_model.specs.Prelude.{Description, layout, IsHonest, IsSound, CoversShape, Means, Shown, counted, Rose}
+use Rattle.zarr_model.specs.Prelude.{Description, layout, IsHonest, IsSound, CoversShape, Means, Shown, counted}
 use Rattle.zarr_model.specs.Prelude.{stored_array, Refusal, refused_if, or_then, is_too_large, region_refusal}
 use Rattle.zarr_model.specs.Prelude.{incompatible_dimensionality, subset_out_of_bounds, region_too_large}
 use Rattle.zarr_model.specs.Prelude.{element_too_long, refusal, reply, reply_of, read, write}
@@ -23,7 +23,6 @@ use Rattle.zarr_rechunk.specs.Band.{AreAlike, AreCleared, HasReadBand, HasWritte
 use Rattle.zarr_rechunk.specs.Fails.{is_large_band, has_large, MayMove, FailsAtBand, FailsToMove}
 use Rattle.zarr_rechunk.specs.Whole.{HasMovedArray, HasNotMoved}
 use Rattle.zarr_rechunk.specs.declared.error.RechunkError.{RechunkError}
-use Rattle.zarr_rechunk.specs.declared.error.RechunkErrorKind.TheVariants.{OutOfMemory}
 use Rattle.zarr_rechunk.proofs.BandLaws.{BandsCut, IsProduct, each_product_is_cut}
 use Rattle.zarr_rechunk.proofs.MeanLaws.{same_mean}
 use Rattle.zarr_rechunk.proofs.ShortLaws.{still_short}
@@ -71,10 +70,6 @@ same_refusal source target band alike =
     (or_then (refused_if (not (ends_within band shape)) subset_out_of_bounds)
     (refused_if (is_too_large (fixed_size (kind_of type)) (count band)) region_too_large)))
     alike.shape alike.data_type
-
-pub alike_accepted : (source target : Description) (band : Region) → AreAlike source target →
-    region_refusal target band ≡ None → region_refusal source band ≡ None
-alike_accepted source target band alike accepted = same_refusal source target band alike ∙ accepted
 
 -- bytes that are elements mean some
 pub are_some : (kind : Kind) (n : ℕ) (bytes : ArrayBytes) → IsSome (meaning kind n bytes) → AreElements kind bytes

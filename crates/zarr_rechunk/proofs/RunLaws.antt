@@ -5,41 +5,24 @@ use Rattle.std.proofs.lemmas.Bool.{true≢false, cases_Bool}
 use Rattle.std.proofs.lemmas.List.Sums.{sum_by-cons}
 use Rattle.std.specs.List.{Contains}
 use Rattle.std.proofs.lemmas.Map.Views.{Contains-from_any}
-use Rattle.zarr_model.specs.Prelude.{Region, Element, count, kind, ArrayBytes, meaning, has_long_element, CoversShape}
+use Rattle.zarr_model.specs.Prelude.{Region, Element, kind, ArrayBytes, CoversShape}
 use Rattle.zarr_model.specs.Prelude.{chunks_meeting, chunk_content, box_content, Options, Content, Description, layout}
-use Rattle.zarr_model.specs.Prelude.{IsHonest, IsSound, Means, Command, read, write, Refusal, refusal, region_refusal}
-use Rattle.zarr_model.specs.Prelude.{reply_of, answered, answered_done, answered_refused, Matches, Shown, counted}
+use Rattle.zarr_model.specs.Prelude.{IsHonest, IsSound, Means, Command, write, refusal}
+use Rattle.zarr_model.specs.Prelude.{reply_of, answered, answered_done, Matches, Shown, counted}
 use Rattle.zarr_model.specs.Prelude.{asks_of, puts_of, all_asks, all_puts, command_chunks, chunks_under, is_among}
-use Rattle.zarr_model.specs.Prelude.{RefusesRight, IsLeftAt, FailedAt, IsDamageMet, IsDamageSeen, MeetsNoDamage}
+use Rattle.zarr_model.specs.Prelude.{IsLeftAt, FailedAt, IsDamageMet, IsDamageSeen, MeetsNoDamage}
 use Rattle.zarr_model.specs.Prelude.{SeesNoDamage, passes_over, undamaged, stored_array, array_after}
 use Rattle.zarr_model.proofs.StoreLaws.{stored_array-meant, Means-from_whole}
 use Rattle.zarr_model.proofs.StepLaws.{honest-whole}
 use Rattle.zarr_model.proofs.FailureLaws.{same_bytes, cut_short-honest, listed_is_chunk}
 use Rattle.zarr_model.proofs.WithoutLaws.{undamaged-honest}
-use Rattle.zarrs_storage.specs.Store.{SameContent}
 use Rattle.zarr_array.specs.Ended.{Ended}
 use Rattle.zarr_array.specs.Runs.{Runs}
 use Rattle.zarr_array.specs.Session.{HasSessionCause}
 use Rattle.zarr_array.specs.declared.command_error.SessionErrorKind.{SessionErrorKind}
 use Rattle.zarr_array.specs.declared.command_error.SessionErrorKind.TheVariants as session
-use Rattle.zarr_rechunk.specs.Errors.{IsOfCommand}
 use Rattle.zarr_rechunk.specs.Moved.{DecodedOrStays}
-use Rattle.zarr_rechunk.specs.Band.{HasReadBand, HasWrittenBand, LeavesBand, StaysOutside}
-
--- a command that has no refusal is not refused
-pub not_refused : (array : Description) (command : Command) (why : Refusal) → refusal array command ≡ None →
-    RefusesRight array (command ∷ []) (answered_refused why ∷ []) → ⊥
-not_refused array command why none told =
-    let is : Some why ≡ refusal array command = cc in
-    let no : Some why ≡ None = is ∙ none in cc
-
--- the calls of a band
-read_asks : (source : Description) (b : Region) → refusal source (read b) ≡ None →
-    all_asks source (read b ∷ []) ≡ length (chunks_meeting source.grid b)
-read_asks source b none =
-    sum_by-cons (asks_of source) (read b) []
-    ∙ ((let same : asks_of source (read b) + 0 ≡ asks_of source (read b) = omega arith in same)
-    ∙ ap (λ why. length (chunks_under source why (read b))) none)
+use Rattle.zarr_rechunk.specs.Band.{HasWrittenBand, LeavesBand, StaysOutside}
 
 write_asks : (target : Description) (b : Region) (bytes : ArrayBytes) → refusal target (write b bytes) ≡ None →
     all_asks target (write b bytes ∷ []) ≡ length (chunks_meeting target.grid b)
@@ -54,22 +37,6 @@ write_puts target b bytes none =
     sum_by-cons (puts_of target) (write b bytes) []
     ∙ ((let same : puts_of target (write b bytes) + 0 ≡ puts_of target (write b bytes) = omega arith in same)
     ∙ ap (λ why. length (chunks_under target why (write b bytes))) none)
-
-pub read_done : (source : Description) (options : Options) (b : Region) (bytes : ArrayBytes) (before now : Shown) →
-    region_refusal source b ≡ None →
-    IsSome (meaning (kind source) (count b) bytes) → has_long_element bytes ≡ false → SameContent before now →
-    Runs source options (read b ∷ []) before now (Ok (answered bytes ∷ [])) →
-    HasReadBand source options b bytes before now
-read_done source options b bytes before now none valid short same ran = record {
-  accepted = none;
-  serves = ran.on.serves;
-  valid = valid;
-  short = short;
-  asks = ran.asks ∙ ap (counted before.asks) (read_asks source b none);
-  undamaged = ran.on.undamaged;
-  same = same;
-  later = ran.on.later;
-}
 
 module _ (target : Description) (options : Options) (covers : CoversShape target.shape target.grid)
     (sound : IsSound (layout target options)) (command : Command) (before now : Shown) where
@@ -207,11 +174,3 @@ written_done target options b bytes other before now covers sound none ran =
     Matches (kind target) (answered other) (reply_of (refusal target (write b bytes)) (write b bytes) array) =
     (ran.on.answers (write_meets target options b bytes before.content ran.on.undamaged) array means).0 in
     subst (λ why. Matches (kind target) (answered other) (reply_of why (write b bytes) array)) none matches
-
--- an error of a command is no refusal of a document
-pub of_command : (array : Description) (options : Options) (commands : List Command) (before now : Shown) (at : Option
-    (ℕ × ℕ)) (kind : SessionErrorKind) → HasSessionCause array options commands before now at kind → IsOfCommand kind
-of_command array options commands before now at (session.NotOpened error) cause = absurd cause
-of_command array options commands before now at (session.ChunkDecode key error) cause = tt
-of_command array options commands before now at session.Store cause = tt
-of_command array options commands before now at session.OutOfMemory cause = tt

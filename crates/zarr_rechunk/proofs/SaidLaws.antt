@@ -1,11 +1,11 @@
 -- From what words and an input say to what a move comes to.
 use Rattle.std.proofs.Common.{◌≡◌, ◌⊎◌, ℕ, ◌+◌, ◌≤◌, nat_lt, Bool, true, false, List, [], ◌∷◌, length, drop, Vec}
-use Rattle.std.proofs.Common.{Option, Some, None, IsUtf8, Result, Ok, Err, IfErr, OnOk, inl, inr, refl, sym, ap, ◌∙◌}
-use Rattle.std.proofs.Common.{subst, arith, cond}
-use Rattle.std.proofs.lemmas.Bool.{lt-ltb, le-ltb}
+use Rattle.std.proofs.Common.{Option, Some, None, IsUtf8, Result, Ok, Err, OnOk, inl, inr, refl, sym, ap, ◌∙◌}
+use Rattle.std.proofs.Common.{subst, cond}
+use Rattle.std.proofs.lemmas.Bool.{lt-ltb}
 use Rattle.std.specs.declared.alloc.Global.{Global}
 use Rattle.std.specs.Str.Lossy.{utf8_valid_len}
-use Rattle.zarr_model.specs.Prelude.{Told, Rose}
+use Rattle.zarr_model.specs.Prelude.{Told}
 use Rattle.zarr_model.proofs.KeyLineLaws.{key-lines}
 use Rattle.zarr_cli_lines.specs.Text.{first_entries, input_lines, line_at}
 use Rattle.zarr_cli_runs.specs.array.parts.Document.{ArrayDocument}
@@ -25,12 +25,12 @@ use Rattle.zarr_cli.specs.declared.lines.InputFault.{InputFault}
 use Rattle.zarr_cli.specs.declared.lines.InputFault.TheVariants as Fault
 use Rattle.zarr_cli.proofs.InputLaws.{lines_said, fault_said}
 use Rattle.zarr_rechunk.specs.declared.status.RechunkStatus.{RechunkStatus}
-use Rattle.zarr_rechunk.specs.declared.status.RechunkStatus.TheVariants.{Cli, Refused}
-use Rattle.zarr_rechunk.specs.Ending.{MoveEnding, cli, refused, move_ending_of}
+use Rattle.zarr_rechunk.specs.declared.status.RechunkStatus.TheVariants.{Cli}
+use Rattle.zarr_rechunk.specs.Ending.{cli, refused, move_ending_of}
 use Rattle.zarr_rechunk.specs.Input.{Move, MoveVerdict, moves, stops, keys_say, target_says, source_says}
 use Rattle.zarr_rechunk.specs.Input.{move_lines_say, move_verdict}
-use Rattle.zarr_rechunk.specs.Said.{Both, move_of, IsMoveFault, RanMove, AreUntouched, StoppedMove, RanMoveBy}
-use Rattle.zarr_rechunk.specs.Said.{RanMoveInput, TellsOfMove, move_outcome, IsPlainMove, IsKeysFault}
+use Rattle.zarr_rechunk.specs.Said.{Both, move_of, AreUntouched, StoppedMove, RanMoveBy}
+use Rattle.zarr_rechunk.specs.Said.{RanMoveInput, IsKeysFault}
 
 -- stores as before
 pub untouched_self : (stores : Both) → AreUntouched stores stores
@@ -38,26 +38,6 @@ untouched_self stores = (
   record { content = λ key. refl; asks = refl; taken = refl; puts = refl },
   record { content = λ key. refl; asks = refl; taken = refl; puts = refl },
 )
-
--- an early end of a move is told under its own name
-move_plain : (move : Move) (before now : Both) (status : RechunkStatus) → IsMoveFault move before now status →
-    IsPlainMove (move_outcome ⊥ ⊥ before now) status
-move_plain move before now (Refused why) fault = record { told = tt; named = tt }
-move_plain move before now (Cli (Chunk key)) fault = record { told = tt; named = tt }
-move_plain move before now (Cli Store) fault = record { told = fault; named = tt }
-move_plain move before now (Cli OutOfMemory) fault = record { told = tt; named = tt }
-move_plain move before now (Cli Done) fault = absurd fault
-move_plain move before now (Cli BadWords) fault = absurd fault
-move_plain move before now (Cli (BadInput line)) fault = absurd fault
-move_plain move before now (Cli (Document error)) fault = absurd fault
-move_plain move before now (Cli Read) fault = absurd fault
-move_plain move before now (Cli Write) fault = absurd fault
-move_plain move before now (Cli TooLong) fault = absurd fault
-
-pub all_plain : {Z : Type 0} (move : Move) (before now : Both) (result : Result (Vec ℕ Z) RechunkStatus) →
-    RanMove move before now result → IfErr result (IsPlainMove (move_outcome ⊥ ⊥ before now))
-all_plain move before now (Ok text) ran = tt
-all_plain move before now (Err status) ran = move_plain move before now status ran.fault
 
 -- a move was stopped before a store was touched
 stop : (told : Ending) (stores : Both) (status : RechunkStatus) → (move_ending_of status ≡ cli told) ⊎
@@ -86,15 +66,6 @@ stops_by said told stores status says is = subst (λ (v : MoveVerdict).
 
 -- the lines behind two documents
 module _ (source target : ArrayDocument) (lines : List (List ℕ)) where
-  pub keys_ran : {Z : Type 0} (entries : List (List ℕ × List ℕ)) (before now : Both) (result :
-      Result (Vec ℕ Z) RechunkStatus) → entries ≡ first_entries lines → length (first_entries lines) ≡ length lines →
-      RanMove (move_of source target entries) before now result →
-      RanMoveBy (keys_say source target lines) before now result
-  keys_ran entries before now result same all ran =
-      let whole : nat_lt (length (first_entries lines)) (length lines) ≡ false =
-      le-ltb (length (first_entries lines)) (length lines) (omega (arith, all)) in
-      rw whole (subst (λ (es : List (List ℕ × List ℕ)). RanMove (move_of source target es) before now result) same ran)
-
   pub keys_stop : (stores : Both) (status : Status) → IsKeysFault lines status →
       RanMoveBy {Z = Global} (keys_say source target lines) stores stores (Err (Cli status))
   keys_stop stores (BadInput line) fault =
@@ -111,19 +82,6 @@ module _ (source target : ArrayDocument) (lines : List (List ℕ)) where
   keys_stop stores Read fault = absurd fault
   keys_stop stores Write fault = absurd fault
   keys_stop stores TooLong fault = absurd fault
-
-  pub keys_plain : (stores : Both) (status : Status) → IsKeysFault lines status →
-      IsPlainMove (move_outcome ⊥ ⊥ stores stores) (Cli status)
-  keys_plain stores (BadInput line) fault = record { told = untouched_self stores; named = tt }
-  keys_plain stores OutOfMemory fault = record { told = tt; named = tt }
-  keys_plain stores Done fault = absurd fault
-  keys_plain stores BadWords fault = absurd fault
-  keys_plain stores (Document error) fault = absurd fault
-  keys_plain stores (Chunk key) fault = absurd fault
-  keys_plain stores Store fault = absurd fault
-  keys_plain stores Read fault = absurd fault
-  keys_plain stores Write fault = absurd fault
-  keys_plain stores TooLong fault = absurd fault
 
 -- a line that is opened, or is not: what it says then by an answer
 module _ (line : List ℕ) (says : OpenAnswer → MoveVerdict) (refuses : (why : OpenRefusal) →
@@ -152,28 +110,6 @@ module _ (line : List ℕ) (says : OpenAnswer → MoveVerdict) (refuses : (why :
   not_opened_says stores Read fault = absurd fault
   not_opened_says stores Write fault = absurd fault
   not_opened_says stores TooLong fault = absurd fault
-
-pub not_opened_plain : (answer : OpenAnswer) (stores : Both) (status : Status) → IsOpenFault status answer →
-    IsPlainMove (move_outcome ⊥ ⊥ stores stores) (Cli status)
-not_opened_plain answer stores (Document error) fault = by (open_refusal_of error) refl fault
-  where
-    by : (o : Option OpenRefusal) → open_refusal_of error ≡ o → IsRefusal o answer →
-        IsPlainMove (move_outcome ⊥ ⊥ stores stores) (Cli (Document error))
-    by None is h = absurd h
-    by (Some why) is h = record {
-      told = subst (λ (o : Option OpenRefusal). TellsOfMove (move_outcome ⊥ ⊥ stores stores) (cli (refused_by o)))
-          (sym is) (untouched_self stores);
-      named = λ none. (let both : Some why ≡ None = sym is ∙ none in cc);
-    }
-not_opened_plain answer stores OutOfMemory fault = record { told = tt; named = tt }
-not_opened_plain answer stores Done fault = absurd fault
-not_opened_plain answer stores BadWords fault = absurd fault
-not_opened_plain answer stores (BadInput n) fault = absurd fault
-not_opened_plain answer stores (Chunk key) fault = absurd fault
-not_opened_plain answer stores Store fault = absurd fault
-not_opened_plain answer stores Read fault = absurd fault
-not_opened_plain answer stores Write fault = absurd fault
-not_opened_plain answer stores TooLong fault = absurd fault
 
 -- an input that was not read
 module _ (input : List ℕ) where
@@ -211,35 +147,6 @@ input_unread before now stores fault is = record {
   ran = λ input left. not_read input before now stores fault left is;
   whole = λ input left. tt;
 }
-
-pub not_read_plain : (before now : Told) (stores : Both) (fault : InputFault) → IsInputFault before now fault →
-    IsPlainMove (move_outcome ⊥ (Rose before.faults now.faults) stores stores) (Cli (fault_status fault))
-not_read_plain before now stores Fault.Read is = record { told = (is, untouched_self stores); named = tt }
-not_read_plain before now stores Fault.TooLong is = record { told = untouched_self stores; named = tt }
-not_read_plain before now stores (Fault.NotUtf8 line) is = record { told = untouched_self stores; named = tt }
-not_read_plain before now stores Fault.OutOfMemory is = record { told = tt; named = tt }
-
--- what is told with less known is told
-wider_told : (bad read_failed : Type 0) (before now : Both) (ending : MoveEnding) →
-    TellsOfMove (move_outcome ⊥ ⊥ before now) ending → TellsOfMove (move_outcome bad read_failed before now) ending
-wider_told bad read_failed before now (cli end.done) told = told
-wider_told bad read_failed before now (cli end.bad_words) told = absurd told.0
-wider_told bad read_failed before now (cli (end.bad_input line)) told = told
-wider_told bad read_failed before now (cli (end.refused_document why)) told = told
-wider_told bad read_failed before now (cli (end.damaged_chunk key)) told = tt
-wider_told bad read_failed before now (cli end.store_fault) told = told
-wider_told bad read_failed before now (cli end.read_fault) told = absurd told.0
-wider_told bad read_failed before now (cli end.write_fault) told = told
-wider_told bad read_failed before now (cli end.too_long) told = told
-wider_told bad read_failed before now (cli end.out_of_memory) told = tt
-wider_told bad read_failed before now (refused why) told = tt
-
-pub wider_plain :
-    {Z : Type 0} (bad read_failed : Type 0) (before now : Both) (result : Result (Vec ℕ Z) RechunkStatus) → IfErr result
-    (IsPlainMove (move_outcome ⊥ ⊥ before now)) → IfErr result (IsPlainMove (move_outcome bad read_failed before now))
-wider_plain bad read_failed before now (Ok text) plain = tt
-wider_plain bad read_failed before now (Err status) plain =
-    record { told = wider_told bad read_failed before now (move_ending_of status) plain.told; named = plain.named }
 
 -- whatever stops a move does so early
 one_stop : (a b : Ending) → stops a ≡ stops b → a ≡ b

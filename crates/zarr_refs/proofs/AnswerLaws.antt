@@ -1,18 +1,14 @@
 -- What a run over references came to, and what was written of it, are what it owes.
-use Rattle.std.proofs.Common.{◌≡◌, ◌⊎◌, ℕ, List, [], length, Vec, Option, Some, None, Result, Ok, Err, IfOk, IfErr}
+use Rattle.std.proofs.Common.{◌≡◌, ◌⊎◌, ℕ, List, [], Vec, Some, None, Result, Ok, Err, IfErr}
 use Rattle.std.proofs.Common.{OnOk, MatchResult, inl, inr, ⊎_elim, refl, sym, ap, ◌∙◌, subst}
 use Rattle.std.proofs.Math.Path.{fun_ext}
 use Rattle.std.specs.declared.alloc.Global.{Global}
-use Rattle.zarr_model.specs.Prelude.{Shown, Told, Given, Rose, IsUntouched, SetsSome}
+use Rattle.zarr_model.specs.Prelude.{Shown, Given, Rose, IsUntouched, SetsSome}
 use Rattle.zarr_model.proofs.KeyLineLaws.{key-lines}
 use Rattle.zarr_cli_runs.specs.Ending.{IsGiven, IsGivenFront, IsGivenLine}
 use Rattle.zarr_cli_runs.specs.Ending as end
-use Rattle.zarr_cli_runs.specs.Status.{ending_of, refused_by}
-use Rattle.zarr_cli_runs.specs.array.parts.OpenError.{open_refusal_of}
-use Rattle.zarr_cli_runs.specs.declared.status.Status.{Status}
 use Rattle.zarr_cli_runs.specs.declared.status.Status.TheVariants.{Done, BadWords, BadInput, Document, Chunk, Store}
 use Rattle.zarr_cli_runs.specs.declared.status.Status.TheVariants.{Read, Write, TooLong, OutOfMemory}
-use Rattle.zarr_cli.specs.Lines.{IsKeyOf}
 use Rattle.zarr_cli.specs.Seen.{ProgramSeen}
 use Rattle.zarr_refs.specs.declared.reference.RefError.{RefError}
 use Rattle.zarr_refs.specs.declared.reference.RefError.TheVariants as RefError
@@ -21,10 +17,10 @@ use Rattle.zarr_refs.specs.declared.status.RefStatus.TheVariants.{Cli, Reference
 use Rattle.zarr_refs.specs.Ending.{RefEnding, cli, repeated_key, missing_base, slice_out_of_bounds, read_only, ref_line}
 use Rattle.zarr_refs.specs.Ending.{by_reference, ref_ending_of, IsRefOrMemory, IsBehindKeys, IsEarlyRef, IsByReference}
 use Rattle.zarr_refs.specs.Input.{RefRun, Verdict, runs, stops, word_options}
-use Rattle.zarr_refs.specs.Run.{reference_fault, base_of, AreFitRefs, SeesNone, SeesDamage, IsAllSet, PrintsReads}
+use Rattle.zarr_refs.specs.Run.{reference_fault, base_of, AreFitRefs, SeesNone, SeesDamage, IsAllSet}
 use Rattle.zarr_refs.specs.Reads.{IsRefsFault, RanRefs}
 use Rattle.zarr_cli.specs.Outcome.{Outcome}
-use Rattle.zarr_refs.specs.Said.{IsNamed, Stopped, RanBy, RanInput, Tells, outcome, IsPlainRef}
+use Rattle.zarr_refs.specs.Said.{IsNamed, Stopped, RanBy, Tells, outcome, IsPlainRef}
 use Rattle.zarr_refs.specs.Written.{WritesRefs, EndsRef}
 use Rattle.zarr_refs.specs.Answers.{AnswersRefs, EndsRefs}
 

@@ -1,14 +1,12 @@
 -- Reads over the slices of a store's values, and key lines and references before them.
-use Rattle.std.proofs.Common.{◌≡◌, ◌⊎◌, ℕ, ◌+◌, ◌-◌, ◌^◌, ◌≤◌, ◌<◌, List, [], ◌++◌, length, Vec, Option, Some, None}
-use Rattle.std.proofs.Common.{Result, Ok, Err, IfOk, IfErr, OnOk, inl, inr, refl, sym, ap, ◌∙◌, subst, arith, le_trans}
+use Rattle.std.proofs.Common.{◌≡◌, ℕ, ◌-◌, ◌^◌, ◌≤◌, ◌<◌, List, [], length, Vec, Option, Some, None}
+use Rattle.std.proofs.Common.{Result, Ok, Err, inl, inr, refl, sym, ap, ◌∙◌, subst, arith, le_trans}
 use Rattle.std.proofs.Common.{Bool}
 use Rattle.std.proofs.Math.Path.{fun_ext}
 use Rattle.std.specs.declared.alloc.Global.{Global}
 use Rattle.zarr_model.specs.Prelude.{Options, Content, Command, Description, Shown, Rose, counted, with_keys, SetsSome}
-use Rattle.zarr_model.specs.Prelude.{SeesNoDamage, IsUntouched}
 use Rattle.zarr_model.proofs.KeyLineLaws.{key-lines}
 use Rattle.zarrs_storage.specs.Store.{SameContent}
-use Rattle.zarrs_storage.specs.Calls.{capped_count}
 use Rattle.zarr_cli_runs.specs.Commands.{IsRunFault}
 use Rattle.zarr_cli_runs.specs.declared.status.Status.{Status}
 use Rattle.zarr_cli_runs.specs.declared.status.Status.TheVariants.{Done, BadWords, BadInput, Document, Chunk, Store}

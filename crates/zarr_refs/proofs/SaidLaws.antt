@@ -1,7 +1,7 @@
 -- From what words and an input say to what a run over references owes.
-use Rattle.std.proofs.Common.{◌≡◌, ◌⊎◌, ℕ, ◌+◌, ◌<◌, ◌≤◌, Bool, true, false, nat_lt, if◌then◌else◌, List, [], length}
-use Rattle.std.proofs.Common.{drop, map, Vec, Option, Some, None, IsUtf8, Result, Ok, Err, IfOk, IfErr, OnOk}
-use Rattle.std.proofs.Common.{MatchResult, inl, inr, ⊎_elim, refl, sym, ap, ◌∙◌, subst, arith, cond, le_refl}
+use Rattle.std.proofs.Common.{◌≡◌, ◌⊎◌, ℕ, ◌+◌, ◌≤◌, Bool, true, false, nat_lt, List, length}
+use Rattle.std.proofs.Common.{drop, map, Vec, Option, Some, None, IsUtf8, Result, Ok, Err, IfErr, OnOk}
+use Rattle.std.proofs.Common.{inl, inr, refl, sym, ap, ◌∙◌, subst, cond, le_refl}
 use Rattle.std.specs.declared.alloc.Global.{Global}
 use Rattle.std.specs.Str.Lossy.{utf8_valid_len}
 use Rattle.zarr_model.specs.Prelude.{Options, Description, kind, Command, Shown, Told, Rose, IsUntouched}
@@ -9,13 +9,11 @@ use Rattle.zarr_model.proofs.KeyLineLaws.{key-lines}
 use Rattle.zarr_array.specs.boxes.Command.{command_of}
 use Rattle.zarr_cli_lines.specs.Text.{first_entries, input_lines, line_at}
 use Rattle.zarr_cli_lines.specs.Parts.{entry_view}
-use Rattle.zarr_cli_runs.specs.array.parts.Document.{ArrayDocument, describe}
-use Rattle.zarr_cli_runs.specs.array.parts.Opening.{OpenRefusal, OpenAnswer, opened, not_opened, open_builtin}
-use Rattle.zarr_cli_runs.specs.array.parts.OpenError.{open_refusal_of}
-use Rattle.zarr_cli_runs.specs.Opening.{IsRefusal, IsOpenFault}
+use Rattle.zarr_cli_runs.specs.array.parts.Document.{describe}
+use Rattle.zarr_cli_runs.specs.array.parts.Opening.{OpenAnswer, opened, not_opened, open_builtin}
 use Rattle.zarr_cli_runs.specs.Ending.{Ending}
 use Rattle.zarr_cli_runs.specs.Ending as end
-use Rattle.zarr_cli_runs.specs.Status.{ending_of, refused_by}
+use Rattle.zarr_cli_runs.specs.Status.{ending_of}
 use Rattle.zarr_cli_runs.specs.declared.status.Status.{Status}
 use Rattle.zarr_cli_runs.specs.declared.status.Status.TheVariants.{Done, BadWords, BadInput, Document, Chunk, Store}
 use Rattle.zarr_cli_runs.specs.declared.status.Status.TheVariants.{Read, Write, TooLong, OutOfMemory}
@@ -31,14 +29,14 @@ use Rattle.zarr_refs.specs.declared.reference.RefError.TheVariants as RefError
 use Rattle.zarr_refs.specs.declared.lines.RefLines.{RefLines}
 use Rattle.zarr_refs.specs.declared.status.RefStatus.{RefStatus}
 use Rattle.zarr_refs.specs.declared.status.RefStatus.TheVariants.{Cli, Reference, ReadOnly}
-use Rattle.zarr_refs.specs.Lines.{line_references, lines_after_references, reads_of, changes_first, good_ref_lines}
+use Rattle.zarr_refs.specs.Lines.{lines_after_references, reads_of, changes_first, good_ref_lines}
 use Rattle.zarr_refs.specs.Ending.{RefEnding, cli, repeated_key, missing_base, slice_out_of_bounds, read_only}
 use Rattle.zarr_refs.specs.Ending.{ref_ending_of, IsEarlyRef}
 use Rattle.zarr_refs.specs.Input.{RefRun, Verdict, runs, stops, stopped, with_reads, ref_lines_say, document_says}
 use Rattle.zarr_refs.specs.Input.{all_lines_say, input_says_refs, word_options, words_say, verdict}
 use Rattle.zarr_refs.specs.Steps.{SaysRefs, StopsRefs}
 use Rattle.zarr_refs.specs.Reads.{run_of, IsRefsFault, RanRefs}
-use Rattle.zarr_refs.specs.Said.{IsNamed, Stopped, RanBy, RanInput, Tells, outcome, IsPlainRef}
+use Rattle.zarr_refs.specs.Said.{Stopped, RanBy, RanInput, Tells, outcome, IsPlainRef}
 
 -- a store as before
 pub untouched_self : (store : Shown) → IsUntouched store store
@@ -119,60 +117,6 @@ module _ (description : Description) (options : Options) (lines : List (List ℕ
       ∙ ap (λ (n : ℕ). stopped (changes_first (kind description) (lines_after_references lines)) (n + 2)) by.first))))
 
 -- a first line that is opened, or is not
-module _ (options : Options) (lines : List (List ℕ)) where
-  pub opened_says : {Z : Type 0} (document : ArrayDocument) (before now : Shown) (result : Result (Vec ℕ Z) RefStatus) →
-      open_builtin (first_line lines) ≡ opened document →
-      RanBy (ref_lines_say (describe document) options (drop 1 lines)) before now result →
-      RanBy (all_lines_say options lines) before now result
-  opened_says document before now result is ran = subst (λ (answer : OpenAnswer).
-      RanBy (document_says options answer (drop 1 lines)) before now result) (sym is) ran
-
-  refused_says : (why : OpenRefusal) (store : Shown) (status : RefStatus) →
-      open_builtin (first_line lines) ≡ not_opened why → ref_ending_of status ≡ cli (end.refused_document why) →
-      RanBy {Z = Global} (all_lines_say options lines) store store (Err status)
-  refused_says why store status is told = subst (λ (answer : OpenAnswer). RanBy {Z = Global} (document_says options
-      answer (drop 1 lines)) store store (Err status)) (sym is) (stop _ store status (inl told))
-
-  pub not_opened_says : (store : Shown) (status : Status) → IsOpenFault status (open_builtin (first_line lines)) →
-      RanBy {Z = Global} (all_lines_say options lines) store store (Err (Cli status))
-  not_opened_says store (Document error) fault = by (open_refusal_of error) refl fault
-    where
-      by : (o : Option OpenRefusal) → open_refusal_of error ≡ o → IsRefusal o (open_builtin (first_line lines)) →
-          RanBy {Z = Global} (all_lines_say options lines) store store (Err (Cli (Document error)))
-      by None is h = absurd h
-      by (Some why) is h =
-          refused_says why store (Cli (Document error)) h (ap (λ (o : Option OpenRefusal). cli (refused_by o)) is)
-  not_opened_says store OutOfMemory fault = memory_out (all_lines_say options lines) store
-  not_opened_says store Done fault = absurd fault
-  not_opened_says store BadWords fault = absurd fault
-  not_opened_says store (BadInput line) fault = absurd fault
-  not_opened_says store (Chunk key) fault = absurd fault
-  not_opened_says store Store fault = absurd fault
-  not_opened_says store Read fault = absurd fault
-  not_opened_says store Write fault = absurd fault
-  not_opened_says store TooLong fault = absurd fault
-
-  pub not_opened_plain : (store : Shown) (status : Status) → IsOpenFault status (open_builtin (first_line lines)) →
-      IsPlainRef (outcome ⊥ ⊥ store store) (Cli status)
-  not_opened_plain store (Document error) fault = by (open_refusal_of error) refl fault
-    where
-      by : (o : Option OpenRefusal) → open_refusal_of error ≡ o → IsRefusal o (open_builtin (first_line lines)) →
-          IsPlainRef (outcome ⊥ ⊥ store store) (Cli (Document error))
-      by None is h = absurd h
-      by (Some why) is h = record {
-        told = subst (λ (o : Option OpenRefusal). Tells (outcome ⊥ ⊥ store store) (cli (refused_by o))) (sym is)
-            (untouched_self store);
-        named = λ none. (let both : Some why ≡ None = sym is ∙ none in cc);
-      }
-  not_opened_plain store OutOfMemory fault = record { told = tt; named = tt }
-  not_opened_plain store Done fault = absurd fault
-  not_opened_plain store BadWords fault = absurd fault
-  not_opened_plain store (BadInput line) fault = absurd fault
-  not_opened_plain store (Chunk key) fault = absurd fault
-  not_opened_plain store Store fault = absurd fault
-  not_opened_plain store Read fault = absurd fault
-  not_opened_plain store Write fault = absurd fault
-  not_opened_plain store TooLong fault = absurd fault
 
 -- an input that was not read
 module _ (options : Options) (input : List ℕ) where

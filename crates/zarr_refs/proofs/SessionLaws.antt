@@ -1,5 +1,5 @@
 -- A session of reads that is one.
-use Rattle.std.proofs.Common.{◌≡◌, ◌∙◌, ap, ap₂, sym, subst, refl, ℕ, List, Vec, Option, Some, None, option_map}
+use Rattle.std.proofs.Common.{◌≡◌, ◌∙◌, ap, sym, subst, refl, ℕ, List, Vec, Option, Some, None, option_map}
 use Rattle.std.proofs.Common.{MatchOption, Result}
 use Rattle.std.specs.BTreeMap.{BTreeMap}
 use Rattle.zarrs_codec_traits.specs.Prelude.{Shown, SameContent}

@@ -50,7 +50,7 @@ impl ShardArray {
             (Some (region_of_subset region.now)) (options_of options.now) (S.shown store.new)
             error.kind) }
     {
-        Ok(run_read(self, alloc, region, store, options)?)
+        Ok(run_read(self, alloc, region, &mut None, store, options)?)
     }
 
     /// Writes elements to a region of the array, in its row-major order: done, or why it is refused. The bytes are of the
@@ -83,7 +83,7 @@ impl ShardArray {
         ensures told { IfErr result (λ error. TellsOfShards self.now None
             (options_of options.now) (S.shown store.new) error.kind) }
     {
-        Ok(run_write(self, alloc, region, bytes, store, options)?)
+        Ok(run_write(self, alloc, region, bytes, &mut None, store, options)?)
     }
 
     /// Erases the chunk of these indices, so that all its elements are the fill value: done, or why it is refused.

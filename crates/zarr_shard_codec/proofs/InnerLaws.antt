@@ -76,9 +76,6 @@ module _ (codec : ShardCodec) (under : Options) (value index : List ℕ) (chunk 
   abbrev stands : ℕ → Option (List ℕ)
   stands n = if is_absent (pair_at index n) then None else Some (pair_part index n)
 
-  abbrev box : Region
-  box = (inner_grid codec).chunk_box chunk
-
   abbrev found_by : List ℕ → Option (List Element)
   found_by dims = found_at ((own_array codec under).decode dims) value (pair_at index number)
 

@@ -25,12 +25,6 @@ module _ (codec : ShardCodec) (value : List ℕ) where
   abbrev number : ℕ
   number = count_of (inner_grid codec).grid_shape
 
-  pub index_given : (bytes : List ℕ) → value_part (Some value) (Suffix (index_len codec)) ≡ Some (Some bytes) →
-      own_part codec value ≡ Some bytes
-  index_given bytes some =
-      let given = given_range (Suffix (index_len codec)) value bytes some in
-      cond-true _ _ _ given.0 ∙ ap Some (sym (suffix_slice value (index_len codec)) ∙ given.1)
-
   pub index_taken : (bytes : List ℕ) → value_part (Some value) (Suffix (index_len codec)) ≡ Some (Some bytes) →
       taken_of (Some (Suffix (index_len codec) ∷ [])) (Some value) ≡ index_len codec
   index_taken bytes some =

@@ -1,5 +1,5 @@
 -- All inner chunks of a chunk, one after another.
-use Rattle.std.proofs.Common.{◌≡◌, ℕ, ◌+◌, ◌<◌, List, Option, Some, None, option_and_then, refl, sym, ap, ap₂, ◌∙◌}
+use Rattle.std.proofs.Common.{◌≡◌, ℕ, ◌+◌, ◌<◌, List, Option, Some, option_and_then, refl, sym, ap, ap₂, ◌∙◌}
 use Rattle.std.proofs.Common.{subst, inl, inr, ⊎_elim, IsSome, arith}
 use Rattle.zarrs_codec_traits.specs.Prelude.{Region, count, count_of, whole, Element, Kind, kind, Options, ArrayBytes}
 use Rattle.zarrs_codec_traits.specs.Prelude.{meaning, IsDecodeError, list_at, Gives}
@@ -8,11 +8,11 @@ use Rattle.zarrs_codec_error.specs.declared.error.CodecError.{CodecError}
 use Rattle.zarr_array_boxes.specs.BoxElements.{list_held}
 use Rattle.zarr_array_boxes.specs.declared.box_elements.BoxElements.{BoxElements}
 use Rattle.zarr_array_boxes.proofs.HeldLaws.{length-list_held}
-use Rattle.zarr_shard_codec.specs.Finding.{index_found, index_says}
+use Rattle.zarr_shard_codec.specs.Finding.{index_found}
 use Rattle.zarr_shard_codec.specs.Shard.{by_index}
 use Rattle.zarr_shard_codec.specs.ShardCodec.{inner_of, inner_grid, own_level, own_array, own_list}
 use Rattle.zarr_shard_codec.specs.Placing.{indices_at}
-use Rattle.zarr_shard_codec.specs.Whole.{inner_content_of, HoldsOver, HasPut, SaysAt, SaysInner, says_of, shard_says}
+use Rattle.zarr_shard_codec.specs.Whole.{inner_content_of, HoldsOver, HasPut, SaysAt, SaysInner}
 use Rattle.zarr_shard_codec.specs.declared.shard_codec.ShardCodec.{ShardCodec}
 use Rattle.zarr_shard_codec.proofs.CodecFacts.{covers, num_chunks, near}
 use Rattle.zarr_shard_codec.proofs.PlacedLaws.{HasPlaced, chunk_there, none_placed, one_placed, all_placed, one_fails}
@@ -65,23 +65,6 @@ module _ (codec : ShardCodec) (under : Options) (value : List ℕ) where
   by_found : (index : Option (List ℕ)) → found ≡ index →
       own_list codec under value ≡ option_and_then (by_index (own_array codec under) value) index
   by_found index is = ap (option_and_then (by_index (own_array codec under) value)) is
-
-  pub unfound : (e : CodecError) →
-      (found ≡ None) × index_says codec.shard.checked (count_of (inner_grid codec).grid_shape) value e →
-      IsDecodeError (own_list codec under value) (shard_says codec under value) e
-  unfound e both = inr (
-    by_found None both.0,
-    subst (λ f. says_of f codec under (count_of (inner_grid codec).grid_shape) value e) (sym both.0) both.1,
-  )
-
-  pub inner_told : (index : List ℕ) (e : CodecError) → found ≡ Some index →
-      IsDecodeError (by_index (own_array codec under) value index) (SaysInner codec under value index) e →
-      IsDecodeError (own_list codec under value) (shard_says codec under value) e
-  inner_told index e is told = ⊎_elim (λ memory. inl memory)
-      (λ both. inr (
-        by_found (Some index) is ∙ both.0,
-        subst (λ f. says_of f codec under (count_of (inner_grid codec).grid_shape) value e) (sym is) both.1,
-      )) told
 
   pub all_given : (index : List ℕ) (list : List Element) (own : Kind) (box : Region) (raw : ArrayBytes) →
       found ≡ Some index →

@@ -1,12 +1,12 @@
 -- What is owed where the reading or the document decided.
-use Rattle.std.proofs.Common.{◌≡◌, true, ◌∙◌, ◌⊎◌, inl, inr, refl, sym, ap, subst, ℕ, ◌≤◌, List, length, Option, Some}
+use Rattle.std.proofs.Common.{◌≡◌, ◌∙◌, ◌⊎◌, inl, inr, refl, sym, ap, subst, ℕ, ◌≤◌, List, length, Option, Some}
 use Rattle.std.proofs.Common.{None, IsUtf8}
 use Rattle.zarr_model.specs.Prelude.{Told, Given, Rose}
 use Rattle.zarr_array_open.specs.Document.{describe}
 use Rattle.zarr_array_open.specs.Opening.{OpenRefusal, chunk_too_large}
 use Rattle.zarr_array_open.specs.OpenError.{open_refusal_of}
 use Rattle.zarr_cli_runs.specs.lines.Text.{input_lines}
-use Rattle.zarr_cli_runs.specs.Ending.{Ending, IsGivenLine}
+use Rattle.zarr_cli_runs.specs.Ending.{IsGivenLine}
 use Rattle.zarr_cli_runs.specs.Ending as end
 use Rattle.zarr_cli_runs.specs.Status.{ending_of, refused_by}
 use Rattle.zarr_cli_runs.specs.declared.status.Status.{Status}

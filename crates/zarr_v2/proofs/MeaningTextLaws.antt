@@ -4,9 +4,10 @@ use Rattle.serde_json.specs.Data.{Data, object, depth}
 use Rattle.serde_json.specs.Read.{read, max_depth}
 use Rattle.serde_json.specs.Written.{has_float}
 use Rattle.serde_json.proofs.Nesting.{depth-read}
+use Rattle.zarrs_metadata_values.specs.Forms.{first}
 use Rattle.zarrs_metadata_values.specs.Reading.{from_json}
 use Rattle.zarrs_metadata.specs.ArrayMetadata.{ArrayFields, array_data}
-use Rattle.zarrs_metadata.specs.AnyArray.{AnyArray, array_3, any_array_of}
+use Rattle.zarrs_metadata.specs.AnyArray.{AnyArray, any_array_of}
 use Rattle.zarrs_metadata_v2.specs.ArrayMetadataV2.{ArrayV2, array_v2_of}
 use Rattle.zarr_basics.specs.Registries.{KnownNames}
 use Rattle.zarr_array_open.specs.Opening.{open_answer, fields_if, document_read, document_of, open_document}
@@ -55,5 +56,5 @@ module _ (text : List ℕ) (a : ArrayV2) (fields : ArrayFields) (reads : from_js
       ap (λ (o : Option Data). open_answer (document_read names o)) is
       ∙ ap₂ (λ (b : Bool) (o : Option AnyArray). open_answer (opening.◌>>=◌ (fields_if b o) (document_of names)))
       written_whole
-      (subst (λ (f : ArrayFields). any_array_of (array_data f) ≡ Some (array_3 f)) made.fields
+      (subst (λ (f : ArrayFields). any_array_of (array_data f) ≡ Some (first f)) made.fields
       (reads_back a made.stored made.fill))

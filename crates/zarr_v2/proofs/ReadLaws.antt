@@ -4,14 +4,15 @@ use Rattle.std.proofs.Common.{◌≡◌, ◌∙◌, ap, subst, refl, Bool, true,
 use Rattle.serde_json.specs.Data.{Data, null, boolean, number, string, array, object, Members, no_members}
 use Rattle.serde_json.specs.Find.{get_member}
 use Rattle.serde_json.specs.Written.{has_float}
-use Rattle.zarrs_metadata_values.specs.Reading.{◌>>=◌, is_number, whole_numbers, object_or_empty, or_invalid, from_json}
+use Rattle.zarrs_metadata_values.specs.Reading.{◌>>=◌, list_by, read_under, is_number, whole_numbers, positive_number}
+use Rattle.zarrs_metadata_values.specs.Reading.{object_or_empty, or_invalid, from_json}
 use Rattle.zarrs_metadata_values.specs.declared.error.MetadataError.TheVariants.{FloatNumber}
 use Rattle.zarrs_metadata_values.proofs.EachLemmas.{bind_some}
+use Rattle.zarrs_metadata_values.proofs.FormLemmas.{object_of}
 use Rattle.zarrs_metadata_parts.specs.DataTypeV2.{data_type_v2_of}
 use Rattle.zarrs_metadata_v2.specs.CodecsV2.{compressor_of, filters_of}
 use Rattle.zarrs_metadata_v2.specs.ArrayMetadataV2.{ArrayV2, OptionalV2, array_order_of, dimension_separator_of}
-use Rattle.zarrs_metadata_v2.specs.ArrayMetadataV2.{positive_numbers, read_under, text_under, required_v2, optional_v2}
-use Rattle.zarrs_metadata_v2.specs.ArrayMetadataV2.{with_optional_fields_v2, array_v2_members, array_v2_of}
+use Rattle.zarrs_metadata_v2.specs.ArrayMetadataV2.{text_under, required_v2, optional_v2, array_v2_members, array_v2_of}
 use Rattle.zarr_v2.proofs.MemberLaws.{AllMembers, all_found}
 
 -- where they stand in its value
@@ -25,7 +26,7 @@ unfolding required_v2
 fill_in ms a e =
     let order = bind_some (text_under (codes "order") array_order_of ms) _ a e in
     let shape = bind_some (read_under (codes "shape") whole_numbers ms) _ a order.2 in
-    let chunks = bind_some (read_under (codes "chunks") positive_numbers ms) _ a shape.2 in
+    let chunks = bind_some (read_under (codes "chunks") (list_by positive_number) ms) _ a shape.2 in
     let dtype = bind_some (read_under (codes "dtype") data_type_v2_of ms) _ a chunks.2 in
     let fill = bind_some (get_member (codes "fill_value") ms) _ a dtype.2 in
     let same = fill.2 in
@@ -44,25 +45,18 @@ attributes_in ms o e =
     let is : attributes.0 ≡ o.attributes = cc in
     attributes.1 ∙ ap (λ (m : Members). Some m) is
 
-with_in : (ms : Members) (fields a : ArrayV2) → get_member (codes "fill_value") ms ≡ Some fields.fill_value →
-    with_optional_fields_v2 ms fields ≡ Some a →
-    StandsIn ms a
-unfolding with_optional_fields_v2
-with_in ms fields a fill e =
-    let optional = bind_some (optional_v2 ms) _ a e in
-    let same = optional.2 in
-    let filled : fields.fill_value ≡ a.fill_value = cc in
-    let attributed : (optional.0).attributes ≡ a.attributes = cc in record {
-      fill = fill ∙ ap (λ (d : Data). Some d) filled;
-      attributes = attributes_in ms optional.0 optional.1 ∙ ap (λ (m : Members). Some m) attributed;
-    }
-
 stands_in : (ms : Members) (a : ArrayV2) → array_v2_members ms ≡ Some a → StandsIn ms a
 unfolding array_v2_members
 stands_in ms a e =
     let format = bind_some (get_member (codes "zarr_format") ms >>= is_number 2) _ a e in
     let fields = bind_some (required_v2 ms) _ a format.2 in
-    with_in ms fields.0 a (fill_in ms fields.0 fields.1) fields.2
+    let optional = bind_some (optional_v2 ms) _ a fields.2 in
+    let same = optional.2 in
+    let filled : (fields.0).fill_value ≡ a.fill_value = cc in
+    let attributed : (optional.0).attributes ≡ a.attributes = cc in record {
+      fill = fill_in ms fields.0 fields.1 ∙ ap (λ (d : Data). Some d) filled;
+      attributes = attributes_in ms optional.0 optional.1 ∙ ap (λ (m : Members). Some m) attributed;
+    }
 
 -- the object that a document is
 pub record IsRead (d : Data) (a : ArrayV2) : Type 0 where
@@ -71,12 +65,8 @@ pub record IsRead (d : Data) (a : ArrayV2) : Type 0 where
   pub stands : StandsIn members a
 
 pub is_read : (d : Data) (a : ArrayV2) → array_v2_of d ≡ Some a → IsRead d a
-is_read null a e = absurd cc
-is_read (boolean b) a e = absurd cc
-is_read (number n) a e = absurd cc
-is_read (string s) a e = absurd cc
-is_read (array ds) a e = absurd cc
-is_read (object ms) a e = record { members = ms; is = refl; stands = stands_in ms a e }
+is_read d a e =
+    let o = object_of array_v2_members d a e in record { members = o.0; is = o.1; stands = stands_in o.0 a o.2 }
 
 -- a text that is a document has a value without floats
 pub record IsOfText (o : Option Data) (a : ArrayV2) : Type 0 where

@@ -12,7 +12,7 @@ use Rattle.zarr_basics.specs.GridConfigurations.{are_chunk_lengths}
 use Rattle.zarr_basics.specs.GridForms.{ChunkGrid, regular, grid_of}
 use Rattle.zarr_basics.specs.Registries.{builtin_names}
 use Rattle.zarr_array_open.specs.Document.{ChainForm, ArrayDocument, describe, document_with}
-use Rattle.zarr_array_open.specs.Opening.{OpenRefusal, plugin_create, expect_chain, expect_small_chunks, is_large}
+use Rattle.zarr_array_open.specs.Opening.{OpenRefusal, plugin_create, expect_chain, is_large}
 use Rattle.zarr_array_open.specs.Opening.{document_of, served_document, chunk_too_large}
 use Rattle.zarr_array_open.specs.Opening as opening
 use Rattle.zarr_v2.specs.ElementType.{element_type}

@@ -7,14 +7,14 @@ use Rattle.serde_json.specs.Data.{depth, items_depth}
 use Rattle.serde_json.specs.View.{items_of}
 use Rattle.serde_json.specs.Written.{has_float, items_have_float}
 use Rattle.zarr_model.specs.declared.endianness.Endianness.{Endianness}
+use Rattle.zarrs_metadata_values.specs.Forms.{first, or_second}
 use Rattle.zarrs_metadata_values.specs.Writing.{number_data, numbers_data}
 use Rattle.zarrs_metadata_parts.specs.MetadataV3.{extension_data, normal_form}
 use Rattle.zarrs_metadata_parts.specs.Names.{separator_text}
-use Rattle.zarrs_metadata.specs.ArrayMetadata.{ArrayFields, array_data, normal_array, required_data, parts_data}
-use Rattle.zarrs_metadata.specs.ArrayMetadata.{optional_data}
-use Rattle.zarrs_metadata.specs.AnyArray.{array_3, array_3_or, only_array_v2, any_array_of}
+use Rattle.zarrs_metadata.specs.ArrayMetadata.{ArrayFields, array_data, normal_array, required_data, optional_data}
+use Rattle.zarrs_metadata.specs.AnyArray.{any_array_of}
 use Rattle.zarrs_metadata.proofs.ArrayBack.{array_reads_back}
-use Rattle.zarrs_metadata_v2.specs.ArrayMetadataV2.{ArrayV2}
+use Rattle.zarrs_metadata_v2.specs.ArrayMetadataV2.{ArrayV2, array_v2_of}
 use Rattle.zarrs_metadata_v2.specs.declared.array.order.ArrayMetadataV2Order.{ArrayMetadataV2Order}
 use Rattle.zarrs_metadata_v2.specs.declared.array.order.ArrayMetadataV2Order.TheVariants.{C, F}
 use Rattle.zarrs_data_type.specs.FillMetadata.{fill_of}
@@ -70,7 +70,7 @@ members_of f = required_data f (optional_data f no_members)
 
 all_of : (P : Data → Type 0) (a : ArrayV2) (s : StoredType) (fill : Data) → Holds P a s fill →
     AllMembers P (members_of (fields_v2 a s fill))
-unfolding required_data parts_data optional_data
+unfolding required_data optional_data
 all_of P a s fill h =
     all_put P _ _ _ h.format (all_put P _ _ _ h.node (all_put P _ _ _ h.shape (all_put P _ _ _ h.filled
     (all_put P _ _ _ h.type (all_put P _ _ _ h.grid (all_put P _ _ _ h.keys (all_put P _ _ _ h.codecs
@@ -173,8 +173,8 @@ is_normal : (a : ArrayV2) (s : StoredType) (fill : Data) → normal_array (field
 is_normal a s fill = rw (normal_codecs a.order (length a.shape) s.order) refl
 
 pub reads_back : (a : ArrayV2) (s : StoredType) (fill : Data) →
-    any_array_of (array_data (fields_v2 a s fill)) ≡ Some (array_3 (fields_v2 a s fill))
+    any_array_of (array_data (fields_v2 a s fill)) ≡ Some (first (fields_v2 a s fill))
 reads_back a s fill =
     let f = fields_v2 a s fill in
-    ap (array_3_or (only_array_v2 (array_data f))) (array_reads_back f)
-    ∙ ap (λ (x : ArrayFields). Some (array_3 x)) (is_normal a s fill)
+    ap (or_second (array_v2_of (array_data f))) (array_reads_back f)
+    ∙ ap (λ (x : ArrayFields). Some (first x)) (is_normal a s fill)

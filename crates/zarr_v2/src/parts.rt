@@ -5,7 +5,6 @@ ghost use Rattle.std.specs.Int.NonZero.{non_zero_u64_get};
 ghost use Rattle.zarrs_metadata_values.specs.FillValueMetadata.{fill_view};
 ghost use Rattle.serde_json.specs.View.{view};
 ghost use Rattle.zarrs_metadata_parts.specs.MetadataV3.{extension_seen, extensions_seen};
-ghost use Rattle.zarrs_metadata_parts.specs.Names.{separator_text};
 ghost use Rattle.zarr_v2.specs.ElementType.{element_type, type_text};
 ghost use Rattle.zarr_v2.specs.Translate.{extension_named, configured_by, reversed_order, endian_text, grid_v2, keys_v2, bytes_v2, transpose_v2, codecs_v2, zero_fill, fill_v2};
 
@@ -15,6 +14,7 @@ use serde_json::{Map, Number, Value};
 use std::alloc::{AllocError, Global};
 use std::num::NonZeroU64;
 use zarrs_data_type::{DataTypeTraits, FillMetadataFault};
+use zarrs_metadata_parts::part::list_value;
 use zarrs_metadata_parts::{ChunkKeySeparator, Configuration, Endianness, MetadataV3};
 use zarrs_metadata_v2::ArrayMetadataV2Order;
 use zarrs_metadata_values::FillValueMetadataV3;
@@ -37,13 +37,6 @@ fn configured(alloc: Global, name: &str, key: &str, value: Value) -> Result<Meta
     Ok(MetadataV3::new_with_configuration(name, Configuration::new(members)))
 }
 
-// The lengths as plain numbers.
-fn plain_numbers(alloc: Global, lengths: &[NonZeroU64]) -> Result<Vec<u64>, AllocError>
-    ensures { IfOk result (λ v. v.items ≡ map non_zero_u64_get lengths.now) }
-{
-    lengths.iter().map(|n| n.get()).collect(alloc)
-}
-
 // The numbers below this one, the last one first.
 fn falling_numbers(alloc: Global, count: usize) -> Result<Vec<u64>, AllocError>
     ensures { IfOk result (λ v. v.items ≡ reversed_order count) }
@@ -61,26 +54,15 @@ fn falling_numbers(alloc: Global, count: usize) -> Result<Vec<u64>, AllocError>
 pub(crate) fn grid_of(alloc: Global, chunks: &[NonZeroU64]) -> Result<MetadataV3, AllocError>
     ensures { IfOk result (λ m. extension_seen m ≡ grid_v2 (map non_zero_u64_get chunks.now)) }
 {
-    let numbers = plain_numbers(alloc, chunks)?;
-    let value = numbers_value(alloc, &numbers)?;
+    let value = list_value(alloc, chunks)?;
     configured(alloc, "regular", "chunk_shape", value)
-}
-
-// The text of a separator.
-fn separator_of(separator: ChunkKeySeparator) -> &'static str
-    ensures { result.now ≡ separator_text separator }
-{
-    match separator {
-        ChunkKeySeparator::Slash => "/",
-        ChunkKeySeparator::Dot => ".",
-    }
 }
 
 /// The chunk keys of version 2 with a separator.
 pub(crate) fn keys_of(alloc: Global, separator: ChunkKeySeparator) -> Result<MetadataV3, AllocError>
     ensures { IfOk result (λ m. extension_seen m ≡ keys_v2 separator) }
 {
-    let value = Value::try_from_str(alloc, separator_of(separator))?;
+    let value = Value::try_from_str(alloc, separator.as_str())?;
     configured(alloc, "v2", "separator", value)
 }
 

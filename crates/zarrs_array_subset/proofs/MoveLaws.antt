@@ -1,5 +1,5 @@
 -- Overlaps, offsets, and linear indices and back.
-use Rattle.std.proofs.Common.{◌≡◌, ℕ, ◌+◌, ◌-◌, ◌*◌, ◌<◌, ◌≤◌, ◌^◌, ◌&&◌, Bool, true, false, nat_le, nat_lt, min, max}
+use Rattle.std.proofs.Common.{◌≡◌, ℕ, ◌+◌, ◌-◌, ◌*◌, ◌<◌, ◌≤◌, ◌^◌, ◌&&◌, true, nat_le, nat_lt, min, max}
 use Rattle.std.proofs.Common.{List, [], ◌∷◌, length, Some, None, refl, sym, ap, ap₂, subst, ◌∙◌, arith}
 use Rattle.std.proofs.lemmas.Bool.{and_parts, and_from, leb-true, ltb-true, lt-ltb, cond-true}
 use Rattle.zarr_model.specs.Region.{Span, Region, count, count_of, whole, contains, is_in, linear_index, tuple_at}
@@ -96,7 +96,3 @@ undoing_fits (span ∷ box) (o ∷ offset) h b =
     let below : span.start + span.size < 2 ^ 64 = ltb-true _ _ fits.0 in
     let here : span.start - o + o + span.size < 2 ^ 64 = omega arith in
     and_from _ _ (lt-ltb _ _ here) (undoing_fits box offset parts.1 fits.1)
-
-pub tuple_of_linear : (shape tuple : List ℕ) → contains (whole shape) tuple ≡ true →
-    tuple_at (whole shape) (linear_index shape tuple) ≡ tuple
-tuple_of_linear shape tuple h = tuple_at-place (whole shape) tuple h

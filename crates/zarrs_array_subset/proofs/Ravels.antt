@@ -3,9 +3,8 @@ use Rattle.std.proofs.Common.{◌≡◌, ℕ, zero, suc, ◌+◌, ◌-◌, ◌*�
 use Rattle.std.proofs.Common.{length, replicate, get_or, take, drop, ◌++◌, map, append_assoc, refl, sym, ap, ap₂, ◌∙◌}
 use Rattle.std.proofs.Common.{subst, subst₂, arith}
 use Rattle.std.proofs.lemmas.Bool.{and_parts, and_from, ltb-true, lt-ltb}
-use Rattle.std.proofs.lemmas.Nat.{div-mul-add, mod-mul-add, mul-add-lt, div_below}
-use Rattle.std.proofs.Math.Nat.{div-add-mod', mod-lt, mul-le-mul_right, mul_comm, mul_assoc, zero-mul, add-mul}
-use Rattle.std.proofs.Math.Seq.{take-append_seam}
+use Rattle.std.proofs.lemmas.Nat.{div-mul-add, mul-add-lt, div_below}
+use Rattle.std.proofs.Math.Nat.{mod-lt, mul-le-mul_right, mul_comm, zero-mul}
 use Rattle.std.proofs.lemmas.List.{take_all}
 use Rattle.zarrs_array_subset.proofs.BoxLaws.{sizes_region}
 use Rattle.zarr_model.specs.Region.{count, count_of, whole, tuple_at}
@@ -51,34 +50,6 @@ sum_fits i n c m b less below fit = let s : i * c + m < c * n = mul-add-lt i c m
     omega (arith, s, mul_comm c n)
 
 pub ruleset of_fronts = (rest_fits, place_below_front, front_none, sum_fits)
-
--- a place, by row and column: of n rows of c
-split : (k n c : ℕ) → k / c / n * (n * c) + (k / c % n * c + k % c) ≡ k
-split k n c = turn (k / c / n) (k / c % n) (k / c) (div-add-mod' (k / c) n) ∙ div-add-mod' k c
-  where
-    turn : (a b q : ℕ) → a * n + b ≡ q → a * (n * c) + (b * c + k % c) ≡ q * c + k % c
-    turn a b q e = let t : (a * n + b) * c ≡ a * (n * c) + b * c =
-        add-mul (a * n) b c ∙ ap (λ m. m + b * c) (mul_assoc a n c) in omega (arith, t, ap (λ m. m * c) e)
-
-column_below : (k n c : ℕ) → 0 < n → 0 < c → k / c % n * c + k % c < n * c
-column_below k n c some_row some_column = subst (λ m. k / c % n * c + k % c < m) (mul_comm c n)
-    (mul-add-lt (k / c % n) c (k % c) n (mod-lt (k / c) some_row) (mod-lt k some_column))
-
-pub row_of_rows : (k n c : ℕ) → 0 < n → 0 < c → k / c / n ≡ k / (n * c)
-row_of_rows k n c some_row some_column = sym (ap (λ m. m / (n * c)) (sym (split k n c))
-    ∙ div-mul-add (k / c / n) (n * c) (k / c % n * c + k % c) (column_below k n c some_row some_column))
-
-place_in_rows : (k n c : ℕ) → 0 < n → 0 < c → k % (n * c) ≡ k / c % n * c + k % c
-place_in_rows k n c some_row some_column = ap (λ m. m % (n * c)) (sym (split k n c))
-    ∙ mod-mul-add (k / c / n) (n * c) (k / c % n * c + k % c) (column_below k n c some_row some_column)
-
-pub row_in_rows : (k n c : ℕ) → 0 < n → 0 < c → k % (n * c) / c ≡ k / c % n
-row_in_rows k n c some_row some_column = ap (λ m. m / c) (place_in_rows k n c some_row some_column)
-    ∙ div-mul-add (k / c % n) c (k % c) (mod-lt k some_column)
-
-pub column_in_rows : (k n c : ℕ) → 0 < n → 0 < c → k % (n * c) % c ≡ k % c
-column_in_rows k n c some_row some_column = ap (λ m. m % c) (place_in_rows k n c some_row some_column)
-    ∙ mod-mul-add (k / c % n) c (k % c) (mod-lt k some_column)
 
 -- a positive product has positive factors
 pub factors : (n c : ℕ) → 0 < n * c → (0 < n) × (0 < c)
@@ -148,9 +119,6 @@ pub zeros_box : (shape : List ℕ) → ((k : ℕ) → get_or shape k 0 < 2 ^ 64)
 zeros_box [] small = refl
 zeros_box (n ∷ shape) small = let first : 0 + n < 2 ^ 64 = omega (arith, small 0) in
     and_from _ _ (lt-ltb _ _ first) (zeros_box shape (λ k. small (suc k)))
-
-pub take_written : (xs ys : List ℕ) → length xs ≡ length ys → take (length ys) (xs ++ drop (length xs) ys) ≡ xs
-take_written xs ys e = ap (λ n. take n (xs ++ drop (length xs) ys)) (sym e) ∙ take-append_seam xs (drop (length xs) ys)
 
 pub ruleset of_tuples = (rest_count, count_region, row_below)
 

@@ -1,5 +1,5 @@
 -- Indices below a shape, and the first and the last of some chunks.
-use Rattle.std.proofs.Common.{◌≡◌, ℕ, zero, suc, ◌+◌, ◌-◌, ◌*◌, ◌<◌, ◌≤◌, Bool, true, false, nat_le, nat_lt, List, []}
+use Rattle.std.proofs.Common.{◌≡◌, ℕ, suc, ◌+◌, ◌-◌, ◌<◌, ◌≤◌, true, nat_le, nat_lt, List, []}
 use Rattle.std.proofs.Common.{◌∷◌, length, map, zip, refl, ap, arith}
 use Rattle.std.proofs.lemmas.Bool.{and_parts, and_from, leb-true, lt-ltb, ltb-true}
 use Rattle.zarr_model.specs.Region.{Span, Region, count, starts, whole, contains, is_in, ends_within}

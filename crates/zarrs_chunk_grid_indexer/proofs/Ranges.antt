@@ -1,5 +1,5 @@
 -- Facts on ranges as regions.
-use Rattle.std.proofs.Common.{◌≡◌, ℕ, zero, suc, ◌-◌, ◌*◌, ◌≤◌, ◌||◌, Bool, true, false, nat_eq, nat_le, List, [], ◌∷◌}
+use Rattle.std.proofs.Common.{◌≡◌, ℕ, zero, suc, ◌-◌, ◌*◌, ◌≤◌, ◌||◌, nat_eq, nat_le, List, [], ◌∷◌}
 use Rattle.std.proofs.Common.{length, map, refl, ap, ◌∙◌, arith}
 use Rattle.std.specs.List.{list_any}
 use Rattle.std.specs.declared.ops.Range.{Range}

@@ -1,5 +1,5 @@
 -- Lengths that are not refused.
-use Rattle.std.proofs.Common.{◌≡◌, ℕ, ◌+◌, ◌*◌, ◌==◌, Bool, true, false, not, List, length, get_or, ◌<◌, Option, Some}
+use Rattle.std.proofs.Common.{◌≡◌, ℕ, ◌+◌, ◌*◌, ◌==◌, true, false, List, length, get_or, ◌<◌, Option, Some}
 use Rattle.std.proofs.Common.{None, arith, refl, eqb-true}
 use Rattle.zarr_model.specs.Command.{Refusal, incompatible_dimensionality, subset_out_of_bounds, region_too_large}
 use Rattle.zarr_model.specs.Command.{expected_fixed_length_bytes, expected_variable_length_bytes}

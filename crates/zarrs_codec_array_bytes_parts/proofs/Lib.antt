@@ -1,3 +1,6 @@
+pub mod JoinLaws
+pub mod MeansLaws
+pub mod OverlapLaws
 pub mod UpdateLaws
 pub mod HeldLaws
 pub mod SideLaws

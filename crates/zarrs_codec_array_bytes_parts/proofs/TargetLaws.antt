@@ -3,7 +3,7 @@ use Rattle.std.proofs.Common.{◌≡◌, ℕ, ◌+◌, ◌<◌, ◌≤◌, ◌-�
 use Rattle.std.proofs.Common.{subst, subst₂, arith, ⊎_elim}
 use Rattle.std.proofs.lemmas.Bool.{cases_lt}
 use Rattle.std.proofs.lemmas.List.{drop_more, drop_all, same_lists, get_or-drop, length-drop}
-use Rattle.zarr_model.specs.ArrayBytes.{ArrayBytes, fixed_bytes, variable_bytes, optional_bytes}
+use Rattle.zarr_model.specs.ArrayBytes.{ArrayBytes, optional_bytes}
 use Rattle.zarrs_codec_array_bytes_parts.specs.declared.array_bytes_fixed_disjoint_view.ArrayBytesFixedDisjointView.{
   ArrayBytesFixedDisjointView,
 }
@@ -20,17 +20,6 @@ both unfit b h = cc
 both other_fill b h = cc
 both no_memory b h = cc
 both odd b h = cc
-
--- elements of one size are put where there is no mask
-pub fixed_opened : (value : List ℕ) (views : List ArrayBytesFixedDisjointView) (inner : ArrayBytesFixedDisjointView) →
-    target_answer (fixed_bytes value) views inner ≡ fine → view_answer (length value) inner ≡ fine
-fixed_opened value views inner h =
-    (both (kinds_answer (length views) (fixed_bytes value)) (view_answer (length value) inner) h).1
-
-pub variable_opened :
-    (value offsets : List ℕ) (views : List ArrayBytesFixedDisjointView) (inner : ArrayBytesFixedDisjointView) →
-    target_answer (variable_bytes value offsets) views inner ≡ fine → ⊥
-variable_opened value offsets views inner h = cc
 
 -- optional ones have a mask, and what is under it
 pub optional_opened : (under : ArrayBytes) (mask : List ℕ) (views : List ArrayBytesFixedDisjointView)

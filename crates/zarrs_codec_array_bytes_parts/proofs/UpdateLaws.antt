@@ -6,20 +6,20 @@ use Rattle.std.proofs.lemmas.List.{length-map}
 use Rattle.zarr_model.specs.Region.{Region, count, count_of, linear_index, whole, place, tuples}
 use Rattle.zarr_model.specs.Element.{Element, Kind, fixed_size}
 use Rattle.zarr_model.specs.ArrayBytes.{ArrayBytes, fixed_bytes, variable_bytes, optional_bytes, meaning}
-use Rattle.zarr_model.specs.Command.{has_long_element}
+use Rattle.zarr_model.specs.Command.{Refusal, has_long_element}
 use Rattle.zarrs_codec_error.specs.declared.error.CodecError.{CodecError}
-use Rattle.zarrs_codec_error.specs.declared.error.CodecError.TheVariants as codec
 use Rattle.zarrs_codec_slices.specs.Picking.{AllBelow, gathered, replaced, size_in}
 use Rattle.zarrs_codec_slices.specs.PickedRuns.{run_numbers, AreRunsOf}
 use Rattle.zarrs_codec_slices.proofs.GatherLaws.{update_means}
 use Rattle.zarrs_codec_slices.proofs.ReplaceLaws.{picks_below}
 use Rattle.zarrs_codec_array_bytes.specs.Selection.{linear}
-use Rattle.zarrs_codec_array_bytes.specs.Refusals.{BytesAnswer, fine, told_by, then_answer, Answers, lengths_refusal}
-use Rattle.zarrs_codec_array_bytes.specs.Refusals.{lengths_answer}
+use Rattle.zarrs_codec_array_bytes.specs.Refusals.{BytesAnswer, fine, refused, wrong_length, unfit, other_fill}
+use Rattle.zarrs_codec_array_bytes.specs.Refusals.{no_memory, odd, told_by, refusal_answer, first_answer, then_answer}
+use Rattle.zarrs_codec_array_bytes.specs.Refusals.{Answers, lengths_refusal, lengths_answer}
 use Rattle.zarrs_codec_array_bytes.proofs.CheckLaws.{still_short, sized_fine}
 use Rattle.zarrs_codec_array_bytes.proofs.MeaningLaws.{is_fine}
 use Rattle.zarrs_codec_array_bytes.proofs.RowLaws.{outer_count}
-use Rattle.zarrs_codec_array_bytes.proofs.ToldLaws.{first_fine}
+use Rattle.zarrs_codec_array_bytes.proofs.ToldLaws.{says_some, first_fine}
 use Rattle.zarrs_codec_array_bytes_parts.specs.Pairs.{pair_refusal, are_alike, update_answer}
 use Rattle.zarrs_codec_array_bytes_parts.specs.Picks.{update_picks}
 
@@ -49,26 +49,18 @@ picks_within number given shape places runs picks is given_is all =
 
 -- an error is what is told first
 pub then_first : (e : CodecError) (first next : BytesAnswer) → told_by e ≡ first → told_by e ≡ then_answer first next
-then_first (codec.IncompatibleDimensionalityError e) first next h = ap (λ t. then_answer t next) h
-then_first (codec.InvalidByteRangeError e) first next h = ap (λ t. then_answer t next) h
-then_first (codec.IncompatibleIndexer e) first next h = ap (λ t. then_answer t next) h
-then_first (codec.UnexpectedChunkDecodedSize e) first next h = ap (λ t. then_answer t next) h
-then_first (codec.StorageError e) first next h = ap (λ t. then_answer t next) h
-then_first (codec.UnsupportedDataTypeCodec e) first next h = ap (λ t. then_answer t next) h
-then_first (codec.ExpectedFixedLengthBytes e) first next h = ap (λ t. then_answer t next) h
-then_first (codec.ExpectedVariableLengthBytes e) first next h = ap (λ t. then_answer t next) h
-then_first (codec.ExpectedOptionalBytes e) first next h = ap (λ t. then_answer t next) h
-then_first (codec.InvalidNumberOfElements e) first next h = ap (λ t. then_answer t next) h
-then_first (codec.SubsetOutOfBounds e) first next h = ap (λ t. then_answer t next) h
-then_first (codec.RawBytesOffsetsCreate e) first next h = ap (λ t. then_answer t next) h
-then_first (codec.RawBytesOffsetsOutOfBounds e) first next h = ap (λ t. then_answer t next) h
-then_first (codec.DataTypeFillValueError e) first next h = ap (λ t. then_answer t next) h
-then_first (codec.ArraySubsetError e) first next h = ap (λ t. then_answer t next) h
-then_first codec.InvalidChecksum first next h = ap (λ t. then_answer t next) h
-then_first codec.EndiannessMissing first next h = ap (λ t. then_answer t next) h
-then_first codec.InvalidVariableSizedArrayOffsets first next h = ap (λ t. then_answer t next) h
-then_first codec.InvalidMask first next h = ap (λ t. then_answer t next) h
-then_first codec.OutOfMemory first next h = ap (λ t. then_answer t next) h
+then_first e fine next h = absurd (says_some e h)
+then_first e (refused why) next h = h
+then_first e (wrong_length len expected) next h = h
+then_first e unfit next h = h
+then_first e other_fill next h = h
+then_first e no_memory next h = h
+then_first e odd next h = h
+
+pub refused_first : (e : CodecError) (refusal : Option Refusal) (fits : Bool) (next : BytesAnswer) →
+    told_by e ≡ refusal_answer refusal → told_by e ≡ first_answer refusal fits next
+refused_first e None fits next h = absurd (says_some e h)
+refused_first e (Some why) fits next h = h
 
 both_fine : (first next : BytesAnswer) → then_answer first next ≡ fine → (first ≡ fine) × (next ≡ fine)
 both_fine first next e = let is : first ≡ fine = first_fine first next e in

@@ -6,21 +6,9 @@ use Rattle.std.proofs.lemmas.Bool.Decides.{nat_tests}
 use Rattle.std.proofs.lemmas.Bool.{and_parts, and_from, leb-true, le-leb}
 use Rattle.std.proofs.Math.Nat.{mul-le-mul_right, mul-le-mul_left}
 use Rattle.zarr_model.specs.Region.{Region, whole, count, count_of, sizes, ends_within}
-use Rattle.zarr_model.proofs.RegionLaws.{rank_within, count_within, count_whole, sizes_whole}
+use Rattle.zarr_model.proofs.RegionLaws.{rank_within, count_within}
 use Rattle.zarrs_array_subset.specs.Boxes.{is_within}
 use Rattle.zarrs_chunk_grid_iterators.specs.Runs.{run_size, run_length, is_whole}
-
-length-whole : (shape : List ℕ) → length (whole shape) ≡ length shape
-length-whole [] = refl
-length-whole (n ∷ shape) = ap suc (length-whole shape)
-
-pub whole_rank : (outer region : Region) (shape : List ℕ) → outer ≡ whole shape → ends_within region shape ≡ true →
-    length outer ≡ length region
-whole_rank outer region shape is h = ap length is ∙ (length-whole shape ∙ sym (rank_within region shape h))
-
-pub whole_long : (outer : Region) (shape : List ℕ) (size long : ℕ) → outer ≡ whole shape →
-    long ≡ count_of shape * size → long ≡ count outer * size
-whole_long outer shape size long is e = e ∙ ap (λ n. n * size) (sym (ap count is ∙ count_whole shape))
 
 -- its number of elements fits where the shape's bytes do
 pub part_fits : (region : Region) (shape : List ℕ) (size len : ℕ) → 0 < size → len < 2 ^ 64 →
@@ -51,25 +39,8 @@ within_ends (a ∷ region) (b ∷ within) (n ∷ shape) e h =
     and_from (nat_le (a.start + a.size) n) (ends_within region shape)
     (le-leb (a.start + a.size) n (omega (arith, low, high))) (within_ends region within shape parts.1 outer.1)
 
-pub whole_again : (outer : Region) (shape : List ℕ) → outer ≡ whole shape → outer ≡ whole (sizes outer)
-whole_again outer shape is = is ∙ ap whole (sym (ap sizes is ∙ sizes_whole shape))
-
-pub ends_again : (outer region : Region) (shape : List ℕ) → outer ≡ whole shape → ends_within region shape ≡ true →
-    ends_within region (sizes outer) ≡ true
-ends_again outer region shape is h = ap (ends_within region) (ap sizes is ∙ sizes_whole shape) ∙ h
-
-pub long_again : (outer : Region) (shape : List ℕ) (size len : ℕ) → outer ≡ whole shape → len ≡ count_of shape * size →
-    len ≡ count outer * size
-long_again outer shape size len is e = whole_long outer shape size len is e
-
 pub part_rank : (outer region : Region) → ends_within region (sizes outer) ≡ true → length outer ≡ length region
 part_rank outer region h = sym (rank_within region (sizes outer) h ∙ length-map outer (λ span. span.size))
-
-pub whole_count : (outer : Region) (size len : ℕ) → len ≡ count outer * size → len ≡ count_of (sizes outer) * size
-whole_count outer size len e = e
-
-pub whole_is : (outer other : Region) → outer ≡ whole (sizes outer) → other ≡ whole (sizes outer) → other ≡ outer
-whole_is outer other a b = b ∙ sym a
 
 -- a box is within a whole shape where it ends within that
 pub within_whole : (region : Region) (shape : List ℕ) → is_within region (whole shape) ≡ ends_within region shape

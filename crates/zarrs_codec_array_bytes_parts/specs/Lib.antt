@@ -1,5 +1,8 @@
 pub mod Pairs
 pub mod Picks
+pub mod Joined
+pub mod Overlaps
+pub mod OwnedArrayBytes
 pub mod Answers
 pub mod Held
 pub mod Laws

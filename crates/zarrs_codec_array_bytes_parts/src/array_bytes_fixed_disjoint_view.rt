@@ -10,7 +10,7 @@ ghost use Rattle.zarrs_codec_slices.specs.Filled.{Filled};
 ghost use Rattle.zarrs_codec_slices.specs.Overlap.{Copied};
 ghost use Rattle.zarrs_codec_array_bytes_parts.specs.Answers.{AnswersView, create_answer, view_part_answer, write_answer};
 
-use crate::part::{Part, copy_into, elements_in, expect_len, fill_into, inner_part, part_of};
+use crate::part::{Part, elements_in, expect_len, fill_into, inner_part, part_of, write_into};
 use std::alloc::Global;
 use zarrs_array_subset::ArraySubset;
 use zarrs_codec_error::{ArrayBytesFixedDisjointViewCreateError, InvalidBytesLengthError};
@@ -191,7 +191,7 @@ impl<'a> ArrayBytesFixedDisjointView<'a> {
             (fixed_elements self.old.part.size self.new.bytes.now)) }
         ensures kept { IfErr result (λ _. self.new.bytes.now ≡ self.old.bytes.now) }
     {
-        copy_into(self.bytes, &self.part, subset_bytes)
+        write_into(self.bytes, &self.part, subset_bytes)
     }
 
     /// Makes each element of a subset of the view's box the fill value: a view of that subset, filled.

@@ -7,12 +7,13 @@ mod copy_fill_value;
 mod decode_into_target;
 mod gathering;
 pub mod laws;
+mod owned_array_bytes;
 mod pairs;
 mod part;
-mod rows;
 mod update;
 
 pub use array_bytes_fixed_disjoint_view::ArrayBytesFixedDisjointView;
 pub use copy_fill_value::copy_fill_value_into;
 pub use decode_into_target::{ArrayBytesDecodeIntoTarget, decode_into_array_bytes_target};
-pub use update::update_array_bytes;
+pub use owned_array_bytes::OwnedArrayBytes;
+pub use update::{update_array_bytes, update_owned_array_bytes};

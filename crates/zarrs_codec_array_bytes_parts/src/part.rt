@@ -208,7 +208,7 @@ pub(crate) fn expect_len(len: usize, expected_len: usize) -> Result<(), InvalidB
 
 /// Writes the elements of the box into the array's bytes, where they are as many; else writes nothing.
 #[tactic(auto, using(crate::proofs::ViewLaws::part_rank))]
-pub fn copy_into(
+pub fn write_into(
     bytes: &mut [u8],
     part: &Part,
     subset_bytes: &[u8],

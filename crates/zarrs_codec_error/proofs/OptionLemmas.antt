@@ -1,5 +1,5 @@
 -- Options by name: a look-up in them is one in the map that they are kept in, and so is one more option.
-use Rattle.std.proofs.Common.{◌≡◌, ◌∙◌, sym, ap, refl, ℕ, List, [], ◌∷◌, ◌++◌, Bool, true, false, cond, Some}
+use Rattle.std.proofs.Common.{◌≡◌, ◌∙◌, sym, ap, refl, ℕ, List, [], ◌∷◌, ◌++◌, true, false, cond, Some}
 use Rattle.std.proofs.Common.{option_map, String, Global, Ordering, Less, Equal, Greater, string_bytes, string_cmp}
 use Rattle.std.proofs.Common.{nat_cmp}
 use Rattle.std.specs.Ordering.{eq_by_cmp, match_ordering, ordering_reverse}

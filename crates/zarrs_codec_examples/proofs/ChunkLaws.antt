@@ -1,5 +1,5 @@
 -- Codecs that serve their level, and what a chunk over two codecs has.
-use Rattle.std.proofs.Common.{◌≡◌, ℕ, List, Option, Some, None, IsSome, option_map, refl, ap, ◌∙◌}
+use Rattle.std.proofs.Common.{◌≡◌, ℕ, List, Option, Some, None, IsSome, option_map, ap, ◌∙◌}
 use Rattle.zarrs_codec.specs.Prelude.{Element, DataType, Level, Options, Unserved, unserved_at, by_codec}
 use Rattle.zarrs_codec_partial_elements.specs.Level.{level_of_bottom, bottom_fill, bottom_list_in}
 use Rattle.zarrs_codec_partial_elements.specs.declared.level.BottomLevel.{BottomLevel}

@@ -1,5 +1,5 @@
 -- Elements of the level below that are all the fill value.
-use Rattle.std.proofs.Common.{◌≡◌, ◌⊎◌, ℕ, ◌+◌, ◌*◌, ◌^◌, ◌<◌, Bool, true, false, List, length, replicate, Some, Result}
+use Rattle.std.proofs.Common.{◌≡◌, ℕ, ◌+◌, ◌*◌, ◌^◌, ◌<◌, List, length, replicate, Some, Result}
 use Rattle.std.proofs.Common.{Ok, Err, IfOk, IfErr, sym, ap, ap₂, ◌∙◌, subst, arith}
 use Rattle.zarrs_codec_traits.specs.Prelude.{Region, count, count_of, whole, DataType, fill_element, fixed_size}
 use Rattle.zarrs_codec_traits.specs.Prelude.{kind_of, meaning, Level, has_size, innermost_fill, size_in, raw_of}

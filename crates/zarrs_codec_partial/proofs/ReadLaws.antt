@@ -1,5 +1,5 @@
 -- Steps of reading elements through a codec.
-use Rattle.std.proofs.Common.{◌≡◌, true, false, Option, Some, None, Result, Ok, Err, IfOk, IfErr, refl, sym, ap, ◌∙◌}
+use Rattle.std.proofs.Common.{◌≡◌, true, false, Some, None, Result, Ok, Err, IfOk, IfErr, refl, sym, ap, ◌∙◌}
 use Rattle.std.proofs.Common.{subst, inl}
 use Rattle.zarrs_codec.specs.Prelude.{Region, whole, fill_element, kind_of, Options, has_long_element, raw_of}
 use Rattle.zarrs_codec.specs.Prelude.{IsNoFault, RefusesFor, IsListError, ReadsList}

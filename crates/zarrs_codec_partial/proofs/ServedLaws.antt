@@ -1,20 +1,17 @@
 -- What is said of a level that is not served.
-use Rattle.std.proofs.Common.{◌≡◌, ◌⊎◌, ℕ, ◌*◌, Bool, true, List, Option, Some, None, IsSome, option_and_then, Result}
-use Rattle.std.proofs.Common.{Ok, Err, IfOk, refl, sym, ap, ap₂, subst, inl, inr, ⊎_elim}
+use Rattle.std.proofs.Common.{◌≡◌, ℕ, ◌*◌, Bool, true, List, Option, Some, None, IsSome, option_and_then, Result}
+use Rattle.std.proofs.Common.{Ok, Err, IfOk, refl, sym, ap, ap₂, subst, inr}
 use Rattle.zarrs_codec_traits.specs.Prelude.{inner_length, RefusesBy}
-use Rattle.zarrs_codec.specs.Prelude.{count_of, Element, Kind, fill_element, fixed_size, kind_of, ArrayBytes, meaning}
+use Rattle.zarrs_codec.specs.Prelude.{Element, Kind, fill_element, fixed_size, kind_of, ArrayBytes, meaning}
 use Rattle.zarrs_codec.specs.Prelude.{Level, ArrayCodec, Options, bytes_refusal, size_in, Unserved, list_at, Refused}
 use Rattle.zarrs_codec.specs.Prelude.{RefusesFor, given_answer}
-use Rattle.zarr_model.specs.Command as model
 use Rattle.zarr_model.proofs.BytesLaws.{refusal-meaning}
 use Rattle.zarr_model.proofs.Choices.{some_given}
 use Rattle.zarrs_codec_error.specs.declared.error.CodecError.{CodecError}
 use Rattle.zarrs_codec_error.specs.declared.error.CodecError.TheVariants as codec
-use Rattle.zarrs_codec_array_bytes.specs.declared.array_bytes.ArrayBytes as code
-use Rattle.zarrs_codec_array_bytes.specs.Refusals.{BytesAnswer, fine, refused, other_fill, told_by, sized_answer}
+use Rattle.zarrs_codec_array_bytes.specs.Refusals.{BytesAnswer, fine, other_fill, told_by, sized_answer}
 use Rattle.zarrs_codec_array_bytes.specs.Refusals.{then_answer, first_answer, validity}
-use Rattle.zarrs_codec_array_bytes.proofs.ToldLaws.{first_fine}
-use Rattle.zarrs_codec.proofs.NamedLaws.{refused_never, refused_memory}
+use Rattle.zarrs_codec.proofs.NamedLaws.{refused_memory}
 use Rattle.zarrs_codec_partial.specs.Above.{HandsOn, first_unserved}
 
 -- the first reason is told: the fill value's, or the codec's

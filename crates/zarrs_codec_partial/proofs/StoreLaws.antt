@@ -14,7 +14,6 @@ use Rattle.zarrs_codec_traits.proofs.HeldFaultLaws.{unless}
 use Rattle.zarrs_codec.specs.ListWrites.{is_kept, is_stored, HoldsList, HoldsStored, IsAbsent, SameList, IsRefused}
 use Rattle.zarrs_codec.specs.ListWrites.{ErasesList, PutsList, StaysList, KeepsRest, UnaskedList, Rewrites}
 use Rattle.zarrs_codec.specs.Updates.{Stores, Updates}
-use Rattle.zarrs_codec_partial_elements.specs.Kinds.{kind_code}
 use Rattle.zarrs_codec_partial_elements.proofs.WriteLaws.{dropped_list, filled_list}
 use Rattle.zarrs_codec_partial.specs.Above.{IsBelow, IsFilled, HandsOn, list_raised, first_unserved, IsUnencodedBelow}
 use Rattle.zarrs_codec_partial.specs.Above.{IsEncodedBelow}
@@ -153,16 +152,6 @@ module _ (codec : ArrayCodec) (fill_below : DataType → List ℕ → List ℕ) 
           (λ there. hands_encoded codec fill_below level fill (facts there) under bytes (raw_of v) stored decodes short)
       go (Err e) decodes short = tt
 
--- the handle below is still one of its level
-pub below_still : (codec : ArrayCodec) (fill_below : DataType → List ℕ → List ℕ) (level : Level) (fill : List ℕ)
-    (old new : ListSeen) → KeepsRest old new → IsBelow codec fill_below level fill old →
-    IsBelow codec fill_below level fill new
-below_still codec fill_below level fill old new rest is = record {
-  shape = ap (λ (l : Level). l.shape) rest.level ∙ is.shape;
-  kind = ap (λ (l : Level). kind_code (kind_of l.data_type)) rest.level ∙ is.kind;
-  fill = rest.fill ∙ is.fill;
-}
-
 module _ (codec : ArrayCodec) (fill_below : DataType → List ℕ → List ℕ) (level : Level) (fill : List ℕ)
     (unserved : Option Unserved) (region_below : List ℕ → Region → Region) where
   abbrev see : ListSeen → ListSeen
@@ -252,12 +241,6 @@ taken_above : {T : Type 0} (decode : List Element → Option (List Element)) (ta
 taken_above decode takes ys list (Ok v) decodes taken = let b : IsEncodedBelow decode takes list =
     record { below = ys; decodes = decodes; taken = taken } in b
 taken_above decode takes ys list (Err e) decodes taken = tt
-
-pub encoded_back : (decode : List Element → Option (List Element)) (takes other : List Element → Type 0) →
-    ((list : List Element) → other list → takes list) → (list : List Element) → IsEncodedBelow decode other list →
-    IsEncodedBelow decode takes list
-encoded_back decode takes other back list is =
-    record { below = is.below; decodes = is.decodes; taken = back is.below is.taken }
 
 -- a change below that all elements are given to
 pub record PutsAll {T : Type 0} (under : Options) (unencoded : List Element → CodecError → Type 0)

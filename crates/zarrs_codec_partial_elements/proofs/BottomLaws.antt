@@ -1,11 +1,11 @@
 -- The steps of an array-to-bytes codec with its level, as those of any level.
-use Rattle.std.proofs.Common.{◌≡◌, ◌∙◌, Bool, true, List, ℕ, Option, Some, None, option_and_then, Result, IfErr, refl}
+use Rattle.std.proofs.Common.{◌≡◌, ◌∙◌, Bool, true, List, ℕ, Option, None, option_and_then, Result, IfErr, refl}
 use Rattle.std.proofs.Common.{sym, ap, subst, inl, inr}
 use Rattle.std.proofs.lemmas.Bool.{ltb-true}
 use Rattle.zarr_model.proofs.Choices.{none_of}
 use Rattle.zarrs_storage.specs.declared.byte_range.ByteRange.{ByteRange}
 use Rattle.zarrs_codec.specs.Prelude.{Region, Element, DataType, Level, Options, Unserved, unserved_at, Seen, ReadsRanges}
-use Rattle.zarrs_codec.specs.Prelude.{smaller_box, Choice, IsListError}
+use Rattle.zarrs_codec.specs.Prelude.{Choice, IsListError}
 use Rattle.zarrs_codec_error.specs.declared.error.CodecError.{CodecError}
 use Rattle.zarrs_codec_array_bytes.specs.declared.array_bytes.ArrayBytes as code
 use Rattle.zarrs_codec_partial_elements.specs.declared.level.BottomLevel.{BottomLevel}

@@ -1,17 +1,16 @@
 -- The list that is held, by cases.
-use Rattle.std.proofs.Common.{◌≡◌, ◌⊎◌, ℕ, ◌+◌, ◌-◌, ◌≤◌, Bool, true, false, is_some, if◌then◌else◌, List, [], ◌∷◌}
-use Rattle.std.proofs.Common.{length, replicate, Option, Some, None, IsSome, option_map, not, Result, Ok, Err, IfOk}
+use Rattle.std.proofs.Common.{◌≡◌, ◌⊎◌, ℕ, ◌-◌, Bool, true, false, is_some, if◌then◌else◌, List, [], ◌∷◌}
+use Rattle.std.proofs.Common.{length, replicate, Option, Some, None, IsSome, option_map, Result, Ok, Err, IfOk}
 use Rattle.std.proofs.Common.{IfErr, OnOk, MatchResult, refl, sym, ap, ap₂, ◌∙◌, subst, arith, inl, inr, ⊎_elim}
 use Rattle.std.proofs.Math.Path.{fun_ext}
 use Rattle.std.proofs.lemmas.Bool.{le-leb}
-use Rattle.zarrs_codec_traits.specs.Prelude.{Region, count, count_of, ends_within, tuples, picked, linear, has_size}
+use Rattle.zarrs_codec_traits.specs.Prelude.{Region, count, count_of, ends_within, has_size}
 use Rattle.zarrs_codec_traits.specs.Prelude.{filled_with, ArrayBytes, meaning, Level, Options, has_long_element}
 use Rattle.zarrs_codec_traits.specs.Prelude.{is_valid, slice_of, slices_of, first_invalid, raw_of, BytesAnswer, fine}
-use Rattle.zarrs_codec_traits.specs.Prelude.{told_by, other_fill, Answers, fill_answer, extract_answer, Unserved}
+use Rattle.zarrs_codec_traits.specs.Prelude.{told_by, other_fill, Answers, fill_answer, Unserved}
 use Rattle.zarrs_codec_traits.specs.Prelude.{IsDecodeError, RefusesAs, list_at, at_box, select, Gives, Held, Seen}
 use Rattle.zarrs_codec_traits.specs.Prelude.{IsSoundSeen, value_part}
-use Rattle.zarr_model.proofs.RegionLaws.{length-tuples}
-use Rattle.zarr_model.specs.Element.{Element, null, kind_of, fill_element}
+use Rattle.zarr_model.specs.Element.{Element, kind_of, fill_element}
 use Rattle.zarrs_codec_slices.proofs.FilledLaws.{filled_valid}
 use Rattle.zarr_model.proofs.Choices.{some_now}
 use Rattle.zarrs_storage.specs.declared.byte_range.ByteRange.{ByteRange}
@@ -20,19 +19,17 @@ use Rattle.zarrs_codec_error.specs.declared.error.CodecError.{CodecError}
 use Rattle.zarrs_codec_error.specs.declared.error.CodecError.TheVariants as codec
 use Rattle.zarrs_codec_array_bytes.specs.declared.array_bytes.ArrayBytes as code
 use Rattle.zarrs_codec_array_bytes.proofs.ToldLaws.{says_some}
-use Rattle.zarrs_codec_array_bytes.proofs.ExtractLaws.{extract_told}
 use Rattle.zarrs_codec_traits.specs.Parts as parts
-use Rattle.zarrs_codec_traits.specs.Parts.{part_lengths_answer, request_answer}
-use Rattle.zarrs_codec_traits.proofs.SelectLaws.{select-replicate, boxed-picked}
+use Rattle.zarrs_codec_traits.specs.Parts.{part_lengths_answer}
+use Rattle.zarrs_codec_traits.proofs.SelectLaws.{select-replicate}
 use Rattle.zarrs_codec_traits.specs.Reads.{Keeps, Looks, ReadsRanges, GivesParts, AreParts, RefusesSome, IsHandleError}
 use Rattle.zarrs_codec_traits.specs.Reads.{IsReadError, IsPartError}
 use Rattle.zarrs_codec_traits.proofs.PartLaws.{as_many}
-use Rattle.zarrs_codec.specs.Boxes.{smaller_box, is_smaller}
 use Rattle.zarrs_codec.specs.Lists.{fills, IsListError, KeepsList, LooksAt, ReadsList}
 use Rattle.zarrs_codec.proofs.SliceLaws.{parts_sliced}
 use Rattle.zarrs_codec_partial_elements.specs.Level.{list_of, found, held_in, IsPartRefused, IsOtherFill, undecoded}
 use Rattle.zarrs_codec_partial_elements.specs.Level.{parts_say, ranges_say, own_says, level_says, ranges_for, listed}
-use Rattle.zarrs_codec.specs.Selects.{every, boxed, placed}
+use Rattle.zarrs_codec.specs.Selects.{every, boxed}
 use Rattle.zarrs_codec_partial_elements.specs.Boxes.{Denotes, IsShort, GivesElements}
 
 -- one half of an answer

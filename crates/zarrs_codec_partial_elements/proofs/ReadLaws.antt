@@ -1,22 +1,22 @@
 -- What reading elements owes, step by step.
 use Rattle.std.proofs.Common.{◌≡◌, ◌⊎◌, ◌∙◌, ℕ, Bool, true, false, List, [], ◌∷◌, length, Option, Some, None, IsSome}
 use Rattle.std.proofs.Common.{Result, Ok, Err, IfOk, IfErr, OnOk, MatchResult, refl, sym, ap, subst, inl, inr}
-use Rattle.zarrs_codec.specs.Prelude.{Region, count_of, tuples, meaning as means, Level, Options, has_long_element}
-use Rattle.zarrs_codec.specs.Prelude.{slices_of, first_invalid, picked, raw_of, linear, list_at, at_box, select, Gives}
+use Rattle.zarrs_codec.specs.Prelude.{Region, Level, Options, has_long_element}
+use Rattle.zarrs_codec.specs.Prelude.{slices_of, first_invalid, raw_of, list_at, Gives}
 use Rattle.zarrs_codec.specs.Prelude.{Held, Seen, IsSoundSeen, ReadsRanges, GivesParts, IsReadError, IsPartError, fills}
 use Rattle.zarrs_codec.specs.Prelude.{IsListError}
-use Rattle.zarr_model.specs.Element.{Element, DataType, null, fill_element, kind_of}
+use Rattle.zarr_model.specs.Element.{Element, DataType, fill_element, kind_of}
 use Rattle.zarr_model.proofs.Choices.{always_ok, always_err}
 use Rattle.zarrs_storage.specs.declared.byte_range.ByteRange.{ByteRange}
 use Rattle.zarrs_codec_error.specs.declared.error.CodecError.{CodecError}
 use Rattle.zarrs_codec_error.specs.declared.error.CodecError.TheVariants as codec
 use Rattle.zarrs_codec_array_bytes.specs.declared.array_bytes.ArrayBytes as code
-use Rattle.zarrs_codec_array_bytes.specs.Refusals.{BytesAnswer, fine, told_by, other_fill, extract_answer, Answers}
+use Rattle.zarrs_codec_array_bytes.specs.Refusals.{BytesAnswer, fine, told_by, other_fill}
 use Rattle.zarrs_codec_traits.specs.Errors.{Unserved, unserved_at, IsNoFault, RefusesBy, RefusesAs, IsDecodeError}
 use Rattle.zarrs_codec_traits.specs.Calls.{DecodesParts}
 use Rattle.zarrs_codec_traits.specs.Parts.{ArePartsOf, request_answer, part_lengths_answer}
-use Rattle.zarrs_codec_traits.proofs.FaultLaws.{memory_no_fault, told_no_fault, answers_no_fault, decoded_no_fault}
-use Rattle.zarrs_codec_traits.proofs.FaultLaws.{served_no_fault, known_extract}
+use Rattle.zarrs_codec_traits.proofs.FaultLaws.{memory_no_fault, told_no_fault, decoded_no_fault}
+use Rattle.zarrs_codec_traits.proofs.FaultLaws.{served_no_fault}
 use Rattle.zarrs_codec_traits.proofs.IntervalLaws.{unread}
 use Rattle.zarrs_codec.specs.ListWrites.{IsUnfilled}
 use Rattle.zarrs_codec.proofs.FaultLaws.{no_fault, no_faults, read_fault, part_fault}
@@ -24,7 +24,7 @@ use Rattle.zarrs_codec_partial_elements.specs.declared.level.BottomLevel.{Bottom
 use Rattle.zarrs_codec_partial_elements.specs.Level.{level_of_bottom, bottom_fill, list_of, found, held_in, IsOtherFill}
 use Rattle.zarrs_codec_partial_elements.specs.Level.{undecoded, parts_say, ranges_say, own_says, IsServedBottom}
 use Rattle.zarrs_codec_partial_elements.specs.Level.{bottom_list_in, says_in, seen_by}
-use Rattle.zarrs_codec.specs.Selects.{Choice, every, boxed, placed}
+use Rattle.zarrs_codec.specs.Selects.{Choice, every, boxed}
 use Rattle.zarrs_codec_partial_elements.specs.Boxes.{Denotes, GivesElements}
 use Rattle.zarrs_codec_partial_elements.specs.Reading.{FillsElements, ReadsElements, ReadsOld}
 use Rattle.zarrs_codec_partial_elements.proofs.HeldLaws.{weaker_err, all_of_value, box_of_value, value_fails_by}

@@ -13,14 +13,10 @@ use Rattle.zarrs_codec_array_bytes.specs.Refusals.{sized_answer}
 use Rattle.zarrs_codec_array_bytes.specs.declared.array_bytes.ArrayBytes as code
 use Rattle.zarrs_codec_array_bytes.proofs.ToldLaws.{first_fine}
 use Rattle.zarrs_codec_array_bytes.proofs.ToldLaws.{says_some}
-use Rattle.zarrs_codec_traits.specs.Errors.{Unserved, Serves}
+use Rattle.zarrs_codec_traits.specs.Errors.{Unserved}
 use Rattle.zarrs_codec.proofs.NamedLaws.{refused_never, refused_memory}
 
 -- what a codec answers that tells exactly whether it serves a level
-module _ (T : Type 0) (P : T → Type 0) where
-  pub serves_some : {X : Type 0} (why : Option Unserved) (e : CodecError) → Serves why P (Err e) → why ≡ None → X
-  serves_some None e serves is = absurd serves
-  serves_some (Some why) e serves is = cc
 
 -- what is tested before that is in order
 pub answer_named : (U : Type 0) (why : Option Refused) (wanted : BytesAnswer) (e : CodecError) → wanted ≡ fine →

@@ -13,7 +13,7 @@ use crate::write::expect_given;
 use std::alloc::Global;
 use zarrs_chunk_grid_indexer::Indexer;
 use zarrs_codec_array_bytes::ArrayBytes;
-use zarrs_codec_array_bytes_parts::update_array_bytes;
+use zarrs_codec_array_bytes_parts::update_owned_array_bytes;
 use zarrs_codec_error::{CodecError, CodecOptions};
 use zarrs_data_type::type_size;
 
@@ -40,7 +40,7 @@ fn updated_elements<L: LevelWrites, I: Indexer>(
     match level.old_elements(alloc, options) {
         Ok(whole) => {
             let size = type_size(level.element_type());
-            update_array_bytes(alloc, &whole, numbers, indexer, bytes, size)
+            update_owned_array_bytes(alloc, whole, numbers, indexer, bytes, size)
         }
         Err(error) => Err(error),
     }

@@ -3,7 +3,7 @@ use Rattle.std.proofs.Common.{◌≡◌, ℕ, zero, suc, ◌+◌, ◌-◌, ◌<�
 use Rattle.std.proofs.Common.{sym, ap, ap₂, refl, ◌∙◌, subst, subst₂, arith, inl, inr, ◌⊎◌}
 use Rattle.std.specs.List.{range_with_len}
 use Rattle.std.proofs.lemmas.Bool.{cases_lt}
-use Rattle.std.proofs.lemmas.List.{append_assoc, append-nil, drop_all, drop_more, length-append, get_or_append_left}
+use Rattle.std.proofs.lemmas.List.{append_assoc, append-nil, drop_more, length-append, get_or_append_left}
 use Rattle.std.proofs.lemmas.List.{get_or_at}
 use Rattle.std.proofs.lemmas.Grind.{common_steps, flat_map-append}
 use Rattle.std.proofs.Math.Seq.{set-append_seam}
@@ -116,17 +116,6 @@ module _ (runs out : List (ℕ × ℕ)) (i next given count s n : ℕ) (all : Li
       (sym (range_split given n (length rest)) ∙ ap (range_with_len given) (sym rest_long))
       ∙ before))
 
--- all are
-pub replaced_last : (runs out : List (ℕ × ℕ)) (i next given count : ℕ) (all : List ℕ) → length runs ≤ i →
-    replaced (run_numbers (drop i runs)) (range_with_len given (length (run_numbers (drop i runs))))
-    (run_numbers out ++ range_with_len next (count - next)) ≡ all →
-    run_numbers (out ++ (next, count - next) ∷ []) ≡ all
-replaced_last runs out i next given count all end before =
-    flat_map-append (λ run. range_with_len run.0 run.1) out ((next, count - next) ∷ [])
-    ∙ (ap (λ l. run_numbers out ++ l) (append-nil (range_with_len next (count - next)))
-    ∙ (sym (ap (λ l. replaced (run_numbers l) (range_with_len given (length (run_numbers l)))
-    (run_numbers out ++ range_with_len next (count - next))) (drop_all i runs end)) ∙ before))
-
 -- one more run of two lists
 abbrev IsOf : ℕ → ℕ → ℕ × ℕ → Type 0
 IsOf number more run = (run.0 < number → run.0 + run.1 ≤ number) × (run.0 + run.1 ≤ number + more)
@@ -151,17 +140,6 @@ pub record HasReplaced (runs : List (ℕ × ℕ)) (count i next given : ℕ) (ou
   pub numbers : replaced (run_numbers (drop i runs)) (range_with_len given (length (run_numbers (drop i runs))))
       (run_numbers out ++ range_with_len next (count - next))
       ≡ replaced (run_numbers runs) (range_with_len count (length (run_numbers runs))) (range_with_len 0 count)
-
-pub none_replaced : (runs : List (ℕ × ℕ)) (count : ℕ) → HasReplaced runs count 0 0 count []
-none_replaced runs count = record {
-  low = omega arith;
-  long = refl;
-  given_is = refl;
-  past = omega arith;
-  of_both = λ k h. absurd (omega (arith, h));
-  numbers = ap (λ (n : ℕ). replaced (run_numbers runs) (range_with_len count (length (run_numbers runs)))
-      (range_with_len 0 n)) (let e : count - 0 ≡ count = omega arith in e);
-}
 
 module _ (runs out more : List (ℕ × ℕ)) (count i next given behind s n : ℕ) (h : i < length runs)
     (s_is : (get_or runs i (0, 0)).0 ≡ s) (n_is : (get_or runs i (0, 0)).1 ≡ n)
@@ -189,10 +167,6 @@ module _ (runs out more : List (ℕ × ℕ)) (count i next given behind s n : �
 
 module _ (runs out more : List (ℕ × ℕ)) (count i next given : ℕ) (end : length runs ≤ i) (more_is : more ≡
     out ++ (next, count - next) ∷ []) (all : HasReplaced runs count i next given out) where
-  pub all_replaced : run_numbers more ≡
-      replaced (run_numbers runs) (range_with_len count (length (run_numbers runs))) (range_with_len 0 count)
-  all_replaced = ap run_numbers more_is ∙ replaced_last runs out i next given count _ end all.numbers
-
   pub all_of_both : AreRunsOf count (length (run_numbers runs)) more
   all_of_both = subst (AreRunsOf count (length (run_numbers runs))) (sym more_is)
       (one_more_of count (length (run_numbers runs)) out next (count - next) all.of_both (λ l. omega (arith, all.low))
@@ -205,15 +179,6 @@ pub record HasJoined (picks : List ℕ) (count more i first len : ℕ) (runs : L
   pub in_both : first + len ≤ count + more
   pub of_both : AreRunsOf count more runs
   pub numbers : run_numbers runs ++ (range_with_len first len ++ drop i picks) ≡ picks
-
-pub none_joined : (picks : List ℕ) (count more : ℕ) → HasJoined picks count more 0 0 0 []
-none_joined picks count more = record {
-  short = omega arith;
-  in_first = λ h. omega arith;
-  in_both = omega arith;
-  of_both = λ k h. absurd (omega (arith, h));
-  numbers = refl;
-}
 
 joined_one : (runs : List (ℕ × ℕ)) (first len : ℕ) →
     run_numbers (runs ++ (first, len) ∷ []) ≡ run_numbers runs ++ range_with_len first len
@@ -255,18 +220,6 @@ module _ (picks : List ℕ) (count more i first len : ℕ) (runs : List (ℕ × 
         numbers = ap₂ (λ a b. a ++ b) (joined_one runs first len) (sym (drop_more picks i 0 h))
             ∙ (append_assoc (run_numbers runs) (range_with_len first len) (drop i picks) ∙ all.numbers);
       })
-
-module _ (picks : List ℕ) (count more i first len : ℕ) (runs after : List (ℕ × ℕ)) (end : length picks
-    ≤ i) (is : after ≡ runs ++ (first, len) ∷ []) (all : HasJoined picks count more i first len runs) where
-  pub all_joined : run_numbers after ≡ picks
-  all_joined =
-      ap run_numbers is ∙ (joined_one runs first len
-      ∙ (ap (λ l. run_numbers runs ++ l) (sym (ap (λ l. range_with_len first len ++ l) (drop_all i picks end)
-      ∙ append-nil (range_with_len first len))) ∙ all.numbers))
-
-  pub joined_of_both : AreRunsOf count more after
-  joined_of_both =
-      subst (AreRunsOf count more) (sym is) (one_more_of count more runs first len all.of_both all.in_first all.in_both)
 
 -- the numbers of runs are below their limit, and the picks below both counts
 below_joined : (limit : ℕ) (xs ys : List ℕ) → AllBelow limit xs → AllBelow limit ys → AllBelow limit (xs ++ ys)

@@ -1,13 +1,11 @@
 -- Elements with the same bytes.
 use Rattle.std.proofs.Common.{◌≡◌, ℕ, zero, suc, ◌+◌, ◌-◌, ◌<◌, ◌≤◌, true, List, [], ◌∷◌, ◌++◌, length, map, replicate}
-use Rattle.std.proofs.Common.{arith, ap, sym, refl, ◌∙◌, subst, subst₂, inl, inr, ◌⊎◌}
+use Rattle.std.proofs.Common.{arith, ap, sym, refl, ◌∙◌, subst, subst₂}
 use Rattle.std.specs.List.{flat_map}
-use Rattle.std.proofs.lemmas.Bool.{cases_eq}
 use Rattle.std.proofs.lemmas.List.{append_assoc, append-nil, length-append}
 use Rattle.zarr_model.specs.ArrayBytes.{ends_from}
 use Rattle.zarrs_data_type_bytes.specs.Pieces.{repeated}
 use Rattle.zarrs_codec_slices.specs.Picking.{are_within, value_of}
-use Rattle.zarrs_codec_slices.specs.Filling.{AreFilledValues}
 use Rattle.zarrs_codec_slices.proofs.ValueLaws.{gathered_within}
 
 joined-replicate : (k : ℕ) (value : List ℕ) → flat_map (λ v. v) (replicate k value) ≡ repeated k value
@@ -59,23 +57,3 @@ within_at_end k n value bytes offsets h e f =
 -- the values at the places below a limit
 pub record AreBelow (limit : ℕ) (fill value offsets : List ℕ) : Type 0 where
   pub each : (k : ℕ) → k < limit → value_of value offsets k ≡ fill
-
-pub none_below : (fill value offsets : List ℕ) → AreBelow 0 fill value offsets
-none_below fill value offsets = record { each = λ k h. absurd (omega (arith, h)) }
-
-pub one_more : (limit : ℕ) (fill value offsets : List ℕ) → AreBelow limit fill value offsets →
-    value_of value offsets limit ≡ fill → AreBelow (limit + 1) fill value offsets
-one_more limit fill value offsets all here = record { each = λ k h. at k h (cases_eq k limit) }
-  where
-    at : (k : ℕ) → k < limit + 1 → (k ≡ limit) ⊎ (k ≡ limit → ⊥) → value_of value offsets k ≡ fill
-    at k h (inl e) = ap (value_of value offsets) e ∙ here
-    at k h (inr differ) = all.each k (omega (arith, h, differ))
-
-pub all_below : (limit : ℕ) (fill value offsets : List ℕ) → 1 < length offsets → length offsets - 1 ≤ limit →
-    AreBelow limit fill value offsets → AreFilledValues fill value offsets
-all_below limit fill value offsets some end all =
-    record { some = some; each = λ k h. all.each k (omega (arith, h, end)) }
-
-pub not_all : (limit : ℕ) (fill value offsets : List ℕ) → limit < length offsets - 1 →
-    (value_of value offsets limit ≡ fill → ⊥) → AreFilledValues fill value offsets → ⊥
-not_all limit fill value offsets h differ all = differ (all.each limit (omega (arith, h)))

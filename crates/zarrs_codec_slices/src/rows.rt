@@ -1,19 +1,20 @@
 //! Elements of one size in boxes, run by run.
 
 ghost use Rattle.std.specs.Prelude.{◌≡◌, ◌*◌, ◌<◌, ◌^◌, true, length, map, IfOk};
-ghost use Rattle.std.specs.List.{flat_map, range_with_len, AllByRecursion};
+ghost use Rattle.std.specs.List.{flat_map, AllByRecursion};
 ghost use Rattle.zarr_model.specs.Region.{count, contains, place, tuples};
 ghost use Rattle.zarrs_array_subset.specs.ArraySubset.{region};
 ghost use Rattle.zarrs_codec_slices.specs.Elements.{fixed_elements};
 ghost use Rattle.zarrs_codec_slices.specs.Overlap.{Copied};
-ghost use Rattle.zarrs_codec_slices.specs.Picking.{picked_piece, replaced};
+ghost use Rattle.zarrs_codec_slices.specs.Picking.{picked_piece};
 
 use crate::overlap::copy_elements;
 use std::alloc::{AllocError, Global};
 use zarrs_array_subset::ArraySubset;
 
-// Copies what two boxes share into a vector.
-fn copy_into(
+/// Copies the elements at the indices that two boxes share, from the bytes into a vector. Both have their boxes'
+/// elements of `size` bytes in row-major order.
+pub fn copy_into(
     out: &mut Vec<u8>,
     out_subset: &ArraySubset,
     bytes: &[u8],
@@ -57,35 +58,5 @@ pub fn extract_rows(
     let len = subset.num_elements_usize() * size;
     let mut out = vec![in alloc; 0; len]?;
     copy_into(&mut out, subset, bytes, outer, size);
-    Ok(out)
-}
-
-/// The elements of an outer box, with those of a box in it replaced.
-///
-/// # Errors
-/// [`AllocError`] where memory runs out.
-pub fn update_rows(
-    alloc: Global,
-    bytes: &[u8],
-    outer: &ArraySubset,
-    update: &[u8],
-    subset: &ArraySubset,
-    size: usize,
-) -> Result<Vec<u8>, AllocError>
-    requires some { 0 < size }
-    requires rank { length (region outer.now) ≡ length (region subset.now) }
-    requires inside { AllByRecursion (λ tuple. contains (region outer.now) tuple ≡ true)
-        (tuples (region subset.now)) }
-    requires long { length bytes.now ≡ count (region outer.now) * size }
-    requires update_long { length update.now ≡ count (region subset.now) * size }
-    ensures { IfOk result (λ v. v.items
-        ≡ flat_map (picked_piece size (count (region outer.now)) bytes.now update.now)
-        (replaced (map (place (region outer.now)) (tuples (region subset.now)))
-        (range_with_len (count (region outer.now))
-        (length (map (place (region outer.now)) (tuples (region subset.now)))))
-        (range_with_len 0 (count (region outer.now))))) }
-{
-    let mut out = Vec::from_slice(alloc, bytes)?;
-    copy_into(&mut out, outer, update, subset, size);
     Ok(out)
 }

@@ -88,11 +88,6 @@ pub reads_err : {T U E F : Type 0} (asked : Option (List ByteRange)) (old new : 
 reads_err asked old new v e reads =
     record { keeps = reads.keeps; asks = tt; asks_err = inr reads.asks; taken = tt; taken_err = inr reads.taken }
 
-pub reads_failed : {T U E F : Type 0} (asked : Option (List ByteRange)) (old new : Seen) (e : E) (f : F) →
-    ReadsRanges {T = T} asked old new (Err e) → ReadsRanges {T = U} asked old new (Err f)
-reads_failed asked old new e f reads =
-    record { keeps = reads.keeps; asks = tt; asks_err = reads.asks_err; taken = tt; taken_err = reads.taken_err }
-
 -- which errors tell that a value does not decode, after a read
 pub through_told : (decode : List ℕ → Option (List ℕ)) (says : List ℕ → CodecError → Type 0)
     (old new : CodecError → Type 0) (held now : Held) (asked : Option (List ByteRange)) (e : CodecError) → now ≡ held →

@@ -1,8 +1,8 @@
 -- A list again and again, in longer pieces.
-use Rattle.std.proofs.Common.{◌≡◌, ℕ, zero, suc, ◌+◌, ◌*◌, ◌/◌, ◌%◌, ◌<◌, ◌≤◌, Bool, true, false, IsTrue, List, [], ◌∷◌}
+use Rattle.std.proofs.Common.{◌≡◌, ℕ, zero, suc, ◌+◌, ◌*◌, ◌/◌, ◌%◌, ◌<◌, ◌≤◌, Bool, true, false, IsTrue, List}
 use Rattle.std.proofs.Common.{◌++◌, length, take, drop, refl, sym, ap, ap₂, ◌∙◌, subst, arith}
 use Rattle.std.proofs.lemmas.List.{append_assoc, length-take-le, take-append-drop}
-use Rattle.std.proofs.lemmas.Nat.{div-add-mod', mod-mul-add}
+use Rattle.std.proofs.lemmas.Nat.{div-add-mod'}
 use Rattle.std.proofs.Math.Seq.{take-append_seam, drop-append_seam}
 use Rattle.std.proofs.Math.Nat.{zero-mul, suc-mul, mul_assoc, mul-div_cancel, add-mul, mul-mod_left}
 use Rattle.std.proofs.Math.Nat.{add-mul-mod_self_right}
@@ -100,16 +100,6 @@ by_vectors fill bytes wide some many divides whole room = go (length bytes / wid
           others_are fill bytes (wide / length fill) q wide some many lanes vectors,
         )
 
-pub no_vector : (fill bytes : List ℕ) (wide : ℕ) → 0 < length fill → 0 < wide → length bytes % wide ≡ 0 →
-    length bytes < wide → AreFill fill bytes
-no_vector fill [] wide some many whole few =
-    ap (λ k. repeated k fill) (sym (ap (λ k. k / length fill) (sym (zero-mul (length fill))) ∙ mul-div_cancel 0 some))
-no_vector fill (b ∷ bytes) wide some many whole few =
-    absurd (omega (arith, whole, mod_small (length (b ∷ bytes)) wide few))
-  where
-    mod_small : (n w : ℕ) → n < w → n % w ≡ n
-    mod_small n w h = ap (λ k. k % w) (let e : n ≡ 0 * w + n = omega (arith, zero-mul w) in e) ∙ mod-mul-add 0 w n h
-
 -- two parts, the first as many whole pieces
 module _ (fill front rest bytes : List ℕ) (some : 0 < length fill) (is : front ++ rest ≡ bytes) (i j : ℕ) (a : length
     front ≡ i * length fill) (b : length rest ≡ j * length fill) (n : length bytes ≡ length front + length rest) where
@@ -148,12 +138,6 @@ module _ (fill bytes : List ℕ) (wide : ℕ) (some : 0 < length fill)
     (divides : wide % length fill ≡ 0) (whole : length bytes % length fill ≡ 0) where
   lanes : wide / length fill * length fill ≡ wide
   lanes = omega (arith, div-add-mod' wide (length fill), divides)
-
-  all_long : length bytes / length fill * length fill ≡ length bytes
-  all_long = omega (arith, div-add-mod' (length bytes) (length fill), whole)
-
-  front_pieces : ℕ
-  front_pieces = length bytes / wide * (wide / length fill)
 
   seam : length bytes / wide * wide ≡ length bytes / wide * (wide / length fill) * length fill
   seam = ap (λ k. length bytes / wide * k) (sym lanes)

@@ -1,10 +1,10 @@
 -- Bytes piece by piece: lengths, one more piece, the same change twice, and lists again and again.
-use Rattle.std.proofs.Common.{◌≡◌, ℕ, zero, suc, ◌+◌, ◌-◌, ◌*◌, ◌/◌, ◌%◌, ◌<◌, ◌≤◌, List, [], ◌∷◌, ◌++◌, length, take}
+use Rattle.std.proofs.Common.{◌≡◌, ℕ, zero, suc, ◌+◌, ◌-◌, ◌*◌, ◌/◌, ◌<◌, ◌≤◌, List, [], ◌∷◌, ◌++◌, length, take}
 use Rattle.std.proofs.Common.{drop, reverse, refl, sym, ap, ap₂, ◌∙◌, subst, arith}
-use Rattle.std.proofs.lemmas.List.{take_all, length-append, length-take-le, length-drop, take-append-drop, append_assoc}
+use Rattle.std.proofs.lemmas.List.{length-append, length-take-le, length-drop, take-append-drop, append_assoc}
 use Rattle.std.proofs.lemmas.List.{reverse-reverse, length-reverse, append-nil}
 use Rattle.std.proofs.Math.Seq.{take-append-add, drop-append-add, take-append_seam, drop-append_seam}
-use Rattle.std.proofs.Math.Nat.{div-add-mod', suc-mul, mul-le-mul_right, div-mul-le_self}
+use Rattle.std.proofs.Math.Nat.{suc-mul, mul-le-mul_right, div-mul-le_self}
 use Rattle.zarrs_data_type_bytes.specs.Pieces.{repeated, in_pieces, components_reversed}
 
 -- a change of a piece of n bytes gives n bytes
@@ -154,15 +154,6 @@ pub one_differs : (list bytes : List ℕ) (k at : ℕ) → at ≡ length list �
 one_differs list bytes k at at_is below differs all =
     differs (ap₂ (λ m l. take m (drop (k * length list) l)) at_is all
     ∙ repeated_piece (length bytes / length list) k list below)
-
--- all pieces are the list: the bytes are
-pub all_same : (list bytes : List ℕ) (k : ℕ) → k ≡ length bytes / length list → length bytes % length list ≡ 0 →
-    take (k * length list) bytes ≡ repeated k list →
-    bytes ≡ repeated (length bytes / length list) list
-all_same list bytes k is whole same =
-    sym (take_all (k * length list) bytes
-    (omega (arith, div-add-mod' (length bytes) (length list), whole, ap (λ m. m * length list) is)))
-    ∙ (same ∙ ap (λ m. repeated m list) is)
 
 -- the piece at a place is whole
 pub piece_long : (n k at : ℕ) (bytes now : List ℕ) → at ≡ n → length now ≡ length bytes → k < length bytes / n →

@@ -1,14 +1,16 @@
 -- The additional fields of a document that was read are orderly, and stay as they are.
 use Rattle.std.proofs.Common.{◌≡◌, ℕ, Bool, true, false, cond, List, ◌∷◌, Less, Some, Result, Ok, Err, IfOk, codes}
-use Rattle.std.proofs.Common.{nat_cmp, refl, ◌∙◌}
+use Rattle.std.proofs.Common.{nat_cmp, refl, subst, ◌∙◌}
 use Rattle.std.specs.Cmp.Lexicographic.{slice_cmp}
 use Rattle.serde_json.specs.Data.{Data, null, boolean, number, string, array, object, Members, no_members, member}
 use Rattle.serde_json.specs.Find.{get_member}
 use Rattle.zarrs_metadata_parts.specs.AdditionalField.{AdditionalField, additional_field_of, additional_field_data}
-use Rattle.zarrs_metadata_values.specs.Reading.{◌>>=◌, object_or_empty, is_number, is_text, Reads}
+use Rattle.zarrs_metadata_values.specs.Reading.{object_or_empty, Reads}
 use Rattle.zarrs_metadata_values.specs.Rising.{IsBelowMembers, Rises, MembersRise}
 use Rattle.zarrs_metadata_values.specs.declared.error.MetadataError.{MetadataError}
 use Rattle.zarrs_metadata_values.proofs.EachLemmas.{bind_some}
+use Rattle.zarrs_metadata_values.proofs.FormLemmas.{object_of}
+use Rattle.zarrs_metadata_parts.specs.Fields.{is_kind}
 use Rattle.zarrs_metadata_parts.proofs.RisingLemmas.{no_mark, read_is_normal}
 use Rattle.zarrs_metadata_parts.specs.AdditionalFields.{is_null, is_no_field, additional_fields_of, normal_fields}
 use Rattle.zarrs_metadata_parts.specs.AdditionalFields.{normal_each, IsKeyBelow, AreOrderly}
@@ -76,20 +78,16 @@ group_fields_of : (ms : Members) (g : GroupFields) → group_members ms ≡ Some
     g.additional_fields ≡ additional_fields_of Group ms
 unfolding group_members
 group_fields_of ms g e =
-    let a = bind_some (get_member (codes "zarr_format") ms >>= is_number 3) _ g e in
-    let b = bind_some (get_member (codes "node_type") ms >>= is_text (codes "group")) _ g a.2 in
-    let c = bind_some (object_or_empty (get_member (codes "attributes") ms)) _ g b.2 in
-    let same = c.2 in
+    let a = bind_some (is_kind 3 (codes "group") ms) _ g e in
+    let b = bind_some (object_or_empty (get_member (codes "attributes") ms)) _ g a.2 in
+    let same = b.2 in
     cc
 
 group_kept : (d : Data) (g : GroupFields) → Rises d → group_of d ≡ Some g →
     normal_fields Group g.additional_fields ≡ g.additional_fields
-group_kept null g h e = absurd cc
-group_kept (boolean b) g h e = absurd cc
-group_kept (number n) g h e = absurd cc
-group_kept (string s) g h e = absurd cc
-group_kept (array ds) g h e = absurd cc
-group_kept (object ms) g h e = let is = group_fields_of ms g e in rw is (fields_kept Group ms h)
+group_kept d g h e =
+    let o = object_of group_members d g e in
+    rw (group_fields_of o.0 g o.2) (fields_kept Group o.0 (subst Rises o.1 h))
 
 -- a group that was read is the same when it is written and read again
 pub group_again : (d : Data) (g : GroupFields) → Rises d → group_of d ≡ Some g → normal_group g ≡ g

@@ -1,14 +1,15 @@
 -- A version 3 array document: what it says, how it is read and how it is written.
-use Rattle.std.specs.Prelude.{◌≡◌, ℕ, ⊤, true, List, [], map, Option, Some, None, option_map, codes}
-use Rattle.serde_json.specs.Data.{unsigned, Data, number, string, array, object, Members, no_members, member, put}
+use Rattle.std.specs.Prelude.{◌≡◌, ℕ, true, List, [], map, Option, Some, None, option_map, codes}
+use Rattle.serde_json.specs.Data.{Data, string, object, Members, no_members, member, put}
 use Rattle.serde_json.specs.Find.{get_member, as_object}
 use Rattle.serde_json.specs.View.{items_of, members_view}
-use Rattle.zarrs_metadata_values.specs.Reading.{◌>>=◌, is_number, is_text, whole_numbers, object_or_empty}
-use Rattle.zarrs_metadata_values.specs.Writing.{numbers_data, put_object, put_list}
+use Rattle.zarrs_metadata_values.specs.Reading.{◌>>=◌, read_under, whole_numbers, object_or_empty}
+use Rattle.zarrs_metadata_values.specs.Writing.{list_data, put_object, put_list}
 use Rattle.zarrs_metadata_parts.specs.MetadataV3.{Extension, extension_of, extensions_of, extension_seen}
 use Rattle.zarrs_metadata_parts.specs.MetadataV3.{extensions_seen, extension_data, normal_form}
 use Rattle.zarrs_metadata_parts.specs.AdditionalField.{AdditionalField}
-use Rattle.zarrs_metadata_parts.specs.DimensionNames.{dimension_names_seen, dimension_names, dimension_name_data}
+use Rattle.zarrs_metadata_parts.specs.DimensionNames.{dimension_names_seen, dimension_names, dimension_names_data}
+use Rattle.zarrs_metadata_parts.specs.Fields.{is_kind, put_array}
 use Rattle.zarrs_metadata_values.specs.FillValueMetadata.{fill_view}
 use Rattle.zarrs_metadata_parts.specs.AdditionalFields.{additional_fields_seen, additional_fields_of, put_fields}
 use Rattle.zarrs_metadata_parts.specs.AdditionalFields.{normal_fields}
@@ -84,16 +85,6 @@ unfoldable pub extensions_or_none : Option Data → Option (List Extension)
 extensions_or_none None = Some []
 extensions_or_none (Some d) = extensions_of d
 
--- `zarr_format` is 3 and `node_type` is `array`
-unfoldable pub is_array : Members → Option ⊤
-is_array ms = do
-  _ ← get_member (codes "zarr_format") ms >>= is_number 3
-  get_member (codes "node_type") ms >>= is_text (codes "array")
-
--- what a grammar reads of the value under a key that must be there
-abbrev pub read_under : {Y : Type 0} → List ℕ → (Data → Option Y) → Members → Option Y
-read_under key grammar ms = get_member key ms >>= grammar
-
 -- the three that are one extension each
 unfoldable pub named_fields : Members → Option NamedFields
 named_fields ms = do
@@ -148,16 +139,13 @@ with_optional f o = record f {
   additional_fields = o.additional_fields;
 }
 
-unfoldable pub with_optional_fields : Members → ArrayFields → Option ArrayFields
-with_optional_fields ms fields = do
-  optional ← optional_fields ms
-  Some (with_optional fields optional)
-
+-- `zarr_format` is 3 and `node_type` is `array`.
 unfoldable pub array_members : Members → Option ArrayFields
 array_members ms = do
-  _ ← is_array ms
+  _ ← is_kind 3 (codes "array") ms
   fields ← required_fields ms
-  with_optional_fields ms fields
+  optional ← optional_fields ms
+  Some (with_optional fields optional)
 
 abbrev pub array_fields_of : Data → Option ArrayFields
 array_fields_of d = as_object d >>= array_members
@@ -165,8 +153,7 @@ array_fields_of d = as_object d >>= array_members
 -- only where it is a list
 abbrev pub put_names : Option (List (Option (List ℕ))) → Members → Members
 put_names None ms = ms
-put_names (Some names) ms =
-    put (codes "dimension_names") (array (items_of (map dimension_name_data names))) ms
+put_names (Some names) ms = put (codes "dimension_names") (dimension_names_data names) ms
 
 unfoldable pub optional_data : ArrayFields → Members → Members
 optional_data f ms =
@@ -174,19 +161,13 @@ optional_data f ms =
     (put_list (codes "storage_transformers") (items_of (map extension_data f.storage_transformers))
     (put_names f.dimension_names ms))
 
-unfoldable pub parts_data : ArrayFields → Members → Members
-parts_data f ms =
-    put (codes "data_type") (extension_data f.data_type)
-    (put (codes "chunk_grid") (extension_data f.chunk_grid)
-    (put (codes "chunk_key_encoding") (extension_data f.chunk_key_encoding)
-    (put (codes "codecs") (array (items_of (map extension_data f.codecs))) ms)))
-
 unfoldable pub required_data : ArrayFields → Members → Members
 required_data f ms =
-    put (codes "zarr_format") (number (unsigned 3))
-    (put (codes "node_type") (string (codes "array"))
-    (put (codes "shape") (numbers_data f.shape)
-    (put (codes "fill_value") f.fill_value (parts_data f ms))))
+    put_array 3 f.shape f.fill_value
+    (put (codes "data_type") (extension_data f.data_type)
+    (put (codes "chunk_grid") (extension_data f.chunk_grid)
+    (put (codes "chunk_key_encoding") (extension_data f.chunk_key_encoding)
+    (put (codes "codecs") (list_data extension_data f.codecs) ms))))
 
 abbrev pub array_data : ArrayFields → Data
 array_data f =

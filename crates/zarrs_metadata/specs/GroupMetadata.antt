@@ -1,10 +1,11 @@
 -- A version 3 group document: what it says, how it is read and how it is written.
 use Rattle.std.specs.Prelude.{ℕ, List, Option, Some, codes}
-use Rattle.serde_json.specs.Data.{unsigned, Data, number, string, object, Members, no_members, put}
+use Rattle.serde_json.specs.Data.{Data, object, Members, no_members}
 use Rattle.serde_json.specs.Find.{get_member, as_object}
 use Rattle.serde_json.specs.View.{members_view}
-use Rattle.zarrs_metadata_values.specs.Reading.{◌>>=◌, is_number, is_text, object_or_empty}
+use Rattle.zarrs_metadata_values.specs.Reading.{◌>>=◌, object_or_empty}
 use Rattle.zarrs_metadata_values.specs.Writing.{put_object}
+use Rattle.zarrs_metadata_parts.specs.Fields.{is_kind, put_kind}
 use Rattle.zarrs_metadata_parts.specs.AdditionalField.{AdditionalField}
 use Rattle.zarrs_metadata_parts.specs.AdditionalFields.{additional_fields_seen, additional_fields_of, put_fields}
 use Rattle.zarrs_metadata_parts.specs.AdditionalFields.{normal_fields}
@@ -25,8 +26,7 @@ group_seen g = record {
 -- key is an additional field.
 unfoldable pub group_members : Members → Option GroupFields
 group_members ms = do
-  _ ← get_member (codes "zarr_format") ms >>= is_number 3
-  _ ← get_member (codes "node_type") ms >>= is_text (codes "group")
+  _ ← is_kind 3 (codes "group") ms
   attributes ← object_or_empty (get_member (codes "attributes") ms)
   Some (record { attributes = attributes; additional_fields = additional_fields_of Group ms })
 
@@ -37,9 +37,7 @@ group_of d = as_object d >>= group_members
 -- key.
 unfoldable pub group_data_members : GroupFields → Members → Members
 group_data_members g ms =
-    put (codes "zarr_format") (number (unsigned 3))
-    (put (codes "node_type") (string (codes "group"))
-    (put_object (codes "attributes") g.attributes ms))
+    put_kind 3 (codes "group") (put_object (codes "attributes") g.attributes ms)
 
 abbrev pub group_data : GroupFields → Data
 group_data g = object (group_data_members g (put_fields Group g.additional_fields no_members))

@@ -1,6 +1,7 @@
 pub use Rattle.zarrs_metadata_parts.specs.Reading
 pub use Rattle.zarrs_metadata_parts.specs.Writing
 pub use Rattle.zarrs_metadata_parts.specs.Rising
+pub use Rattle.zarrs_metadata_parts.specs.Forms
 pub use Rattle.zarrs_metadata_parts.specs.Configuration
 pub use Rattle.zarrs_metadata_parts.specs.FillValueMetadata
 pub use Rattle.zarrs_metadata_parts.specs.MetadataV3
@@ -9,6 +10,7 @@ pub use Rattle.zarrs_metadata_parts.specs.AdditionalFields
 pub use Rattle.zarrs_metadata_parts.specs.MetadataV2
 pub use Rattle.zarrs_metadata_parts.specs.DataTypeV2
 pub use Rattle.zarrs_metadata_parts.specs.DimensionNames
+pub use Rattle.zarrs_metadata_parts.specs.Fields
 pub use Rattle.zarrs_metadata_parts.specs.Names
 pub use Rattle.zarrs_metadata_v2.specs.EndiannessV2
 pub use Rattle.zarrs_metadata_v2.specs.CodecsV2

@@ -1,11 +1,11 @@
 //! The documents of arrays of either version.
 
-ghost use Rattle.std.specs.Prelude.{◌≡◌, ◌≤◌, Some, IfOk, string_bytes};
-ghost use Rattle.serde_json.specs.Data.{depth};
-ghost use Rattle.serde_json.specs.Read.{read, max_depth};
+ghost use Rattle.std.specs.Prelude.{◌≡◌, IfOk};
+ghost use Rattle.serde_json.specs.Read.{read};
 ghost use Rattle.serde_json.specs.View.{view};
-ghost use Rattle.zarrs_metadata_values.specs.Reading.{Reads, GivesRead, from_data, from_json};
-ghost use Rattle.zarrs_metadata.specs.AnyArray.{any_array_seen, only_array_v2, any_array_of, any_array_data};
+ghost use Rattle.zarrs_metadata_values.specs.Writing.{IsTextOf};
+ghost use Rattle.zarrs_metadata_values.specs.Reading.{GivesRead, from_data, from_json};
+ghost use Rattle.zarrs_metadata.specs.AnyArray.{any_array_seen, any_array_of, any_array_data};
 
 use crate::v3::array::ArrayMetadataV3;
 use serde_json::Value;
@@ -35,7 +35,9 @@ impl ArrayMetadata {
     {
         match ArrayMetadataV3::from_value(alloc, value) {
             Ok(array) => Ok(ArrayMetadata::V3(array)),
-            Err(MetadataError::InvalidMetadata) => read_only_v2(alloc, value),
+            Err(MetadataError::InvalidMetadata) => {
+                Ok(ArrayMetadata::V2(read_array_v2(alloc, value)?))
+            }
             Err(e) => Err(e),
         }
     }
@@ -63,8 +65,7 @@ impl ArrayMetadata {
 
     /// The document as text, a line for each member.
     pub fn to_string_pretty(&self, alloc: Global) -> Result<String, AllocError>
-        ensures { IfOk result (λ text. depth (any_array_data (any_array_seen self.now)) ≤ max_depth
-            → read (string_bytes text) ≡ Some (any_array_data (any_array_seen self.now))) }
+        ensures { IfOk result (IsTextOf (any_array_data (any_array_seen self.now))) }
     {
         match self {
             ArrayMetadata::V3(array) => array.to_string_pretty(alloc),
@@ -81,12 +82,4 @@ impl ArrayMetadata {
             ArrayMetadata::V2(array) => Ok(ArrayMetadata::V2(array.try_clone(alloc)?)),
         }
     }
-}
-
-// The version 2 document that a value is. Floats were looked for before.
-fn read_only_v2(alloc: Global, value: &Value) -> Result<ArrayMetadata, MetadataError>
-    ensures { Reads any_array_seen result (only_array_v2 (view value.now)) }
-{
-    let array = read_array_v2(alloc, value)?;
-    Ok(ArrayMetadata::V2(array))
 }

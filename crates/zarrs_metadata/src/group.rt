@@ -1,11 +1,11 @@
 //! The documents of groups of either version.
 
-ghost use Rattle.std.specs.Prelude.{◌≡◌, ◌≤◌, Some, IfOk, string_bytes};
-ghost use Rattle.serde_json.specs.Data.{depth};
-ghost use Rattle.serde_json.specs.Read.{read, max_depth};
+ghost use Rattle.std.specs.Prelude.{◌≡◌, IfOk};
+ghost use Rattle.serde_json.specs.Read.{read};
 ghost use Rattle.serde_json.specs.View.{view};
-ghost use Rattle.zarrs_metadata_values.specs.Reading.{Reads, GivesRead, from_data, from_json};
-ghost use Rattle.zarrs_metadata.specs.AnyGroup.{any_group_seen, only_group_v2, any_group_of, any_group_data};
+ghost use Rattle.zarrs_metadata_values.specs.Writing.{IsTextOf};
+ghost use Rattle.zarrs_metadata_values.specs.Reading.{GivesRead, from_data, from_json};
+ghost use Rattle.zarrs_metadata.specs.AnyGroup.{any_group_seen, any_group_of, any_group_data};
 
 use crate::v3::group::GroupMetadataV3;
 use serde_json::Value;
@@ -35,7 +35,9 @@ impl GroupMetadata {
     {
         match GroupMetadataV3::from_value(alloc, value) {
             Ok(group) => Ok(GroupMetadata::V3(group)),
-            Err(MetadataError::InvalidMetadata) => read_only_v2(alloc, value),
+            Err(MetadataError::InvalidMetadata) => {
+                Ok(GroupMetadata::V2(read_group_v2(alloc, value)?))
+            }
             Err(e) => Err(e),
         }
     }
@@ -63,8 +65,7 @@ impl GroupMetadata {
 
     /// The document as text, a line for each member.
     pub fn to_string_pretty(&self, alloc: Global) -> Result<String, AllocError>
-        ensures { IfOk result (λ text. depth (any_group_data (any_group_seen self.now)) ≤ max_depth
-            → read (string_bytes text) ≡ Some (any_group_data (any_group_seen self.now))) }
+        ensures { IfOk result (IsTextOf (any_group_data (any_group_seen self.now))) }
     {
         match self {
             GroupMetadata::V3(group) => group.to_string_pretty(alloc),
@@ -81,12 +82,4 @@ impl GroupMetadata {
             GroupMetadata::V2(group) => Ok(GroupMetadata::V2(group.try_clone(alloc)?)),
         }
     }
-}
-
-// The version 2 document that a value is. Floats were looked for before.
-fn read_only_v2(alloc: Global, value: &Value) -> Result<GroupMetadata, MetadataError>
-    ensures { Reads any_group_seen result (only_group_v2 (view value.now)) }
-{
-    let group = read_group_v2(alloc, value)?;
-    Ok(GroupMetadata::V2(group))
 }

@@ -1,11 +1,11 @@
 //! The documents of arrays and groups of either version.
 
-ghost use Rattle.std.specs.Prelude.{◌≡◌, ◌≤◌, Some, IfOk, string_bytes};
-ghost use Rattle.serde_json.specs.Data.{depth};
-ghost use Rattle.serde_json.specs.Read.{read, max_depth};
+ghost use Rattle.std.specs.Prelude.{◌≡◌, IfOk};
+ghost use Rattle.serde_json.specs.Read.{read};
 ghost use Rattle.serde_json.specs.View.{view};
+ghost use Rattle.zarrs_metadata_values.specs.Writing.{IsTextOf};
 ghost use Rattle.zarrs_metadata_values.specs.Reading.{GivesRead, from_data, from_json};
-ghost use Rattle.zarrs_metadata.specs.AnyNode.{any_node_seen, only_group, any_node_of, any_node_data};
+ghost use Rattle.zarrs_metadata.specs.AnyNode.{any_node_seen, any_node_of, any_node_data};
 
 use crate::array::ArrayMetadata;
 use crate::group::GroupMetadata;
@@ -36,7 +36,9 @@ impl NodeMetadata {
     {
         match ArrayMetadata::from_value(alloc, value) {
             Ok(array) => Ok(NodeMetadata::Array(array)),
-            Err(MetadataError::InvalidMetadata) => read_only_group(alloc, value),
+            Err(MetadataError::InvalidMetadata) => {
+                Ok(NodeMetadata::Group(GroupMetadata::from_value(alloc, value)?))
+            }
             Err(e) => Err(e),
         }
     }
@@ -64,8 +66,7 @@ impl NodeMetadata {
 
     /// The document as text, a line for each member.
     pub fn to_string_pretty(&self, alloc: Global) -> Result<String, AllocError>
-        ensures { IfOk result (λ text. depth (any_node_data (any_node_seen self.now)) ≤ max_depth
-            → read (string_bytes text) ≡ Some (any_node_data (any_node_seen self.now))) }
+        ensures { IfOk result (IsTextOf (any_node_data (any_node_seen self.now))) }
     {
         match self {
             NodeMetadata::Array(array) => array.to_string_pretty(alloc),
@@ -81,15 +82,5 @@ impl NodeMetadata {
             NodeMetadata::Array(array) => Ok(NodeMetadata::Array(array.try_clone(alloc)?)),
             NodeMetadata::Group(group) => Ok(NodeMetadata::Group(group.try_clone(alloc)?)),
         }
-    }
-}
-
-// The group that a value is, of either version.
-fn read_only_group(alloc: Global, value: &Value) -> Result<NodeMetadata, MetadataError>
-    ensures { GivesRead any_node_seen result (from_data only_group (view value.now)) }
-{
-    match GroupMetadata::from_value(alloc, value) {
-        Ok(group) => Ok(NodeMetadata::Group(group)),
-        Err(e) => Err(e),
     }
 }

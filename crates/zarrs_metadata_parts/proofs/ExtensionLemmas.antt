@@ -1,7 +1,6 @@
 -- What is written for an extension, read again.
 use Rattle.std.proofs.Common.{◌≡◌, Bool, true, false, Some, None, refl}
 use Rattle.serde_json.specs.Data.{no_members, member}
-use Rattle.zarrs_metadata_values.specs.Reading.{from_data, unless_float}
 use Rattle.zarrs_metadata_parts.specs.MetadataV3.{Extension, extension_of, object_extension, extension_data, configured}
 use Rattle.zarrs_metadata_parts.specs.MetadataV3.{normal_by, normal_form}
 
@@ -15,7 +14,3 @@ read_configured name (Some (member k d ms)) false = refl
 
 pub extension_reads_back : (e : Extension) → extension_of (extension_data e) ≡ Some (normal_form e)
 extension_reads_back e = read_configured e.name e.configuration e.must_understand
-
-pub normal_again : (e : Extension) →
-    from_data extension_of (extension_data e) ≡ unless_float (extension_data e) (normal_form e)
-normal_again e = rw (extension_reads_back e)

@@ -1,5 +1,5 @@
 -- Errors of configurations.
-use Rattle.std.proofs.Common.{◌≡◌, Option, option_map, Result, sym, subst}
+use Rattle.std.proofs.Common.{Option, option_map, sym, subst}
 use Rattle.zarrs_metadata_values.specs.Reading.{Fails}
 use Rattle.zarrs_metadata_values.specs.declared.error.MetadataError.{MetadataError}
 use Rattle.zarrs_metadata_values.specs.declared.error.MetadataError.TheVariants as Read

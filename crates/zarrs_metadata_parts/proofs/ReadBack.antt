@@ -1,5 +1,5 @@
 -- What is written, read again.
-use Rattle.std.proofs.Common.{◌≡◌, ℕ, Bool, List, map, Some, None, codes, refl}
+use Rattle.std.proofs.Common.{◌≡◌, Bool, List, map, Some, None, codes, refl}
 use Rattle.serde_json.specs.Data.{Data, null, boolean, number, string, array, object}
 use Rattle.serde_json.specs.Find.{get}
 use Rattle.serde_json.specs.View.{items_of}
@@ -26,5 +26,4 @@ field_reads_back a h = field_back a.value a.must_understand h
 
 pub extensions_read_back : (es : List Extension) →
     extensions_of (array (items_of (map extension_data es))) ≡ Some (map normal_form es)
-unfolding extensions_of
 extensions_read_back es = each_written extension_of extension_data normal_form extension_reads_back es

@@ -9,7 +9,7 @@ use Rattle.zarrs_metadata_values.proofs.NumberLists.{numbers_read_back}
 use Rattle.zarrs_metadata_values.proofs.PutLemmas.{without-put}
 use Rattle.zarrs_metadata_parts.specs.MetadataV2.{CodecV2, codec_v2_of, codec_v2_members, codec_v2_data}
 use Rattle.zarrs_metadata_parts.specs.DataTypeV2.{FieldV2, DataTypeV2, simple, structured, field_v2_of, named_field}
-use Rattle.zarrs_metadata_parts.specs.DataTypeV2.{optional_numbers, data_type_v2_of, field_v2_data, data_type_v2_data}
+use Rattle.zarrs_metadata_parts.specs.DataTypeV2.{data_type_v2_of, field_v2_data, data_type_v2_data}
 
 pub codec_v2_reads_back : (c : CodecV2) → get_member (codes "id") c.configuration ≡ None →
     codec_v2_of (codec_v2_data c) ≡ Some c
@@ -19,7 +19,7 @@ codec_v2_reads_back c h = rw (get_member-put, without-put (codes "id") (string c
 field_v2_back : (fieldname datatype : List ℕ) (shape : Option (List ℕ))
     → field_v2_of (field_v2_data (record { fieldname = fieldname; datatype = datatype; shape = shape })) ≡
     Some (record { fieldname = fieldname; datatype = datatype; shape = shape })
-unfolding field_v2_of named_field optional_numbers
+unfolding field_v2_of named_field
 field_v2_back fieldname datatype None = refl
 field_v2_back fieldname datatype (Some ns) = rw (numbers_read_back ns)
 

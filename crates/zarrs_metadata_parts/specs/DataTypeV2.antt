@@ -1,9 +1,9 @@
 -- The data type of a version 2 array.
 use Rattle.std.specs.Prelude.{ℕ, List, map, Option, Some, None, option_map, string_bytes}
-use Rattle.serde_json.specs.Data.{Data, null, string, array, Items, no_items, item}
+use Rattle.serde_json.specs.Data.{Data, string, array, Items, no_items, item}
 use Rattle.serde_json.specs.Find.{as_str, as_array}
 use Rattle.serde_json.specs.View.{items_of}
-use Rattle.zarrs_metadata_values.specs.Reading.{◌>>=◌, each, whole_number}
+use Rattle.zarrs_metadata_values.specs.Reading.{◌>>=◌, each, list_by, null_or, whole_number}
 use Rattle.zarrs_metadata_values.specs.Writing.{numbers_data}
 use Rattle.zarrs_metadata_parts.specs.declared.data_type_v2.DataTypeMetadataV2.{DataTypeMetadataV2}
 use Rattle.zarrs_metadata_parts.specs.declared.data_type_v2.DataTypeMetadataV2.TheVariants.{Simple, Structured}
@@ -31,10 +31,8 @@ data_type_v2_seen (Simple s) = simple (string_bytes s)
 data_type_v2_seen (Structured fs) = structured (map field_v2_seen fs.items)
 
 -- null, or a list of whole numbers
-unfoldable pub optional_numbers : Data → Option (Option (List ℕ))
-optional_numbers null = Some None
-optional_numbers (array ds) = each whole_number ds >>= λ ns. Some (Some ns)
-optional_numbers _ = None
+abbrev pub optional_numbers : Data → Option (Option (List ℕ))
+optional_numbers = null_or (list_by whole_number)
 
 -- nothing more, or the shape alone
 abbrev pub last_shape : Items → Option (Option (List ℕ))

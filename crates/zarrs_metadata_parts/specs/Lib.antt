@@ -1,6 +1,7 @@
 pub use Rattle.zarrs_metadata_values.specs.Reading
 pub use Rattle.zarrs_metadata_values.specs.Writing
 pub use Rattle.zarrs_metadata_values.specs.Rising
+pub use Rattle.zarrs_metadata_values.specs.Forms
 pub use Rattle.zarrs_metadata_values.specs.Configuration
 pub use Rattle.zarrs_metadata_values.specs.FillValueMetadata
 pub mod MetadataV2
@@ -9,5 +10,6 @@ pub mod MetadataV3
 pub mod AdditionalField
 pub mod AdditionalFields
 pub mod DimensionNames
+pub mod Fields
 pub mod Names
 pub mod Making

@@ -3,9 +3,9 @@ use Rattle.std.specs.Prelude.{ℕ, Bool, true, false, ◌||◌, ◌&&◌, ◌++�
 use Rattle.std.specs.Prelude.{option_map, codes, string_bytes}
 use Rattle.std.specs.Str.{bytes_eq}
 use Rattle.serde_json.specs.Data.{Data, boolean, string, object, Members, no_members, member}
-use Rattle.serde_json.specs.Find.{get_member, as_str, as_array}
+use Rattle.serde_json.specs.Find.{get_member, as_str}
 use Rattle.serde_json.specs.Written.{compact_text}
-use Rattle.zarrs_metadata_values.specs.Reading.{◌>>=◌, boolean_or, optional_object, each}
+use Rattle.zarrs_metadata_values.specs.Reading.{◌>>=◌, boolean_or, optional_object, list_by}
 use Rattle.zarrs_metadata_values.specs.Configuration.{configuration_seen}
 use Rattle.zarrs_metadata_parts.specs.declared.v3.metadata.MetadataV3.{MetadataV3}
 
@@ -54,8 +54,8 @@ extension_of (object ms) = object_extension ms
 extension_of _ = None
 
 -- a list of them
-unfoldable pub extensions_of : Data → Option (List Extension)
-extensions_of d = as_array d >>= each extension_of
+abbrev pub extensions_of : Data → Option (List Extension)
+extensions_of = list_by extension_of
 
 -- Written as the bare name, as an object with the name alone, or with the configuration, and then
 -- with `must_understand`.

@@ -5,7 +5,6 @@ ghost use Rattle.std.specs.Prelude.{◌≡◌, ℕ, List, Option, Some, IfOk, op
 use std::alloc::{AllocError, Global};
 
 pub mod chunk_key_separator;
-pub mod dimension_names;
 
 /// The name of a dimension, if it has one.
 pub type DimensionName = Option<String>;

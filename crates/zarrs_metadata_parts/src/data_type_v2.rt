@@ -2,13 +2,13 @@
 //!
 //! See <https://zarr-specs.readthedocs.io/en/latest/v2/v2.0.html#data-type-encoding>.
 
-ghost use Rattle.std.specs.Prelude.{◌≡◌, Some, IfOk, map, option_map};
-ghost use Rattle.serde_json.specs.Data.{item};
+ghost use Rattle.std.specs.Prelude.{◌≡◌, IfOk, option_map};
 ghost use Rattle.serde_json.specs.Read.{read};
-ghost use Rattle.serde_json.specs.View.{view, items_of, items_view};
-ghost use Rattle.zarrs_metadata_parts.specs.DataTypeV2.{data_type_v2_seen, data_type_v2_of, data_type_v2_data, field_v2_seen, field_v2_of, field_v2_data, field_items, named_field, last_shape, optional_numbers};
-ghost use Rattle.zarrs_metadata_values.specs.Reading.{Reads, GivesRead, from_data, from_json, each};
+ghost use Rattle.serde_json.specs.View.{view, items_view};
+ghost use Rattle.zarrs_metadata_parts.specs.DataTypeV2.{DataTypeV2, FieldV2, data_type_v2_seen, data_type_v2_of, data_type_v2_data, field_v2_seen, field_v2_of, field_v2_data, field_items, named_field, last_shape, optional_numbers};
+ghost use Rattle.zarrs_metadata_values.specs.Reading.{Reads, GivesRead, from_data, from_json};
 
+use crate::part::{Part, read_each};
 use serde_json::Value;
 use std::alloc::{AllocError, Global};
 use thiserror::Error;
@@ -61,10 +61,7 @@ impl DataTypeMetadataV2 {
     {
         match self {
             DataTypeMetadataV2::Simple(text) => Value::try_from_str(alloc, text.as_str()),
-            DataTypeMetadataV2::Structured(fields) => Ok(Value::Array(field_values(
-                alloc,
-                fields.as_slice(),
-            )?)),
+            DataTypeMetadataV2::Structured(fields) => fields.write(alloc),
         }
     }
 
@@ -88,57 +85,26 @@ impl DataTypeMetadataV2 {
                 alloc,
                 text.as_str(),
             )?)),
-            DataTypeMetadataV2::Structured(fields) => Ok(DataTypeMetadataV2::Structured(
-                copy_fields_v2(alloc, fields.as_slice())?,
-            )),
+            DataTypeMetadataV2::Structured(fields) => {
+                Ok(DataTypeMetadataV2::Structured(fields.copy(alloc)?))
+            }
         }
     }
 }
 
-/// The data type that a value says.
-///
-/// # Errors
-/// `InvalidMetadata` exactly where it says none. Floats were looked for before.
+// The data type that a value says. Floats were looked for before.
 #[tactic(auto, unfolding(crate::specs::DataTypeV2::data_type_v2_of))]
-pub fn read_data_type_v2(alloc: Global, value: &Value) -> Result<DataTypeMetadataV2, MetadataError>
+fn read_data_type_v2(alloc: Global, value: &Value) -> Result<DataTypeMetadataV2, MetadataError>
     ensures { Reads data_type_v2_seen result (data_type_v2_of (view value.now)) }
 {
     match value {
         Value::String(text) => Ok(DataTypeMetadataV2::Simple(text.clone()?)),
-        Value::Array(items) => Ok(DataTypeMetadataV2::Structured(read_each_field_v2(
+        Value::Array(items) => Ok(DataTypeMetadataV2::Structured(read_each(
             alloc,
             items.as_slice(),
         )?)),
         _ => Err(MetadataError::InvalidMetadata),
     }
-}
-
-#[tactic(auto, using(zarrs_metadata_values::proofs::EachLemmas::each_push, zarrs_metadata_values::proofs::EachLemmas::each_fails))]
-fn read_each_field_v2(
-    alloc: Global,
-    items: &[Value],
-) -> Result<Vec<DataTypeMetadataV2Structured>, MetadataError>
-    ensures { Reads (λ v. map field_v2_seen v.items) result
-        (each field_v2_of (items_view items.now)) }
-{
-    let mut fields = Vec::with_capacity(alloc, items.len())?;
-    for item in items {
-        match read_field_v2(alloc, item) {
-            Ok(field) => fields.push(field)?,
-            Err(e) => return Err(e),
-        }
-    }
-    Ok(fields)
-}
-
-#[tactic(auto, unfolding(crate::specs::DataTypeV2::field_v2_of))]
-fn read_field_v2(
-    alloc: Global,
-    value: &Value,
-) -> Result<DataTypeMetadataV2Structured, MetadataError>
-    ensures { Reads field_v2_seen result (field_v2_of (view value.now)) }
-{
-    read_field_items(alloc, read_list(value)?)
 }
 
 fn read_field_items(
@@ -186,7 +152,6 @@ fn read_last_shape(alloc: Global, rest: &[Value]) -> Result<Option<Vec<u64>>, Me
     }
 }
 
-#[tactic(auto, unfolding(crate::specs::DataTypeV2::optional_numbers))]
 fn read_optional_numbers(alloc: Global, value: &Value) -> Result<Option<Vec<u64>>, MetadataError>
     ensures { Reads (option_map (λ v. v.items)) result (optional_numbers (view value.now)) }
 {
@@ -197,59 +162,6 @@ fn read_optional_numbers(alloc: Global, value: &Value) -> Result<Option<Vec<u64>
     }
 }
 
-fn field_values(
-    alloc: Global,
-    fields: &[DataTypeMetadataV2Structured],
-) -> Result<Vec<Value>, AllocError>
-    ensures { IfOk result (λ v. items_view v.items
-        ≡ items_of (map field_v2_data (map field_v2_seen fields.now))) }
-{
-    let mut items = Vec::with_capacity(alloc, fields.len())?;
-    for field in fields {
-        items.push(field_value(alloc, field)?)?;
-    }
-    Ok(items)
-}
-
-fn field_value(alloc: Global, field: &DataTypeMetadataV2Structured) -> Result<Value, AllocError>
-    ensures { IfOk result (λ v. view v ≡ field_v2_data (field_v2_seen field.now)) }
-{
-    let mut items = Vec::with_capacity(alloc, 3)?;
-    items.push(Value::try_from_str(alloc, field.fieldname.as_str())?)?;
-    items.push(Value::try_from_str(alloc, field.datatype.as_str())?)?;
-    if let Some(shape) = &field.shape {
-        items.push(numbers_value(alloc, shape.as_slice())?)?;
-    }
-    Ok(Value::Array(items))
-}
-
-fn copy_fields_v2(
-    alloc: Global,
-    fields: &[DataTypeMetadataV2Structured],
-) -> Result<Vec<DataTypeMetadataV2Structured>, AllocError>
-    ensures { IfOk result (λ copies. map field_v2_seen copies.items
-        ≡ map field_v2_seen fields.now) }
-{
-    let mut copies = Vec::with_capacity(alloc, fields.len())?;
-    for field in fields {
-        copies.push(copy_field_v2(alloc, field)?)?;
-    }
-    Ok(copies)
-}
-
-fn copy_field_v2(
-    alloc: Global,
-    field: &DataTypeMetadataV2Structured,
-) -> Result<DataTypeMetadataV2Structured, AllocError>
-    ensures { IfOk result (λ copy. field_v2_seen copy ≡ field_v2_seen field.now) }
-{
-    Ok(DataTypeMetadataV2Structured {
-        fieldname: String::from_str(alloc, field.fieldname.as_str())?,
-        datatype: String::from_str(alloc, field.datatype.as_str())?,
-        shape: copy_shape(alloc, &field.shape)?,
-    })
-}
-
 fn copy_shape(alloc: Global, shape: &Option<Vec<u64>>) -> Result<Option<Vec<u64>>, AllocError>
     ensures { IfOk result (λ copy. option_map (λ v. v.items) copy
         ≡ option_map (λ v. v.items) shape.now) }
@@ -257,5 +169,60 @@ fn copy_shape(alloc: Global, shape: &Option<Vec<u64>>) -> Result<Option<Vec<u64>
     match shape {
         Some(shape) => Ok(Some(shape.as_slice().to_vec(alloc)?)),
         None => Ok(None),
+    }
+}
+
+impl Part for DataTypeMetadataV2 {
+    ghost Said = { DataTypeV2 };
+
+    ghost seen = { data_type_v2_seen };
+
+    ghost form = { data_type_v2_of };
+
+    ghost written = { data_type_v2_data };
+
+    fn read(alloc: Global, value: &Value) -> Result<Self, MetadataError> {
+        read_data_type_v2(alloc, value)
+    }
+
+    fn write(&self, alloc: Global) -> Result<Value, AllocError> {
+        self.to_value(alloc)
+    }
+
+    fn copy(&self, alloc: Global) -> Result<Self, AllocError> {
+        self.try_clone(alloc)
+    }
+}
+
+impl Part for DataTypeMetadataV2Structured {
+    ghost Said = { FieldV2 };
+
+    ghost seen = { field_v2_seen };
+
+    ghost form = { field_v2_of };
+
+    ghost written = { field_v2_data };
+
+    #[tactic(auto, unfolding(crate::specs::DataTypeV2::field_v2_of))]
+    fn read(alloc: Global, value: &Value) -> Result<Self, MetadataError> {
+        read_field_items(alloc, read_list(value)?)
+    }
+
+    fn write(&self, alloc: Global) -> Result<Value, AllocError> {
+        let mut items = Vec::with_capacity(alloc, 3)?;
+        items.push(self.fieldname.write(alloc)?)?;
+        items.push(self.datatype.write(alloc)?)?;
+        if let Some(shape) = &self.shape {
+            items.push(numbers_value(alloc, shape.as_slice())?)?;
+        }
+        Ok(Value::Array(items))
+    }
+
+    fn copy(&self, alloc: Global) -> Result<Self, AllocError> {
+        Ok(DataTypeMetadataV2Structured {
+            fieldname: self.fieldname.copy(alloc)?,
+            datatype: self.datatype.copy(alloc)?,
+            shape: copy_shape(alloc, &self.shape)?,
+        })
     }
 }

@@ -9,22 +9,24 @@
 #![tactic(auto)]
 
 mod array;
-pub mod copying;
 mod data_type_v2;
+pub mod fields;
 pub mod laws;
 pub mod laws_v2;
 pub mod making;
 mod metadata_v2;
+pub mod part;
 pub mod reading;
 mod v3;
 pub mod writing;
 
 pub use array::chunk_key_separator::ChunkKeySeparator;
-pub use array::{DimensionName, IntoDimensionName, dimension_names};
+pub use array::{DimensionName, IntoDimensionName};
 pub use data_type_v2::{
     DataTypeMetadataV2, DataTypeMetadataV2EndiannessError, DataTypeMetadataV2Structured,
 };
 pub use metadata_v2::MetadataV2;
+pub use part::Part;
 pub use v3::additional_field::{AdditionalFieldV3, AdditionalFieldsV3};
 pub use v3::additional_fields;
 pub use v3::metadata::MetadataV3;

@@ -7,9 +7,10 @@ ghost use Rattle.serde_json.specs.Find.{get_member};
 ghost use Rattle.serde_json.specs.Read.{read};
 ghost use Rattle.serde_json.specs.View.{view, members_view};
 ghost use Rattle.zarrs_metadata_values.specs.Configuration.{configuration_seen, Typed};
-ghost use Rattle.zarrs_metadata_parts.specs.MetadataV2.{codec_v2_seen, codec_v2_of, codec_v2_members, codec_v2_data};
+ghost use Rattle.zarrs_metadata_parts.specs.MetadataV2.{CodecV2, codec_v2_seen, codec_v2_of, codec_v2_members, codec_v2_data};
 ghost use Rattle.zarrs_metadata_values.specs.Reading.{Reads, GivesRead, from_data, from_json};
 
+use crate::part::Part;
 use serde_json::{Map, Value};
 use std::alloc::{AllocError, Global};
 use zarrs_metadata_values::json::{copy_members, read_object, read_text, required, take_member};
@@ -122,11 +123,8 @@ impl MetadataV2 {
     }
 }
 
-/// The codec that a value says.
-///
-/// # Errors
-/// `InvalidMetadata` exactly where it says none. Floats were looked for before.
-pub fn read_codec_v2(alloc: Global, value: &Value) -> Result<MetadataV2, MetadataError>
+// The codec that a value says. Floats were looked for before.
+fn read_codec_v2(alloc: Global, value: &Value) -> Result<MetadataV2, MetadataError>
     ensures { Reads codec_v2_seen result (codec_v2_of (view value.now)) }
 {
     read_codec_v2_members(alloc, read_object(value)?)
@@ -144,4 +142,26 @@ fn read_codec_v2_members(
     let mut members = copy_members(members)?;
     drop(take_member(&mut members, "id"));
     Ok(MetadataV2::new(id, Configuration::new(members)))
+}
+
+impl Part for MetadataV2 {
+    ghost Said = { CodecV2 };
+
+    ghost seen = { codec_v2_seen };
+
+    ghost form = { codec_v2_of };
+
+    ghost written = { codec_v2_data };
+
+    fn read(alloc: Global, value: &Value) -> Result<Self, MetadataError> {
+        read_codec_v2(alloc, value)
+    }
+
+    fn write(&self, alloc: Global) -> Result<Value, AllocError> {
+        self.to_value(alloc)
+    }
+
+    fn copy(&self, alloc: Global) -> Result<Self, AllocError> {
+        self.try_clone(alloc)
+    }
 }

@@ -1,4 +1,4 @@
-pub mod TypeLemmas
+pub mod Chunks
 pub mod ArrayBack
 pub mod GroupBack
 pub mod Stays

@@ -1,22 +1,24 @@
 -- A version 2 document that was read is the same when it is written and read again.
 use Rattle.std.proofs.Common.{◌≡◌, ℕ, List, [], ◌∷◌, map, Ordering, Less, Equal, Greater, Option, Some, None, Result}
-use Rattle.std.proofs.Common.{Ok, Err, IfOk, codes, nat_cmp, refl, ap}
+use Rattle.std.proofs.Common.{Ok, Err, IfOk, codes, nat_cmp, refl, ap, subst}
 use Rattle.std.specs.Cmp.Lexicographic.{slice_cmp}
 use Rattle.std.specs.Ordering.{match_ordering}
 use Rattle.serde_json.specs.Data.{Data, null, boolean, number, string, array, object, unsigned, Items, no_items, item}
 use Rattle.serde_json.specs.Data.{Members, no_members, member}
-use Rattle.serde_json.specs.Find.{get_member, as_str}
+use Rattle.serde_json.specs.Find.{get_member}
 use Rattle.zarrs_metadata_values.specs.Reading.{◌>>=◌, each, without, is_number, object_or_empty, Reads}
 use Rattle.zarrs_metadata_values.specs.Rising.{Rises, ItemsRise, MembersRise}
 use Rattle.zarrs_metadata_values.specs.declared.error.MetadataError.{MetadataError}
 use Rattle.zarrs_metadata_values.proofs.EachLemmas.{bind_some}
+use Rattle.zarrs_metadata_values.proofs.FormLemmas.{object_of}
 use Rattle.zarrs_metadata_values.proofs.PutLemmas.{without-put}
 use Rattle.zarrs_metadata_values.proofs.RisingLemmas.{gone}
 use Rattle.zarrs_metadata_parts.specs.MetadataV2.{CodecV2, codec_v2_of, codec_v2_members}
-use Rattle.zarrs_metadata_v2.specs.CodecsV2.{unless_empty, compressor_of, filters_of, normal_codec_v2}
+use Rattle.zarrs_metadata_parts.proofs.RisingLemmasV2.{members_without_id}
+use Rattle.zarrs_metadata_v2.specs.CodecsV2.{unless_empty, present_filters, compressor_of, filters_of, normal_codec_v2}
 use Rattle.zarrs_metadata_v2.specs.CodecsV2.{normal_compressor, normal_filters}
 use Rattle.zarrs_metadata_v2.specs.ArrayMetadataV2.{ArrayV2, OptionalV2, array_v2_seen, dimension_separator_of}
-use Rattle.zarrs_metadata_v2.specs.ArrayMetadataV2.{required_v2, optional_v2, with_optional_fields_v2, array_v2_members}
+use Rattle.zarrs_metadata_v2.specs.ArrayMetadataV2.{required_v2, optional_v2, array_v2_members}
 use Rattle.zarrs_metadata_v2.specs.ArrayMetadataV2.{array_v2_of, normal_array_v2}
 use Rattle.zarrs_metadata_v2.specs.GroupMetadataV2.{group_v2_seen, group_v2_of, group_v2_members, normal_group_v2}
 use Rattle.zarrs_metadata_v2.specs.declared.array.ArrayMetadataV2.{ArrayMetadataV2}
@@ -41,21 +43,11 @@ found_rises k (member l e ms) h = found_at (slice_cmp nat_cmp k l) e (get_member
 -- ---- codecs
 
 codec_same : (ms : Members) (c : CodecV2) → MembersRise ms → codec_v2_members ms ≡ Some c → normal_codec_v2 c ≡ c
-unfolding codec_v2_members
 codec_same ms c h e =
-    let a = bind_some (get_member (codes "id") ms >>= as_str) _ c e in
-    let same = a.2 in
-    let is : c.configuration ≡ without (codes "id") ms = cc in
-    let none : get_member (codes "id") c.configuration ≡ None = rw is (gone (codes "id") ms h) in
-    rw (without-put (codes "id") (string c.id) c.configuration none) refl
+    rw (without-put (codes "id") (string c.id) c.configuration (members_without_id ms c h e)) refl
 
 codec_stays : (d : Data) (c : CodecV2) → Rises d → codec_v2_of d ≡ Some c → normal_codec_v2 c ≡ c
-codec_stays null c h e = absurd cc
-codec_stays (boolean b) c h e = absurd cc
-codec_stays (number n) c h e = absurd cc
-codec_stays (string s) c h e = absurd cc
-codec_stays (array ds) c h e = absurd cc
-codec_stays (object ms) c h e = codec_same ms c h e
+codec_stays d c h e = let o = object_of codec_v2_members d c e in codec_same o.0 c (subst Rises o.1 h) o.2
 
 codecs_stay : (ds : Items) (cs : List CodecV2) → ItemsRise ds → each codec_v2_of ds ≡ Some cs →
     map normal_codec_v2 cs ≡ cs
@@ -68,7 +60,6 @@ codecs_stay (item d ds) cs h e =
 
 compressor_stays : (o : Option Data) (c : Option CodecV2) → IfRises o → compressor_of o ≡ Some c →
     normal_compressor c ≡ c
-unfolding compressor_of
 compressor_stays None c h e = let is : None ≡ c = cc in rw (← is) refl
 compressor_stays (Some null) c h e = let is : None ≡ c = cc in rw (← is) refl
 compressor_stays (Some (boolean b)) c h e = absurd cc
@@ -85,16 +76,17 @@ normal_present [] h = refl
 normal_present (c ∷ cs) h = ap Some h
 
 filters_stay : (o : Option Data) (c : Option (List CodecV2)) → IfRises o → filters_of o ≡ Some c → normal_filters c ≡ c
-unfolding filters_of
 filters_stay None c h e = let is : None ≡ c = cc in rw (← is) refl
 filters_stay (Some null) c h e = let is : None ≡ c = cc in rw (← is) refl
 filters_stay (Some (boolean b)) c h e = absurd cc
 filters_stay (Some (number n)) c h e = absurd cc
 filters_stay (Some (string s)) c h e = absurd cc
 filters_stay (Some (array ds)) c h e =
-    let a = bind_some (each codec_v2_of ds) _ c e in
-    let is : unless_empty a.0 ≡ c = cc in
-    rw (← is) (normal_present a.0 (codecs_stay ds a.0 h a.1))
+    let a = bind_some (each codec_v2_of ds >>= λ cs. Some (Some cs)) _ c e in
+    let b = bind_some (each codec_v2_of ds) _ a.0 a.1 in
+    let some : Some b.0 ≡ a.0 = cc in
+    let is : present_filters a.0 ≡ c = cc in
+    rw (← is, ← some) (normal_present b.0 (codecs_stay ds b.0 h b.1))
 filters_stay (Some (object ms)) c h e = absurd cc
 
 -- ---- arrays
@@ -115,34 +107,23 @@ optional_stay ms o h e =
       rw filters (filters_stay (get_member (codes "filters") ms) c.0 (found_rises (codes "filters") ms h) c.1),
     )
 
-with_stays : (ms : Members) (fields f : ArrayV2) → MembersRise ms → with_optional_fields_v2 ms fields ≡ Some f →
-    normal_array_v2 f ≡ f
-unfolding with_optional_fields_v2
-with_stays ms fields f h e =
-    let a = bind_some (optional_v2 ms) _ f e in
-    let same = a.2 in
-    let parts = optional_stay ms a.0 h a.1 in
-    let compressor : f.compressor ≡ (a.0).compressor = cc in
-    let filters : f.filters ≡ (a.0).filters = cc in
-    let first : normal_compressor f.compressor ≡ f.compressor = rw compressor parts.0 in
-    let second : normal_filters f.filters ≡ f.filters = rw filters parts.1 in
-    rw (first, second) refl
-
 array_same : (ms : Members) (f : ArrayV2) → MembersRise ms → array_v2_members ms ≡ Some f → normal_array_v2 f ≡ f
 unfolding array_v2_members
 array_same ms f h e =
     let a = bind_some (get_member (codes "zarr_format") ms >>= is_number 2) _ f e in
     let b = bind_some (required_v2 ms) _ f a.2 in
-    with_stays ms b.0 f h b.2
+    let c = bind_some (optional_v2 ms) _ f b.2 in
+    let same = c.2 in
+    let parts = optional_stay ms c.0 h c.1 in
+    let compressor : f.compressor ≡ (c.0).compressor = cc in
+    let filters : f.filters ≡ (c.0).filters = cc in
+    let first : normal_compressor f.compressor ≡ f.compressor = rw compressor parts.0 in
+    let second : normal_filters f.filters ≡ f.filters = rw filters parts.1 in
+    rw (first, second) refl
 
 -- an array that was read
 pub array_v2_stays : (d : Data) (f : ArrayV2) → Rises d → array_v2_of d ≡ Some f → normal_array_v2 f ≡ f
-array_v2_stays null f h e = absurd cc
-array_v2_stays (boolean b) f h e = absurd cc
-array_v2_stays (number n) f h e = absurd cc
-array_v2_stays (string s) f h e = absurd cc
-array_v2_stays (array ds) f h e = absurd cc
-array_v2_stays (object ms) f h e = array_same ms f h e
+array_v2_stays d f h e = let o = object_of array_v2_members d f e in array_same o.0 f (subst Rises o.1 h) o.2
 
 -- ---- groups
 
@@ -158,12 +139,9 @@ group_same ms attributes h e =
 -- a group that was read
 pub group_v2_stays : (d : Data) (attributes : Members) → Rises d → group_v2_of d ≡ Some attributes →
     normal_group_v2 attributes ≡ attributes
-group_v2_stays null attributes h e = absurd cc
-group_v2_stays (boolean b) attributes h e = absurd cc
-group_v2_stays (number n) attributes h e = absurd cc
-group_v2_stays (string s) attributes h e = absurd cc
-group_v2_stays (array ds) attributes h e = absurd cc
-group_v2_stays (object ms) attributes h e = group_same ms attributes h e
+group_v2_stays d attributes h e =
+    let o = object_of group_v2_members d attributes e in
+    group_same o.0 attributes (subst Rises o.1 h) o.2
 
 -- ---- what a reader returned
 

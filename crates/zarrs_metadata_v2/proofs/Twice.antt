@@ -1,10 +1,9 @@
 -- Normal forms of version 2 documents, twice.
 use Rattle.std.proofs.Common.{◌≡◌}
 use Rattle.serde_json.specs.Data.{Members}
-use Rattle.zarrs_metadata_values.specs.Reading.{from_data, unless_float}
 use Rattle.zarrs_metadata_values.specs.Rising.{Rises}
-use Rattle.zarrs_metadata_v2.specs.ArrayMetadataV2.{ArrayV2, array_v2_of, array_v2_data, normal_array_v2, HasChunks}
-use Rattle.zarrs_metadata_v2.specs.GroupMetadataV2.{group_v2_of, group_v2_data, normal_group_v2}
+use Rattle.zarrs_metadata_v2.specs.ArrayMetadataV2.{ArrayV2, array_v2_data, normal_array_v2, HasChunks}
+use Rattle.zarrs_metadata_v2.specs.GroupMetadataV2.{group_v2_data, normal_group_v2}
 use Rattle.zarrs_metadata_v2.proofs.ArrayBack.{array_v2_reads_back}
 use Rattle.zarrs_metadata_v2.proofs.GroupBack.{group_v2_reads_back}
 use Rattle.zarrs_metadata_v2.proofs.Stays.{array_v2_stays, group_v2_stays}
@@ -18,12 +17,3 @@ pub written_group_once : (attributes : Members) → Rises (group_v2_data attribu
     normal_group_v2 (normal_group_v2 attributes) ≡ normal_group_v2 attributes
 written_group_once attributes rises =
     group_v2_stays (group_v2_data attributes) (normal_group_v2 attributes) rises (group_v2_reads_back attributes)
-
--- by a value
-pub array_again_by_value : (f : ArrayV2) → HasChunks f →
-    from_data array_v2_of (array_v2_data f) ≡ unless_float (array_v2_data f) (normal_array_v2 f)
-array_again_by_value f h = rw (array_v2_reads_back f h)
-
-pub group_again_by_value : (attributes : Members) → from_data group_v2_of (group_v2_data attributes) ≡
-    unless_float (group_v2_data attributes) (normal_group_v2 attributes)
-group_again_by_value attributes = rw (group_v2_reads_back attributes)

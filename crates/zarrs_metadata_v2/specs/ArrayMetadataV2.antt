@@ -1,17 +1,18 @@
 -- A version 2 array document: what it says, how it is read and how it is written.
-use Rattle.std.specs.Prelude.{◌≡◌, ℕ, ◌==◌, nat_le, true, if◌then◌else◌, List, map, Option, Some, None, option_map}
+use Rattle.std.specs.Prelude.{◌≡◌, ℕ, nat_le, true, if◌then◌else◌, List, map, Option, Some, None, option_map}
 use Rattle.std.specs.Prelude.{codes}
 use Rattle.std.specs.Str.{bytes_eq}
 use Rattle.std.specs.List.{list_all}
 use Rattle.std.specs.Int.NonZero.{non_zero_u64_get}
-use Rattle.serde_json.specs.Data.{unsigned, Data, number, string, object, Members, no_members, put}
-use Rattle.serde_json.specs.Find.{get_member, as_str, as_array, as_object}
+use Rattle.serde_json.specs.Data.{Data, string, object, Members, no_members, put}
+use Rattle.serde_json.specs.Find.{get_member, as_str, as_object}
 use Rattle.serde_json.specs.View.{members_view}
-use Rattle.zarrs_metadata_values.specs.Reading.{◌>>=◌, each, whole_number, whole_numbers, is_number, object_or_empty}
+use Rattle.zarrs_metadata_values.specs.Reading.{◌>>=◌, list_by, read_under, positive_number, whole_numbers, is_number, object_or_empty}
 use Rattle.zarrs_metadata_values.specs.Writing.{numbers_data, put_object}
 use Rattle.zarrs_metadata_values.specs.FillValueMetadata.{fill_view}
 use Rattle.zarrs_metadata_parts.specs.MetadataV2.{CodecV2, codec_v2_seen}
 use Rattle.zarrs_metadata_parts.specs.DataTypeV2.{DataTypeV2, data_type_v2_seen, data_type_v2_of, data_type_v2_data}
+use Rattle.zarrs_metadata_parts.specs.Fields.{put_array}
 use Rattle.zarrs_metadata_parts.specs.Names.{separator_text}
 use Rattle.zarrs_metadata_parts.specs.declared.array.chunk_key_separator.ChunkKeySeparator.{ChunkKeySeparator}
 use Rattle.zarrs_metadata_parts.specs.declared.array.chunk_key_separator.ChunkKeySeparator.TheVariants.{Slash, Dot}
@@ -79,17 +80,7 @@ abbrev pub dimension_separator_of : Option Data → Option ChunkKeySeparator
 dimension_separator_of None = Some Dot
 dimension_separator_of (Some d) = as_str d >>= separator_of_text
 
--- a whole number from 1 to 2 ^ 64 - 1, and a list of them
-unfoldable pub positive_number : Data → Option ℕ
-positive_number d = whole_number d >>= λ n. if n == 0 then None else Some n
-
-unfoldable pub positive_numbers : Data → Option (List ℕ)
-positive_numbers d = as_array d >>= each positive_number
-
--- what a grammar reads of the value under a key that must be there
-abbrev pub read_under : {Y : Type 0} → List ℕ → (Data → Option Y) → Members → Option Y
-read_under key grammar ms = get_member key ms >>= grammar
-
+-- what a grammar reads of the text under a key that must be there
 abbrev pub text_under : {Y : Type 0} → List ℕ → (List ℕ → Option Y) → Members → Option Y
 text_under key grammar ms = get_member key ms >>= as_str >>= grammar
 
@@ -98,7 +89,7 @@ unfoldable pub required_v2 : Members → Option ArrayV2
 required_v2 ms = do
   order ← text_under (codes "order") array_order_of ms
   shape ← read_under (codes "shape") whole_numbers ms
-  chunks ← read_under (codes "chunks") positive_numbers ms
+  chunks ← read_under (codes "chunks") (list_by positive_number) ms
   dtype ← read_under (codes "dtype") data_type_v2_of ms
   fill_value ← get_member (codes "fill_value") ms
   Some (record {
@@ -136,17 +127,13 @@ with_optional_v2 f o = record f {
   attributes = o.attributes;
 }
 
-unfoldable pub with_optional_fields_v2 : Members → ArrayV2 → Option ArrayV2
-with_optional_fields_v2 ms fields = do
-  optional ← optional_v2 ms
-  Some (with_optional_v2 fields optional)
-
 -- `zarr_format` is 2; keys that no field names are ignored.
 unfoldable pub array_v2_members : Members → Option ArrayV2
 array_v2_members ms = do
   _ ← get_member (codes "zarr_format") ms >>= is_number 2
   fields ← required_v2 ms
-  with_optional_fields_v2 ms fields
+  optional ← optional_v2 ms
+  Some (with_optional_v2 fields optional)
 
 abbrev pub array_v2_of : Data → Option ArrayV2
 array_v2_of d = as_object d >>= array_v2_members
@@ -163,18 +150,12 @@ optional_data_v2 f ms =
     (put (codes "filters") (filters_data f.filters)
     (put (codes "dimension_separator") (string (separator_text f.dimension_separator)) ms)))
 
-unfoldable pub parts_data_v2 : ArrayV2 → Members → Members
-parts_data_v2 f ms =
-    put (codes "chunks") (numbers_data f.chunks)
-    (put (codes "dtype") (data_type_v2_data f.dtype)
-    (put (codes "order") (string (order_text f.order)) ms))
-
 unfoldable pub required_data_v2 : ArrayV2 → Members → Members
 required_data_v2 f ms =
-    put (codes "zarr_format") (number (unsigned 2))
-    (put (codes "node_type") (string (codes "array"))
-    (put (codes "shape") (numbers_data f.shape)
-    (put (codes "fill_value") f.fill_value (parts_data_v2 f ms))))
+    put_array 2 f.shape f.fill_value
+    (put (codes "chunks") (numbers_data f.chunks)
+    (put (codes "dtype") (data_type_v2_data f.dtype)
+    (put (codes "order") (string (order_text f.order)) ms)))
 
 abbrev pub array_v2_data : ArrayV2 → Data
 array_v2_data f = object (required_data_v2 f (optional_data_v2 f no_members))

@@ -1,6 +1,7 @@
 pub use Rattle.zarrs_metadata_parts.specs.Reading
 pub use Rattle.zarrs_metadata_parts.specs.Writing
 pub use Rattle.zarrs_metadata_parts.specs.Rising
+pub use Rattle.zarrs_metadata_parts.specs.Forms
 pub use Rattle.zarrs_metadata_parts.specs.FillValueMetadata
 pub use Rattle.zarrs_metadata_parts.specs.MetadataV2
 pub use Rattle.zarrs_metadata_parts.specs.DataTypeV2

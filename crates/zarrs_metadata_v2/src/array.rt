@@ -2,11 +2,12 @@
 //!
 //! See <https://zarr-specs.readthedocs.io/en/latest/v2/v2.0.html#arrays>.
 
-ghost use Rattle.std.specs.Prelude.{◌≡◌, ◌≤◌, Some, None, IfOk, map, option_map, string_bytes};
+ghost use Rattle.std.specs.Prelude.{◌≡◌, None, IfOk, map, option_map};
 ghost use Rattle.std.specs.Int.NonZero.{non_zero_u64_get};
-ghost use Rattle.serde_json.specs.Data.{no_members, depth};
-ghost use Rattle.serde_json.specs.Read.{read, max_depth};
+ghost use Rattle.serde_json.specs.Data.{no_members};
+ghost use Rattle.serde_json.specs.Read.{read};
 ghost use Rattle.serde_json.specs.View.{view, members_view};
+ghost use Rattle.zarrs_metadata_values.specs.Writing.{IsTextOf};
 ghost use Rattle.zarrs_metadata_values.specs.Reading.{GivesRead, from_data, from_json};
 ghost use Rattle.zarrs_metadata_values.specs.FillValueMetadata.{fill_view};
 ghost use Rattle.zarrs_metadata_parts.specs.MetadataV2.{codec_v2_seen};
@@ -163,8 +164,7 @@ impl ArrayMetadataV2 {
 
     /// The document as text, a line for each member.
     pub fn to_string_pretty(&self, alloc: Global) -> Result<String, AllocError>
-        ensures { IfOk result (λ text. depth (array_v2_data (array_v2_seen self.now)) ≤ max_depth
-            → read (string_bytes text) ≡ Some (array_v2_data (array_v2_seen self.now))) }
+        ensures { IfOk result (IsTextOf (array_v2_data (array_v2_seen self.now))) }
     {
         let value = self.to_value(alloc)?;
         let text = value.to_string_pretty(alloc)?;

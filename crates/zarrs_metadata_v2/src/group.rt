@@ -2,10 +2,11 @@
 //!
 //! See <https://zarr-specs.readthedocs.io/en/latest/v2/v2.0.html#groups>.
 
-ghost use Rattle.std.specs.Prelude.{◌≡◌, ◌≤◌, Some, IfOk, string_bytes};
-ghost use Rattle.serde_json.specs.Data.{no_members, depth};
-ghost use Rattle.serde_json.specs.Read.{read, max_depth};
+ghost use Rattle.std.specs.Prelude.{◌≡◌, IfOk};
+ghost use Rattle.serde_json.specs.Data.{no_members};
+ghost use Rattle.serde_json.specs.Read.{read};
 ghost use Rattle.serde_json.specs.View.{view, members_view};
+ghost use Rattle.zarrs_metadata_values.specs.Writing.{IsTextOf};
 ghost use Rattle.zarrs_metadata_values.specs.Reading.{Reads, GivesRead, from_data, from_json};
 ghost use Rattle.zarrs_metadata_v2.specs.GroupMetadataV2.{group_v2_seen, group_v2_of, group_v2_members, group_v2_data, normal_group_v2};
 
@@ -81,8 +82,7 @@ impl GroupMetadataV2 {
 
     /// The document as text, a line for each member.
     pub fn to_string_pretty(&self, alloc: Global) -> Result<String, AllocError>
-        ensures { IfOk result (λ text. depth (group_v2_data (group_v2_seen self.now)) ≤ max_depth
-            → read (string_bytes text) ≡ Some (group_v2_data (group_v2_seen self.now))) }
+        ensures { IfOk result (IsTextOf (group_v2_data (group_v2_seen self.now))) }
     {
         let value = self.to_value(alloc)?;
         let text = value.to_string_pretty(alloc)?;

@@ -59,6 +59,7 @@ pub fn normal_document_v2_once()
 ///
 /// # Errors
 /// `FloatNumber` exactly where the value that is written holds a float.
+#[tactic(auto, using(zarrs_metadata_values::proofs::FormLemmas::given_again, crate::proofs::ArrayBack::array_v2_reads_back, crate::proofs::ArrayBack::lengths_positive))]
 pub fn read_array_v2_again(
     alloc: Global,
     metadata: &ArrayMetadataV2,
@@ -76,6 +77,7 @@ pub fn read_array_v2_again(
 ///
 /// # Errors
 /// `FloatNumber` exactly where the value that is written holds a float.
+#[tactic(auto, using(zarrs_metadata_values::proofs::FormLemmas::given_again, crate::proofs::GroupBack::group_v2_reads_back))]
 pub fn read_group_v2_again(
     alloc: Global,
     metadata: &GroupMetadataV2,

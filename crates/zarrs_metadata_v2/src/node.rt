@@ -1,11 +1,11 @@
 //! The version 2 documents of arrays and groups.
 
-ghost use Rattle.std.specs.Prelude.{◌≡◌, ◌≤◌, Some, IfOk, string_bytes};
-ghost use Rattle.serde_json.specs.Data.{depth};
-ghost use Rattle.serde_json.specs.Read.{read, max_depth};
+ghost use Rattle.std.specs.Prelude.{◌≡◌, IfOk};
+ghost use Rattle.serde_json.specs.Read.{read};
 ghost use Rattle.serde_json.specs.View.{view};
+ghost use Rattle.zarrs_metadata_values.specs.Writing.{IsTextOf};
 ghost use Rattle.zarrs_metadata_values.specs.Reading.{Reads, GivesRead, from_data, from_json};
-ghost use Rattle.zarrs_metadata_v2.specs.NodeV2.{node_v2_seen, node_v2_of, group_node_v2_of, node_v2_data};
+ghost use Rattle.zarrs_metadata_v2.specs.NodeV2.{node_v2_seen, node_v2_of, node_v2_data};
 
 use crate::array::ArrayMetadataV2;
 use crate::group::GroupMetadataV2;
@@ -61,8 +61,7 @@ impl NodeMetadataV2 {
 
     /// The document as text, a line for each member.
     pub fn to_string_pretty(&self, alloc: Global) -> Result<String, AllocError>
-        ensures { IfOk result (λ text. depth (node_v2_data (node_v2_seen self.now)) ≤ max_depth
-            → read (string_bytes text) ≡ Some (node_v2_data (node_v2_seen self.now))) }
+        ensures { IfOk result (IsTextOf (node_v2_data (node_v2_seen self.now))) }
     {
         match self {
             NodeMetadataV2::Array(array) => array.to_string_pretty(alloc),
@@ -87,14 +86,9 @@ fn read_node(alloc: Global, value: &Value) -> Result<NodeMetadataV2, MetadataErr
 {
     match read_array_v2(alloc, value) {
         Ok(array) => Ok(NodeMetadataV2::Array(array)),
-        Err(MetadataError::InvalidMetadata) => read_group_node(alloc, value),
+        Err(MetadataError::InvalidMetadata) => {
+            Ok(NodeMetadataV2::Group(read_group_v2(alloc, value)?))
+        }
         Err(e) => Err(e),
     }
-}
-
-fn read_group_node(alloc: Global, value: &Value) -> Result<NodeMetadataV2, MetadataError>
-    ensures { Reads node_v2_seen result (group_node_v2_of (view value.now)) }
-{
-    let group = read_group_v2(alloc, value)?;
-    Ok(NodeMetadataV2::Group(group))
 }

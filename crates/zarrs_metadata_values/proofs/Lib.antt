@@ -6,3 +6,4 @@ pub mod FillLemmas
 pub mod FillBytes
 pub mod NumberLists
 pub mod PutObject
+pub mod FormLemmas

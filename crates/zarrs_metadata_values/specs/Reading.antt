@@ -4,7 +4,7 @@ use Rattle.std.specs.Ordering.{nat_cmp, match_ordering}
 use Rattle.std.specs.Cmp.Lexicographic.{slice_cmp}
 use Rattle.std.specs.Str.{bytes_eq}
 use Rattle.serde_json.specs.Data.{Data, null, boolean, object, Items, no_items, item, Members, no_members, member}
-use Rattle.serde_json.specs.Find.{as_str, as_array, as_object, as_number, as_u64}
+use Rattle.serde_json.specs.Find.{get_member, as_str, as_array, as_object, as_number, as_u64}
 use Rattle.serde_json.specs.Written.{has_float}
 use Rattle.zarrs_metadata_values.specs.declared.error.MetadataError.{MetadataError}
 use Rattle.zarrs_metadata_values.specs.declared.error.MetadataError.TheVariants.{InvalidJson, FloatNumber}
@@ -59,6 +59,24 @@ each grammar (item d ds) = do
   ys ← each grammar ds
   Some (y ∷ ys)
 
+-- a list of them
+abbrev pub list_by : {Y : Type 0} → (Data → Option Y) → Data → Option (List Y)
+list_by grammar d = as_array d >>= each grammar
+
+-- what a grammar reads of the value under a key that must be there
+abbrev pub read_under : {Y : Type 0} → List ℕ → (Data → Option Y) → Members → Option Y
+read_under key grammar ms = get_member key ms >>= grammar
+
+-- null, or what a grammar reads
+abbrev pub null_or : {Y : Type 0} → (Data → Option Y) → Data → Option (Option Y)
+null_or grammar null = Some None
+null_or grammar d = grammar d >>= λ y. Some (Some y)
+
+-- the same, or nothing
+abbrev pub optional_by : {Y : Type 0} → (Data → Option Y) → Option Data → Option (Option Y)
+optional_by grammar None = Some None
+optional_by grammar (Some d) = null_or grammar d
+
 -- a boolean, or what it is where there is none
 abbrev pub boolean_or : Bool → Option Data → Option Bool
 boolean_or b None = Some b
@@ -84,6 +102,10 @@ whole_number d = as_number d >>= as_u64
 -- a list of them
 unfoldable pub whole_numbers : Data → Option (List ℕ)
 whole_numbers d = as_array d >>= each whole_number
+
+-- a whole number from 1 to 2 ^ 64 - 1
+unfoldable pub positive_number : Data → Option ℕ
+positive_number d = whole_number d >>= λ n. if n == 0 then None else Some n
 
 -- exactly this number, this text
 unfoldable pub is_number : ℕ → Data → Option ⊤

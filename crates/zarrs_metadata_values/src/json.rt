@@ -1,13 +1,15 @@
 //! Fields of JSON objects, and the small values that stand in them.
 
 ghost use Rattle.std.specs.Prelude.{◌≡◌, option_map, IfOk};
+ghost use Rattle.std.specs.Int.NonZero.{non_zero_u64_get};
 ghost use Rattle.serde_json.specs.Find.{get_member, as_str, as_array, as_object};
 ghost use Rattle.serde_json.specs.View.{view, items_view, members_view};
-ghost use Rattle.zarrs_metadata_values.specs.Reading.{Reads, boolean_or, optional_object, object_or_empty, whole_number, whole_numbers, is_number, is_text, without, each};
+ghost use Rattle.zarrs_metadata_values.specs.Reading.{Reads, boolean_or, optional_object, object_or_empty, whole_number, whole_numbers, positive_number, is_number, is_text, without, each};
 
 use crate::error::MetadataError;
 use serde_json::{Map, Value};
 use std::alloc::{AllocError, Global};
+use std::num::NonZeroU64;
 
 /// The value under a name.
 pub fn member<'a>(members: &'a Map<String, Value>, name: &str) -> Option<&'a Value>
@@ -152,6 +154,20 @@ pub fn read_whole_number(value: &Value) -> Result<u64, MetadataError>
     ensures { Reads (λ n. n) result (whole_number (view value.now)) }
 {
     match value.as_u64() {
+        Some(number) => Ok(number),
+        None => Err(MetadataError::InvalidMetadata),
+    }
+}
+
+/// The positive number up to 2^64 - 1 that a value is.
+///
+/// # Errors
+/// `InvalidMetadata` exactly where it is none.
+#[tactic(auto, unfolding(crate::specs::Reading::positive_number))]
+pub fn read_positive_number(value: &Value) -> Result<NonZeroU64, MetadataError>
+    ensures { Reads non_zero_u64_get result (positive_number (view value.now)) }
+{
+    match NonZeroU64::new(read_whole_number(value)?) {
         Some(number) => Ok(number),
         None => Err(MetadataError::InvalidMetadata),
     }

@@ -1,8 +1,9 @@
 //! Values that documents are written with.
 
 ghost use Rattle.std.specs.Prelude.{◌≡◌, IfOk, OnOk};
-ghost use Rattle.serde_json.specs.View.{view, items_view, members_view};
-ghost use Rattle.zarrs_metadata_values.specs.Writing.{numbers_data, put_object, put_list};
+ghost use Rattle.serde_json.specs.Data.{string, put};
+ghost use Rattle.serde_json.specs.View.{view, members_view};
+ghost use Rattle.zarrs_metadata_values.specs.Writing.{numbers_data, put_object};
 
 use crate::json::copy_members;
 use serde_json::{Map, Value};
@@ -19,6 +20,20 @@ pub fn numbers_value(alloc: Global, numbers: &[u64]) -> Result<Value, AllocError
     Ok(Value::Array(items))
 }
 
+/// Puts a text under the key.
+pub fn put_text(
+    alloc: Global,
+    members: &mut Map<String, Value>,
+    key: &str,
+    text: &str,
+) -> Result<(), AllocError>
+    ensures { OnOk result (members_view members.new.entries
+        ≡ put key.now (string text.now) (members_view members.old.entries)) }
+{
+    let text = Value::try_from_str(alloc, text)?;
+    serde_json::put(members, alloc, key, text)
+}
+
 /// Puts a copy of the members under the key, unless there are none.
 pub fn put_object(
     alloc: Global,
@@ -33,20 +48,4 @@ pub fn put_object(
         serde_json::put(members, alloc, key, Value::Object(copy_members(value)?))?;
     }
     Ok(())
-}
-
-/// Puts the list under the key, unless it is empty.
-pub fn put_list(
-    alloc: Global,
-    members: &mut Map<String, Value>,
-    key: &str,
-    items: Vec<Value>,
-) -> Result<(), AllocError>
-    ensures { OnOk result (members_view members.new.entries
-        ≡ put_list key.now (items_view items.items) (members_view members.old.entries)) }
-{
-    match items.as_slice() {
-        [] => Ok(()),
-        [_first, _rest @ ..] => serde_json::put(members, alloc, key, Value::Array(items)),
-    }
 }

@@ -1,24 +1,10 @@
 -- Parts put into a value, one after another.
-use Rattle.std.proofs.Common.{◌≡◌, ◌∙◌, ap, ap₂, refl, sym, subst, ℕ, zero, suc, ◌+◌, ◌-◌, ◌^◌, ◌≤◌, ◌<◌, max, min}
-use Rattle.std.proofs.Common.{List, [], ◌∷◌, ◌++◌, length, take, drop, replicate, get_or, arith, Vec, slice_index_or}
+use Rattle.std.proofs.Common.{◌≡◌, ◌∙◌, ap, ap₂, refl, sym, subst, ℕ, zero, suc, ◌+◌, ◌-◌, ◌≤◌, ◌<◌, max}
+use Rattle.std.proofs.Common.{List, [], ◌∷◌, ◌++◌, length, take, drop, replicate, get_or, arith, slice_index_or}
 use Rattle.std.proofs.lemmas.List.{append_assoc, append-nil, take_more, take-append-le, drop-append-le, length-append}
 use Rattle.std.proofs.lemmas.List.{length-take-le, length-drop, length-replicate, replicate-append-replicate}
-use Rattle.std.proofs.lemmas.List.Sums.{sum_by_more}
 use Rattle.zarrs_storage.specs.declared.byte_range.OffsetBytes.{OffsetBytes}
-use Rattle.zarrs_storage.specs.Calls.{capped_count}
 use Rattle.zarrs_storage.specs.Parts.{filled_to, replaced_at, part_end, with_part, with_parts, end_of}
-use Rattle.zarrs_storage.specs.Store.{total_of}
-
-least_more : (n m k : ℕ) → min (min n k + m) k ≡ min (n + m) k
-least_more n m k = omega arith
-
--- a count with one more part
-pub total_more : {Z : Type 0} (count : ℕ) (parts : List (Vec ℕ Z)) (i : ℕ) (d : Vec ℕ Z) → i < length parts →
-    capped_count (capped_count (count + total_of (take i parts)) + length (get_or parts i d).items) ≡
-    capped_count (count + total_of (take (i + 1) parts))
-total_more count parts i d h =
-    least_more (count + total_of (take i parts)) (length (get_or parts i d).items) (2 ^ 64 - 1)
-    ∙ ap capped_count (omega (arith, sum_by_more (λ part. length part.items) parts i d h))
 
 greatest : (a b c : ℕ) → max a (max b c) ≡ max (max a b) c
 greatest a b c = omega arith

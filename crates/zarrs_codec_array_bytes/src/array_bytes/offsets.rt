@@ -99,6 +99,13 @@ impl<'a> ArrayBytesOffsets<'a> {
         })
     }
 
+    /// The offsets as the numbers that they were made of.
+    pub fn into_numbers(self) -> CowSlice<'a, usize>
+        ensures { cow_slice_items result ≡ numbers_of self.entry }
+    {
+        self.numbers
+    }
+
     /// A copy, which is owned.
     ///
     /// # Errors

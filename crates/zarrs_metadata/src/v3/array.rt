@@ -2,10 +2,11 @@
 //!
 //! See <https://zarr-specs.readthedocs.io/en/latest/v3/core/index.html#array-metadata>.
 
-ghost use Rattle.std.specs.Prelude.{◌≡◌, ◌≤◌, Some, None, [], IfOk, option_map, string_bytes};
-ghost use Rattle.serde_json.specs.Data.{no_members, depth};
-ghost use Rattle.serde_json.specs.Read.{read, max_depth};
+ghost use Rattle.std.specs.Prelude.{◌≡◌, None, [], IfOk, option_map};
+ghost use Rattle.serde_json.specs.Data.{no_members};
+ghost use Rattle.serde_json.specs.Read.{read};
 ghost use Rattle.serde_json.specs.View.{view, members_view};
+ghost use Rattle.zarrs_metadata_values.specs.Writing.{IsTextOf};
 ghost use Rattle.zarrs_metadata_values.specs.Reading.{GivesRead, from_data, from_json};
 ghost use Rattle.zarrs_metadata_parts.specs.MetadataV3.{extension_seen, extensions_seen};
 ghost use Rattle.zarrs_metadata_parts.specs.DimensionNames.{dimension_names_seen};
@@ -183,8 +184,7 @@ impl ArrayMetadataV3 {
 
     /// The document as text, a line for each member.
     pub fn to_string_pretty(&self, alloc: Global) -> Result<String, AllocError>
-        ensures { IfOk result (λ text. depth (array_data (array_seen self.now)) ≤ max_depth
-            → read (string_bytes text) ≡ Some (array_data (array_seen self.now))) }
+        ensures { IfOk result (IsTextOf (array_data (array_seen self.now))) }
     {
         let value = self.to_value(alloc)?;
         let text = value.to_string_pretty(alloc)?;

@@ -9,7 +9,7 @@ use crate::v3::optional_parts::{copy_optional_parts, with_optional_parts};
 use serde_json::Map;
 use std::alloc::{AllocError, Global};
 use std::collections::BTreeMap;
-use zarrs_metadata_parts::copying::copy_extensions;
+use zarrs_metadata_parts::Part;
 
 // A copy of the array.
 pub(crate) fn copy_array(
@@ -33,7 +33,7 @@ fn copy_required_fields(
     let shape = metadata.shape.as_slice().to_vec(alloc)?;
     let named = copy_named_parts(alloc, metadata)?;
     let fill_value = metadata.fill_value.try_clone(alloc)?;
-    let codecs = copy_extensions(alloc, &metadata.codecs)?;
+    let codecs = metadata.codecs.copy(alloc)?;
     Ok(ArrayMetadataV3 {
         shape,
         data_type: named.data_type,

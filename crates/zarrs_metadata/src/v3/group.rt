@@ -2,10 +2,11 @@
 //!
 //! See <https://zarr-specs.readthedocs.io/en/latest/v3/core/index.html#group-metadata>.
 
-ghost use Rattle.std.specs.Prelude.{◌≡◌, ◌≤◌, Some, [], IfOk, OnOk, string_bytes};
-ghost use Rattle.serde_json.specs.Data.{no_members, depth};
-ghost use Rattle.serde_json.specs.Read.{read, max_depth};
+ghost use Rattle.std.specs.Prelude.{◌≡◌, [], IfOk, OnOk};
+ghost use Rattle.serde_json.specs.Data.{no_members};
+ghost use Rattle.serde_json.specs.Read.{read};
 ghost use Rattle.serde_json.specs.View.{view, members_view};
+ghost use Rattle.zarrs_metadata_values.specs.Writing.{IsTextOf};
 ghost use Rattle.zarrs_metadata_values.specs.Reading.{Reads, GivesRead, from_data, from_json};
 ghost use Rattle.zarrs_metadata_parts.specs.AdditionalFields.{additional_fields_seen};
 ghost use Rattle.zarrs_metadata.specs.GroupMetadata.{group_seen, group_of, group_members, group_data, group_data_members, normal_group};
@@ -16,9 +17,8 @@ use std::collections::BTreeMap;
 use zarrs_metadata_parts::additional_fields::{
     NodeKind, copy_additional_fields, put_fields, read_additional_fields,
 };
-use zarrs_metadata_parts::json::{
-    copy_members, expect_number, expect_text, member, read_object, read_object_or_empty, required,
-};
+use zarrs_metadata_parts::fields::{expect_kind, put_kind};
+use zarrs_metadata_parts::json::{copy_members, member, read_object, read_object_or_empty};
 use zarrs_metadata_parts::reading::{read_value, refuse_floats};
 use zarrs_metadata_parts::writing::put_object;
 use zarrs_metadata_parts::{AdditionalFieldsV3, MetadataError};
@@ -102,8 +102,7 @@ impl GroupMetadataV3 {
 
     /// The document as text, a line for each member.
     pub fn to_string_pretty(&self, alloc: Global) -> Result<String, AllocError>
-        ensures { IfOk result (λ text. depth (group_data (group_seen self.now)) ≤ max_depth
-            → read (string_bytes text) ≡ Some (group_data (group_seen self.now))) }
+        ensures { IfOk result (IsTextOf (group_data (group_seen self.now))) }
     {
         let value = self.to_value(alloc)?;
         let text = value.to_string_pretty(alloc)?;
@@ -128,8 +127,7 @@ fn read_group_members(
 ) -> Result<GroupMetadataV3, MetadataError>
     ensures { Reads group_seen result (group_members (members_view members.now.entries)) }
 {
-    expect_number(required(members, "zarr_format")?, 3)?;
-    expect_text(required(members, "node_type")?, "group")?;
+    expect_kind(members, 3, "group")?;
     let attributes = read_object_or_empty(alloc, member(members, "attributes"))?;
     let additional_fields = read_additional_fields(alloc, NodeKind::Group, members)?;
     Ok(GroupMetadataV3 {
@@ -155,14 +153,7 @@ fn put_group(
         ≡ group_data_members (group_seen metadata.now) (members_view members.old.entries)) }
 {
     put_object(alloc, members, "attributes", &metadata.attributes)?;
-    serde_json::put(
-        members,
-        alloc,
-        "node_type",
-        Value::try_from_str(alloc, "group")?,
-    )?;
-    serde_json::put(members, alloc, "zarr_format", Value::from(3u64))?;
-    Ok(())
+    put_kind(alloc, members, 3, "group")
 }
 
 // The value that is a group's document.

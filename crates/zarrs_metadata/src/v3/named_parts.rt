@@ -2,15 +2,13 @@
 
 ghost use Rattle.std.specs.Prelude.{◌≡◌, IfOk};
 ghost use Rattle.serde_json.specs.View.{members_view};
-ghost use Rattle.zarrs_metadata_parts.specs.MetadataV3.{extension_seen, extension_of};
 ghost use Rattle.zarrs_metadata_values.specs.Reading.{Reads};
-ghost use Rattle.zarrs_metadata.specs.ArrayMetadata.{array_seen, named_seen, named_fields, read_under};
+ghost use Rattle.zarrs_metadata.specs.ArrayMetadata.{array_seen, named_seen, named_fields};
 
 use crate::v3::array::ArrayMetadataV3;
 use serde_json::{Map, Value};
 use std::alloc::{AllocError, Global};
-use zarrs_metadata_parts::json::required;
-use zarrs_metadata_parts::reading::read_extension;
+use zarrs_metadata_parts::fields::required_part;
 use zarrs_metadata_parts::{MetadataError, MetadataV3};
 
 /// The parts of an array that are one extension each.
@@ -24,18 +22,6 @@ pub struct NamedParts {
     pub chunk_key_encoding: MetadataV3,
 }
 
-// The extension under a name that must be there.
-fn required_extension(
-    alloc: Global,
-    members: &Map<String, Value>,
-    name: &str,
-) -> Result<MetadataV3, MetadataError>
-    ensures { Reads extension_seen result
-        (read_under name.now extension_of (members_view members.now.entries)) }
-{
-    read_extension(alloc, required(members, name)?)
-}
-
 #[tactic(auto, unfolding(crate::specs::ArrayMetadata::named_fields))]
 pub(crate) fn read_named_parts(
     alloc: Global,
@@ -43,9 +29,9 @@ pub(crate) fn read_named_parts(
 ) -> Result<NamedParts, MetadataError>
     ensures { Reads named_seen result (named_fields (members_view members.now.entries)) }
 {
-    let data_type = required_extension(alloc, members, "data_type")?;
-    let chunk_grid = required_extension(alloc, members, "chunk_grid")?;
-    let chunk_key_encoding = required_extension(alloc, members, "chunk_key_encoding")?;
+    let data_type = required_part(alloc, members, "data_type")?;
+    let chunk_grid = required_part(alloc, members, "chunk_grid")?;
+    let chunk_key_encoding = required_part(alloc, members, "chunk_key_encoding")?;
     Ok(NamedParts {
         data_type,
         chunk_grid,

@@ -1,11 +1,11 @@
 //! The documents of arrays and groups.
 
-ghost use Rattle.std.specs.Prelude.{◌≡◌, ◌≤◌, Some, IfOk, string_bytes};
-ghost use Rattle.serde_json.specs.Data.{depth};
-ghost use Rattle.serde_json.specs.Read.{read, max_depth};
+ghost use Rattle.std.specs.Prelude.{◌≡◌, IfOk};
+ghost use Rattle.serde_json.specs.Read.{read};
 ghost use Rattle.serde_json.specs.View.{view};
+ghost use Rattle.zarrs_metadata_values.specs.Writing.{IsTextOf};
 ghost use Rattle.zarrs_metadata_values.specs.Reading.{Reads, GivesRead, from_data, from_json};
-ghost use Rattle.zarrs_metadata.specs.Node.{node_seen, node_of, group_node_of, node_data, KeepsNodeFields};
+ghost use Rattle.zarrs_metadata.specs.Node.{node_seen, node_of, node_data, KeepsNodeFields};
 
 use crate::v3::array::ArrayMetadataV3;
 use crate::v3::group::{GroupMetadataV3, read_group};
@@ -65,8 +65,7 @@ impl NodeMetadataV3 {
 
     /// The document as text, a line for each member.
     pub fn to_string_pretty(&self, alloc: Global) -> Result<String, AllocError>
-        ensures { IfOk result (λ text. depth (node_data (node_seen self.now)) ≤ max_depth
-            → read (string_bytes text) ≡ Some (node_data (node_seen self.now))) }
+        ensures { IfOk result (IsTextOf (node_data (node_seen self.now))) }
     {
         match self {
             NodeMetadataV3::Array(array) => array.to_string_pretty(alloc),
@@ -91,14 +90,9 @@ fn read_node(alloc: Global, value: &Value) -> Result<NodeMetadataV3, MetadataErr
 {
     match read_array(alloc, value) {
         Ok(array) => Ok(NodeMetadataV3::Array(array)),
-        Err(MetadataError::InvalidMetadata) => read_group_node(alloc, value),
+        Err(MetadataError::InvalidMetadata) => {
+            Ok(NodeMetadataV3::Group(read_group(alloc, value)?))
+        }
         Err(e) => Err(e),
     }
-}
-
-fn read_group_node(alloc: Global, value: &Value) -> Result<NodeMetadataV3, MetadataError>
-    ensures { Reads node_seen result (group_node_of (view value.now)) }
-{
-    let group = read_group(alloc, value)?;
-    Ok(NodeMetadataV3::Group(group))
 }

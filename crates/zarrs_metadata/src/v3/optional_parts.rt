@@ -12,11 +12,9 @@ use std::alloc::{AllocError, Global};
 use zarrs_metadata_parts::additional_fields::{
     NodeKind, copy_additional_fields, read_additional_fields,
 };
-use zarrs_metadata_parts::copying::copy_extensions;
-use zarrs_metadata_parts::dimension_names::{copy_dimension_names, read_dimension_names};
+use zarrs_metadata_parts::fields::optional_part;
 use zarrs_metadata_parts::json::{copy_members, member, read_object_or_empty};
-use zarrs_metadata_parts::reading::read_extensions;
-use zarrs_metadata_parts::{AdditionalFieldsV3, DimensionName, MetadataError, MetadataV3};
+use zarrs_metadata_parts::{AdditionalFieldsV3, DimensionName, MetadataError, MetadataV3, Part};
 
 /// The parts that the document of an array may leave out.
 #[derive(Drop)]
@@ -59,7 +57,7 @@ pub(crate) fn read_optional_parts(
         alloc,
         member(members, "storage_transformers"),
     )?;
-    let dimension_names = read_dimension_names(alloc, member(members, "dimension_names"))?;
+    let dimension_names = optional_part(alloc, members, "dimension_names")?;
     let additional_fields = read_additional_fields(alloc, NodeKind::Array, members)?;
     Ok(OptionalParts {
         attributes,
@@ -77,8 +75,8 @@ pub(crate) fn copy_optional_parts(
     ensures { IfOk result (λ o. optional_seen o ≡ optional_part (array_seen metadata.now)) }
 {
     let attributes = copy_members(&metadata.attributes)?;
-    let storage_transformers = copy_extensions(alloc, &metadata.storage_transformers)?;
-    let dimension_names = copy_dimension_names(alloc, &metadata.dimension_names)?;
+    let storage_transformers = metadata.storage_transformers.copy(alloc)?;
+    let dimension_names = metadata.dimension_names.copy(alloc)?;
     let additional_fields = copy_additional_fields(alloc, &metadata.additional_fields)?;
     Ok(OptionalParts {
         attributes,
@@ -98,6 +96,6 @@ fn read_extensions_or_none(
 {
     match value {
         None => Ok(Vec::new(alloc)),
-        Some(value) => read_extensions(alloc, value),
+        Some(value) => Part::read(alloc, value),
     }
 }

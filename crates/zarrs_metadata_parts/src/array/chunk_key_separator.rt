@@ -14,6 +14,18 @@ pub enum ChunkKeySeparator {
     Dot,
 }
 
+impl ChunkKeySeparator {
+    /// The separator as text.
+    pub fn as_str(self) -> &'static str
+        ensures { result.now ≡ separator_text self }
+    {
+        match self {
+            ChunkKeySeparator::Slash => "/",
+            ChunkKeySeparator::Dot => ".",
+        }
+    }
+}
+
 impl From<ChunkKeySeparator> for char {
     ghost from_gives = { λ separator c. c ≡ separator_code separator };
 
@@ -43,9 +55,6 @@ impl fmt::Display for ChunkKeySeparator {
     ghost output = { λ separator. Some (separator_text separator) };
 
     fn fmt<W: fmt::Write>(&self, f: &mut fmt::Formatter<W>) -> fmt::Result {
-        match self {
-            ChunkKeySeparator::Slash => f.write_str("/"),
-            ChunkKeySeparator::Dot => f.write_str("."),
-        }
+        f.write_str(self.as_str())
     }
 }

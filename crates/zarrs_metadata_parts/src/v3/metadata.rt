@@ -2,20 +2,21 @@
 //!
 //! See <https://zarr-specs.readthedocs.io/en/latest/v3/core/index.html#extension-definition>.
 
-ghost use Rattle.std.specs.Prelude.{◌≡◌, Some, None, false, true, IfOk, map, option_map, string_bytes};
+ghost use Rattle.std.specs.Prelude.{◌≡◌, Some, None, false, true, IfOk, option_map, string_bytes};
 ghost use Rattle.serde_json.specs.Read.{read};
-ghost use Rattle.serde_json.specs.View.{view, items_of, items_view, members_view};
+ghost use Rattle.serde_json.specs.View.{view, members_view};
 ghost use Rattle.serde_json.specs.Data.{object};
 ghost use Rattle.serde_json.specs.Written.{members_have_float, compact_text};
-ghost use Rattle.zarrs_metadata_values.specs.Reading.{Reads, GivesRead, from_data, from_json, each};
+ghost use Rattle.zarrs_metadata_values.specs.Reading.{Reads, GivesRead, from_data, from_json};
 ghost use Rattle.zarrs_metadata_values.specs.Configuration.{configuration_seen, members_or_none, is_none_or_empty, Typed, TypedOf};
-ghost use Rattle.zarrs_metadata_parts.specs.MetadataV3.{extension_seen, extensions_seen, extension_of, extensions_of, object_extension, is_extension_key, has_only_extension_keys, extension_data, configured, display_text};
+ghost use Rattle.zarrs_metadata_parts.specs.MetadataV3.{Extension, extension_seen, extension_of, object_extension, is_extension_key, has_only_extension_keys, extension_data, configured, display_text};
 
+use crate::part::Part;
 use serde_json::{Map, Value, json};
 use std::alloc::{AllocError, Global};
 use zarrs_metadata_values::configuration::{copy_optional, is_empty};
 use zarrs_metadata_values::json::{
-    copy_members, member, read_boolean, read_list, read_optional_object, read_text, required,
+    copy_members, member, read_boolean, read_optional_object, read_text, required,
 };
 use zarrs_metadata_values::reading::{read_value, refuse_floats};
 use zarrs_metadata_values::{
@@ -362,55 +363,24 @@ fn read_object_extension(
     })
 }
 
-/// The extensions that a list says.
-///
-/// # Errors
-/// `InvalidMetadata` exactly where the value is no list, or an item is no extension.
-#[tactic(auto, unfolding(crate::specs::MetadataV3::extensions_of))]
-pub fn read_extensions(alloc: Global, value: &Value) -> Result<Vec<MetadataV3>, MetadataError>
-    ensures { Reads (λ v. extensions_seen v.items) result (extensions_of (view value.now)) }
-{
-    read_each_extension(alloc, read_list(value)?)
-}
+impl Part for MetadataV3 {
+    ghost Said = { Extension };
 
-#[tactic(auto, using(zarrs_metadata_values::proofs::EachLemmas::each_push, zarrs_metadata_values::proofs::EachLemmas::each_fails))]
-fn read_each_extension(alloc: Global, items: &[Value]) -> Result<Vec<MetadataV3>, MetadataError>
-    ensures { Reads (λ v. extensions_seen v.items) result
-        (each extension_of (items_view items.now)) }
-{
-    let mut extensions = Vec::with_capacity(alloc, items.len())?;
-    for item in items {
-        match read_extension(alloc, item) {
-            Ok(extension) => extensions.push(extension)?,
-            Err(e) => return Err(e),
-        }
-    }
-    Ok(extensions)
-}
+    ghost seen = { extension_seen };
 
-/// The values that say these extensions.
-pub fn extension_items(alloc: Global, extensions: &[MetadataV3]) -> Result<Vec<Value>, AllocError>
-    ensures { IfOk result (λ v. items_view v.items
-        ≡ items_of (map extension_data (extensions_seen extensions.now))) }
-{
-    let mut items = Vec::with_capacity(alloc, extensions.len())?;
-    for extension in extensions {
-        items.push(extension.to_value(alloc)?)?;
-    }
-    Ok(items)
-}
+    ghost form = { extension_of };
 
-/// A copy of a list of extensions.
-pub fn copy_extensions(
-    alloc: Global,
-    extensions: &[MetadataV3],
-) -> Result<Vec<MetadataV3>, AllocError>
-    ensures { IfOk result (λ copies. extensions_seen copies.items
-        ≡ extensions_seen extensions.now) }
-{
-    let mut copies = Vec::with_capacity(alloc, extensions.len())?;
-    for extension in extensions {
-        copies.push(extension.try_clone(alloc)?)?;
+    ghost written = { extension_data };
+
+    fn read(alloc: Global, value: &Value) -> Result<Self, MetadataError> {
+        read_extension(alloc, value)
     }
-    Ok(copies)
+
+    fn write(&self, alloc: Global) -> Result<Value, AllocError> {
+        self.to_value(alloc)
+    }
+
+    fn copy(&self, alloc: Global) -> Result<Self, AllocError> {
+        self.try_clone(alloc)
+    }
 }

@@ -7,7 +7,7 @@ use crate::array::ArrayMetadataV2;
 use crate::array::optional_parts::{copy_optional_parts, with_optional_parts};
 use serde_json::Map;
 use std::alloc::{AllocError, Global};
-use zarrs_metadata_parts::ChunkKeySeparator;
+use zarrs_metadata_parts::{ChunkKeySeparator, Part};
 
 // A copy of the array.
 pub(crate) fn copy_array(
@@ -30,7 +30,7 @@ fn copy_required_fields(
         ≡ required_part_v2 (array_v2_seen metadata.now)) }
 {
     let shape = metadata.shape.as_slice().to_vec(alloc)?;
-    let chunks = metadata.chunks.as_slice().to_vec(alloc)?;
+    let chunks = metadata.chunks.copy(alloc)?;
     let dtype = metadata.dtype.try_clone(alloc)?;
     let fill_value = metadata.fill_value.try_clone(alloc)?;
     Ok(ArrayMetadataV2 {

@@ -6,10 +6,11 @@ ghost use Rattle.zarrs_metadata_values.specs.Reading.{Reads};
 ghost use Rattle.zarrs_metadata_v2.specs.ArrayMetadataV2.{array_v2_seen, optional_v2_seen, optional_v2, optional_part_v2, with_optional_v2, dimension_separator_of, separator_of_text};
 
 use crate::array::ArrayMetadataV2;
-use crate::codecs::{copy_compressor, copy_filters, read_compressor, read_filters};
+use crate::codecs::present_filters;
 use serde_json::{Map, Value};
 use std::alloc::{AllocError, Global};
-use zarrs_metadata_parts::{ChunkKeySeparator, MetadataV2};
+use zarrs_metadata_parts::fields::optional_part;
+use zarrs_metadata_parts::{ChunkKeySeparator, MetadataV2, Part};
 use zarrs_metadata_values::MetadataError;
 use zarrs_metadata_values::json::{copy_members, member, read_object_or_empty, read_text};
 
@@ -56,8 +57,8 @@ pub(crate) fn read_optional_parts(
     ensures { Reads optional_v2_seen result (optional_v2 (members_view members.now.entries)) }
 {
     let dimension_separator = read_dimension_separator(member(members, "dimension_separator"))?;
-    let compressor = read_compressor(alloc, member(members, "compressor"))?;
-    let filters = read_filters(alloc, member(members, "filters"))?;
+    let compressor = optional_part(alloc, members, "compressor")?;
+    let filters = present_filters(optional_part(alloc, members, "filters")?);
     let attributes = read_object_or_empty(alloc, member(members, "attributes"))?;
     Ok(OptionalPartsV2 {
         compressor,
@@ -92,8 +93,8 @@ pub(crate) fn copy_optional_parts(
     ensures { IfOk result (λ o. optional_v2_seen o
         ≡ optional_part_v2 (array_v2_seen metadata.now)) }
 {
-    let compressor = copy_compressor(alloc, &metadata.compressor)?;
-    let filters = copy_filters(alloc, &metadata.filters)?;
+    let compressor = metadata.compressor.copy(alloc)?;
+    let filters = metadata.filters.copy(alloc)?;
     let attributes = copy_members(&metadata.attributes)?;
     Ok(OptionalPartsV2 {
         compressor,

@@ -74,6 +74,7 @@ loop-number-preserved g c = record {
   long = c.push.ensures.len ∙ (ap (λ r. if is_ok r then vec_len c.loop-number.replies + 1 else vec_len
       c.loop-number.replies) c.unwrap.ensures ∙ ap (λ n. n + 1) c.loop-number.invariant.long);
   room = le_trans c.loop-number.invariant.room c.push.ensures.capacity;
+  hand = c.run_command.ensures.hand;
 }
 
 pub returns-clause-runs : goal.returns-clause-runs

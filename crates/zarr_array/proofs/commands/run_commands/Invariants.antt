@@ -1,6 +1,6 @@
-use Rattle.std.proofs.Common.{◌≡◌, ◌≤◌, length, take, map, Ok, vec_len, vec_capacity}
+use Rattle.std.proofs.Common.{◌≡◌, ◌≤◌, length, take, map, Ok, IfSome, vec_len, vec_capacity}
 use Rattle.zarrs_codec_traits.specs.Prelude.{SameContent, options_of}
-use Rattle.zarr_array.specs.Access.{described}
+use Rattle.zarr_array.specs.Access.{described, IsInHand}
 use Rattle.zarr_array_boxes.specs.Command.{command_of, answer_of, AreReads}
 use Rattle.zarr_array.specs.Costs.{OnlyReads, CostsOn}
 use Rattle.zarr_array.specs.Runs.{RunsOn}
@@ -19,4 +19,5 @@ invariant-loop-number g l = record {
   kept : AreReads (map command_of l.commands) → g.S.Store.kept l.fn.store l.store;
   long : vec_len l.replies ≡ l.number;
   room : length l.commands ≤ vec_capacity l.replies;
+  hand : IfSome l.hand (IsInHand (g.C.ChunkAccess.serves l.array));
 }

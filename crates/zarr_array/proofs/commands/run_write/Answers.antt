@@ -9,6 +9,7 @@ use Rattle.zarr_array.proofs.commands.run_write.Goals as goal
 
 pub write_elements-requires : goal.write_elements-requires
 write_elements-requires g c = record {
+  hand = c.requires.hand;
   inside = inside (g.C.ChunkAccess.seen c.args.array.now) (region c.args.subset.now) (raw_of c.args.bytes.now)
       (search rules);
   writable = writable (g.C.ChunkAccess.seen c.args.array.now) (region c.args.subset.now) (raw_of c.args.bytes.now)
@@ -25,13 +26,13 @@ returns-in_err-write_elements-clause-runs g c =
     (bytes-fail (g.C.ChunkAccess.seen c.args.array.now) (g.met.C.ChunkAccess.served c.args.array.now)
     (options_of c.args.options.now) (region c.args.subset.now) (raw_of c.args.bytes.now) (search rules)
     (g.S.Store.shown c.args.store.now) (g.S.Store.shown c.write_elements.new.store)
-    _ c.in_err-write_elements.ensures)
+    _ c.in_err-write_elements.ensures.written)
     (search rules)
     (bytes-fail-keys (g.C.ChunkAccess.seen c.args.array.now) (g.met.C.ChunkAccess.served c.args.array.now)
     (options_of c.args.options.now) (region c.args.subset.now) (raw_of c.args.bytes.now) (search rules)
     (g.S.Store.shown c.args.store.now) (g.S.Store.shown c.write_elements.new.store)
-    _ c.in_err-write_elements.ensures)
-    (le_trans c.in_err-write_elements.ensures.failed.changed.later c.in_err-write_elements.ensures.failed.later))
+    _ c.in_err-write_elements.ensures.written)
+    (le_trans c.in_err-write_elements.ensures.written.failed.changed.later c.in_err-write_elements.ensures.written.failed.later))
 
 pub returns-in_err-write_elements-clause-first : goal.returns-in_err-write_elements-clause-first
 returns-in_err-write_elements-clause-first g c =
@@ -39,7 +40,7 @@ returns-in_err-write_elements-clause-first g c =
     rw (p.1, p.2) (bytes-first (g.C.ChunkAccess.seen c.args.array.now) (g.met.C.ChunkAccess.served c.args.array.now)
     (options_of c.args.options.now) (region c.args.subset.now) (raw_of c.args.bytes.now) (search rules)
     (g.S.Store.shown c.args.store.now) (g.S.Store.shown c.write_elements.new.store)
-    _ c.in_err-write_elements.ensures)
+    _ c.in_err-write_elements.ensures.written)
 
 pub returns-clause-runs : goal.returns-clause-runs
 returns-clause-runs g c = ran_gives (described (g.C.ChunkAccess.seen c.args.array.now)) (options_of c.args.options.now)
@@ -49,14 +50,14 @@ returns-clause-runs g c = ran_gives (described (g.C.ChunkAccess.seen c.args.arra
     (bytes-written (g.C.ChunkAccess.seen c.args.array.now) (g.met.C.ChunkAccess.served c.args.array.now)
     (options_of c.args.options.now) (region c.args.subset.now) (raw_of c.args.bytes.now) (search rules)
     (g.S.Store.shown c.args.store.now) (g.S.Store.shown c.write_elements.new.store)
-    c.in_ok-write_elements.ensures)
+    c.in_ok-write_elements.ensures.written)
 
 pub returns-clause-costs : goal.returns-clause-costs
 returns-clause-costs g c =
     let array = g.C.ChunkAccess.seen c.args.array.now in
     write_costs (described array) (options_of c.args.options.now) array.costs (region c.args.subset.now)
     (raw_of c.args.bytes.now) (g.S.Store.shown c.args.store.now) (g.S.Store.shown c.write_elements.new.store) _
-    (search rules) c.in_ok-write_elements.ensures.paid
+    (search rules) c.in_ok-write_elements.ensures.written.paid
 
 pub returns-in_err-write_elements-clause-costs : goal.returns-in_err-write_elements-clause-costs
 returns-in_err-write_elements-clause-costs g c =
@@ -65,4 +66,4 @@ returns-in_err-write_elements-clause-costs g c =
     rw (p.1, p.2) (write_stops (described array) (options_of c.args.options.now) array.costs (region c.args.subset.now)
     (raw_of c.args.bytes.now) _
     (g.S.Store.shown c.args.store.now) (g.S.Store.shown c.write_elements.new.store) _ (search rules)
-    c.in_err-write_elements.ensures.paid)
+    c.in_err-write_elements.ensures.written.paid)

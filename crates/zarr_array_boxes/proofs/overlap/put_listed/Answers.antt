@@ -9,7 +9,7 @@ pub returns-in-Ok-clause-puts : goal.returns-in-Ok-clause-puts
 returns-in-Ok-clause-puts c =
     updated_puts (kind_seen c.args.data_type.now) (region c.args.chunk_subset.now) (region c.args.subset.now)
     (region c.in_ok-part.part) (region c.in_ok-at.at) c.shape.result.now
-    (raw_of c.args.bytes.now) (raw_of c.args.chunk.now) (raw_of c.in_ok-piece.piece) (raw_of c.in-Ok.bytes)
+    (raw_of c.args.bytes.now) (raw_of c.args.chunk) (raw_of c.in_ok-piece.piece) (raw_of c.in-Ok.bytes)
     c.requires.rank c.requires.bytes.means c.requires.chunk.means c.in_ok-part.ensures c.in_ok-at.ensures
     c.shape.ensures.value
     c.in_ok-piece.ensures.selected (λ xs ys was is.

@@ -1,5 +1,5 @@
 use Rattle.std.proofs.Common.{rules}
-use Rattle.zarr_array_boxes.proofs.PlaceRunLaws.{one_numbered, all_numbered}
+use Rattle.zarr_array_boxes.proofs.PlaceRunLaws.{one_numbered}
 use Rattle.zarr_array_boxes.proofs.place_runs.numbered.Goals as goal
 
 pub loop-run-preserved : goal.loop-run-preserved

@@ -1,4 +1,3 @@
-use Rattle.std.proofs.Common.{◌≡◌, ℕ, ◌<◌, length, get_or}
 use Rattle.zarr_array_boxes.proofs.PlaceRunLaws.{HasPutSome}
 use Rattle.zarr_array_boxes.proofs.place_runs.put_run.Given as goal
 

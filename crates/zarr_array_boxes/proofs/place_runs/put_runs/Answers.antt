@@ -1,4 +1,3 @@
-use Rattle.std.proofs.Common.{rules}
 use Rattle.std.proofs.lemmas.List.{take_more}
 use Rattle.zarr_array_boxes.proofs.PlaceRunLaws.{one_more_put, nowhere_run}
 use Rattle.zarr_array_boxes.proofs.place_runs.put_runs.Goals as goal

@@ -1,6 +1,6 @@
 use Rattle.std.proofs.Common.{rules, arith, ◌+◌, ◌∷◌, drop, get_or, ap, sym, ◌∙◌}
 use Rattle.std.proofs.lemmas.List.{drop_more}
-use Rattle.zarr_array_boxes.proofs.PlaceRunLaws.{one_placed, all_rising, all_placed, nowhere_run}
+use Rattle.zarr_array_boxes.proofs.PlaceRunLaws.{one_placed, all_placed, nowhere_run}
 use Rattle.zarr_array_boxes.proofs.place_runs.rising_picks.Goals as goal
 
 pub loop-run-preserved : goal.loop-run-preserved

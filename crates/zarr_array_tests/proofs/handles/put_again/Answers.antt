@@ -1,4 +1,4 @@
-use Rattle.std.proofs.Common.{rules, IsSome, sym, subst, ◌∙◌}
+use Rattle.std.proofs.Common.{rules, ◌∙◌}
 use Rattle.zarr_array_tests.proofs.handles.put_again.Goals as goal
 
 pub partial_decode-requires : goal.partial_decode-requires

@@ -12,15 +12,15 @@ returns-clause-value c = λ old new was is.
     let kind = kind_of (type_of c.args.data_type.now) in
     let box = box_of c.args.region.now in
     let shape = lengths c.args.shape.now in
-    let before = raw_of c.args.whole.now in
+    let before = raw_of c.args.whole in
     let bytes = raw_of c.args.bytes.now in
     let same : c.deref.result.now ≡ shape = c.deref.ensures.value ∙ c.in_ok-numbers.ensures in
-    let answer = rw same at c.update_array_bytes.ensures.answer in
-    let updated = rw same at c.update_array_bytes.ensures.updated in
+    let answer = rw same at c.update_owned_array_bytes.ensures.answer in
+    let updated = rw same at c.update_owned_array_bytes.ensures.updated in
     let given : meaning kind (length (tuples box)) bytes ≡ Some new =
     ap (λ m. meaning kind m bytes) (length-tuples box) ∙ is in
     update_gives kind (size_seen c.type_size.result) (ends_within box shape) (count_of shape) (length (tuples box))
     before bytes old new
-    (λ v. meaning kind (count_of shape) (raw_of v) ≡ Some (with_box shape box new old)) c.update_array_bytes.result
+    (λ v. meaning kind (count_of shape) (raw_of v) ≡ Some (with_box shape box new old)) c.update_owned_array_bytes.result
     (sym c.type_size.ensures) c.requires.inside was given answer
     (updated kind old new (sym c.type_size.ensures) was given)

@@ -1,5 +1,4 @@
-use Rattle.std.proofs.Common.{◌≡◌, ◌≤◌, ℕ, List, [], length, Some, Result, Ok, Err, OnOk, IfErr, refl, sym, ap, ◌∙◌}
-use Rattle.std.proofs.Common.{subst}
+use Rattle.std.proofs.Common.{◌≡◌, [], Some}
 use Rattle.zarr_cli.proofs.ReadLaws.{on_ok, told_fault}
 use Rattle.zarr_cli.proofs.lines.read_lines.Goals as goal
 

@@ -1,5 +1,4 @@
-use Rattle.std.proofs.Common.{[], refl, sym, subst}
-use Rattle.zarrs_codec_traits.specs.Views.{options_of}
+use Rattle.std.proofs.Common.{refl, sym}
 use Rattle.zarr_cli_runs.specs.Status.{ending_of}
 use Rattle.zarr_cli.specs.Status.{words_of, settings_view}
 use Rattle.zarr_cli.proofs.WordLemmas.{from_made, not_made, bad_not_made, made_not}

@@ -1,7 +1,6 @@
-use Rattle.std.proofs.Common.{◌≡◌, ◌++◌, ◌≤◌, length, take, refl, sym, ap, ◌∙◌, subst, arith, le_trans, length-append}
+use Rattle.std.proofs.Common.{◌≡◌, ◌++◌, length, take, refl, ap, subst, arith, le_trans, length-append}
 use Rattle.std.proofs.Common.{length-take}
-use Rattle.zarr_cli.specs.Input.{input_limit}
-use Rattle.zarr_cli.specs.Steps.{HasTaken, AreRead}
+use Rattle.zarr_cli.specs.Steps.{AreRead}
 use Rattle.zarr_cli.proofs.TakenLaws.{taken_more, taken_all, nothing_read}
 use Rattle.zarr_cli.proofs.read.read_input.Goals as goal
 

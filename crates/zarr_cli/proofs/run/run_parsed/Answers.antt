@@ -1,6 +1,6 @@
-use Rattle.std.proofs.Common.{◌≡◌, false, ℕ, List, [], map, length, Vec, Err, sym, ap, ◌∙◌, subst}
+use Rattle.std.proofs.Common.{◌≡◌, false, ℕ, [], map, length, Vec, Err, sym, ap, ◌∙◌, subst}
 use Rattle.std.specs.declared.alloc.Global.{Global}
-use Rattle.zarr_model.specs.Prelude.{Content, with_keys, counted}
+use Rattle.zarr_model.specs.Prelude.{with_keys, counted}
 use Rattle.zarr_cli_runs.specs.array.boxes.Command.{command_of}
 use Rattle.zarr_cli_runs.specs.lines.Parts.{entry_view}
 use Rattle.zarr_cli.specs.Status.{settings_view}

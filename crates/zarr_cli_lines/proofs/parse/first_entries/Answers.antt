@@ -1,5 +1,5 @@
-use Rattle.std.proofs.Common.{◌≡◌, [], ◌∷◌, ◌++◌, ◌+◌, ℕ, List, map, drop, length, string_bytes, None, Some, sym, ap}
-use Rattle.std.proofs.Common.{◌∙◌, add-one, append-nil, option_map, rules}
+use Rattle.std.proofs.Common.{◌≡◌, [], ◌∷◌, ◌++◌, ◌+◌, map, drop, string_bytes, None, Some, sym, ap}
+use Rattle.std.proofs.Common.{◌∙◌, append-nil, option_map}
 use Rattle.std.proofs.lemmas.List.{map-append}
 use Rattle.zarr_cli_lines.specs.Text.{entry_of_line, first_entries}
 use Rattle.zarr_cli_lines.specs.Parts.{entry_view}

@@ -1,5 +1,4 @@
-use Rattle.std.proofs.Common.{◌≡◌, ℕ, List, length, sym, ap, ◌∙◌, append-nil}
-use Rattle.zarr_model.specs.Element.{Element, fixed}
+use Rattle.std.proofs.Common.{length, sym, ◌∙◌}
 use Rattle.zarrs_codec_array_bytes.specs.Raw.{raw_of}
 use Rattle.zarrs_codec_array_bytes.specs.Steps.{kind_seen}
 use Rattle.zarr_cli_lines.proofs.CountLaws.{counted, listed_text, none_valid}

@@ -1,4 +1,4 @@
-use Rattle.std.proofs.Common.{rules, ◌≡◌, ◌∙◌, true, IsSome, sym, subst}
+use Rattle.std.proofs.Common.{rules, ◌≡◌, true, IsSome, sym, subst}
 use Rattle.zarrs_codec_traits.specs.Prelude.{Level, ends_within, region as region_of_subset, raw_of, options_of}
 use Rattle.zarrs_codec_traits.specs.Prelude.{list_at, at_box}
 use Rattle.zarr_array_open.specs.ChunkLevels.{chunk_shape}

@@ -1,4 +1,4 @@
-use Rattle.std.proofs.Common.{◌≡◌, [], map, string_bytes, Some, Err, inl, sym, ap, ◌∙◌, subst}
+use Rattle.std.proofs.Common.{◌≡◌, [], map, string_bytes, Some, Err, inl, sym, subst}
 use Rattle.std.specs.declared.alloc.Global.{Global}
 use Rattle.zarr_cli.specs.Input.{text_says}
 use Rattle.zarr_rechunk.specs.declared.status.RechunkStatus.TheVariants.{Cli}

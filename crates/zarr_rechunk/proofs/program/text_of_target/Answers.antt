@@ -2,7 +2,7 @@ use Rattle.std.proofs.Common.{◌≡◌, ℕ, List, drop, map, string_bytes, ref
 use Rattle.std.proofs.lemmas.List.{drop-map}
 use Rattle.zarr_array.specs.OpenArray.{documented}
 use Rattle.zarr_cli_runs.specs.Opening.{IsOpenFault}
-use Rattle.zarr_cli_runs.specs.array.parts.Opening.{open_builtin, opened}
+use Rattle.zarr_cli_runs.specs.array.parts.Opening.{open_builtin}
 use Rattle.zarr_cli.specs.Lines.{first_line}
 use Rattle.zarr_rechunk.specs.Input.{target_says}
 use Rattle.zarr_rechunk.specs.Said.{both}

@@ -1,4 +1,4 @@
-use Rattle.std.proofs.Common.{◌≡◌, Option, None, is_some, string_bytes, option_map, map, sym, ap, ◌∙◌, subst, arith}
+use Rattle.std.proofs.Common.{◌≡◌, None, is_some, string_bytes, option_map, map, sym, ap, ◌∙◌, subst, arith}
 use Rattle.zarr_model.proofs.Choices.{is_some-option_map}
 use Rattle.zarrs_codec_array_bytes.specs.Steps.{kind_seen}
 use Rattle.zarr_array.specs.boxes.Command.{command_of}

@@ -1,10 +1,9 @@
-use Rattle.std.proofs.Common.{◌≡◌, ◌≤◌, ◌+◌, ℕ, List, length, map, string_bytes, sym, ap, ◌∙◌, subst, arith}
-use Rattle.std.proofs.Common.{length-drop}
+use Rattle.std.proofs.Common.{◌≡◌, ℕ, length, map, string_bytes, sym, ap, ◌∙◌, subst, arith}
 use Rattle.std.proofs.lemmas.List.{length-map}
 use Rattle.zarrs_codec_array_bytes.specs.Steps.{kind_seen}
 use Rattle.zarr_cli_lines.specs.Text.{all_some, first_entries}
 use Rattle.zarr_cli_lines.specs.Parts.{entry_view}
-use Rattle.zarr_cli_lines.proofs.LineLemmas.{few_entries, part_behind, all_behind, after_entries}
+use Rattle.zarr_cli_lines.proofs.LineLemmas.{few_entries, part_behind, after_entries}
 use Rattle.zarr_refs.specs.Lines.{first_references, line_read}
 use Rattle.zarr_refs.specs.Steps.{IsReadFault}
 use Rattle.zarr_refs.proofs.LineLaws.{few_references, after_references, stops_refs}

@@ -1,4 +1,4 @@
-use Rattle.std.proofs.Common.{◌≡◌, None, refl}
+use Rattle.std.proofs.Common.{◌≡◌, None}
 use Rattle.zarr_model.specs.Prelude.{Rose}
 use Rattle.zarr_cli.specs.Status.{words_of}
 use Rattle.zarr_cli.specs.Seen.{seen}

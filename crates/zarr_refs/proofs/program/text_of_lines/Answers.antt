@@ -10,7 +10,7 @@ use Rattle.zarr_refs.specs.Steps.{SaysRefs, IsRefLineFault}
 use Rattle.zarr_refs.specs.Lines.{lines_after_references}
 use Rattle.zarr_refs.specs.Reads.{run_of}
 use Rattle.zarr_refs.proofs.LineLaws.{all_read}
-use Rattle.zarr_refs.proofs.SaidLaws.{says_ran, all_plain, line_stops, memory_out, untouched_self}
+use Rattle.zarr_refs.proofs.SaidLaws.{says_ran, all_plain, line_stops, memory_out}
 use Rattle.zarr_refs.proofs.program.text_of_lines.Goals as goal
 
 pub returns-in-Ok-clause-ran : goal.returns-in-Ok-clause-ran

@@ -1,4 +1,4 @@
-use Rattle.std.proofs.Common.{◌≡◌, ℕ, List, map, length, refl, sym, ap, ◌∙◌, subst, rules}
+use Rattle.std.proofs.Common.{map, length, sym, ap, ◌∙◌, subst, rules}
 use Rattle.zarrs_codec_traits.specs.Prelude.{with_keys, counted, options_of}
 use Rattle.zarr_array.specs.OpenArray.{described_array}
 use Rattle.zarr_cli_lines.specs.Parts.{entry_view}

@@ -1,4 +1,4 @@
-use Rattle.std.proofs.Common.{◌≡◌, List, ℕ, map, refl, sym, ap, ◌∙◌, rules}
+use Rattle.std.proofs.Common.{◌≡◌, List, ℕ, map, ap, ◌∙◌, rules}
 use Rattle.std.specs.BTreeMap.{BTreeMap}
 use Rattle.zarrs_codec_traits.specs.Prelude.{Content, Shown, options_of}
 use Rattle.zarr_array.specs.OpenArray.{described_array, documented}

@@ -1,4 +1,4 @@
-use Rattle.std.proofs.Common.{rules, ◌≡◌, ◌∙◌, ◌-◌, ◌^◌, ◌≤◌, List, ℕ, Ok, Err, map, refl, sym, ap, subst}
+use Rattle.std.proofs.Common.{rules, ◌≡◌, ◌∙◌, ◌-◌, Ok, Err, map, sym, ap, subst}
 use Rattle.std.specs.declared.alloc.Global.{Global}
 use Rattle.zarrs_codec_traits.specs.Prelude.{Rose, options_of}
 use Rattle.zarr_array.specs.OpenArray.{described_array}

@@ -9,12 +9,12 @@ use Rattle.zarrs_codec_partial_elements.proofs.WriteLaws.{update_no_fault, updat
 use Rattle.zarrs_codec_partial_elements.proofs.WriteLaws.{err_memory, answers_err}
 use Rattle.zarrs_codec_partial_elements.proofs.encoding.updated_elements.Goals as goal
 
-pub update_array_bytes-requires-clause-count : goal.update_array_bytes-requires-clause-count
-update_array_bytes-requires-clause-count g c =
+pub update_owned_array_bytes-requires-clause-count : goal.update_owned_array_bytes-requires-clause-count
+update_owned_array_bytes-requires-clause-count g c =
     rw c.requires.shape (g.met.L.LevelReads.fits c.args.level.now).count
 
-pub update_array_bytes-requires-clause-bytes : goal.update_array_bytes-requires-clause-bytes
-update_array_bytes-requires-clause-bytes g c =
+pub update_owned_array_bytes-requires-clause-bytes : goal.update_owned_array_bytes-requires-clause-bytes
+update_owned_array_bytes-requires-clause-bytes g c =
     let same =
     c.element_type.ensures ∙ ap (λ (l : Level). l.data_type) c.in-Ok.ensures.reads.reads.keeps.level in
     rw (c.requires.shape, c.type_size-size.ensures, same) (g.met.L.LevelReads.fits c.args.level.now).bytes
@@ -28,14 +28,14 @@ returns-in-Ok-clause-makes g c =
     let list = old.list under in
     let kind = kind_of level.data_type in
     let places = g.I.Indexer.places c.args.indexer.now in
-    let put = rw c.requires.shape at c.update_array_bytes.ensures.updated in
-    let answer = rw c.requires.shape at c.update_array_bytes.ensures.answer in
+    let put = rw c.requires.shape at c.update_owned_array_bytes.ensures.updated in
+    let answer = rw c.requires.shape at c.update_owned_array_bytes.ensures.answer in
     let fit = rw c.requires.shape at c.requires.fit in
     let read = c.in-Ok.ensures.reads in
     let same = c.element_type.ensures ∙ ap (λ (l : Level). l.data_type) read.reads.keeps.level in
     let sized = rw same at c.type_size-size.ensures in
     let raw = raw_of c.in-Ok.whole in
-    let result = c.update_array_bytes.result in
+    let result = c.update_owned_array_bytes.result in
     record {
       made = record {
         gives = λ given served means. updated_gives level (linear level.shape places) given list raw result
@@ -44,10 +44,10 @@ returns-in-Ok-clause-makes g c =
             (λ xs is. err_memory result _ (answers_err _ result answer)
             (λ e told. update_memory kind (size_seen c.type_size-size.result) _ _ _ raw (raw_of c.args.bytes.now) xs
             given e sized fit is means told)) (inl (inl refl));
-        short = λ served few short. c.update_array_bytes.ensures.short (read.short served few) short;
+        short = λ served few short. c.update_owned_array_bytes.ensures.short (read.short served few) short;
         fault = no_faults _ _ result (update_no_fault (size_seen c.type_size-size.result)
             (g.I.Indexer.fits c.args.indexer.now c.args.numbers.now) (count_of c.args.numbers.now) (length places) raw
-            (raw_of c.args.bytes.now) result c.update_array_bytes.ensures.answer);
+            (raw_of c.args.bytes.now) result c.update_owned_array_bytes.ensures.answer);
       };
       reads = reads_if_still None old new c.in-Ok.whole result read.reads;
       named = always_err result (refused_never old.unserved c.in-Ok.whole result read.named);

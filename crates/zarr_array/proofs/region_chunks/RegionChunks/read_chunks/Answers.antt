@@ -16,7 +16,7 @@ loop-number-init g c =
           (g.S.Store.shown c.args.store.now) c.requires.as_long
           (g.met.S.Store.counts_fit c.args.store.now).1 (g.met.S.Store.counts_fit c.args.store.now).2,
       g.met.S.Store.kept_self c.args.store.now,
-      tt,
+      c.requires.hand,
     )
 
 pub returns-in-Err-clause-read : goal.returns-in-Err-clause-read
@@ -43,7 +43,7 @@ loop-number-preserved g c =
           (met_here array met c.requires.met c.loop-number.number below) c.loop-number.invariant.1 c.in-Ok.ensures.read,
       g.met.S.Store.kept_twice c.args.store.now c.loop-number.store c.read_chunk.new.store c.loop-number.invariant.2
           c.read_chunk.ensures.kept,
-      c.in-Ok.ensures.hand,
+      c.read_chunk.ensures.hand,
     )
 
 pub returns-clause-read : goal.returns-clause-read

@@ -14,11 +14,11 @@ loop-number-init g c =
           (g.met.C.ChunkAccess.served met.array.now) (g.S.Store.shown c.args.store.now) (g.met.S.Store.counts_fit
           c.args.store.now).1 (g.met.S.Store.counts_fit c.args.store.now).2
           (g.met.S.Store.counts_fit c.args.store.now).3,
-      tt,
+      c.requires.hand,
     )
 
-pub returns-in-Err : goal.returns-in-Err
-returns-in-Err g c =
+pub returns-in-Err-clause-written : goal.returns-in-Err-clause-written
+returns-in-Err-clause-written g c =
     let met = c.args.self.now in
     let array = g.C.ChunkAccess.seen met.array.now in
     let below : c.loop-number.number < count (region c.args.self.now.chunks) = omega arith in
@@ -39,11 +39,11 @@ loop-number-preserved g c =
           (g.S.Store.shown c.write_chunk.new.store)
           (met_here array met c.requires.met c.loop-number.number below) c.loop-number.invariant.0
           c.in-Ok.ensures.written,
-      c.in-Ok.ensures.hand,
+      c.write_chunk.ensures.hand,
     )
 
-pub returns : goal.returns
-returns g c =
+pub returns-clause-written : goal.returns-clause-written
+returns-clause-written g c =
     let met = c.args.self.now in
     let array = g.C.ChunkAccess.seen met.array.now in
     let num = num_met array met c.requires.met in

@@ -6,7 +6,7 @@ use Rattle.zarrs_codec_array_bytes.specs.Raw.{raw_of}
 use Rattle.zarr_array_boxes.specs.Elements.{blanks}
 use Rattle.zarr_array_boxes.specs.Given.{given_alike}
 use Rattle.zarr_array_boxes.specs.BoxElements.{listed_kind, listed_box}
-use Rattle.zarr_array_boxes.proofs.MeansLaws.{some_list}
+use Rattle.zarrs_codec_array_bytes_parts.proofs.MeansLaws.{some_list}
 use Rattle.zarr_array_boxes.proofs.PutLaws.{given_alike_means, took, blanks_long}
 use Rattle.zarr_array_boxes.proofs.ShortLaws.{given_short}
 use Rattle.zarr_array_boxes.proofs.listed.ListedBox.put_part.Goals as goal

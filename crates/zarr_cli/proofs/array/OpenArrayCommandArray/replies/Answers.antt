@@ -1,4 +1,4 @@
-use Rattle.std.proofs.Common.{true, List, [], map, ap, subst}
+use Rattle.std.proofs.Common.{true, [], map, ap, subst}
 use Rattle.zarr_cli_runs.specs.array.boxes.Command.{command_of}
 use Rattle.zarr_cli_runs.specs.array.parts.Document.{describe}
 use Rattle.zarr_cli_runs.specs.array.parts.Parts.{documented_parts}

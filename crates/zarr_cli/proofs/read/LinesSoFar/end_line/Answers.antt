@@ -1,4 +1,4 @@
-use Rattle.std.proofs.Common.{◌≡◌, ◌++◌, [], false, length, IsUtf8, sym, ◌∙◌, ap, subst, rules, true≢false}
+use Rattle.std.proofs.Common.{◌≡◌, ◌++◌, [], IsUtf8, sym, ◌∙◌, ap, subst, rules, true≢false}
 use Rattle.zarr_cli.proofs.ReadLaws.{line_ended, line_bad}
 use Rattle.zarr_cli.proofs.read.LinesSoFar.end_line.Goals as goal
 use Rattle.zarr_cli.proofs.read.LinesSoFar.end_line.Goals.{in-Ok+in_ok-push-in-Ok, in-Err}

@@ -1,7 +1,5 @@
-use Rattle.std.proofs.Common.{◌≡◌, ◌<◌, ◌++◌, ◌∷◌, [], length, ℕ, List, Some, IsUtf8, string_bytes, inl, inr, ◌⊎◌, refl}
-use Rattle.std.proofs.Common.{sym, ap, ◌∙◌, subst, true≢false, rules}
-use Rattle.std.specs.Str.{IsValidUpTo}
-use Rattle.zarr_cli_runs.specs.lines.Text.{line_at}
+use Rattle.std.proofs.Common.{◌≡◌, ◌<◌, length, inl, inr, ◌⊎◌}
+use Rattle.std.proofs.Common.{sym, ◌∙◌, true≢false, rules}
 use Rattle.zarr_cli.proofs.ReadLaws.{bad_told, last_told, all_ended, all_behind}
 use Rattle.zarr_cli.proofs.read.LinesSoFar.into_lines.Goals as goal
 use Rattle.zarr_cli.proofs.read.LinesSoFar.into_lines.Goals.{else-is_empty-via-then-is_empty+else-not-is_empty}

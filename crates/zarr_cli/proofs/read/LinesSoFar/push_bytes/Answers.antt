@@ -1,4 +1,4 @@
-use Rattle.std.proofs.Common.{◌≡◌, ◌++◌, ◌∷◌, [], List, ℕ, refl, sym, ap, ◌∙◌, subst, append_assoc, rules}
+use Rattle.std.proofs.Common.{◌++◌, ◌∷◌, [], refl, sym, ap, ◌∙◌, subst, append_assoc, rules}
 use Rattle.zarr_cli.specs.Steps.{AreRead}
 use Rattle.zarr_cli.specs.declared.read.LinesSoFar.{LinesSoFar}
 use Rattle.zarr_cli.proofs.ReadLaws.{front_kept, bad_stays}

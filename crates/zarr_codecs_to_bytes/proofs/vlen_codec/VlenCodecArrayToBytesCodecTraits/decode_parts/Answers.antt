@@ -1,4 +1,4 @@
-use Rattle.std.proofs.Common.{rules, sym}
+use Rattle.std.proofs.Common.{rules}
 use Rattle.zarr_model.specs.Codec.{vlen_codec, decode_array_to_bytes}
 use Rattle.zarrs_codec_traits.specs.Prelude.{level_of, options_of, parts_of, region as box_of}
 use Rattle.zarrs_codec_traits.proofs.TakenLaws.{whole_taken}

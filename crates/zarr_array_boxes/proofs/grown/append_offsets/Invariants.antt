@@ -1,6 +1,0 @@
-use Rattle.std.proofs.Common.{◌≡◌, ◌+◌, ◌++◌, map, take}
-use Rattle.zarr_array_boxes.proofs.grown.append_offsets.Given as goal
-
-abbrev pub invariant-loop-offset : goal.invariant-loop-offset
-invariant-loop-offset l =
-    l.offsets.items ≡ l.fn.offsets.items ++ map (λ offset. l.place + offset) (take l.offset-index l.more)
