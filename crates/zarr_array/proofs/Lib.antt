@@ -4,7 +4,6 @@ pub use Rattle.zarr_basics.proofs.KeysApart
 pub use Rattle.zarr_array_open.proofs.ServedLaws
 pub use Rattle.zarr_array_open.proofs.ServingLaws
 pub mod SizeLaws
-pub mod PlaceLaws
 pub mod RoomLaws
 pub mod MetLaws
 pub mod ChunkLaws

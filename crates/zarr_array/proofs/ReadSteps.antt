@@ -10,6 +10,7 @@ use Rattle.zarr_array_boxes.proofs.ReadLaws.{HasRead, read-start, read-step, rea
 use Rattle.zarr_array_boxes.proofs.DecodeLaws.{each-step, each-all}
 use Rattle.zarr_array.specs.Access.{Access, IsServed, described}
 use Rattle.zarrs_codec_traits.proofs.EditLaws.{rose_later}
+use Rattle.zarr_array.specs.declared.command_error.CommandError.{CommandError}
 use Rattle.zarr_array.specs.declared.command_error.SessionErrorKind.{SessionErrorKind}
 use Rattle.zarr_array.specs.declared.command_error.SessionErrorKind.TheVariants.{NotOpened, ChunkDecode, Store}
 use Rattle.zarr_array.specs.declared.command_error.SessionErrorKind.TheVariants.{OutOfMemory}
@@ -108,12 +109,12 @@ module _ (array : Access) (options : Options) (region : Region) where
         (so_far.same ((described array).key chunk)) ∙ has k chunk here));
   }
 
-  pub stops_read : (k : ℕ) (chunk : List ℕ) (list : List Element) (before mid now : Shown) (kind : SessionErrorKind) →
+  stopped : (k : ℕ) (chunk : List ℕ) (list : List Element) (before mid now : Shown) (kind : SessionErrorKind) →
       slice_get met k ≡ Some chunk →
       HasReadSome array options region k list before mid →
       NotFetched (chunk_asked (described array) (Some region) chunk) array options chunk mid now kind →
       NotReadRegion array options region before now (record { chunks_done = k; kind = kind })
-  stops_read k chunk list before mid now kind here so_far stop = record {
+  stopped k chunk list before mid now kind here so_far stop = record {
     same = λ key. stop.same key ∙ so_far.same key;
     later = le_trans so_far.later stop.later;
     failed =
@@ -126,6 +127,14 @@ module _ (array : Access) (options : Options) (region : Region) where
     told = told_why (described array) array.says options (Some region) chunk now kind
         (met-chunks (described array).grid region k chunk here) stop.told;
   }
+
+  pub stops_read : (k : ℕ) (chunk : List ℕ) (list : List Element) (before mid now : Shown) (error : CommandError) →
+      error.chunks_done ≡ k → slice_get met k ≡ Some chunk → HasReadSome array options region k list before mid →
+      NotFetched (chunk_asked (described array) (Some region) chunk) array options chunk mid now error.kind →
+      NotReadRegion array options region before now error
+  stops_read k chunk list before mid now error at here so_far stop =
+      subst (λ n. NotReadRegion array options region before now (record { chunks_done = n; kind = error.kind }))
+      (sym at) (stopped k chunk list before mid now error.kind here so_far stop)
 
   pub all_read : IsServed (described array) → (list : List Element) (before now : Shown) → ends_within region
       (described array).shape ≡ true → HasReadSome array options region (length met) list before now →

@@ -9,6 +9,7 @@ use Rattle.zarrs_storage.specs.declared.store.StorageError.{StorageError}
 use Rattle.zarrs_codec_slices.specs.Overlap.{Copied}
 use Rattle.zarr_array_boxes.specs.Elements.{list_in}
 use Rattle.zarr_array.specs.Access.{Access, IsServed, described}
+use Rattle.zarr_array.specs.declared.command_error.CommandError.{CommandError}
 use Rattle.zarr_array.specs.declared.command_error.SessionErrorKind.{SessionErrorKind}
 use Rattle.zarr_array.specs.declared.command_error.SessionErrorKind.TheVariants.{NotOpened, ChunkDecode, Store}
 use Rattle.zarr_array.specs.declared.command_error.SessionErrorKind.TheVariants.{OutOfMemory}
@@ -161,11 +162,11 @@ module _ (array : Access) (options : Options) (region : Region) (bytes : ArrayBy
     paid = subst (λ n. PaysChanges array.costs (described array) met n before now) all_of some.paid;
   }
 
-  pub stops_written : IsServed (described array) → (k : ℕ) (chunk : List ℕ)
+  stopped : IsServed (described array) → (k : ℕ) (chunk : List ℕ)
       (before mid now : Shown) (kind : SessionErrorKind) → slice_get met k ≡ Some chunk → HasWrittenSome k before mid →
       NotWrittenChunk array options all chunk mid now kind →
       NotWrittenRegion array options region bytes before now (record { chunks_done = k; kind = kind })
-  stops_written served k chunk before mid now kind here so_far stop = record {
+  stopped served k chunk before mid now kind here so_far stop = record {
     failed = changed-fails (described array) options (served.sound options) all met
         (met-chunks (described array).grid region)
         k before mid now chunk kind so_far.changed here stop.failed stop.puts stop.later;
@@ -173,6 +174,15 @@ module _ (array : Access) (options : Options) (region : Region) (bytes : ArrayBy
     told = told_why (described array) array.says options None chunk now kind
         (met-chunks (described array).grid region k chunk here) stop.told;
   }
+
+  pub stops_written : IsServed (described array) → (k : ℕ) (chunk : List ℕ) (before mid now : Shown) (error :
+      CommandError) → error.chunks_done ≡ k → slice_get met k ≡ Some chunk → HasWrittenSome k before mid →
+      NotWrittenChunk array options all chunk mid now error.kind →
+      NotWrittenRegion array options region bytes before now error
+  stops_written served k chunk before mid now error at here so_far stop =
+      subst (λ n. NotWrittenRegion array options region bytes before now
+      (record { chunks_done = n; kind = error.kind })) (sym at)
+      (stopped served k chunk before mid now error.kind here so_far stop)
 
   -- memory ran out before the first chunk
   pub starved_writing : IsServed (described array) → (store : Shown) → store.asks ≤ 2 ^ 64 - 1 →

@@ -57,12 +57,14 @@ pub record HasReadChunk (array : Access) (options : Options) (region : Region)
   pub as_long : length new ≡ length old
   pub paid : PaysShared array.costs (described array) options region chunk before now
 
--- a chunk was read so into the region's elements, or it was not fetched
-abbrev pub ReadsChunk : {T : Type 0} → Access → Options → Region → List ℕ → BoxElements
-    → BoxElements → Shown → Shown → Result T SessionErrorKind → Type 0
-ReadsChunk array options region chunk old new before now result = MatchResult result
+-- a chunk was read so into the region's elements, or it was not fetched, and the error is of this
+-- kind
+abbrev pub ReadsChunk : {T E : Type 0} → Access → Options → Region → List ℕ → BoxElements
+    → BoxElements → Shown → Shown → (E → SessionErrorKind) → Result T E → Type 0
+ReadsChunk array options region chunk old new before now kind_of result = MatchResult result
     (λ _. HasReadChunk array options region chunk (list_held old) (list_held new) before now)
-    (NotFetched (asked_of array region chunk) array options chunk before now)
+    (λ error. NotFetched (asked_of array region chunk) array options chunk before now
+    (kind_of error))
 
 -- elements are those of a region of each array that has the elements of the chunks met, each of
 -- which decodes or is passed over

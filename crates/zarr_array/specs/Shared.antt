@@ -1,13 +1,10 @@
 -- What was fetched of a chunk for what it shares with a region.
 use Rattle.std.specs.Prelude.{◌≡◌, ◌⊎◌, ℕ, Bool, true, false, List, length, Option, Some, IsSome}
 use Rattle.zarr_model.specs.Prelude.{Region, count, Element, has_long_element, Options, Shown, Content, Description}
-use Rattle.zarr_model.specs.Prelude.{chunk_content, layout, finds_shared}
-use Rattle.zarrs_array_subset.specs.ArraySubset.{region as region_of_subset}
+use Rattle.zarr_model.specs.Prelude.{chunk_content, layout, part_of_box, finds_shared}
 use Rattle.zarr_chunks.specs.Regions.{GivesRegion, fetched_bytes}
 use Rattle.zarr_chunks.specs.declared.fetched.Fetched.{Fetched}
-use Rattle.zarr_array_boxes.specs.SharedBox.{IsSharedBy}
 use Rattle.zarr_array_open.specs.ChunkLevels.{chunk_level}
-use Rattle.zarr_array.specs.declared.shared.FetchedChunk.{FetchedChunk}
 use Rattle.zarr_array.specs.Access.{Access, described}
 use Rattle.zarr_array.specs.Asked.{part_asked, finds_asked}
 
@@ -45,11 +42,10 @@ pub record IsPartOf (array : Access) (options : Options) (chunk : List ℕ) (wit
   pub found : IsFound array options chunk within before.content
   pub has : HasSharedPart array chunk within list fetched
 
--- what a chunk shares with a region, and for that elements of this list
-pub record HoldsShared (array : Access) (region : Region) (chunk : List ℕ)
-    (list : List Element) (held : FetchedChunk) : Type 0 where
-  pub shared : IsSharedBy region ((described array).grid.chunk_box chunk) held.shared
-  pub has : HasSharedPart array chunk (region_of_subset held.shared.within) list held.elements
+-- these are elements of a chunk's list for what the chunk shares with a region
+abbrev pub HoldsShared : Access → Region → List ℕ → List Element → Fetched → Type 0
+HoldsShared array region chunk list fetched = HasSharedPart array chunk
+    (part_of_box region ((described array).grid.chunk_box chunk)) list fetched
 
 -- a chunk decodes, or a read of a region does not notice that its value does not
 abbrev pub IsReadable : Description → Options → Region → Content → List ℕ → Type 0
@@ -57,10 +53,11 @@ IsReadable description options region store chunk =
     IsSome (chunk_content (layout description options) store chunk)
     ⊎ (finds_shared description options region chunk (store (description.key chunk)) ≡ true)
 
--- the same of a list that is the chunk's if it has one
+-- these are elements for what a chunk shares with a region, of a list that is the chunk's if it
+-- has one, and the chunk is readable
 pub record IsHeldShared (array : Access) (options : Options) (region : Region)
-    (chunk : List ℕ) (before : Shown) (held : FetchedChunk) : Type 0 where
+    (chunk : List ℕ) (before : Shown) (fetched : Fetched) : Type 0 where
   pub list : List Element
   pub content : (own : List Element) → HasList array options chunk before own → own ≡ list
   pub readable : IsReadable (described array) options region before.content chunk
-  pub holds : HoldsShared array region chunk list held
+  pub holds : HoldsShared array region chunk list fetched

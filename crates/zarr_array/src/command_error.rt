@@ -1,9 +1,9 @@
 //! Why one command fails, and so a session.
 
-ghost use Rattle.std.specs.Prelude.{◌≡◌, None};
-ghost use Rattle.zarr_array.specs.Chunk.{chunk_kind};
+ghost use Rattle.std.specs.Prelude.{◌≡◌};
+ghost use Rattle.zarr_array.specs.Chunk.{storage_kind, chunk_kind};
 
-use std::alloc::{AllocError, AllocFailed};
+use std::alloc::AllocError;
 use thiserror::Error;
 use zarr_array_open::OpenError;
 use zarrs_codec_error::CodecError;
@@ -32,45 +32,22 @@ pub enum SessionErrorKind {
     OutOfMemory,
 }
 
-impl From<AllocError> for SessionErrorKind {
-    ghost use Rattle.zarr_array.specs.declared.command_error.SessionErrorKind.TheVariants.{OutOfMemory};
-
-    ghost from_gives = { λ _ e. e ≡ OutOfMemory };
-
-    fn from(_error: AllocError) -> SessionErrorKind {
-        SessionErrorKind::OutOfMemory
+// A session's error where the store told one.
+fn storage_error(error: StorageError) -> SessionErrorKind
+    ensures { result ≡ storage_kind error }
+{
+    match error {
+        StorageError::Failed | StorageError::InvalidByteRange(_) => SessionErrorKind::Store,
+        StorageError::OutOfMemory => SessionErrorKind::OutOfMemory,
     }
 }
 
-impl<T: Drop> From<AllocFailed<T>> for SessionErrorKind {
-    ghost use Rattle.zarr_array.specs.declared.command_error.SessionErrorKind.TheVariants.{OutOfMemory};
-
-    ghost from_gives = { λ _ e. e ≡ OutOfMemory };
-
-    fn from(_error: AllocFailed<T>) -> SessionErrorKind {
-        SessionErrorKind::OutOfMemory
-    }
-}
-
-impl From<StorageError> for SessionErrorKind {
-    ghost use Rattle.zarr_array.specs.Chunk.{storage_kind};
-
-    ghost from_gives = { λ e kind. kind ≡ storage_kind e };
-
-    fn from(error: StorageError) -> SessionErrorKind {
-        match error {
-            StorageError::Failed | StorageError::InvalidByteRange(_) => SessionErrorKind::Store,
-            StorageError::OutOfMemory => SessionErrorKind::OutOfMemory,
-        }
-    }
-}
-
-/// An error of a session where the chunk of a key is not fetched.
-pub(crate) fn chunk_error(key: StoreKey, error: CodecError) -> SessionErrorKind
+// A session's error where the chunk of a key is not fetched or not stored.
+fn chunk_error(key: StoreKey, error: CodecError) -> SessionErrorKind
     ensures { result ≡ chunk_kind key error }
 {
     match error {
-        CodecError::StorageError(error) => SessionErrorKind::from(error),
+        CodecError::StorageError(error) => storage_error(error),
         CodecError::OutOfMemory => SessionErrorKind::OutOfMemory,
         error => SessionErrorKind::ChunkDecode { key, error },
     }
@@ -85,15 +62,36 @@ pub struct CommandError {
     pub kind: SessionErrorKind,
 }
 
+impl CommandError {
+    ghost use Rattle.zarr_array.specs.CommandError.{starved_after, stopped_at};
+
+    // Memory ran out after so many chunks.
+    pub(crate) fn out_of_memory(chunks_done: u64) -> CommandError
+        ensures { result ≡ starved_after chunks_done }
+    {
+        CommandError {
+            chunks_done,
+            kind: SessionErrorKind::OutOfMemory,
+        }
+    }
+
+    // The chunk of a key was not fetched or not stored after so many chunks.
+    pub(crate) fn at_chunk(chunks_done: u64, key: StoreKey, error: CodecError) -> CommandError
+        ensures { result ≡ stopped_at chunks_done key error }
+    {
+        CommandError {
+            chunks_done,
+            kind: chunk_error(key, error),
+        }
+    }
+}
+
 impl From<AllocError> for CommandError {
     ghost use Rattle.zarr_array.specs.CommandError.{before_chunks};
 
     ghost from_gives = { λ _ e. e ≡ before_chunks };
 
     fn from(_error: AllocError) -> CommandError {
-        CommandError {
-            chunks_done: 0,
-            kind: SessionErrorKind::OutOfMemory,
-        }
+        CommandError::out_of_memory(0)
     }
 }

@@ -1,7 +1,7 @@
 //! Where the chunks of an array lie, and which keys they have.
 
-ghost use Rattle.std.specs.Prelude.{◌≡◌, ◌<◌, ◌^◌, IfOk};
-ghost use Rattle.zarrs_codec_traits.specs.Prelude.{count, tuple_at, IsChunk, region};
+ghost use Rattle.std.specs.Prelude.{◌≡◌, ◌<◌, IfOk};
+ghost use Rattle.zarrs_codec_traits.specs.Prelude.{count, IsChunk, region};
 ghost use Rattle.zarr_array.specs.Access.{described};
 ghost use Rattle.zarr_array.specs.RegionChunks.{IsChunkPlace, IsMet, met_chunk_at, AreMetChunks};
 
@@ -9,30 +9,9 @@ use crate::access::ChunkAccess;
 use crate::chunk_place::ChunkPlace;
 use crate::region_chunks::RegionChunks;
 use std::alloc::{AllocError, Global};
-use zarrs_array_subset::{ArrayIndicesTinyVec, ArraySubset, push_tuple};
+use zarr_array_boxes::indices_at;
+use zarrs_array_subset::ArrayIndicesTinyVec;
 use zarrs_chunk_grid::ChunkGridTraits;
-
-// The indices at a place of a subset's row-major list.
-#[tactic(auto, using(crate::proofs::PlaceLaws::of_subsets))]
-fn indices_at(
-    alloc: Global,
-    subset: &ArraySubset,
-    place: u64,
-) -> Result<ArrayIndicesTinyVec, AllocError>
-    requires few { count (region subset.now) < 2 ^ 64 }
-    requires below { place < count (region subset.now) }
-    ensures { IfOk result (λ indices. indices.items ≡ tuple_at (region subset.now) place) }
-{
-    let mut indices = ArrayIndicesTinyVec::new(alloc);
-    push_tuple(
-        &mut indices,
-        subset.start(),
-        subset.shape(),
-        place,
-        subset.num_elements(),
-    )?;
-    Ok(indices)
-}
 
 // The place of the chunk of these indices.
 fn place_of<C: ChunkAccess>(

@@ -1,22 +1,23 @@
 //! Reading a region, chunk by chunk.
 
-ghost use Rattle.std.specs.Prelude.{◌≡◌, ◌+◌, ◌<◌, ◌*◌, ◌^◌, true, length, MatchResult, IfSome};
+ghost use Rattle.std.specs.Prelude.{◌≡◌, ◌+◌, ◌<◌, ◌*◌, ◌^◌, true, length, MatchResult, IfErr, IfSome};
 ghost use Rattle.zarrs_codec_traits.specs.Prelude.{count, ends_within, kind, fixed_size, region};
 ghost use Rattle.zarrs_codec_traits.specs.Prelude.{size_in, raw_of, options_of};
 ghost use Rattle.zarr_array_boxes.specs.BoxElements.{list_held};
 ghost use Rattle.zarr_array.specs.Access.{described, IsInHand};
+ghost use Rattle.zarr_array.specs.Chunk.{chunk_kind};
 ghost use Rattle.zarr_array.specs.RegionChunks.{met_chunk_at, AreMetChunks, IsMet};
 ghost use Rattle.zarr_array.specs.Read.{HoldsRegion, ReadsChunk, HasReadList, HasReadRegion, NotReadRegion};
 
 use crate::access::ChunkAccess;
 use crate::chunk_place::ChunkPlace;
-use crate::command_error::{CommandError, SessionErrorKind, chunk_error};
+use crate::command_error::CommandError;
 use crate::region_chunks::RegionChunks;
 use std::alloc::Global;
 use zarr_array_boxes::BoxElements;
 use zarrs_array_subset::ArraySubset;
 use zarrs_codec_array_bytes::ArrayBytes;
-use zarrs_codec_error::CodecOptions;
+use zarrs_codec_error::{CodecError, CodecOptions};
 use zarrs_storage::Store;
 
 impl<C: ChunkAccess> RegionChunks<'_, C> {
@@ -25,30 +26,26 @@ impl<C: ChunkAccess> RegionChunks<'_, C> {
         &self,
         alloc: Global,
         levels: &C::Levels,
-        place: ChunkPlace,
+        place: &ChunkPlace,
         elements: &mut BoxElements<'_>,
         store: &mut S,
         options: &CodecOptions,
-    ) -> Result<(), SessionErrorKind>
-        requires levels { C.serves self.now.array.now place.indices.items levels.now }
+    ) -> Result<(), CodecError>
+        requires levels { C.serves self.now.array.now place.now.indices.items levels.now }
         requires place { IsMet (described (C.seen self.now.array.now)) (region self.now.subset.now)
-            place }
+            place.now }
         requires holds { HoldsRegion (C.seen self.now.array.now) (region self.now.subset.now)
             elements.old }
         ensures read { ReadsChunk (C.seen self.now.array.now) (options_of options.now)
-            (region self.now.subset.now) place.indices.items elements.old elements.new
-            (S.shown store.old) (S.shown store.new) result }
+            (region self.now.subset.now) place.now.indices.items elements.old elements.new
+            (S.shown store.old) (S.shown store.new) (chunk_kind place.now.key) result }
         ensures holds { HoldsRegion (C.seen self.now.array.now) (region self.now.subset.now)
             elements.new }
         ensures kept { S.kept store.old store.new }
     {
-        match self.fetch_shared(alloc, levels, &place, store, options) {
-            Ok(chunk) => {
-                self.put_shared(alloc, &place, &chunk, elements)?;
-                Ok(())
-            }
-            Err(error) => Err(chunk_error(place.key, error)),
-        }
+        let fetched = self.fetch_shared(alloc, levels, place, store, options)?;
+        self.put_shared(alloc, place, &fetched, elements)?;
+        Ok(())
     }
 
     // Takes the elements that the chunk of a number shares with the region. The levels in hand serve where they are of its
@@ -61,7 +58,7 @@ impl<C: ChunkAccess> RegionChunks<'_, C> {
         elements: &mut BoxElements<'_>,
         store: &mut S,
         options: &CodecOptions,
-    ) -> Result<(), SessionErrorKind>
+    ) -> Result<(), CommandError>
         requires met { AreMetChunks (C.seen self.now.array.now) self.now }
         requires below { number < count (region self.now.chunks) }
         requires hand { IfSome hand.old (IsInHand (C.serves self.now.array.now)) }
@@ -69,17 +66,26 @@ impl<C: ChunkAccess> RegionChunks<'_, C> {
             elements.old }
         ensures read { ReadsChunk (C.seen self.now.array.now) (options_of options.now)
             (region self.now.subset.now) (met_chunk_at self.now number) elements.old elements.new
-            (S.shown store.old) (S.shown store.new) result }
+            (S.shown store.old) (S.shown store.new) (λ error. error.kind) result }
+        ensures at { IfErr result (λ error. error.chunks_done ≡ number) }
         ensures holds { HoldsRegion (C.seen self.now.array.now) (region self.now.subset.now)
             elements.new }
         ensures hand { IfSome hand.new (IsInHand (C.serves self.now.array.now)) }
         ensures kept { S.kept store.old store.new }
     {
-        let place = self.place(alloc, number)?;
-        let levels = self.array.levels_at(alloc, hand.take(), &place)?;
-        self.read_shared(alloc, &levels, place, elements, store, options)?;
-        *hand = Some(levels);
-        Ok(())
+        let Ok(place) = self.place(alloc, number) else {
+            return Err(CommandError::out_of_memory(number));
+        };
+        let Ok(levels) = self.array.levels_at(alloc, hand.take(), &place) else {
+            return Err(CommandError::out_of_memory(number));
+        };
+        match self.read_shared(alloc, &levels, &place, elements, store, options) {
+            Ok(()) => {
+                *hand = Some(levels);
+                Ok(())
+            }
+            Err(error) => Err(CommandError::at_chunk(number, place.key, error)),
+        }
     }
 
     // Reads each chunk, once, into the region's elements.
@@ -108,15 +114,7 @@ impl<C: ChunkAccess> RegionChunks<'_, C> {
         ensures kept { S.kept store.old store.new }
     {
         for number in 0..self.num_chunks() {
-            match self.read_chunk(alloc, number, hand, elements, store, options) {
-                Ok(()) => {}
-                Err(kind) => {
-                    return Err(CommandError {
-                        chunks_done: number,
-                        kind,
-                    });
-                }
-            }
+            self.read_chunk(alloc, number, hand, elements, store, options)?;
         }
         Ok(())
     }
@@ -147,10 +145,7 @@ impl<C: ChunkAccess> RegionChunks<'_, C> {
         match self.read_chunks(alloc, hand, &mut elements, store, options) {
             Ok(()) => match elements.into_bytes(alloc) {
                 Ok(bytes) => Ok(bytes),
-                Err(_) => Err(CommandError {
-                    chunks_done: self.num_chunks(),
-                    kind: SessionErrorKind::OutOfMemory,
-                }),
+                Err(_) => Err(CommandError::out_of_memory(self.num_chunks())),
             },
             Err(error) => Err(error),
         }

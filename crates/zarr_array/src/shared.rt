@@ -1,6 +1,6 @@
 //! The elements of the chunks that a region meets, fetched for what the region shares with them.
 
-ghost use Rattle.std.specs.Prelude.{◌≡◌, List, OnOk, MatchResult};
+ghost use Rattle.std.specs.Prelude.{List, OnOk, MatchResult};
 ghost use Rattle.zarrs_codec_traits.specs.Prelude.{Element, region, Copied, options_of};
 ghost use Rattle.zarr_array_boxes.specs.BoxElements.{list_held};
 ghost use Rattle.zarr_array.specs.Access.{described};
@@ -14,17 +14,10 @@ use crate::access::ChunkAccess;
 use crate::chunk_place::ChunkPlace;
 use crate::region_chunks::RegionChunks;
 use std::alloc::{AllocError, Global};
-use zarr_array_boxes::{BoxElements, SharedBox};
+use zarr_array_boxes::{BoxElements, part_of_box, shared_part};
 use zarr_chunks::Fetched;
 use zarrs_codec_error::{CodecError, CodecOptions};
 use zarrs_storage::Store;
-
-/// A chunk's elements for what it shares with a region.
-#[derive(Drop)]
-pub(crate) struct FetchedChunk {
-    pub(crate) shared: SharedBox,
-    pub(crate) elements: Fetched,
-}
 
 impl<C: ChunkAccess> RegionChunks<'_, C> {
     ghost use Rattle.zarr_array.specs.Shared.{HoldsShared, IsHeldShared};
@@ -37,15 +30,15 @@ impl<C: ChunkAccess> RegionChunks<'_, C> {
         place: &ChunkPlace,
         store: &mut S,
         options: &CodecOptions,
-    ) -> Result<FetchedChunk, CodecError>
+    ) -> Result<Fetched, CodecError>
         requires levels { C.serves self.now.array.now place.now.indices.items levels.now }
         requires place { IsMet (described (C.seen self.now.array.now)) (region self.now.subset.now)
             place.now }
         ensures fetched { let array = C.seen self.now.array.now in
             let chunk = place.now.indices.items in MatchResult result
-            (λ held. HasRead (S.shown store.old) (S.shown store.new)
+            (λ fetched. HasRead (S.shown store.old) (S.shown store.new)
             × IsHeldShared array (options_of options.now) (region self.now.subset.now) chunk
-            (S.shown store.old) held)
+            (S.shown store.old) fetched)
             (λ error. NotFetched (asked_of array (region self.now.subset.now) chunk) array
             (options_of options.now) chunk (S.shown store.old) (S.shown store.new)
             (chunk_kind place.now.key error)) }
@@ -55,11 +48,11 @@ impl<C: ChunkAccess> RegionChunks<'_, C> {
             (S.shown store.new)) }
         ensures kept { S.kept store.old store.new }
     {
-        let shared = SharedBox::of(alloc, self.subset, &place.subset)?;
-        let elements = self
+        let within = part_of_box(alloc, self.subset, &place.subset)?;
+        let fetched = self
             .array
-            .fetch_part(alloc, place, levels, &shared.within, store, options)?;
-        Ok(FetchedChunk { shared, elements })
+            .fetch_part(alloc, place, levels, &within, store, options)?;
+        Ok(fetched)
     }
 
     /// Puts a chunk's elements that the region shares with it into the region's.
@@ -67,27 +60,30 @@ impl<C: ChunkAccess> RegionChunks<'_, C> {
         &self,
         alloc: Global,
         place: &ChunkPlace,
-        chunk: &FetchedChunk,
+        fetched: &Fetched,
         elements: &mut BoxElements<'_>,
     ) -> Result<(), AllocError>
         requires place { IsMet (described (C.seen self.now.array.now)) (region self.now.subset.now)
             place.now }
         requires held { (list : List Element) × HoldsShared (C.seen self.now.array.now)
-            (region self.now.subset.now) place.now.indices.items list chunk.now }
+            (region self.now.subset.now) place.now.indices.items list fetched.now }
         requires holds { HoldsRegion (C.seen self.now.array.now) (region self.now.subset.now)
             elements.old }
         ensures copied { let box = (described (C.seen self.now.array.now)).grid.chunk_box
             place.now.indices.items in (list : List Element)
             → HoldsShared (C.seen self.now.array.now) (region self.now.subset.now)
-            place.now.indices.items list chunk.now
+            place.now.indices.items list fetched.now
             → OnOk result (Copied (region self.now.subset.now) box list (list_held elements.old)
             (list_held elements.new)) }
         ensures holds { HoldsRegion (C.seen self.now.array.now) (region self.now.subset.now)
             elements.new }
     {
-        match &chunk.elements {
+        match fetched {
             Fetched::Chunk(bytes) => elements.put(alloc, bytes, &place.subset),
-            Fetched::Region(bytes) => elements.put(alloc, bytes, &chunk.shared.subset),
+            Fetched::Region(bytes) => {
+                let part = shared_part(alloc, self.subset, &place.subset)?;
+                elements.put(alloc, bytes, &part)
+            }
         }
     }
 }

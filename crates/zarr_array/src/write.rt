@@ -1,21 +1,22 @@
 //! Writing to a region, chunk by chunk.
 
-ghost use Rattle.std.specs.Prelude.{◌≡◌, ◌+◌, ◌<◌, ◌^◌, true, MatchResult, IfSome};
+ghost use Rattle.std.specs.Prelude.{◌≡◌, ◌<◌, true, MatchResult, IfErr, IfSome};
 ghost use Rattle.zarrs_codec_traits.specs.Prelude.{count, ends_within, region, raw_of, options_of};
 ghost use Rattle.zarr_array.specs.Access.{described, IsInHand};
+ghost use Rattle.zarr_array.specs.Chunk.{chunk_kind};
 ghost use Rattle.zarr_array.specs.RegionChunks.{met_chunk_at, AreMetChunks, IsMet};
 ghost use Rattle.zarr_array.specs.Write.{region_change, IsWritable, HasWrittenChunk, NotWrittenChunk};
 ghost use Rattle.zarr_array.specs.PartWay.{HasWrittenRegion, NotWrittenRegion};
 
 use crate::access::ChunkAccess;
 use crate::chunk_place::ChunkPlace;
-use crate::command_error::{CommandError, SessionErrorKind, chunk_error};
+use crate::command_error::CommandError;
 use crate::region_chunks::RegionChunks;
 use std::alloc::Global;
 use zarr_array_boxes::put_overlap;
 use zarrs_array_subset::ArraySubset;
 use zarrs_codec_array_bytes::ArrayBytes;
-use zarrs_codec_error::CodecOptions;
+use zarrs_codec_error::{CodecError, CodecOptions};
 use zarrs_storage::Store;
 
 impl<C: ChunkAccess> RegionChunks<'_, C> {
@@ -25,45 +26,39 @@ impl<C: ChunkAccess> RegionChunks<'_, C> {
         &self,
         alloc: Global,
         levels: &C::Levels,
-        place: ChunkPlace,
+        place: &ChunkPlace,
         bytes: &ArrayBytes<'_>,
         store: &mut S,
         options: &CodecOptions,
-    ) -> Result<(), SessionErrorKind>
-        requires levels { C.serves self.now.array.now place.indices.items levels.now }
+    ) -> Result<(), CodecError>
+        requires levels { C.serves self.now.array.now place.now.indices.items levels.now }
         requires place { IsMet (described (C.seen self.now.array.now)) (region self.now.subset.now)
-            place }
+            place.now }
         requires writable { IsWritable (C.seen self.now.array.now) (region self.now.subset.now)
             (raw_of bytes.now) }
         ensures { let array = C.seen self.now.array.now in
             let change = region_change array (region self.now.subset.now) (raw_of bytes.now) in
             MatchResult result
             (λ _. HasWrittenChunk array (options_of options.now) change
-            place.indices.items (S.shown store.old) (S.shown store.new))
-            (NotWrittenChunk array (options_of options.now) change
-            place.indices.items (S.shown store.old) (S.shown store.new)) }
+            place.now.indices.items (S.shown store.old) (S.shown store.new))
+            (λ error. NotWrittenChunk array (options_of options.now) change
+            place.now.indices.items (S.shown store.old) (S.shown store.new)
+            (chunk_kind place.now.key error)) }
     {
         let array = self.array;
-        let elements = match array.fetch_elements(alloc, &place, levels, store, options) {
-            Ok(elements) => elements,
-            Err(error) => return Err(chunk_error(place.key, error)),
-        };
+        let elements = array.fetch_elements(alloc, place, levels, store, options)?;
         let data_type = array.data_type();
-        match put_overlap(
+        let replaced = put_overlap(
             alloc,
             data_type,
             elements,
             &place.subset,
             bytes,
             self.subset,
-        ) {
-            Ok(elements) => {
-                match array.store_elements(alloc, &place, levels, elements, store, options) {
-                    Ok(()) => Ok(()),
-                    Err(error) => Err(SessionErrorKind::from(error)),
-                }
-            }
-            Err(_) => Err(SessionErrorKind::OutOfMemory),
+        )?;
+        match array.store_elements(alloc, place, levels, replaced, store, options) {
+            Ok(()) => Ok(()),
+            Err(error) => Err(CodecError::StorageError(error)),
         }
     }
 
@@ -77,7 +72,7 @@ impl<C: ChunkAccess> RegionChunks<'_, C> {
         bytes: &ArrayBytes<'_>,
         store: &mut S,
         options: &CodecOptions,
-    ) -> Result<(), SessionErrorKind>
+    ) -> Result<(), CommandError>
         requires met { AreMetChunks (C.seen self.now.array.now) self.now }
         requires below { number < count (region self.now.chunks) }
         requires hand { IfSome hand.old (IsInHand (C.serves self.now.array.now)) }
@@ -88,15 +83,24 @@ impl<C: ChunkAccess> RegionChunks<'_, C> {
             MatchResult result
             (λ _. HasWrittenChunk array (options_of options.now) change
             (met_chunk_at self.now number) (S.shown store.old) (S.shown store.new))
-            (NotWrittenChunk array (options_of options.now) change
-            (met_chunk_at self.now number) (S.shown store.old) (S.shown store.new)) }
+            (λ error. NotWrittenChunk array (options_of options.now) change
+            (met_chunk_at self.now number) (S.shown store.old) (S.shown store.new) error.kind) }
+        ensures at { IfErr result (λ error. error.chunks_done ≡ number) }
         ensures hand { IfSome hand.new (IsInHand (C.serves self.now.array.now)) }
     {
-        let place = self.place(alloc, number)?;
-        let levels = self.array.levels_at(alloc, hand.take(), &place)?;
-        self.write_at(alloc, &levels, place, bytes, store, options)?;
-        *hand = Some(levels);
-        Ok(())
+        let Ok(place) = self.place(alloc, number) else {
+            return Err(CommandError::out_of_memory(number));
+        };
+        let Ok(levels) = self.array.levels_at(alloc, hand.take(), &place) else {
+            return Err(CommandError::out_of_memory(number));
+        };
+        match self.write_at(alloc, &levels, &place, bytes, store, options) {
+            Ok(()) => {
+                *hand = Some(levels);
+                Ok(())
+            }
+            Err(error) => Err(CommandError::at_chunk(number, place.key, error)),
+        }
     }
 
     // Writes to each chunk, in row-major order.
@@ -122,15 +126,7 @@ impl<C: ChunkAccess> RegionChunks<'_, C> {
         ensures hand { IfSome hand.new (IsInHand (C.serves self.now.array.now)) }
     {
         for number in 0..self.num_chunks() {
-            match self.write_chunk(alloc, number, hand, bytes, store, options) {
-                Ok(()) => {}
-                Err(kind) => {
-                    return Err(CommandError {
-                        chunks_done: number,
-                        kind,
-                    });
-                }
-            }
+            self.write_chunk(alloc, number, hand, bytes, store, options)?;
         }
         Ok(())
     }

@@ -1,3 +1,4 @@
+pub mod IndexLaws
 pub mod ShareLaws
 pub mod SharedPartLaws
 pub mod PutLaws

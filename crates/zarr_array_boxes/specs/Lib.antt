@@ -1,6 +1,5 @@
 pub mod Elements
 pub mod Shared
-pub mod SharedBox
 pub mod Given
 pub mod PlaceRuns
 pub mod BoxElements

@@ -14,3 +14,8 @@ unfoldable pub lengths_shared : List ℕ → List ℕ → List ℕ → List ℕ 
 lengths_shared start shape other_start other_shape =
     map (λ p. min (min (p.0.0.0 + p.0.0.1) (2 ^ 64 - 1)) (min (p.0.1 + p.1) (2 ^ 64 - 1))
     - max p.0.0.0 p.0.1) (zip (zip (zip start shape) other_start) other_shape)
+
+-- the same of two regions
+abbrev pub sizes_shared : Region → Region → List ℕ
+sizes_shared region other =
+    lengths_shared (starts region) (sizes region) (starts other) (sizes other)

@@ -6,6 +6,7 @@ mod box_elements;
 mod command;
 mod fixed;
 mod given;
+mod indices;
 mod listed;
 mod overlap;
 mod place_runs;
@@ -14,6 +15,7 @@ mod shared;
 
 pub use box_elements::BoxElements;
 pub use command::{Command, Reply};
+pub use indices::indices_at;
 pub use overlap::put_overlap;
 pub use refusal::Refusal;
-pub use shared::SharedBox;
+pub use shared::{part_of_box, shared_part};

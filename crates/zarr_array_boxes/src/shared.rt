@@ -1,16 +1,16 @@
 //! What two boxes share, and its elements.
 
-ghost use Rattle.std.specs.Prelude.{◌≡◌, ◌+◌, ◌*◌, ◌<◌, ◌^◌, List, false, Some, length, IfOk};
-ghost use Rattle.zarr_model.specs.Region.{count, starts};
+ghost use Rattle.std.specs.Prelude.{◌≡◌, ◌+◌, ◌*◌, ◌<◌, ◌^◌, List, true, false, Some, length, IfOk};
+ghost use Rattle.zarr_model.specs.Region.{count, starts, part_of_box};
 ghost use Rattle.zarr_model.specs.Element.{Element, null};
 ghost use Rattle.zarr_model.specs.ArrayBytes.{meaning};
 ghost use Rattle.zarr_model.specs.Command.{has_long_element};
 ghost use Rattle.zarrs_array_subset.specs.ArraySubset.{region};
-ghost use Rattle.zarrs_array_subset.specs.Boxes.{overlap_of, moved_back, maxes};
+ghost use Rattle.zarrs_array_subset.specs.Boxes.{is_box, region_of, overlap_of, moved_back, maxes, differences};
 ghost use Rattle.zarrs_codec_slices.specs.Picking.{picked};
 ghost use Rattle.zarrs_codec_array_bytes.specs.Raw.{raw_of};
 ghost use Rattle.zarrs_codec_array_bytes.specs.Steps.{kind_seen, bytes_seen};
-ghost use Rattle.zarr_array_boxes.specs.Shared.{shared_in, lengths_shared};
+ghost use Rattle.zarr_array_boxes.specs.Shared.{shared_in, lengths_shared, sizes_shared};
 
 use std::alloc::{AllocError, Global};
 use zarrs_array_subset::ArraySubset;
@@ -25,6 +25,17 @@ fn shared_starts(alloc: Global, start: &[u64], other: &[u64]) -> Result<Vec<u64>
         .iter()
         .zip(other)
         .map(|(s, o)| *s.max(o))
+        .collect(alloc)
+}
+
+// How far each start lies past the other one.
+fn starts_past(alloc: Global, start: &[u64], other: &[u64]) -> Result<Vec<u64>, AllocError>
+    ensures { IfOk result (λ v. v.items ≡ differences start.now other.now) }
+{
+    start
+        .iter()
+        .zip(other)
+        .map(|(s, o)| s.saturating_sub(*o))
         .collect(alloc)
 }
 
@@ -52,16 +63,17 @@ fn shared_lengths(
         .collect(alloc)
 }
 
-/// The part that two boxes of one rank share. Nothing is made but its start and its lengths.
-pub(crate) fn shared_part(
+// The box from these starts on that is as long as the part that two boxes share.
+fn as_long_as_shared(
     alloc: Global,
+    start: Vec<u64>,
     subset: &ArraySubset,
     other: &ArraySubset,
 ) -> Result<ArraySubset, AllocError>
-    requires { length (region subset.now) ≡ length (region other.now) }
-    ensures { IfOk result (λ v. region v ≡ overlap_of (region subset.now) (region other.now)) }
+    requires { is_box start.items (sizes_shared (region subset.now) (region other.now)) ≡ true }
+    ensures { IfOk result (λ v. region v
+        ≡ region_of start.items (sizes_shared (region subset.now) (region other.now))) }
 {
-    let start = shared_starts(alloc, subset.start(), other.start())?;
     let shape = shared_lengths(
         alloc,
         subset.start(),
@@ -73,6 +85,40 @@ pub(crate) fn shared_part(
         Ok(part) => Ok(part),
         Err(_) => unreachable!(),
     }
+}
+
+/// The part that two boxes of one rank share. Nothing is made but its start and its lengths.
+///
+/// # Errors
+/// [`AllocError`] where memory runs out.
+pub fn shared_part(
+    alloc: Global,
+    subset: &ArraySubset,
+    other: &ArraySubset,
+) -> Result<ArraySubset, AllocError>
+    requires { length (region subset.now) ≡ length (region other.now) }
+    ensures { IfOk result (λ v. region v ≡ overlap_of (region subset.now) (region other.now)) }
+{
+    let start = shared_starts(alloc, subset.start(), other.start())?;
+    let part = as_long_as_shared(alloc, start, subset, other)?;
+    Ok(part)
+}
+
+/// The same by its place in the other box.
+///
+/// # Errors
+/// [`AllocError`] where memory runs out.
+pub fn part_of_box(
+    alloc: Global,
+    subset: &ArraySubset,
+    other: &ArraySubset,
+) -> Result<ArraySubset, AllocError>
+    requires { length (region subset.now) ≡ length (region other.now) }
+    ensures { IfOk result (λ v. region v ≡ part_of_box (region subset.now) (region other.now)) }
+{
+    let start = starts_past(alloc, subset.start(), other.start())?;
+    let part = as_long_as_shared(alloc, start, subset, other)?;
+    Ok(part)
 }
 
 /// A part of a box, by its place in it.
@@ -87,39 +133,6 @@ pub(crate) fn part_in(
     match part.relative_to(alloc, subset.start()) {
         Ok(at) => Ok(at),
         Err(_) => Err(AllocError),
-    }
-}
-
-/// What a box shares with another one of its rank.
-#[derive(Drop)]
-pub struct SharedBox {
-    /// The part that both have.
-    pub subset: ArraySubset,
-    /// The same by its place in the other one.
-    pub within: ArraySubset,
-}
-
-impl SharedBox {
-    ghost use Rattle.zarr_array_boxes.specs.SharedBox.{IsSharedBy};
-
-    /// What a box shares with another one of its rank.
-    ///
-    /// # Errors
-    /// [`AllocError`] where memory runs out.
-    pub fn of(
-        alloc: Global,
-        subset: &ArraySubset,
-        other: &ArraySubset,
-    ) -> Result<SharedBox, AllocError>
-        requires { length (region subset.now) ≡ length (region other.now) }
-        ensures { IfOk result (IsSharedBy (region subset.now) (region other.now)) }
-    {
-        let part = shared_part(alloc, subset, other)?;
-        let within = part_in(alloc, &part, other)?;
-        Ok(SharedBox {
-            subset: part,
-            within,
-        })
     }
 }
 

@@ -1,19 +1,20 @@
 -- The chunks of a grid of boundaries that a region meets.
-use Rattle.std.proofs.Common.{◌≡◌, ℕ, ◌+◌, ◌-◌, ◌^◌, ◌<◌, ◌≤◌, ◌&&◌, true, false, nat_le, nat_lt, min, max, List, []}
+use Rattle.std.proofs.Common.{◌≡◌, ℕ, ◌+◌, ◌-◌, ◌^◌, ◌<◌, ◌≤◌, ◌&&◌, Bool, true, false, cond, nat_le, nat_lt, min, max}
+use Rattle.std.proofs.Common.{List, []}
 use Rattle.std.proofs.Common.{◌∷◌, length, take, sum, slice_index, refl, sym, ap, ap₂, ◌∙◌, subst, arith}
-use Rattle.std.proofs.lemmas.Bool.{and_parts, and_from, leb-true, ltb-true, le-leb, lt-ltb, true≢false}
+use Rattle.std.proofs.lemmas.Bool.{and_parts, and_from, leb-true, ltb-true, le-leb, lt-ltb}
 use Rattle.std.proofs.lemmas.Nat.{mul-le}
-use Rattle.zarr_model.specs.Prelude.{Region, count, whole, contains, is_in, ends_within, share_tuple, tuples}
+use Rattle.zarr_model.specs.Prelude.{Region, starts, sizes, count, whole, contains, is_in, ends_within, share_tuple}
+use Rattle.zarr_model.specs.Prelude.{tuples}
 use Rattle.zarr_model.specs.Prelude.{boundary_grid, boundary_axis, chunks_meeting}
 use Rattle.zarr_model.proofs.Choices.{swap_tests}
 use Rattle.zarr_model.proofs.MeetingLaws.{AreMeeting, tuples-meeting, chunks_meeting-empty}
 use Rattle.zarr_model.proofs.RegionLaws.{tuples-empty, positive_parts}
-use Rattle.zarrs_array_subset.specs.Boxes.{region_of, is_box, ends}
-use Rattle.zarr_model.specs.Prelude.{cuts, are_cut, chunk_at}
+use Rattle.zarrs_array_subset.specs.Boxes.{region_through, is_box, is_rising_inc}
+use Rattle.zarr_model.specs.Prelude.{cuts, are_cut, chunk_at, reached}
 use Rattle.zarr_model.proofs.LandingLaws.{cuts_axis}
 use Rattle.zarr_model.proofs.AxisLaws.{span_meets, span_within}
 use Rattle.zarr_basics.specs.Axes.{axis_lengths, axis_starts, lengths_of, chunks_at, last_chunks, boundary_chunk_region}
-use Rattle.zarr_basics.specs.Lengths.{counts_between}
 use Rattle.zarr_basics.specs.declared.axis.BoundaryAxis.{BoundaryAxis}
 use Rattle.zarr_basics.proofs.AxisFacts.{finds_of, axis_below}
 
@@ -82,40 +83,51 @@ none_listed axes region box none is = (
   subst (λ b. count b ≤ count region) (sym is) (omega arith),
 )
 
--- as two lists of numbers
-pub chunks_are : (start shape : List ℕ) (axes : List BoundaryAxis) → is_box start shape ≡ true →
-    length start ≡ length axes → 0 < count (region_of start shape) →
-    (region_of (chunks_at axes start) (counts_between (last_chunks axes (ends (region_of start shape)))
-    (chunks_at axes start)) ≡ boundary_chunk_region axes (region_of start shape))
-    × (is_box (chunks_at axes start)
-    (counts_between (last_chunks axes (ends (region_of start shape))) (chunks_at axes start)) ≡ true)
-chunks_are [] [] [] box rank some = (refl, refl)
-chunks_are [] [] (axis ∷ axes) box rank some = absurd (omega arith)
-chunks_are [] (n ∷ shape) axes box rank some = cc
-chunks_are (s ∷ start) [] axes box rank some = cc
-chunks_are (s ∷ start) (n ∷ shape) [] box rank some = absurd (omega arith)
-chunks_are (s ∷ start) (n ∷ shape) (axis ∷ axes) box rank some =
-    let parts = and_parts (nat_lt (s + n) (2 ^ 64)) (is_box start shape) box in
-    let fit : s + n < 2 ^ 64 = ltb-true _ _ parts.0 in
-    let f : (0 < n) × (0 < count (region_of start shape)) =
-    positive_parts (record { start = s; size = n }) (region_of start shape) some in
-    let first = chunk_at (axis_starts axis) s in
-    let last = chunk_at (axis_starts axis) (s + n - 1) in
-    let low : chunk_at (axis_starts axis) s ≤ s = axis_below axis s in
-    let high : chunk_at (axis_starts axis) (s + n - 1) ≤ s + n - 1 = axis_below axis (s + n - 1) in
-    let here : min (chunk_at (axis_starts axis) (s + n - 1) - chunk_at (axis_starts axis) s + 1) (2 ^ 64 - 1) ≡
-    chunk_at (axis_starts axis) (s + n - 1) - chunk_at (axis_starts axis) s + 1 = omega arith in
-    let end : chunk_at (axis_starts axis) s + min (chunk_at (axis_starts axis) (s + n - 1) - chunk_at (axis_starts axis)
-    s + 1) (2 ^ 64 - 1) < 2 ^ 64 = omega arith in
-    let rest = chunks_are start shape axes parts.1 (omega arith) f.1 in
-    (ap₂ (λ a r. record { start = first; size = a } ∷ r) here rest.0, and_from _ _ (lt-ltb _ _ end) rest.1)
+-- a later index is in no chunk before
+reached_later : (i j : ℕ) → i ≤ j → (starts : List ℕ) → reached i starts ≤ reached j starts
+reached_later i j le [] = omega arith
+reached_later i j le (start ∷ starts) =
+    omega (arith, one (nat_le start i) (nat_le start j) later, reached_later i j le starts)
+  where
+    later : nat_le start i ≡ true → nat_le start j ≡ true
+    later e = let at : start ≤ i = leb-true _ _ e in le-leb _ _ (omega arith)
 
-pub chunks_box : (start shape : List ℕ) (axes : List BoundaryAxis) (first last number end : List ℕ) →
-    is_box start shape ≡ true → length start ≡ length axes → 0 < count (region_of start shape) →
-    end ≡ ends (region_of start shape) → first ≡ chunks_at axes start → last ≡ last_chunks axes end →
-    number ≡ counts_between last first → is_box first number ≡ false → ⊥
-chunks_box start shape axes first last number end box rank some e f l n refused =
-    true≢false (sym (ap₂ is_box f (n ∙ ap₂ counts_between (l ∙ ap (last_chunks axes) e) f)
-    ∙ (chunks_are start shape axes box rank some).1) ∙ refused)
+    one : (a b : Bool) → (a ≡ true → b ≡ true) → cond a 1 0 ≤ cond b 1 0
+    one true b h = subst (λ x. 1 ≤ cond x 1 0) (sym (h refl)) (omega arith)
+    one false b h = omega arith
+
+-- as two lists of numbers
+pub chunks_are : (region : Region) (axes : List BoundaryAxis) → is_box (starts region) (sizes region) ≡ true →
+    length region ≡ length axes → 0 < count region →
+    (region_through (chunks_at axes (starts region)) (last_chunks axes (starts region) (sizes region))
+    ≡ boundary_chunk_region axes region)
+    × (is_rising_inc (chunks_at axes (starts region)) (last_chunks axes (starts region) (sizes region)) ≡ true)
+chunks_are [] [] box rank some = (refl, refl)
+chunks_are [] (axis ∷ axes) box rank some = absurd (omega arith)
+chunks_are (span ∷ region) [] box rank some = absurd (omega arith)
+chunks_are (span ∷ region) (axis ∷ axes) box rank some =
+    let parts = and_parts (nat_lt (span.start + span.size) (2 ^ 64)) (is_box (starts region) (sizes region)) box in
+    let fit : span.start + span.size < 2 ^ 64 = ltb-true _ _ parts.0 in
+    let f : (0 < span.size) × (0 < count region) = positive_parts span region some in
+    let last : min (span.start + span.size) (2 ^ 64 - 1) - 1 ≡ span.start + span.size - 1 = omega arith in
+    let same : chunk_at (axis_starts axis) (min (span.start + span.size) (2 ^ 64 - 1) - 1)
+    ≡ chunk_at (axis_starts axis) (span.start + span.size - 1) = ap (chunk_at (axis_starts axis)) last in
+    let later : reached span.start (axis_starts axis) ≤ reached (span.start + span.size - 1) (axis_starts axis) =
+    reached_later span.start (span.start + span.size - 1) (omega arith) (axis_starts axis) in
+    let ordered : chunk_at (axis_starts axis) span.start ≤ chunk_at (axis_starts axis) (span.start + span.size - 1) =
+    omega (arith, later) in
+    let high : chunk_at (axis_starts axis) (span.start + span.size - 1) ≤ span.start + span.size - 1 =
+    axis_below axis (span.start + span.size - 1) in
+    let here : chunk_at (axis_starts axis) (min (span.start + span.size) (2 ^ 64 - 1) - 1) + 1
+    - chunk_at (axis_starts axis) span.start ≡ chunk_at (axis_starts axis) (span.start + span.size - 1)
+    - chunk_at (axis_starts axis) span.start + 1 = omega (arith, same, ordered) in
+    let rises : chunk_at (axis_starts axis) span.start
+    ≤ chunk_at (axis_starts axis) (min (span.start + span.size) (2 ^ 64 - 1) - 1) = omega (arith, same, ordered) in
+    let end : chunk_at (axis_starts axis) (min (span.start + span.size) (2 ^ 64 - 1) - 1) + 1 < 2 ^ 64 =
+    omega (arith, same, high) in
+    let rest = chunks_are region axes parts.1 (omega arith) f.1 in (
+      ap₂ (λ a r. record { start = chunk_at (axis_starts axis) span.start; size = a } ∷ r) here rest.0,
+      and_from _ _ (and_from _ _ (le-leb _ _ rises) (lt-ltb _ _ end)) rest.1,
+    )
 
 pub ruleset of_meeting = (chunks_listed, none_listed)

@@ -1,18 +1,19 @@
 -- A regular grid in numbers: how many chunks it has, which chunks meet a box, and where each lies.
-use Rattle.std.proofs.Common.{◌≡◌, ℕ, zero, suc, ◌+◌, ◌-◌, ◌*◌, ◌/◌, ◌%◌, ◌<◌, ◌≤◌, ◌^◌, ◌&&◌, true, false, nat_le}
+use Rattle.std.proofs.Common.{◌≡◌, ℕ, zero, suc, ◌+◌, ◌-◌, ◌*◌, ◌/◌, ◌%◌, ◌<◌, ◌≤◌, ◌^◌, ◌&&◌, true, nat_le}
 use Rattle.std.proofs.Common.{nat_lt, min, max, List, [], ◌∷◌, length, refl, sym, ap, ap₂, ◌∙◌, subst, arith}
 use Rattle.std.specs.declared.num.NonZeroU64.{NonZeroU64}
 use Rattle.std.specs.Int.NonZero.{non_zero_u64_get}
-use Rattle.std.proofs.lemmas.Bool.{and_parts, and_from, leb-true, ltb-true, le-leb, lt-ltb, true≢false}
+use Rattle.std.proofs.lemmas.Bool.{and_parts, and_from, leb-true, ltb-true, le-leb, lt-ltb}
 use Rattle.std.proofs.lemmas.Nat.{le-div, div_below, mul-le, div-mul-add}
 use Rattle.std.proofs.Math.Nat.{suc-mul, div-add-mod', mod-lt, mul-le-mul_right, add-mul}
-use Rattle.zarr_model.specs.Prelude.{Span, Region, count, whole, contains, is_in, ends_within, share_tuple, tuples}
+use Rattle.zarr_model.specs.Prelude.{Span, Region, starts, sizes, count, whole, contains, is_in, ends_within}
+use Rattle.zarr_model.specs.Prelude.{share_tuple, tuples}
 use Rattle.zarr_model.specs.Prelude.{regular_grid, chunks_meeting}
 use Rattle.zarr_model.proofs.RegionLaws.{span_in, tuples-empty, positive_parts, ends_of_span}
 use Rattle.zarr_model.proofs.MeetingLaws.{AreMeeting, tuples-meeting, chunks_meeting-empty}
 use Rattle.zarr_model.proofs.Choices.{same_test, swap_tests}
-use Rattle.zarrs_array_subset.specs.Boxes.{region_of, is_box, ends}
-use Rattle.zarr_basics.specs.Lengths.{nonzeros, counts_between}
+use Rattle.zarrs_array_subset.specs.Boxes.{region_through, is_box, is_rising_inc}
+use Rattle.zarr_basics.specs.Lengths.{nonzeros}
 use Rattle.zarr_basics.specs.RegularGrid.{quotients_up, quotients, lasts, chunk_span, chunk_region}
 
 -- the two ways to round a quotient up
@@ -99,37 +100,34 @@ below_self : (i p : ℕ) → 0 < p → i / p ≤ i
 below_self i p some = let grows : i / p * 1 ≤ i / p * p = mul-le (i / p) 1 (i / p) p (omega arith) (omega arith) in
     omega (arith, (row_holds i p some).0)
 
-pub chunks_are : (start shape : List ℕ) (lengths : List NonZeroU64) → is_box start shape ≡ true →
-    length start ≡ length lengths → 0 < count (region_of start shape) →
-    (region_of (quotients start lengths) (counts_between (lasts (ends (region_of start shape)) lengths)
-    (quotients start lengths)) ≡ chunk_region lengths (region_of start shape))
-    × (is_box (quotients start lengths)
-    (counts_between (lasts (ends (region_of start shape)) lengths) (quotients start lengths)) ≡ true)
-chunks_are [] [] [] box rank some = (refl, refl)
-chunks_are [] [] (p ∷ lengths) box rank some = absurd (omega arith)
-chunks_are [] (n ∷ shape) lengths box rank some = cc
-chunks_are (s ∷ start) [] lengths box rank some = cc
-chunks_are (s ∷ start) (n ∷ shape) [] box rank some = absurd (omega arith)
-chunks_are (s ∷ start) (n ∷ shape) (p ∷ lengths) box rank some =
-    let parts = and_parts (nat_lt (s + n) (2 ^ 64)) (is_box start shape) box in
-    let fit : s + n < 2 ^ 64 = ltb-true _ _ parts.0 in
-    let f : (0 < n) × (0 < count (region_of start shape)) =
-    positive_parts (record { start = s; size = n }) (region_of start shape) some in
-    let low : s / p.value ≤ s = below_self s p.value p.ok in
-    let high : (s + n - 1) / p.value ≤ s + n - 1 = below_self (s + n - 1) p.value p.ok in
-    let here : min ((s + n - 1) / p.value - s / p.value + 1) (2 ^ 64 - 1) ≡ (s + n - 1) / p.value - s / p.value + 1 =
-    omega arith in
-    let end : s / p.value + min ((s + n - 1) / p.value - s / p.value + 1) (2 ^ 64 - 1) < 2 ^ 64 = omega arith in
-    let rest = chunks_are start shape lengths parts.1 (omega arith) f.1 in
-    (ap₂ (λ a r. record { start = s / p.value; size = a } ∷ r) here rest.0, and_from _ _ (lt-ltb _ _ end) rest.1)
-
-pub chunks_box : (start shape : List ℕ) (lengths : List NonZeroU64) (first last number end : List ℕ) →
-    is_box start shape ≡ true → length start ≡ length lengths → 0 < count (region_of start shape) →
-    end ≡ ends (region_of start shape) → first ≡ quotients start lengths → last ≡ lasts end lengths →
-    number ≡ counts_between last first → is_box first number ≡ false → ⊥
-chunks_box start shape lengths first last number end box rank some e f l n refused =
-    true≢false (sym (ap₂ is_box f (n ∙ ap₂ counts_between (l ∙ ap (λ x. lasts x lengths) e) f)
-    ∙ (chunks_are start shape lengths box rank some).1) ∙ refused)
+pub chunks_are : (region : Region) (lengths : List NonZeroU64) → is_box (starts region) (sizes region) ≡ true →
+    length region ≡ length lengths → 0 < count region →
+    (region_through (quotients (starts region) lengths) (lasts (starts region) (sizes region) lengths)
+    ≡ chunk_region lengths region)
+    × (is_rising_inc (quotients (starts region) lengths) (lasts (starts region) (sizes region) lengths) ≡ true)
+chunks_are [] [] box rank some = (refl, refl)
+chunks_are [] (p ∷ lengths) box rank some = absurd (omega arith)
+chunks_are (span ∷ region) [] box rank some = absurd (omega arith)
+chunks_are (span ∷ region) (p ∷ lengths) box rank some =
+    let parts = and_parts (nat_lt (span.start + span.size) (2 ^ 64)) (is_box (starts region) (sizes region)) box in
+    let fit : span.start + span.size < 2 ^ 64 = ltb-true _ _ parts.0 in
+    let f : (0 < span.size) × (0 < count region) = positive_parts span region some in
+    let last : min (span.start + span.size) (2 ^ 64 - 1) - 1 ≡ span.start + span.size - 1 = omega arith in
+    let same : (min (span.start + span.size) (2 ^ 64 - 1) - 1) / p.value ≡ (span.start + span.size - 1) / p.value =
+    ap (λ n. n / p.value) last in
+    let ordered : span.start / p.value ≤ (span.start + span.size - 1) / p.value = le-div (span.start / p.value)
+    (span.start + span.size - 1) p.value p.ok (omega (arith, (row_holds span.start p.value p.ok).0)) in
+    let high : (span.start + span.size - 1) / p.value ≤ span.start + span.size - 1 =
+    below_self (span.start + span.size - 1) p.value p.ok in
+    let here : (min (span.start + span.size) (2 ^ 64 - 1) - 1) / p.value + 1 - span.start / p.value
+    ≡ (span.start + span.size - 1) / p.value - span.start / p.value + 1 = omega (arith, same, ordered) in
+    let rises : span.start / p.value ≤ (min (span.start + span.size) (2 ^ 64 - 1) - 1) / p.value =
+    omega (arith, same, ordered) in
+    let end : (min (span.start + span.size) (2 ^ 64 - 1) - 1) / p.value + 1 < 2 ^ 64 = omega (arith, same, high) in
+    let rest = chunks_are region lengths parts.1 (omega arith) f.1 in (
+      ap₂ (λ a r. record { start = span.start / p.value; size = a } ∷ r) here rest.0,
+      and_from _ _ (and_from _ _ (le-leb _ _ rises) (lt-ltb _ _ end)) rest.1,
+    )
 
 -- these chunks are within the grid, and no more than the region's tuples
 chunks_within : (shape : List ℕ) (lengths : List NonZeroU64) (region : Region) → length shape ≡ length lengths →

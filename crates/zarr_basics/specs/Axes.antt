@@ -1,5 +1,5 @@
 -- What a `BoundaryAxis` stands for, and numbers of several, dimension by dimension.
-use Rattle.std.specs.Prelude.{ℕ, ◌+◌, ◌-◌, max, List, [], ◌∷◌, map, zip, get_or}
+use Rattle.std.specs.Prelude.{ℕ, ◌+◌, ◌-◌, ◌^◌, min, max, List, [], ◌∷◌, map, zip, get_or}
 use Rattle.zarr_model.specs.Prelude.{Region, chunk_at, largest}
 use Rattle.zarr_basics.specs.Lengths.{nonzeros}
 use Rattle.zarr_basics.specs.declared.axis.BoundaryAxis.{BoundaryAxis}
@@ -17,12 +17,14 @@ lengths_of axes = map axis_lengths axes
 abbrev pub largest_of : List BoundaryAxis → List ℕ
 largest_of axes = map (λ axis. max 1 (largest (axis_lengths axis))) axes
 
--- the chunk of each index, and of the last index before each end
+-- the chunk of each index, and of the last index of each start and length
 abbrev pub chunks_at : List BoundaryAxis → List ℕ → List ℕ
 chunks_at axes indices = map (λ p. chunk_at (axis_starts p.0) p.1) (zip axes indices)
 
-abbrev pub last_chunks : List BoundaryAxis → List ℕ → List ℕ
-last_chunks axes ends = map (λ p. chunk_at (axis_starts p.0) (p.1 - 1)) (zip axes ends)
+abbrev pub last_chunks : List BoundaryAxis → List ℕ → List ℕ → List ℕ
+last_chunks axes start shape =
+    map (λ p. chunk_at (axis_starts p.0.0) (min (p.0.1 + p.1) (2 ^ 64 - 1) - 1))
+    (zip (zip axes start) shape)
 
 -- where each chunk begins, and its length
 abbrev pub starts_at : List BoundaryAxis → List ℕ → List ℕ

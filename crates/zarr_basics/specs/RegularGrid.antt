@@ -4,8 +4,8 @@ use Rattle.std.specs.declared.num.NonZeroU64.{NonZeroU64}
 use Rattle.std.specs.Int.NonZero.{non_zero_u64_get}
 use Rattle.zarr_model.specs.Prelude.{Span, Region}
 
--- numbers made of two lists, place by place: quotients rounded up and down, those of the last index
--- before each end, and products
+-- numbers made of lists, place by place: quotients rounded up and down, those of the last index of
+-- each start and length, and products
 abbrev pub quotients_up : List ℕ → List NonZeroU64 → List ℕ
 quotients_up numbers lengths = map (λ p.
     p.0 / non_zero_u64_get p.1 + min 1 (p.0 % non_zero_u64_get p.1)) (zip numbers lengths)
@@ -13,8 +13,10 @@ quotients_up numbers lengths = map (λ p.
 abbrev pub quotients : List ℕ → List NonZeroU64 → List ℕ
 quotients indices lengths = map (λ p. p.0 / non_zero_u64_get p.1) (zip indices lengths)
 
-abbrev pub lasts : List ℕ → List NonZeroU64 → List ℕ
-lasts ends lengths = map (λ p. (p.0 - 1) / non_zero_u64_get p.1) (zip ends lengths)
+abbrev pub lasts : List ℕ → List ℕ → List NonZeroU64 → List ℕ
+lasts start shape lengths =
+    map (λ p. (min (p.0.0 + p.0.1) (2 ^ 64 - 1) - 1) / non_zero_u64_get p.1)
+    (zip (zip start shape) lengths)
 
 abbrev pub products : List ℕ → List NonZeroU64 → List ℕ
 products chunk lengths = map (λ p. min (p.0 * non_zero_u64_get p.1) (2 ^ 64 - 1))

@@ -11,7 +11,7 @@ use crate::BoundaryGrid;
 use crate::regular_grid::RegularGrid;
 use std::alloc::{AllocError, Global};
 use std::num::NonZeroU64;
-use zarrs_array_subset::{ArrayIndices, ArraySubset, ChunkShape};
+use zarrs_array_subset::{ArrayIndices, ArrayShape, ArraySubset, ChunkShape};
 use zarrs_chunk_grid::{ChunkGridError, ChunkGridTraits};
 use zarrs_metadata_parts::{Configuration, MetadataV3};
 use zarrs_plugin::{ExtensionName, PluginCreateError, ZarrVersion};
@@ -160,6 +160,17 @@ impl ChunkGridTraits for BasicGrid {
         match self {
             BasicGrid::Regular(grid) => grid.chunk_shape(alloc, chunk_indices),
             BasicGrid::Boundary(grid) => grid.chunk_shape(alloc, chunk_indices),
+        }
+    }
+
+    fn chunk_shape_u64(
+        &self,
+        alloc: Global,
+        chunk_indices: &[u64],
+    ) -> Result<Option<ArrayShape>, ChunkGridError> {
+        match self {
+            BasicGrid::Regular(grid) => grid.chunk_shape_u64(alloc, chunk_indices),
+            BasicGrid::Boundary(grid) => grid.chunk_shape_u64(alloc, chunk_indices),
         }
     }
 

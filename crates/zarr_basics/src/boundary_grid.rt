@@ -11,7 +11,6 @@ use crate::boundary_making::{boundaries_by, lengths_configuration};
 use crate::boundary_numbers::{
     chunks_at, counts_of, ends_fit, largest_of, last_chunks, lengths_at, starts_at,
 };
-use crate::lengths::counts_between;
 use crate::limits::{are_some, is_too_large};
 use crate::refusal::{other_rank, unsupported_grid};
 use std::alloc::{AllocError, Global};
@@ -96,9 +95,8 @@ fn chunks_of(
         (region array_subset.now)) }
 {
     let first = chunks_at(alloc, axes, array_subset.start())?;
-    let last = last_chunks(alloc, axes, &array_subset.end_exc(alloc)?)?;
-    let shape = counts_between(alloc, &last, &first)?;
-    match ArraySubset::new_with_start_shape(first, shape) {
+    let last = last_chunks(alloc, axes, array_subset.start(), array_subset.shape())?;
+    match ArraySubset::new_with_start_end_inc(first, last) {
         Ok(chunks) => Ok(chunks),
         Err(_) => unreachable!(),
     }

@@ -42,17 +42,19 @@ pub(crate) fn chunks_at(
         .collect(alloc)
 }
 
-// The chunk of the last index before each end.
+// The chunk of the last index of each start and length.
 pub(crate) fn last_chunks(
     alloc: Global,
     axes: &[BoundaryAxis],
-    ends: &[u64],
+    start: &[u64],
+    shape: &[u64],
 ) -> Result<Vec<u64>, AllocError>
-    ensures { IfOk result (λ v. v.items ≡ last_chunks axes.now ends.now) }
+    ensures { IfOk result (λ v. v.items ≡ last_chunks axes.now start.now shape.now) }
 {
     axes.iter()
-        .zip(ends)
-        .map(|(axis, end)| axis.chunk_at(end.saturating_sub(1)))
+        .zip(start)
+        .zip(shape)
+        .map(|((axis, s), n)| axis.chunk_at(s.saturating_add(*n).saturating_sub(1)))
         .collect(alloc)
 }
 

@@ -34,6 +34,11 @@ impl ChunkKeyEncoding {
     }
 }
 
+// Room for the text of indices, each behind a separator, and one more byte.
+fn text_room(indices: &[u64]) -> usize {
+    indices.len().saturating_mul(21).saturating_add(1)
+}
+
 // The key of a chunk under the encoding `default`.
 fn default_chunk_key(
     alloc: Global,
@@ -43,9 +48,11 @@ fn default_chunk_key(
     ensures { IfOk result (λ key. key ≡ chunk_key (default_keys (separator_code separator))
         chunk_indices.now) }
 {
-    let mut text = String::from_str(alloc, "c")?;
+    let mut text = String::with_capacity(alloc, text_room(chunk_indices))?;
+    text.push('c')?;
     for index in chunk_indices {
-        write!(text, "{separator}{index}")?;
+        text.push_str(separator.as_str())?;
+        write!(text, "{index}")?;
     }
     match StoreKey::new(text) {
         Ok(key) => Ok(key),
@@ -63,10 +70,11 @@ fn joined(
     ensures { IfOk result (λ text. string_bytes text ≡ decimal first
         ++ flat_map (λ index. separator_code separator ∷ decimal index) rest.now) }
 {
-    let mut text = String::new(alloc);
+    let mut text = String::with_capacity(alloc, text_room(rest).saturating_add(20))?;
     write!(text, "{first}")?;
     for next in rest {
-        write!(text, "{separator}{next}")?;
+        text.push_str(separator.as_str())?;
+        write!(text, "{next}")?;
     }
     Ok(text)
 }

@@ -8,6 +8,7 @@ ghost use Rattle.zarr_cli_lines.specs.Parts.{span_of_range};
 
 use crate::element_parts::cut;
 use crate::parts::three_parts;
+use smallvec::SmallVec;
 use std::alloc::{AllocError, Global};
 use std::ops::Range;
 use zarrs_array_subset::ArraySubset;
@@ -26,12 +27,15 @@ fn parse_range(text: &str) -> Option<Range<u64>>
     Some(start..end)
 }
 
+// The ranges of a box, of which those of most arrays have room without an allocation.
+type Ranges = SmallVec<Range<u64>, 4>;
+
 // Ranges joined by commas.
-fn parse_ranges(alloc: Global, text: &str) -> Result<Option<Vec<Range<u64>>>, AllocError>
+fn parse_ranges(alloc: Global, text: &str) -> Result<Option<Ranges>, AllocError>
     ensures { IfOk result (λ ranges. option_map (λ v. region_of_ranges v.items) ranges
         ≡ all_some (map (λ range. span_in_words (split_at 46 range)) (split_at 44 text.now))) }
 {
-    let mut ranges = Vec::new(alloc);
+    let mut ranges = Ranges::new(alloc);
     let mut left = Some(text);
     'parts: while let Some(text) = left {
         let (range, rest) = cut(text, ',');
@@ -54,5 +58,5 @@ pub(crate) fn parse_box(alloc: Global, text: &str) -> Result<Option<ArraySubset>
     let Some(ranges) = parse_ranges(alloc, text)? else {
         return Ok(None);
     };
-    Ok(Some(ArraySubset::new_with_ranges(alloc, &ranges)?))
+    Ok(Some(ArraySubset::new_with_ranges(alloc, ranges.as_slice())?))
 }

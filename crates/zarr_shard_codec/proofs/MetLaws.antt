@@ -2,30 +2,18 @@
 use Rattle.std.proofs.Common.{◌≡◌, ℕ, zero, suc, ◌+◌, ◌-◌, ◌*◌, ◌<◌, nat_le, nat_lt, true, List, [], ◌∷◌, length}
 use Rattle.std.proofs.Common.{get_or, slice_get, Some, refl, sym, ap, ap₂, ◌∙◌, subst, arith}
 use Rattle.std.proofs.lemmas.Bool.{and_parts, and_from, cond-true}
-use Rattle.zarrs_codec_traits.specs.Prelude.{Region, starts, sizes, count, count_of, whole, contains, tuples, tuple_at}
-use Rattle.zarrs_codec_traits.specs.Prelude.{place, Grid, IsChunk, chunks_meeting, is_in, is_box, region_of}
+use Rattle.zarrs_codec_traits.specs.Prelude.{Region, count, count_of, whole, contains, tuples, tuple_at}
+use Rattle.zarrs_codec_traits.specs.Prelude.{place, Grid, IsChunk, chunks_meeting, is_in}
 use Rattle.zarrs_codec_traits.specs.Prelude.{region as region_of_subset}
 use Rattle.zarr_model.proofs.RegionLaws.{length-tuples, get_or-tuples, place_below, count_whole, rank_within}
 use Rattle.zarr_model.proofs.FailureLaws.{meeting_is}
 use Rattle.zarrs_array_subset.specs.Ravel.{count_front, place_front, is_below, raveled}
-use Rattle.zarrs_array_subset.proofs.BoxLaws.{starts_region, sizes_region}
 use Rattle.zarr_shard_codec.specs.MetInner.{met_codec, region_met, met_inner_at, AreMetInner}
 use Rattle.zarr_shard_codec.specs.Placing.{inner_number}
 use Rattle.zarr_shard_codec.specs.ShardCodec.{inner_of, inner_grid}
 use Rattle.zarr_shard_codec.specs.declared.met_inner.MetInner.{MetInner}
 use Rattle.zarr_shard_codec.specs.declared.shard_codec.ShardCodec.{ShardCodec}
 use Rattle.zarr_shard_codec.proofs.CodecFacts.{covers}
-
--- the two lists of a subset are a box
-pub parts_box : (start shape : List ℕ) → is_box start shape ≡ true →
-    (is_box (starts (region_of start shape)) (sizes (region_of start shape)) ≡ true)
-    × (region_of (starts (region_of start shape)) (sizes (region_of start shape)) ≡ region_of start shape)
-parts_box start shape box = (
-  ap₂ is_box (starts_region start shape box) (sizes_region start shape box) ∙ box,
-  ap₂ region_of (starts_region start shape box) (sizes_region start shape box),
-)
-
-pub ruleset of_subsets = (parts_box)
 
 -- the linear index of a tuple inside a shape is its place
 front_is : (shape indices : List ℕ) → contains (whole shape) indices ≡ true → (is_below shape indices ≡ true) ×

@@ -1,7 +1,7 @@
 //! The inner chunks of a value under a key that a region meets.
 
 ghost use Rattle.std.specs.Prelude.{◌≡◌, ◌<◌, ◌^◌, true, false, IsSome, IfOk, IfErr, OnOk, MatchResult};
-ghost use Rattle.zarrs_codec.specs.Prelude.{count, count_of, whole, contains, tuples, tuple_at};
+ghost use Rattle.zarrs_codec.specs.Prelude.{count, count_of, whole, contains, tuples};
 ghost use Rattle.zarrs_codec.specs.Prelude.{place, IsChunk, ends_within, chunks_meeting};
 ghost use Rattle.zarrs_codec.specs.Prelude.{has_long_element, region as region_of, Copied, raw_of};
 ghost use Rattle.zarrs_codec.specs.Prelude.{options_of, list_at};
@@ -16,8 +16,8 @@ use crate::inner_chunks::InnerChunks;
 use crate::pair::pair_at;
 use crate::shard_codec::ShardCodec;
 use std::alloc::{AllocError, Global};
-use zarr_array_boxes::BoxElements;
-use zarrs_array_subset::{ArrayIndicesTinyVec, ArraySubset, push_tuple, ravel_indices};
+use zarr_array_boxes::{BoxElements, indices_at};
+use zarrs_array_subset::{ArraySubset, ravel_indices};
 use zarrs_chunk_grid::ChunkGridTraits;
 use zarrs_codec_array_bytes::ArrayBytes;
 use zarrs_codec_error::{CodecError, CodecOptions};
@@ -53,28 +53,6 @@ pub(crate) fn chunks_of(
 {
     let chunks = codec.shard.inner.grid().chunks_meeting(alloc, subset)?;
     Ok(chunks)
-}
-
-// The indices at a place of a subset's row-major list.
-#[tactic(auto, using(crate::proofs::MetLaws::of_subsets))]
-fn indices_at(
-    alloc: Global,
-    subset: &ArraySubset,
-    place: u64,
-) -> Result<ArrayIndicesTinyVec, AllocError>
-    requires few { count (region_of subset.now) < 2 ^ 64 }
-    requires below { place < count (region_of subset.now) }
-    ensures { IfOk result (λ indices. indices.items ≡ tuple_at (region_of subset.now) place) }
-{
-    let mut indices = ArrayIndicesTinyVec::new(alloc);
-    push_tuple(
-        &mut indices,
-        subset.start(),
-        subset.shape(),
-        place,
-        subset.num_elements(),
-    )?;
-    Ok(indices)
 }
 
 // The place of indices inside a shape.

@@ -166,11 +166,11 @@ pub trait ChunkGridTraits: ExtensionName + Sized {
         are_inbounds(self.grid_shape(), chunk_indices)
     }
 
-    /// The shape of a chunk as numbers.
+    /// The shape of a chunk as numbers, by `chunk_shape` where a grid does not make it itself.
     ///
     /// # Errors
     /// [`ChunkGridError`] where the indices have another number of dimensions, or memory runs out.
-    final fn chunk_shape_u64(
+    fn chunk_shape_u64(
         &self,
         alloc: Global,
         chunk_indices: &[u64],

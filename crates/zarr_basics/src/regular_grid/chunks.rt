@@ -8,11 +8,11 @@ ghost use Rattle.zarr_basics.specs.RegularGrid.{chunk_region};
 use super::RegularGrid;
 use super::numbers::{lasts, products, quotients};
 use crate::grid_kind::{chunk_shape_configuration, regular_by};
-use crate::lengths::counts_between;
+use crate::lengths::numbers;
 use crate::refusal::{other_rank, unsupported_grid};
 use std::alloc::{AllocError, Global};
 use std::num::NonZeroU64;
-use zarrs_array_subset::{ArrayIndices, ArraySubset, ChunkShape};
+use zarrs_array_subset::{ArrayIndices, ArrayShape, ArraySubset, ChunkShape};
 use zarrs_chunk_grid::{ChunkGridError, ChunkGridTraits, are_below};
 use zarrs_metadata_parts::{Configuration, MetadataV3};
 use zarrs_plugin::{ExtensionName, PluginCreateError, ZarrVersion};
@@ -28,9 +28,8 @@ fn chunks_of(
     ensures { IfOk result (λ s. region s ≡ chunk_region lengths.now (region array_subset.now)) }
 {
     let first = quotients(alloc, array_subset.start(), lengths)?;
-    let last = lasts(alloc, &array_subset.end_exc(alloc)?, lengths)?;
-    let shape = counts_between(alloc, &last, &first)?;
-    match ArraySubset::new_with_start_shape(first, shape) {
+    let last = lasts(alloc, array_subset.start(), array_subset.shape(), lengths)?;
+    match ArraySubset::new_with_start_end_inc(first, last) {
         Ok(chunks) => Ok(chunks),
         Err(_) => unreachable!(),
     }
@@ -109,6 +108,23 @@ impl ChunkGridTraits for RegularGrid {
             return Ok(None);
         }
         let lengths = self.chunk_shape.as_slice().to_vec(alloc)?;
+        Ok(Some(lengths))
+    }
+
+    #[tactic(auto, using(crate::proofs::RegularFacts::of_boxes))]
+    fn chunk_shape_u64(
+        &self,
+        alloc: Global,
+        chunk_indices: &[u64],
+    ) -> Result<Option<ArrayShape>, ChunkGridError> {
+        let (got, expected) = (chunk_indices.len(), self.array_shape.len());
+        if got != expected {
+            return Err(other_rank(got, expected));
+        }
+        if !are_below(&self.grid_shape, chunk_indices) {
+            return Ok(None);
+        }
+        let lengths = numbers(alloc, &self.chunk_shape)?;
         Ok(Some(lengths))
     }
 

@@ -39,17 +39,20 @@ pub(super) fn quotients(
         .collect(alloc)
 }
 
-// The last chunk before each end.
+// The chunk of the last index of each start and length.
 pub(super) fn lasts(
     alloc: Global,
-    ends: &[u64],
+    start: &[u64],
+    shape: &[u64],
     lengths: &[NonZeroU64],
 ) -> Result<Vec<u64>, AllocError>
-    ensures { IfOk result (λ v. v.items ≡ lasts ends.now lengths.now) }
+    ensures { IfOk result (λ v. v.items ≡ lasts start.now shape.now lengths.now) }
 {
-    ends.iter()
+    start
+        .iter()
+        .zip(shape)
         .zip(lengths)
-        .map(|(end, p)| end.saturating_sub(1) / p.get())
+        .map(|((s, n), p)| s.saturating_add(*n).saturating_sub(1) / p.get())
         .collect(alloc)
 }
 

@@ -1,4 +1,5 @@
 use Rattle.std.proofs.Common.{◌≡◌, ◌<◌, length, arith, subst}
+use Rattle.std.proofs.lemmas.Result.{err_from_is_err_and}
 use Rattle.zarrs_codec_traits.specs.Prelude.{count, chunks_meeting, region, options_of}
 use Rattle.zarr_array_boxes.specs.BoxElements.{list_held}
 use Rattle.zarr_array.specs.Access.{described}
@@ -19,16 +20,18 @@ loop-number-init g c =
       c.requires.hand,
     )
 
-pub returns-in-Err-clause-read : goal.returns-in-Err-clause-read
-returns-in-Err-clause-read g c =
+pub returns-in_err-read_chunk-clause-read : goal.returns-in_err-read_chunk-clause-read
+returns-in_err-read_chunk-clause-read g c =
+    let p = err_from_is_err_and c.from_residual.result c.from_residual.ensures.1 in
     let met = c.args.self.now in
     let array = g.C.ChunkAccess.seen met.array.now in
     let below : c.loop-number.number < count (region c.args.self.now.chunks) = omega arith in
-    stops_read array (options_of c.args.options.now) (region met.subset.now) c.loop-number.number
+    rw (p.1, p.2) (stops_read array (options_of c.args.options.now) (region met.subset.now) c.loop-number.number
     (met_chunk_at met c.loop-number.number) (list_held c.loop-number.elements)
     (g.S.Store.shown c.args.store.now) (g.S.Store.shown c.loop-number.store) (g.S.Store.shown c.read_chunk.new.store)
-    c.in-Err.kind
-    (met_here array met c.requires.met c.loop-number.number below) c.loop-number.invariant.1 c.in-Err.ensures.read
+    _ c.in_err-read_chunk.ensures.at
+    (met_here array met c.requires.met c.loop-number.number below) c.loop-number.invariant.1
+    c.in_err-read_chunk.ensures.read)
 
 pub loop-number-preserved : goal.loop-number-preserved
 loop-number-preserved g c =
@@ -40,7 +43,8 @@ loop-number-preserved g c =
           c.loop-number.number) (list_held c.loop-number.elements) (list_held c.read_chunk.new.elements)
           (g.S.Store.shown c.args.store.now) (g.S.Store.shown c.loop-number.store)
           (g.S.Store.shown c.read_chunk.new.store)
-          (met_here array met c.requires.met c.loop-number.number below) c.loop-number.invariant.1 c.in-Ok.ensures.read,
+          (met_here array met c.requires.met c.loop-number.number below) c.loop-number.invariant.1
+          c.in_ok-read_chunk.ensures.read,
       g.met.S.Store.kept_twice c.args.store.now c.loop-number.store c.read_chunk.new.store c.loop-number.invariant.2
           c.read_chunk.ensures.kept,
       c.read_chunk.ensures.hand,

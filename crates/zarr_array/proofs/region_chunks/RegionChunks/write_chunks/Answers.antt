@@ -1,4 +1,5 @@
 use Rattle.std.proofs.Common.{◌≡◌, ◌<◌, length, arith}
+use Rattle.std.proofs.lemmas.Result.{err_from_is_err_and}
 use Rattle.zarrs_codec_traits.specs.Prelude.{count, chunks_meeting, region, raw_of, options_of}
 use Rattle.zarr_array.specs.Access.{described}
 use Rattle.zarr_array.specs.RegionChunks.{met_chunk_at}
@@ -17,16 +18,18 @@ loop-number-init g c =
       c.requires.hand,
     )
 
-pub returns-in-Err-clause-written : goal.returns-in-Err-clause-written
-returns-in-Err-clause-written g c =
+pub returns-in_err-write_chunk-clause-written : goal.returns-in_err-write_chunk-clause-written
+returns-in_err-write_chunk-clause-written g c =
+    let p = err_from_is_err_and c.from_residual.result c.from_residual.ensures.1 in
     let met = c.args.self.now in
     let array = g.C.ChunkAccess.seen met.array.now in
     let below : c.loop-number.number < count (region c.args.self.now.chunks) = omega arith in
-    stops_written array (options_of c.args.options.now) (region met.subset.now) (raw_of c.args.bytes.now)
+    rw (p.1, p.2) (stops_written array (options_of c.args.options.now) (region met.subset.now) (raw_of c.args.bytes.now)
     (g.met.C.ChunkAccess.served met.array.now) c.loop-number.number (met_chunk_at met c.loop-number.number)
     (g.S.Store.shown c.args.store.now) (g.S.Store.shown c.loop-number.store) (g.S.Store.shown c.write_chunk.new.store)
-    c.in-Err.kind
-    (met_here array met c.requires.met c.loop-number.number below) c.loop-number.invariant.0 c.in-Err.ensures.written
+    _ c.in_err-write_chunk.ensures.at
+    (met_here array met c.requires.met c.loop-number.number below) c.loop-number.invariant.0
+    c.in_err-write_chunk.ensures.written)
 
 pub loop-number-preserved : goal.loop-number-preserved
 loop-number-preserved g c =
@@ -38,7 +41,7 @@ loop-number-preserved g c =
           (g.S.Store.shown c.args.store.now) (g.S.Store.shown c.loop-number.store)
           (g.S.Store.shown c.write_chunk.new.store)
           (met_here array met c.requires.met c.loop-number.number below) c.loop-number.invariant.0
-          c.in-Ok.ensures.written,
+          c.in_ok-write_chunk.ensures.written,
       c.write_chunk.ensures.hand,
     )
 

@@ -1,6 +1,7 @@
--- The places of chunks.
+-- The two lists of a box.
 use Rattle.std.proofs.Common.{◌≡◌, ℕ, true, List, ap₂, ◌∙◌}
-use Rattle.zarrs_codec_traits.specs.Prelude.{starts, sizes, is_box, region_of}
+use Rattle.zarr_model.specs.Region.{starts, sizes}
+use Rattle.zarrs_array_subset.specs.Boxes.{is_box, region_of}
 use Rattle.zarrs_array_subset.proofs.BoxLaws.{starts_region, sizes_region}
 
 -- the two lists of a subset are a box

@@ -1,7 +1,8 @@
 use Rattle.std.proofs.Common.{◌++◌, ap, ap₂, ◌∙◌}
-use Rattle.zarrs_codec_traits.specs.Prelude.{tuple_at, region_of}
-use Rattle.zarr_shard_codec.proofs.MetLaws.{parts_box}
-use Rattle.zarr_shard_codec.proofs.met_inner.indices_at.Goals as goal
+use Rattle.zarr_model.specs.Region.{tuple_at}
+use Rattle.zarrs_array_subset.specs.Boxes.{region_of}
+use Rattle.zarr_array_boxes.proofs.IndexLaws.{parts_box}
+use Rattle.zarr_array_boxes.proofs.indices.indices_at.Goals as goal
 
 pub returns : goal.returns
 returns c =
