@@ -1,5 +1,5 @@
 -- The part of a chunk that a read of a region asks for.
-use Rattle.std.proofs.Common.{◌≡◌, ℕ, Bool, true, false, ◌==◌, not, if◌then◌else◌, List, Option, Some, None, refl, ap}
+use Rattle.std.proofs.Common.{◌≡◌, ℕ, Bool, true, false, ◌==◌, not, if◌then◌else◌, List, Option, Some, None, refl}
 use Rattle.std.proofs.Common.{ap₂}
 use Rattle.zarr_model.specs.Prelude.{Region, count, overlap_of, is_in_part, part_of_box, Options, Description}
 use Rattle.zarr_model.specs.Prelude.{finds_shared}

@@ -22,6 +22,7 @@ list_request codec dims type box = request_by (plain_of codec) dims type box
 abbrev pub box_below : Boxing BasicArrayToArray
 box_below codec dims box = (array_meaning codec).box_below dims box
 
+-- what calls on a chunk say of an array's codecs at these levels
 abbrev pub basic_seen : BasicChain → ChunkLevels → ChainSeen
 basic_seen chain levels = record {
   level = first_level levels;

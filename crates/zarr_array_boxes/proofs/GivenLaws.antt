@@ -1,4 +1,4 @@
--- Runs of places that are appended.
+-- Elements that were given to a box, and the runs of their places, with more appended.
 use Rattle.std.proofs.Common.{◌≡◌, ℕ, suc, List, [], ◌∷◌, ◌++◌, map, ap₂, ◌∙◌, arith}
 use Rattle.std.specs.List.{range_with_len}
 use Rattle.std.proofs.lemmas.Grind.{flat_map-append}

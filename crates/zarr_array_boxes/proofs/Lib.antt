@@ -2,6 +2,7 @@ pub mod IndexLaws
 pub mod ShareLaws
 pub mod SharedPartLaws
 pub mod PutLaws
+pub mod MemoryLaws
 pub mod ShortLaws
 pub mod GivenLaws
 pub mod PlaceRunLaws

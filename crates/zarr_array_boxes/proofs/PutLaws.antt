@@ -207,6 +207,21 @@ took kind box source part at shape base bytes piece before given new rank base_l
           new_places new_joins;
     }
 
+-- the piece means elements for the places of the part
+pub piece_means : (kind : Kind) (box source part at : Region) (bytes piece : ArrayBytes) → length box ≡ length source →
+    IsSome (meaning kind (count source) bytes) → part ≡ overlap_of box source → at ≡ moved_back part (starts box) →
+    ((xs : List Element) → meaning kind (count source) bytes ≡ Some xs →
+    meaning kind (length (shared_in source part)) piece ≡ Some (picked null (shared_in source part) xs)) →
+    meaning kind (length (tuples at)) piece
+    ≡ Some (picked null (shared_in source (overlap_of box source)) (list_in kind source bytes))
+piece_means kind box source part at bytes piece rank means part_is at_is selected =
+    let taken = piece_of kind box source part bytes piece means part_is selected in
+    let at_box : at ≡ moved_back (overlap_of box source) (starts box) = place_in box source part at part_is at_is in
+    let as_many : length (tuples at) ≡ length (shared_in source (overlap_of box source)) =
+    ap (λ a. length (tuples a)) at_box ∙ (sym (length-map (tuples (moved_back (overlap_of box source) (starts box)))
+    (linear_index (sizes box))) ∙ shared_long box source rank) in
+    ap (λ n. meaning kind n piece) as_many ∙ taken.means
+
 pub updated_puts : (kind : Kind) (box source part at : Region) (shape : List ℕ) (bytes old piece new : ArrayBytes) →
     length box ≡ length source →
     IsSome (meaning kind (count source) bytes) → IsSome (meaning kind (count box) old) → part ≡ overlap_of box source →
@@ -217,17 +232,13 @@ pub updated_puts : (kind : Kind) (box source part at : Region) (shape : List ℕ
     Some ys → meaning kind (count_of shape) new ≡ Some (replaced (linear shape (tuples at)) ys xs)) →
     PutsOverlap kind box source bytes old new
 updated_puts kind box source part at shape bytes old piece new rank means was part_is at_is shape_is selected updated =
-    let taken = piece_of kind box source part bytes piece means part_is selected in
     let at_box : at ≡ moved_back (overlap_of box source) (starts box) = place_in box source part at part_is at_is in
     let xs = list_in kind box old in
     let ys = picked null (shared_in source (overlap_of box source)) (list_in kind source bytes) in
     let old_is : meaning kind (count_of shape) old ≡ Some xs =
     ap (λ s. meaning kind (count_of s) old) shape_is ∙ some_list (meaning kind (count box) old) was in
-    let as_many : length (tuples at) ≡ length (shared_in source (overlap_of box source)) =
-    ap (λ a. length (tuples a)) at_box ∙ (sym (length-map (tuples (moved_back (overlap_of box source) (starts box)))
-    (linear_index (sizes box))) ∙ shared_long box source rank) in
     let piece_is : meaning kind (length (tuples at)) piece ≡ Some ys =
-    ap (λ n. meaning kind n piece) as_many ∙ taken.means in
+    piece_means kind box source part at bytes piece rank means part_is at_is selected in
     puts_overlap kind box source bytes old new rank means was
     (ap (λ s. meaning kind (count_of s) new) (sym shape_is)
     ∙ (updated xs ys old_is piece_is ∙ ap₂ (λ s a. Some (replaced (linear s (tuples a)) ys xs)) shape_is at_box))

@@ -42,7 +42,7 @@ fn filled_elements(
 {
     match ArrayBytes::new_fill_value(alloc, data_type, number, fill_value) {
         Ok(bytes) => OwnedArrayBytes::owned_from(alloc, bytes),
-        Err(_) => Err(AllocError),
+        Err(error) => Err(error.only_memory()),
     }
 }
 

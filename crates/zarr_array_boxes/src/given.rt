@@ -1,7 +1,7 @@
 //! Elements that are given to places of a box.
 
 ghost use Rattle.std.specs.Prelude.{◌≡◌, ◌+◌, ◌++◌, ◌<◌, ◌^◌, true, Some, None, IfOk, OnOk};
-ghost use Rattle.zarr_model.specs.Region.{count_of, tuples};
+ghost use Rattle.zarr_model.specs.Region.{count_of, ends_within, tuples};
 ghost use Rattle.zarrs_array_subset.specs.ArraySubset.{region};
 ghost use Rattle.zarrs_codec_slices.specs.PickedRuns.{run_numbers, AreRunsBelow};
 ghost use Rattle.zarrs_codec_array_bytes.specs.Raw.{raw_of};
@@ -30,16 +30,17 @@ fn append_places<I: Indexer>(
     at: &I,
     shape: &[u64],
 ) -> Result<(), AllocError>
-    requires { count_of shape.now < 2 ^ 64 }
+    requires count { count_of shape.now < 2 ^ 64 }
+    requires fits { I.fits at.now shape.now ≡ true }
     ensures places { OnOk result (run_numbers runs.new.items
         ≡ run_numbers runs.old.items ++ linear shape.now (I.places at.now)) }
     ensures within { AreRunsBelow (count_of shape.now) runs.old.items
         → OnOk result (AreRunsBelow (count_of shape.now) runs.new.items) }
 {
-    let Ok(()) = append_contiguous_linearised_indices(runs, alloc, at, shape) else {
-        return Err(AllocError);
-    };
-    Ok(())
+    match append_contiguous_linearised_indices(runs, alloc, at, shape) {
+        Ok(()) => Ok(()),
+        Err(error) => Err(error.only_memory()),
+    }
 }
 
 /// What was given before, and behind it a piece for the places of a box in a shape.
@@ -51,6 +52,7 @@ pub(crate) fn with_piece(
     piece: &ArrayBytes<'_>,
 ) -> Result<Given, AllocError>
     requires count { count_of shape.now < 2 ^ 64 }
+    requires inside { ends_within (region at.now) shape.now ≡ true }
     requires alike { given_alike given (raw_of piece.now) ≡ true }
     ensures places { IfOk result (λ v. run_numbers v.runs.items
         ≡ given_indices given ++ linear shape.now (tuples (region at.now))) }

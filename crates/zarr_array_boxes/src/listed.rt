@@ -48,6 +48,7 @@ fn blank_element(
     data_type: &DataType,
     fill_value: &FillValue,
 ) -> Result<ArrayBytes<'static>, AllocError>
+    requires { IsSome (fill_element (kind_seen data_type.now) (fill_bytes fill_value.now)) }
     ensures means { (x : Element)
         → fill_element (kind_seen data_type.now) (fill_bytes fill_value.now) ≡ Some x
         → IfOk result (λ v. meaning (kind_seen data_type.now) 1 (raw_of v) ≡ Some (x ∷ [])) }
@@ -57,7 +58,7 @@ fn blank_element(
     let _size = element_size(data_type);
     match ArrayBytes::new_fill_value(alloc, data_type, 1, fill_value) {
         Ok(blank) => Ok(blank),
-        Err(_) => Err(AllocError),
+        Err(error) => Err(error.only_memory()),
     }
 }
 
@@ -87,7 +88,7 @@ fn with_given(
     let size = element_size(data_type);
     match select_runs(alloc, &picks.runs, picks.total + 1, &elements, size) {
         Ok(bytes) => Ok(bytes),
-        Err(_) => Err(AllocError),
+        Err(error) => Err(error.only_memory()),
     }
 }
 
@@ -107,7 +108,7 @@ fn repeated(
     let places = vec![in alloc; 0; count as usize]?;
     match select(alloc, &places, 1, blank, element_size(data_type)) {
         Ok(bytes) => Ok(bytes),
-        Err(_) => Err(AllocError),
+        Err(error) => Err(error.only_memory()),
     }
 }
 
@@ -191,6 +192,9 @@ impl<'a> ListedBox<'a> {
             → IsShortList self.new }
     {
         let part = shared_part(alloc, self.subset, subset)?;
+        if part.is_empty() {
+            return Ok(());
+        }
         let piece = piece_in(alloc, self.data_type, bytes, subset, &part)?;
         let at = part_in(alloc, &part, self.subset)?;
         let before = self.given.take();

@@ -41,12 +41,15 @@ fn put_listed(
         → IfOk result (λ v. has_long_element (raw_of v) ≡ false) }
 {
     let part = shared_part(alloc, chunk_subset, subset)?;
+    if part.is_empty() {
+        return Ok(chunk);
+    }
     let piece = piece_in(alloc, data_type, bytes, subset, &part)?;
     let at = part_in(alloc, &part, chunk_subset)?;
     let size = type_size(data_type);
     match update_owned_array_bytes(alloc, chunk, chunk_subset.shape(), &at, &piece, size) {
         Ok(bytes) => Ok(bytes),
-        Err(_) => Err(AllocError),
+        Err(error) => Err(error.only_memory()),
     }
 }
 

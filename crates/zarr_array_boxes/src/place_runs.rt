@@ -1,7 +1,7 @@
 //! Which element stands at each place of a box, run by run, once elements are given to some of its places.
 
-ghost use Rattle.std.specs.Prelude.{IsPermutation, get_or, ◌-◌, ◌≡◌, ◌+◌, ◌++◌, ◌∷◌, [], ◌≤◌, ◌^◌, ◌<◌, length, replicate, IfOk, IfSome, OnOk, ℕ};
-ghost use Rattle.std.specs.List.{All, range_with_len};
+ghost use Rattle.std.specs.Prelude.{IsPermutation, get_or, ◌-◌, ◌≡◌, ◌+◌, ◌++◌, ◌∷◌, [], ◌^◌, ◌<◌, length, replicate, IfOk, IfSome, OnOk, ℕ};
+ghost use Rattle.std.specs.List.{All};
 ghost use Rattle.zarrs_codec_slices.specs.PickedRuns.{run_numbers, AreRunsBelow};
 
 use std::alloc::{AllocError, Global};

@@ -1,12 +1,12 @@
 //! What two boxes share, and its elements.
 
-ghost use Rattle.std.specs.Prelude.{◌≡◌, ◌+◌, ◌*◌, ◌<◌, ◌^◌, List, true, false, Some, length, IfOk};
+ghost use Rattle.std.specs.Prelude.{◌≡◌, ◌+◌, ◌*◌, ◌<◌, ◌^◌, List, true, false, Some, IsSome, length, IfOk};
 ghost use Rattle.zarr_model.specs.Region.{count, starts, part_of_box};
 ghost use Rattle.zarr_model.specs.Element.{Element, null};
 ghost use Rattle.zarr_model.specs.ArrayBytes.{meaning};
 ghost use Rattle.zarr_model.specs.Command.{has_long_element};
 ghost use Rattle.zarrs_array_subset.specs.ArraySubset.{region};
-ghost use Rattle.zarrs_array_subset.specs.Boxes.{is_box, region_of, overlap_of, moved_back, maxes, differences};
+ghost use Rattle.zarrs_array_subset.specs.Boxes.{is_box, is_within, region_of, overlap_of, moved_back, maxes, differences};
 ghost use Rattle.zarrs_codec_slices.specs.Picking.{picked};
 ghost use Rattle.zarrs_codec_array_bytes.specs.Raw.{raw_of};
 ghost use Rattle.zarrs_codec_array_bytes.specs.Steps.{kind_seen, bytes_seen};
@@ -122,17 +122,19 @@ pub fn part_of_box(
 }
 
 /// A part of a box, by its place in it.
+#[tactic(auto, using(crate::proofs::MemoryLaws::moved_memory))]
 pub(crate) fn part_in(
     alloc: Global,
     part: &ArraySubset,
     subset: &ArraySubset,
 ) -> Result<ArraySubset, AllocError>
+    requires { is_within (region part.now) (region subset.now) ≡ true }
     ensures { IfOk result
         (λ v. region v ≡ moved_back (region part.now) (starts (region subset.now))) }
 {
     match part.relative_to(alloc, subset.start()) {
         Ok(at) => Ok(at),
-        Err(_) => Err(AllocError),
+        Err(error) => Err(error.only_memory()),
     }
 }
 
@@ -146,6 +148,9 @@ pub(crate) fn piece_in(
 ) -> Result<ArrayBytes<'static>, AllocError>
     requires count { count (region subset.now) + 1 < 2 ^ 64 }
     requires bytes { count (region subset.now) * bytes_seen data_type.now < 2 ^ 64 }
+    requires means { IsSome (meaning (kind_seen data_type.now)
+        (count (region subset.now)) (raw_of bytes.now)) }
+    requires inside { is_within (region part.now) (region subset.now) ≡ true }
     ensures selected { let kind = kind_seen data_type.now in
         let places = shared_in (region subset.now) (region part.now) in (xs : List Element)
         → meaning kind (count (region subset.now)) (raw_of bytes.now) ≡ Some xs
@@ -157,6 +162,6 @@ pub(crate) fn piece_in(
     let at = part_in(alloc, part, subset)?;
     match bytes.extract_array_subset(alloc, &at, subset.shape(), data_type) {
         Ok(piece) => Ok(piece),
-        Err(_) => Err(AllocError),
+        Err(error) => Err(error.only_memory()),
     }
 }

@@ -15,7 +15,7 @@ use crate::{OpenError, Registries};
 use std::alloc::Global;
 use std::num::NonZeroU64;
 use zarr_basics::ChunkKeyEncoding;
-use zarr_basics::lengths::numbers;
+use zarrs_array_subset::shape_numbers;
 use zarrs_data_type::DataType;
 use zarrs_data_type_bytes::FillValue;
 use zarrs_metadata_parts::{ChunkKeySeparator, MetadataV3};
@@ -59,7 +59,7 @@ impl Shard {
             (nonzeros shape.now) (type_of data_type.now) (fill_bytes fill_value.now)
             (extension_seen metadata.now)) }
     {
-        let chunk_shape = numbers(alloc, shape)?;
+        let chunk_shape = shape_numbers(alloc, shape)?;
         let codec = document_codec(alloc, &chunk_shape, metadata, &registries.codecs)?;
         expect_element(data_type, fill_value)?;
         let shard = sharding_in(&codec)?;

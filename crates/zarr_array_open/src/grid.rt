@@ -12,8 +12,8 @@ ghost use Rattle.zarr_array_open.specs.ShardOpening.{chunk_shape_by};
 
 use crate::OpenError;
 use std::alloc::{AllocError, Global};
-use zarr_basics::lengths::numbers;
 use zarr_basics::{BasicGrid, GridKind};
+use zarrs_array_subset::shape_numbers;
 use zarrs_chunk_grid::GridMaker;
 use zarrs_metadata_parts::MetadataV3;
 use zarrs_plugin::Registry;
@@ -72,7 +72,7 @@ pub(crate) fn chunk_lengths(alloc: Global, grid: &BasicGrid) -> Result<Vec<u64>,
     ensures { IfOk result (λ v. v.items ≡ grid_lengths_of (basic_form grid.now)) }
 {
     match grid {
-        BasicGrid::Regular(grid) => numbers(alloc, &grid.chunk_shape),
+        BasicGrid::Regular(grid) => shape_numbers(alloc, &grid.chunk_shape),
         BasicGrid::Boundary(_) => Ok(Vec::new(alloc)),
     }
 }

@@ -46,13 +46,6 @@ fn array_copies(
     Ok(same)
 }
 
-// The only error of making levels that the codecs of a chain serve.
-fn no_memory(error: CodecError) -> AllocError
-    requires { error ≡ codec.OutOfMemory }
-{
-    AllocError
-}
-
 // Whether a shape has these lengths.
 fn has_lengths(shape: &[NonZeroU64], numbers: &[u64]) -> bool
     ensures same { result ≡ true → lengths shape.now ≡ numbers.now }
@@ -131,7 +124,7 @@ impl ArrayParts {
         let lengths = self.chunk_lengths(alloc, chunk)?;
         match ChunkLevels::of(alloc, chain, &lengths, &self.data_type, &self.fill) {
             Ok(levels) => Ok(levels),
-            Err(error) => Err(no_memory(error)),
+            Err(error) => Err(error.only_memory()),
         }
     }
 

@@ -1,6 +1,6 @@
 //! Which data types the codecs of a chain serve.
 
-ghost use Rattle.std.specs.Prelude.{◌≡◌, map};
+ghost use Rattle.std.specs.Prelude.{map};
 ghost use Rattle.zarrs_data_type.specs.DataType.{type_of};
 ghost use Rattle.zarr_codecs.specs.Views.{plain_of};
 ghost use Rattle.zarr_basics.specs.kinds.array_to_array.Views.{array_form};

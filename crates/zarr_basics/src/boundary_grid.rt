@@ -12,7 +12,7 @@ use crate::boundary_numbers::{
     chunks_at, counts_of, ends_fit, largest_of, last_chunks, lengths_at, starts_at,
 };
 use crate::limits::{are_some, is_too_large};
-use crate::refusal::{other_rank, unsupported_grid};
+use crate::refusal::unsupported_grid;
 use std::alloc::{AllocError, Global};
 use std::num::NonZeroU64;
 use zarrs_array_subset::{ArrayIndices, ArraySubset, ChunkShape};
@@ -168,7 +168,7 @@ impl ChunkGridTraits for BoundaryGrid {
     ) -> Result<Option<ChunkShape>, ChunkGridError> {
         let (got, expected) = (chunk_indices.len(), self.array_shape.len());
         if got != expected {
-            return Err(other_rank(got, expected));
+            return Err(ChunkGridError::other_rank(got, expected));
         }
         if !are_below(&self.grid_shape, chunk_indices) {
             return Ok(None);
@@ -185,7 +185,7 @@ impl ChunkGridTraits for BoundaryGrid {
     ) -> Result<Option<ArrayIndices>, ChunkGridError> {
         let (got, expected) = (chunk_indices.len(), self.array_shape.len());
         if got != expected {
-            return Err(other_rank(got, expected));
+            return Err(ChunkGridError::other_rank(got, expected));
         }
         if !are_below(&self.grid_shape, chunk_indices) {
             return Ok(None);
@@ -202,7 +202,7 @@ impl ChunkGridTraits for BoundaryGrid {
     ) -> Result<Option<ArrayIndices>, ChunkGridError> {
         let (got, expected) = (array_indices.len(), self.array_shape.len());
         if got != expected {
-            return Err(other_rank(got, expected));
+            return Err(ChunkGridError::other_rank(got, expected));
         }
         if !are_below(&self.array_shape, array_indices) {
             return Ok(None);

@@ -14,9 +14,9 @@ ghost use Rattle.zarr_basics.specs.BoundaryMaking.{boundary_form};
 use crate::axis::BoundaryAxis;
 use crate::boundary_configuration::read_axes;
 use crate::boundary_grid::BoundaryGrid;
-use crate::lengths::numbers;
 use serde_json::{Map, Value};
 use std::alloc::{AllocError, Global};
+use zarrs_array_subset::shape_numbers;
 use zarrs_metadata_parts::making::unmade;
 use zarrs_metadata_parts::writing::numbers_value;
 use zarrs_metadata_parts::{Configuration, MetadataV3};
@@ -28,7 +28,7 @@ fn axes_value(alloc: Global, axes: &[BoundaryAxis]) -> Result<Value, AllocError>
 {
     let mut items = Vec::with_capacity(alloc, axes.len())?;
     for axis in axes {
-        let numbers = numbers(alloc, &axis.lengths)?;
+        let numbers = shape_numbers(alloc, &axis.lengths)?;
         items.push(numbers_value(alloc, &numbers)?)?;
     }
     Ok(Value::Array(items))

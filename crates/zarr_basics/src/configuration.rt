@@ -1,7 +1,6 @@
 //! Readers of the configurations of keys. Each refuses, as `InvalidMetadata`, exactly a configuration that is
 //! not of its form.
 
-ghost use Rattle.std.specs.Prelude.{◌≡◌};
 ghost use Rattle.zarrs_metadata_parts.specs.MetadataV3.{extension_seen};
 ghost use Rattle.zarrs_metadata_parts.specs.Names.{separator_code};
 ghost use Rattle.zarrs_metadata_values.specs.Reading.{Reads};

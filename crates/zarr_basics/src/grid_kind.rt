@@ -15,11 +15,11 @@ ghost use Rattle.zarr_basics.specs.declared.grid_kind.GridKind.TheVariants.{Regu
 use crate::basic_grid::BasicGrid;
 use crate::boundaries_by;
 use crate::grid_configuration::read_chunk_shape;
-use crate::lengths::numbers;
 use crate::regular_grid::RegularGrid;
 use serde_json::Map;
 use std::alloc::{AllocError, Global};
 use std::num::NonZeroU64;
+use zarrs_array_subset::shape_numbers;
 use zarrs_chunk_grid::GridMaker;
 use zarrs_metadata_parts::making::unmade;
 use zarrs_metadata_parts::writing::numbers_value;
@@ -43,7 +43,7 @@ pub(crate) fn chunk_shape_configuration(
     ensures { IfOk result (λ c. configuration_seen c
         ≡ chunk_shape_members (nonzeros chunk_shape.now)) }
 {
-    let numbers = numbers(alloc, chunk_shape)?;
+    let numbers = shape_numbers(alloc, chunk_shape)?;
     let value = numbers_value(alloc, &numbers)?;
     let mut members = Map::new(alloc);
     serde_json::put(&mut members, alloc, "chunk_shape", value)?;

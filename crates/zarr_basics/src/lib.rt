@@ -18,7 +18,6 @@ mod grid_configuration;
 mod grid_kind;
 mod grid_laws;
 mod laws;
-pub mod lengths;
 pub mod limits;
 mod making;
 pub mod refusal;

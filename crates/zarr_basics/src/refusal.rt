@@ -1,14 +1,11 @@
 //! What chunk grids refuse.
 
-ghost use Rattle.std.specs.Prelude.{◌≢◌, Err};
+ghost use Rattle.std.specs.Prelude.{Err};
 ghost use Rattle.zarr_model.specs.Prelude.{Grid};
-ghost use Rattle.zarrs_chunk_grid.specs.ChunkGridErrors.{IsRankRefusal};
 ghost use Rattle.zarrs_plugin.specs.Making.{IsUnmade, unsupported};
 ghost use Rattle.zarrs_plugin.specs.declared.error.PluginKind.TheVariants as kinds;
 
 use std::alloc::Global;
-use zarrs_array_subset::IncompatibleDimensionalityError;
-use zarrs_chunk_grid::ChunkGridError;
 use zarrs_plugin::{PluginCreateError, PluginKind, PluginUnsupportedError};
 
 /// The error of a grid whose name is not known.
@@ -22,12 +19,4 @@ pub fn unsupported_grid(alloc: Global, name: &str) -> PluginCreateError
         )),
         Err(_) => PluginCreateError::OutOfMemory,
     }
-}
-
-/// The refusal of another number of dimensions.
-pub fn other_rank(got: usize, expected: usize) -> ChunkGridError
-    requires { got ≢ expected }
-    ensures { IsRankRefusal got expected result }
-{
-    ChunkGridError::IncompatibleDimensionality(IncompatibleDimensionalityError::new(got, expected))
 }

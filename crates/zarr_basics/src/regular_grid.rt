@@ -2,7 +2,7 @@
 //!
 //! See <https://zarr-specs.readthedocs.io/en/latest/v3/core/index.html#regular-grids>.
 
-ghost use Rattle.std.specs.Prelude.{◌≡◌, length, Option, ℕ, IfOk};
+ghost use Rattle.std.specs.Prelude.{◌≡◌, length, Option, IfOk};
 ghost use Rattle.zarr_model.specs.Prelude.{regular_grid};
 ghost use Rattle.zarr_basics.specs.Lengths.{nonzeros};
 

@@ -1,12 +1,11 @@
 -- The elements of a chunk, by what stands under its key.
-use Rattle.std.specs.Prelude.{◌≡◌, ℕ, false, List, replicate, Option, Some, None, Result, IfErr}
-use Rattle.zarrs_codec_traits.specs.Prelude.{count_of, Element, kind_of, fill_element, ArrayBytes, Level, ArrayCodec}
-use Rattle.zarrs_codec_traits.specs.Prelude.{Options, has_long_element, filled_with, raw_of, IsDecodeError, list_at}
+use Rattle.std.specs.Prelude.{ℕ, List, replicate, Option, Some, None, Result, IfErr}
+use Rattle.zarrs_codec_traits.specs.Prelude.{count_of, Element, Level, ArrayCodec}
+use Rattle.zarrs_codec_traits.specs.Prelude.{Options, IsDecodeError}
 use Rattle.zarrs_codec_error.specs.declared.error.CodecError.{CodecError}
-use Rattle.zarrs_codec_array_bytes.specs.declared.array_bytes.ArrayBytes as code
 use Rattle.zarr_codec_chain.specs.declared.chain.CodecChain.{CodecChain}
 use Rattle.zarr_codec_chain.specs.declared.levels.ChunkLevels.{ChunkLevels}
-use Rattle.zarr_codec_chain.specs.Chain.{Listing, Opening, first_level, first_fill, decoded, chain_says}
+use Rattle.zarr_codec_chain.specs.Chain.{Listing, Opening, first_level, decoded, chain_says}
 
 -- the elements of a chunk, if it decodes: those of its value, or the fill where its key is absent
 abbrev pub chain_content : {A B C : Type 0} → (A → ArrayCodec) → Listing B → Opening C
@@ -32,8 +31,3 @@ abbrev pub FailsByContent : {A B C T : Type 0} → (A → ArrayCodec) → Listin
 FailsByContent array to_list list_says opens says chain levels under value result =
     IfErr result (IsDecodeError (chain_content array to_list opens chain levels under value)
     (chunk_says list_says opens says chain levels under value))
-
--- array bytes are the fill everywhere in a level
-abbrev pub IsBlank : Level → code.ArrayBytes → Type 0
-IsBlank level bytes =
-    list_at level (raw_of bytes) ≡ Some (replicate (count_of level.shape) level.fill)

@@ -17,7 +17,7 @@ use Rattle.zarrs_codec_traits.specs.declared.array_to_bytes.ArrayToBytesCodecTra
 use Rattle.zarrs_codec_traits.specs.declared.bytes_to_bytes.BytesToBytesCodecTraits as bytes
 use Rattle.zarr_codec_chain.specs.declared.chain.CodecChain.{CodecChain}
 use Rattle.zarr_codec_chain.specs.declared.levels.ChunkLevels.{ChunkLevels}
-use Rattle.zarr_codec_chain.specs.Chain.{ServesChunks, first_level, bottom_level, decoded, HasFill}
+use Rattle.zarr_codec_chain.specs.Chain.{ServesChunks, first_level, bottom_level, decoded}
 use Rattle.zarr_codec_chain.specs.Answers.{GivesPart}
 use Rattle.zarr_chunks.specs.Fetch.{chain_content, chunk_says}
 use Rattle.zarr_chunks.specs.Put.{is_list_dropped, PutsChunk, MayPutChunk}

@@ -3,11 +3,11 @@
 ghost use Rattle.std.specs.Prelude.{◌≡◌, false, Some, IsSome, IfOk, MatchResult};
 ghost use Rattle.zarrs_codec_traits.specs.Prelude.{has_long_element, fill_element, kind_of};
 ghost use Rattle.zarrs_codec_traits.specs.Prelude.{value_bytes, fill_bytes, type_of, raw_of};
-ghost use Rattle.zarrs_codec_traits.specs.Prelude.{lengths, level_of, options_of, Gives, IsFit};
+ghost use Rattle.zarrs_codec_traits.specs.Prelude.{lengths, level_of, options_of, Gives, IsBlank, IsFit};
 ghost use Rattle.zarrs_codec_error.specs.declared.error.CodecError.TheVariants as codec;
 ghost use Rattle.zarr_codec_chain.specs.Chain.{IsServedChain, first_level, blank_chunk, HasFill};
 ghost use Rattle.zarr_chunks.specs.Seen.{chain_seen, FetchesChunk};
-ghost use Rattle.zarr_chunks.specs.Fetch.{chain_content, FailsByContent, IsBlank};
+ghost use Rattle.zarr_chunks.specs.Fetch.{chain_content, FailsByContent};
 ghost use Rattle.zarr_codec_chain.specs.Answers.{levels_list};
 
 use std::alloc::Global;

@@ -67,6 +67,6 @@ pub fn put<
     }
     match chain.encode(alloc, levels, chunk, options) {
         Ok(value) => store.set(alloc, key, &value),
-        Err(_) => Err(StorageError::OutOfMemory),
+        Err(error) => Err(StorageError::from(error.only_memory())),
     }
 }

@@ -18,7 +18,7 @@ use zarrs_codec_array_bytes::ArrayBytes;
 use zarrs_codec_error::CodecError;
 use zarrs_codec_traits::{
     ArrayToArrayCodecTraits, ArrayToBytesCodecTraits, BytesToBytesCodecTraits, extracted,
-    num_elements, shape_numbers,
+    num_elements,
 };
 use zarrs_data_type::DataType;
 use zarrs_data_type_bytes::FillValue;

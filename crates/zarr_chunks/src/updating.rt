@@ -15,12 +15,12 @@ use crate::putting::put;
 use std::alloc::Global;
 use std::num::NonZeroU64;
 use zarr_codec_chain::{ChunkLevels, CodecChain};
-use zarrs_array_subset::ArraySubset;
+use zarrs_array_subset::{ArraySubset, shape_numbers};
 use zarrs_codec_array_bytes::ArrayBytes;
 use zarrs_codec_array_bytes_parts::update_owned_array_bytes;
 use zarrs_codec_error::{CodecError, CodecOptions};
 use zarrs_codec_traits::{
-    ArrayToArrayCodecTraits, ArrayToBytesCodecTraits, BytesToBytesCodecTraits, shape_numbers,
+    ArrayToArrayCodecTraits, ArrayToBytesCodecTraits, BytesToBytesCodecTraits,
 };
 use zarrs_data_type::{DataType, type_size};
 use zarrs_storage::{Store, StoreKey};

@@ -1,6 +1,6 @@
 -- What a run of lines owes.
 use Rattle.std.specs.Prelude.{◌≡◌, ℕ, List, false}
-use Rattle.zarr_model.specs.Prelude.{Content, with_keys, Given, Shown, Rose, Description, SeesNoDamage, AreRefused}
+use Rattle.zarr_model.specs.Prelude.{with_keys, Given, Shown, Rose, Description, SeesNoDamage, AreRefused}
 use Rattle.zarr_model.specs.Prelude.{IsUntouched}
 use Rattle.zarr_cli_runs.specs.Between.{LeavesBetween}
 use Rattle.zarr_cli_runs.specs.Ending.{Ending, IsOrMemory, IsWritten, IsGiven, IsGivenFront, IsGivenLine, ending_line}

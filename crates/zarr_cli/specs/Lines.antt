@@ -1,5 +1,5 @@
 -- The lines of a program: a document, key lines and command lines.
-use Rattle.std.specs.Prelude.{◌≡◌, ℕ, ◌+◌, ◌<◌, List, [], ◌∷◌, length, drop, Contains, Some}
+use Rattle.std.specs.Prelude.{◌≡◌, ℕ, ◌+◌, ◌<◌, List, [], ◌∷◌, length, drop, Some}
 use Rattle.zarr_model.specs.Prelude.{Command, Content, Description, kind, with_keys}
 pub use Rattle.zarr_cli_runs.specs.Between.{IsKeyOf, with_entries}
 use Rattle.zarr_cli_runs.specs.lines.Text.{line_command, input_lines, first_entries, commands_of, good_lines}

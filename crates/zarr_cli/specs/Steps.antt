@@ -2,7 +2,7 @@
 use Rattle.std.specs.Prelude.{◌≡◌, ◌==◌, ℕ, ◌<◌, Bool, true, false, List, [], ◌∷◌, ◌++◌, length, drop, map, flat_map}
 use Rattle.std.specs.Prelude.{string_bytes, IsUtf8, Option, Some, None, Result, IfErr, MatchResult, Vec}
 use Rattle.std.specs.List.{All}
-use Rattle.zarr_model.specs.Prelude.{Element, Array, Options, Content, with_keys, Shown, Told, Rose, Command}
+use Rattle.zarr_model.specs.Prelude.{Element, Array, Options, with_keys, Shown, Told, Rose, Command}
 use Rattle.zarr_model.specs.Prelude.{Description, kind, replies, LeavesArray, SeesNoDamage, AreRefused, IsUntouched}
 use Rattle.zarr_cli_runs.specs.array.boxes.Command.{command_of}
 use Rattle.zarr_cli_runs.specs.array.Stored.{StoresForAll}

@@ -4,7 +4,6 @@ ghost use Rattle.std.specs.Prelude.{◌≡◌, ◌<◌, ℕ, [], map};
 ghost use Rattle.zarrs_codec_traits.specs.Prelude.{Description, kind, fixed, options_of, kind_seen};
 ghost use Rattle.zarr_cli_runs.specs.array.boxes.Command.{command_of, AreReads};
 ghost use Rattle.zarr_cli_runs.specs.array.OpenArray as opened;
-ghost use Rattle.zarr_cli_runs.specs.Commands.{TakesRun};
 ghost use Rattle.zarr_cli_runs.specs.Job.{job, Did};
 ghost use Rattle.zarr_cli.specs.Array.{Replied};
 ghost use Rattle.zarr_cli.specs.Run.{RunCosts, open_costs};

@@ -1,6 +1,6 @@
 //! Lines: what a key line and a command line say, and the line of a reply.
 
-ghost use Rattle.std.specs.Prelude.{◌≡◌, ◌<◌, ℕ, List, map, string_bytes, IfOk, option_map};
+ghost use Rattle.std.specs.Prelude.{◌≡◌, ◌<◌, ℕ, string_bytes, IfOk, option_map};
 ghost use Rattle.zarrs_codec_traits.specs.Prelude.{fixed, Matches, kind_seen};
 ghost use Rattle.zarr_model.specs.Command as Model;
 ghost use Rattle.zarr_cli_runs.specs.array.boxes.Command.{command_of, answer_of};

@@ -3,7 +3,7 @@
 ghost use Rattle.std.specs.Prelude.{◌≡◌, ◌≤◌, List, ℕ, [], length, map, string_bytes, IsUtf8, Some};
 ghost use Rattle.zarrs_codec_traits.specs.Prelude.{Options, Told, options_of};
 ghost use Rattle.zarr_cli_runs.specs.Status.{ending_of};
-ghost use Rattle.zarr_cli.specs.Words.{Settings, ReadsBy, MakesFrom, MakesNothing, settings_of};
+ghost use Rattle.zarr_cli.specs.Words.{ReadsBy, MakesFrom, MakesNothing, settings_of};
 ghost use Rattle.zarr_cli.specs.Status.{words_of, settings_view};
 ghost use Rattle.zarr_cli.specs.ProgramInput.{input_limit};
 ghost use Rattle.zarr_cli_runs.specs.lines.Text.{input_lines};

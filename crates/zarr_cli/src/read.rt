@@ -3,7 +3,7 @@
 ghost use Rattle.std.specs.Prelude.{◌≡◌, ◌≤◌, ◌↔◌, ◌+◌, ◌++◌, ◌∷◌, List, ℕ, [], false, length, take, map, string_bytes, Some, IsSome, IsUtf8, IfOk, IfErr, IfSome, IfNone, OnOk};
 ghost use Rattle.zarr_model.specs.Prelude.{ReadsNext};
 ghost use Rattle.zarr_cli_runs.specs.lines.Text.{input_lines};
-ghost use Rattle.zarr_cli.specs.Input.{input_limit, IsNotUtf8};
+ghost use Rattle.zarr_cli.specs.Input.{input_limit};
 ghost use Rattle.zarr_cli.specs.Steps.{NoNewline, IsPieceFault, IsUnreadInput, AreRead, IsTextFault};
 
 use crate::lines::InputFault;

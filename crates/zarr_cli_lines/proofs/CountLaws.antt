@@ -2,7 +2,8 @@
 use Rattle.std.proofs.Common.{◌≡◌, ℕ, zero, suc, ◌+◌, ◌-◌, ◌*◌, ◌<◌, Bool, true, false, ◌==◌, List, [], ◌∷◌, ◌++◌}
 use Rattle.std.proofs.Common.{length, take, get_or, Option, Some, None, IsSome, is_some, unwrap_or, Result}
 use Rattle.std.proofs.Common.{Ok, Err, is_ok, refl, sym, ap, ◌∙◌, arith, add-one, eqb-true, append_assoc}
-use Rattle.std.proofs.Common.{append-nil}
+use Rattle.std.proofs.Common.{append-nil, subst, ◌/◌}
+use Rattle.std.proofs.Math.Nat.{mul-div_cancel}
 use Rattle.std.proofs.lemmas.Bool.{and_parts}
 use Rattle.std.proofs.Math.Seq.{take-length}
 use Rattle.zarr_model.specs.Element.{Element, null, Kind, fixed, variable, optional}
@@ -10,8 +11,9 @@ use Rattle.zarr_model.specs.ArrayBytes.{ArrayBytes, fixed_bytes, variable_bytes,
 use Rattle.zarr_model.specs.ArrayBytes.{is_mask}
 use Rattle.zarr_model.specs.Command.{bytes_refusal}
 use Rattle.zarr_model.proofs.BytesLaws.{length-meaning, mask_length, refusal-meaning}
+use Rattle.zarr_model.proofs.RefusalLaws.{not_refused}
 use Rattle.zarrs_codec_array_bytes.specs.Refusals.{told, validity}
-use Rattle.zarrs_codec_array_bytes.proofs.CheckLaws.{sized_fine}
+use Rattle.zarrs_codec_array_bytes.proofs.CheckLaws.{first_none, sized_fine}
 use Rattle.zarr_cli_lines.specs.ElementText.{element_text, elements_text}
 use Rattle.zarr_cli_lines.specs.Place.{list_of_kind, text_at, count_in}
 use Rattle.zarrs_codec_error.specs.declared.error.CodecError.{CodecError}
@@ -37,6 +39,31 @@ answered kind n value (Err error) e = none (is_some (meaning kind n value)) refl
 -- bytes of another kind mean nothing
 some_none : {A : Type 0} (a : A) → None ≡ Some a → ⊥
 some_none a e = cc
+
+-- elements of one size that are valid have all of the data
+long_as : (kind : Kind) (n : ℕ) (value : ArrayBytes) → bytes_refusal kind n value ≡ None →
+    0 < size_in (fixed_size kind) → inner_length value ≡ n * size_in (fixed_size kind)
+long_as (fixed k) n (fixed_bytes value) valid some = eqb-true (length value) (n * k)
+    (not_refused (length value == n * k) _ valid)
+long_as (fixed k) n (variable_bytes value offsets) valid some = cc
+long_as (fixed k) n (optional_bytes under mask) valid some = cc
+long_as variable n value valid some = absurd (omega (arith, some))
+long_as (optional kind) n (fixed_bytes value) valid some = cc
+long_as (optional kind) n (variable_bytes value offsets) valid some = cc
+long_as (optional kind) n (optional_bytes under mask) valid some = long_as kind n under (first_none _ _ valid).1 some
+
+-- more elements than the data have bytes for are not valid
+pub too_many : (kind : Kind) (n size : ℕ) (value : ArrayBytes) → size ≡ size_in (fixed_size kind) → 0 < size →
+    inner_length value / size < n → false ≡ is_some (meaning kind n value)
+too_many kind n size value is some more = go (is_some (meaning kind n value)) refl
+  where
+    go : (b : Bool) → is_some (meaning kind n value) ≡ b → false ≡ b
+    go false means = refl
+    go true means =
+        let long : inner_length value ≡ n * size = long_as kind n value ((refusal-meaning kind n value).1 means)
+        (subst (λ m. 0 < m) is some) ∙ ap (λ m. n * m) (sym is) in
+        let whole : inner_length value / size ≡ n = ap (λ l. l / size) long ∙ mul-div_cancel n some in
+        absurd (omega (arith, more, whole))
 
 -- elements that are not all of one size are as many as their offsets or their mask say
 pub counted : (kind : Kind) (n : ℕ) (value : ArrayBytes) (list : List Element) → ((m : ℕ) → kind ≡ fixed m → ⊥) →

@@ -2,6 +2,7 @@ pub mod ElementLaws
 pub mod ElementSplits
 pub mod FixedLemmas
 pub mod TextLemmas
+pub mod DigitLemmas
 pub mod PutLaws
 pub mod ListLaws
 pub mod PlaceLaws

@@ -1,6 +1,11 @@
 -- What the text of an element puts at the end of array bytes.
-use Rattle.std.proofs.Common.{[], ◌≡◌, ◌≢◌, ℕ, true, false, ◌==◌, List, ◌∷◌, ◌++◌, length, codes, Option, Some, None}
-use Rattle.std.proofs.Common.{option_map, option_and_then, refl, sym, ap, ◌∙◌, subst, eq-eqb}
+use Rattle.std.proofs.Common.{[], ◌≡◌, ◌≢◌, ℕ, ◌/◌, Bool, true, false, if◌then◌else◌, cond, ◌==◌, List, ◌∷◌, ◌++◌}
+use Rattle.std.proofs.Common.{length, codes, Option, Some, None, option_map, option_and_then, unwrap_or, Result, Ok}
+use Rattle.std.proofs.Common.{Err, refl, sym, ap, ◌∙◌, subst, eq-eqb, arith}
+use Rattle.std.specs.Result.{result_ok}
+use Rattle.hex.specs.Hex.{decode_of}
+use Rattle.hex.specs.declared.error.FromHexError.{FromHexError}
+use Rattle.hex.proofs.HexLemmas.{decode_of-ok}
 use Rattle.std.proofs.lemmas.Bool.{cond-true, cond-false, ne_eqb}
 use Rattle.zarr_model.specs.Element.{Element, of_bytes, null, some, Kind, fixed, variable, optional, blank}
 use Rattle.zarr_model.specs.ArrayBytes.{ArrayBytes, fixed_bytes, variable_bytes, optional_bytes, held}
@@ -9,40 +14,89 @@ use Rattle.zarr_cli_lines.specs.ElementText.{hex_of, fixed_element, element_of}
 use Rattle.zarr_cli_lines.specs.Put.{put_element, PutsElement}
 
 -- a fixed kind
-pub fixed_is : (size : ℕ) (text bytes : List ℕ) → hex_of text ≡ Some bytes → length bytes ≡ size →
+fixed_is : (size : ℕ) (text bytes : List ℕ) → hex_of text ≡ Some bytes → length bytes ≡ size →
     element_of (fixed size) text ≡ Some (of_bytes bytes)
 fixed_is size text bytes is long =
     ap (option_and_then (fixed_element size)) is ∙ cond-true (length bytes == size) _ None (eq-eqb _ _ long)
 
-pub fixed_put : (size : ℕ) (text bytes before now : List ℕ) → hex_of text ≡ Some bytes → length bytes ≡ size →
+fixed_put : (size : ℕ) (text bytes before now : List ℕ) → hex_of text ≡ Some bytes → length bytes ≡ size →
     now ≡ before ++ bytes →
     PutsElement (fixed size) (element_of (fixed size) text) true (fixed_bytes before) (fixed_bytes now)
 fixed_put size text bytes before now is long made = subst (λ o. PutsElement (fixed size) o true (fixed_bytes before)
     (fixed_bytes now)) (sym (fixed_is size text bytes is long)) (ap fixed_bytes made)
 
-pub fixed_none : (size : ℕ) (text : List ℕ) (before now : ArrayBytes) → hex_of text ≡ None →
+fixed_none : (size : ℕ) (text : List ℕ) (before now : ArrayBytes) → hex_of text ≡ None →
     PutsElement (fixed size) (element_of (fixed size) text) false before now
 fixed_none size text before now none =
     subst (λ o. PutsElement (fixed size) o false before now) (sym (ap (option_and_then (fixed_element size)) none)) tt
 
-pub fixed_other : (size : ℕ) (text bytes : List ℕ) (before now : ArrayBytes) → hex_of text ≡ Some bytes →
+fixed_wrong : (size : ℕ) (text bytes : List ℕ) (before now : ArrayBytes) → hex_of text ≡ Some bytes →
     ¬ (length bytes ≡ size) → PutsElement (fixed size) (element_of (fixed size) text) false before now
-fixed_other size text bytes before now is other =
+fixed_wrong size text bytes before now is other =
     subst (λ o. PutsElement (fixed size) o false before now) (sym (ap (option_and_then (fixed_element size)) is
     ∙ cond-false (length bytes == size) (Some (of_bytes bytes)) None (ne_eqb _ _ other))) tt
 
--- a variable one
-pub variable_put : (text bytes before now offsets ends : List ℕ) → hex_of text ≡ Some bytes → now ≡ before ++ bytes →
-    ends ≡ offsets ++ length (before ++ bytes) ∷ [] →
-    PutsElement variable (element_of variable text) true (variable_bytes before offsets) (variable_bytes now ends)
-variable_put text bytes before now offsets ends is made end =
-    subst (λ o. PutsElement variable o true (variable_bytes before offsets) (variable_bytes now ends))
-    (sym (ap (option_map of_bytes) is)) (rw (made, end) refl)
+-- the text of bytes has an `h` and two digits for each
+text_long : (text bytes : List ℕ) → hex_of text ≡ Some bytes → length text / 2 ≡ length bytes
+text_long [] bytes is = cc is
+text_long (b ∷ digits) bytes is = go (b == 104) is
+  where
+    decoded : (r : Result (List ℕ) FromHexError) → decode_of digits ≡ r → result_ok r ≡ Some bytes →
+        length (b ∷ digits) / 2 ≡ length bytes
+    decoded (Ok value) d found =
+        let long = (decode_of-ok digits value d).2 in
+        let same : length value ≡ length bytes = ap (λ o. length (unwrap_or o [])) found in
+        omega (arith, long, same)
+    decoded (Err error) d found = cc found
 
-pub variable_none : (text : List ℕ) (before now : ArrayBytes) → hex_of text ≡ None →
-    PutsElement variable (element_of variable text) false before now
-variable_none text before now none =
-    subst (λ o. PutsElement variable o false before now) (sym (ap (option_map of_bytes) none)) tt
+    go : (h : Bool) → cond h (result_ok (decode_of digits)) None ≡ Some bytes →
+        length (b ∷ digits) / 2 ≡ length bytes
+    go true found = decoded (decode_of digits) refl found
+    go false found = cc found
+
+pub fixed_pushed : (size : ℕ) (text before now : List ℕ) (pushed : Bool) → length text / 2 ≡ size →
+    (if pushed then Some now else None) ≡ option_map (λ bytes. before ++ bytes) (hex_of text) →
+    PutsElement (fixed size) (element_of (fixed size) text) pushed (fixed_bytes before) (fixed_bytes now)
+fixed_pushed size text before now pushed long e = go pushed (hex_of text) refl e
+  where
+    go : (pushed : Bool) (o : Option (List ℕ)) → hex_of text ≡ o →
+        (if pushed then Some now else None) ≡ option_map (λ bytes. before ++ bytes) o →
+        PutsElement (fixed size) (element_of (fixed size) text) pushed (fixed_bytes before) (fixed_bytes now)
+    go true (Some bytes) is e = fixed_put size text bytes before now is (sym (text_long text bytes is) ∙ long)
+        (ap (λ o. unwrap_or o []) e)
+    go true None is e = cc e
+    go false (Some bytes) is e = cc e
+    go false None is e = fixed_none size text (fixed_bytes before) (fixed_bytes now) is
+
+pub fixed_other : (size : ℕ) (text : List ℕ) (before now : ArrayBytes) → ¬ (length text / 2 ≡ size) →
+    PutsElement (fixed size) (element_of (fixed size) text) false before now
+fixed_other size text before now other = go (hex_of text) refl
+  where
+    go : (o : Option (List ℕ)) → hex_of text ≡ o →
+        PutsElement (fixed size) (element_of (fixed size) text) false before now
+    go (Some bytes) is = fixed_wrong size text bytes before now is (λ e. other (text_long text bytes is ∙ e))
+    go None is = fixed_none size text before now is
+
+-- a variable one
+pub variable_put : (text before now offsets ends : List ℕ) →
+    Some now ≡ option_map (λ bytes. before ++ bytes) (hex_of text) → ends ≡ offsets ++ length now ∷ [] →
+    PutsElement variable (element_of variable text) true (variable_bytes before offsets) (variable_bytes now ends)
+variable_put text before now offsets ends e end = go (hex_of text) e
+  where
+    go : (o : Option (List ℕ)) → Some now ≡ option_map (λ bytes. before ++ bytes) o →
+        PutsElement variable (option_map of_bytes o) true (variable_bytes before offsets) (variable_bytes now ends)
+    go (Some bytes) e = let made = ap (λ o. unwrap_or o []) e in rw (end, made) refl
+    go None e = cc e
+
+pub variable_none : (text before : List ℕ) (above over : ArrayBytes) →
+    None ≡ option_map (λ bytes. before ++ bytes) (hex_of text) →
+    PutsElement variable (element_of variable text) false above over
+variable_none text before above over e = go (hex_of text) e
+  where
+    go : (o : Option (List ℕ)) → None ≡ option_map (λ bytes. before ++ bytes) o →
+        PutsElement variable (option_map of_bytes o) false above over
+    go (Some bytes) e = cc e
+    go None e = tt
 
 -- an optional one: null
 pub null_put : (kind : Kind) (text : List ℕ) (before now : ArrayBytes) (mask marks : List ℕ) → text ≡ codes "-" →

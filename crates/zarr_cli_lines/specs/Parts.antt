@@ -1,7 +1,6 @@
 -- The parts of a line, and what the parsed lines of an input stand for.
 use Rattle.std.specs.Prelude.{◌≡◌, ℕ, ◌-◌, ◌<◌, List, [], ◌∷◌, ◌++◌, length, map, Option, Some, None}
 use Rattle.std.specs.List.{AllZip}
-use Rattle.std.specs.Borrow.{Bor}
 use Rattle.std.specs.declared.ops.Range.{Range}
 use Rattle.zarr_model.specs.Prelude.{Span, Kind, Command, Matches}
 use Rattle.zarr_model.specs.Command as Model

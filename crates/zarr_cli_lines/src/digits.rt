@@ -1,7 +1,8 @@
 //! Bytes in hexadecimal, behind an `h`.
 
-ghost use Rattle.std.specs.Prelude.{◌≡◌, ◌*◌, ◌++◌, replicate, IfOk, OnOk, option_map};
-ghost use Rattle.hex.specs.Hex.{encode_lower};
+ghost use Rattle.std.specs.Prelude.{◌≡◌, ◌*◌, ◌++◌, replicate, if◌then◌else◌, Some, None, IfOk, OnOk, option_map};
+ghost use Rattle.std.specs.Result.{result_ok};
+ghost use Rattle.hex.specs.Hex.{encode_lower, decode_of};
 ghost use Rattle.zarr_cli_lines.specs.ElementText.{hex_of, hex_text};
 
 use hex::FromHexError;
@@ -34,6 +35,31 @@ pub(crate) fn push_room(text: &mut Vec<u8>, count: usize, width: usize) -> Resul
         return Err(AllocError);
     };
     text.resize(all, 0)
+}
+
+// Appends the bytes that hexadecimal digits denote, if they go in pairs and each is one.
+#[tactic(auto, using(crate::proofs::DigitLemmas::digits_put, crate::proofs::DigitLemmas::digits_none))]
+fn push_decoded(value: &mut Vec<u8>, digits: &str) -> Result<bool, AllocError>
+    ensures { IfOk result (λ pushed. (if pushed then Some value.new.items else None)
+        ≡ option_map (λ bytes. value.old.items ++ bytes) (result_ok (decode_of digits.now))) }
+{
+    let before = value.len();
+    push_room(value, digits.len() / 2, 1)?;
+    Ok(hex::decode_to_slice(digits, &mut value[before..]).is_ok())
+}
+
+/// Appends the bytes that `h` and hexadecimal digits of either case denote, decoded where they stay, and says whether
+/// the text is such. Else the value may have more bytes.
+///
+/// An error comes only for want of memory.
+pub(crate) fn push_parsed(value: &mut Vec<u8>, text: &str) -> Result<bool, AllocError>
+    ensures { IfOk result (λ pushed. (if pushed then Some value.new.items else None)
+        ≡ option_map (λ bytes. value.old.items ++ bytes) (hex_of text.now)) }
+{
+    let Some(digits) = text.strip_prefix('h') else {
+        return Ok(false);
+    };
+    push_decoded(value, digits)
 }
 
 // Appends two lower-case digits for each byte.

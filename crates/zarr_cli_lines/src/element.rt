@@ -9,38 +9,28 @@ ghost use Rattle.zarrs_codec_array_bytes_parts.specs.OwnedArrayBytes.{owned_raw}
 ghost use Rattle.zarr_cli_lines.specs.ElementText.{element_of};
 ghost use Rattle.zarr_cli_lines.specs.Put.{PutsElement};
 
-use crate::digits::parse_hex;
+use crate::digits::push_parsed;
 use crate::growing::push_blank;
-use std::alloc::{AllocError, Global};
+use std::alloc::AllocError;
 use zarrs_codec_array_bytes::array_bytes::step::{Step, step_of};
 use zarrs_codec_array_bytes_parts::OwnedArrayBytes;
 use zarrs_data_type::DataType;
 
 // Appends the element of a text of a fixed kind, if it is one.
-#[tactic(auto, using(crate::proofs::PutLaws::fixed_put, crate::proofs::PutLaws::fixed_none, crate::proofs::PutLaws::fixed_other))]
-fn push_fixed(
-    alloc: Global,
-    value: &mut Vec<u8>,
-    size: usize,
-    text: &str,
-) -> Result<bool, AllocError>
+#[tactic(auto, using(crate::proofs::PutLaws::fixed_pushed, crate::proofs::PutLaws::fixed_other))]
+fn push_fixed(value: &mut Vec<u8>, size: usize, text: &str) -> Result<bool, AllocError>
     ensures { IfOk result (λ put. PutsElement (fixed size) (element_of (fixed size) text.now) put
         (fixed_bytes value.old.items) (fixed_bytes value.new.items)) }
 {
-    let Some(bytes) = parse_hex(alloc, text)? else {
-        return Ok(false);
-    };
-    if bytes.len() != size {
+    if text.len() / 2 != size {
         return Ok(false);
     }
-    value.extend_from_slice(&bytes)?;
-    Ok(true)
+    push_parsed(value, text)
 }
 
 // Appends the element of a text of a variable kind, if it is one.
 #[tactic(auto, using(crate::proofs::PutLaws::variable_put, crate::proofs::PutLaws::variable_none))]
 fn push_variable(
-    alloc: Global,
     value: &mut Vec<u8>,
     offsets: &mut Vec<usize>,
     text: &str,
@@ -49,10 +39,9 @@ fn push_variable(
         (variable_bytes value.old.items offsets.old.items)
         (variable_bytes value.new.items offsets.new.items)) }
 {
-    let Some(bytes) = parse_hex(alloc, text)? else {
+    if !push_parsed(value, text)? {
         return Ok(false);
-    };
-    value.extend_from_slice(&bytes)?;
+    }
     offsets.push(value.len())?;
     Ok(true)
 }
@@ -61,7 +50,6 @@ fn push_variable(
 #[cycle(push)]
 #[tactic(auto, using(crate::proofs::PutLaws::null_put, crate::proofs::PutLaws::optional_none, crate::proofs::PutLaws::some_put, crate::proofs::PutLaws::some_none))]
 fn push_optional(
-    alloc: Global,
     under: &mut OwnedArrayBytes,
     mask: &mut Vec<u8>,
     inner: &DataType,
@@ -81,7 +69,7 @@ fn push_optional(
     let Some(held) = text.strip_prefix('+') else {
         return Ok(false);
     };
-    if !push_element(alloc, under, inner, held)? {
+    if !push_element(under, inner, held)? {
         return Ok(false);
     }
     mask.push(1)?;
@@ -93,7 +81,6 @@ fn push_optional(
 /// An error comes only for want of memory.
 #[cycle(push)]
 pub(crate) fn push_element(
-    alloc: Global,
     into: &mut OwnedArrayBytes,
     data_type: &DataType,
     text: &str,
@@ -104,12 +91,12 @@ pub(crate) fn push_element(
         (owned_raw into.new)) }
 {
     match (step_of(data_type), into) {
-        (Step::Fixed(size), OwnedArrayBytes::Fixed(value)) => push_fixed(alloc, value, size, text),
+        (Step::Fixed(size), OwnedArrayBytes::Fixed(value)) => push_fixed(value, size, text),
         (Step::Variable, OwnedArrayBytes::Variable(value, offsets)) => {
-            push_variable(alloc, value, offsets, text)
+            push_variable(value, offsets, text)
         }
         (Step::Optional(inner), OwnedArrayBytes::Optional(under, mask)) => {
-            push_optional(alloc, under, mask, inner, text)
+            push_optional(under, mask, inner, text)
         }
         _ => unreachable!(),
     }

@@ -1,7 +1,7 @@
 //! Key lines: `key`, a key of the store, and its value in hexadecimal.
 
 ghost use Rattle.std.specs.Prelude.{◌≡◌, ◌++◌, IfOk, OnOk, option_map};
-ghost use Rattle.zarr_cli_lines.specs.Text.{hex_of, entry_of_line, entry_text, line_of};
+ghost use Rattle.zarr_cli_lines.specs.Text.{entry_of_line, entry_text, line_of};
 ghost use Rattle.zarr_cli_lines.specs.Parts.{entry_view};
 
 use crate::digits::{parse_hex, push_hex};

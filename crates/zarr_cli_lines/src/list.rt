@@ -32,7 +32,7 @@ fn grow_elements(
     let mut left = text;
     'elements: while let Some(text) = left {
         let (word, rest) = cut(text, ' ');
-        if !push_element(alloc, &mut elements, data_type, word)? {
+        if !push_element(&mut elements, data_type, word)? {
             return Ok(None);
         }
         left = rest;

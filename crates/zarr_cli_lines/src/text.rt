@@ -1,6 +1,6 @@
 //! Elements as text: `h` and hexadecimal digits, `-` for null, `+` before what is there.
 
-ghost use Rattle.std.specs.Prelude.{◌≡◌, ◌≤◌, ◌<◌, ◌-◌, ◌++◌, ℕ, List, length, take, drop, Some, IsSome, is_some, IfOk, OnOk};
+ghost use Rattle.std.specs.Prelude.{◌≡◌, ◌≤◌, ◌<◌, ◌+◌, ◌-◌, ◌^◌, ◌++◌, ℕ, List, length, take, drop, Some, IsSome, is_some, IfOk, OnOk};
 ghost use Rattle.zarr_model.specs.Element.{Element, fixed, variable};
 ghost use Rattle.zarr_model.specs.ArrayBytes.{fixed_bytes, variable_bytes, meaning};
 ghost use Rattle.zarrs_codec_array_bytes.specs.Raw.{raw_of};
@@ -108,7 +108,8 @@ fn push_each(
 
 // How many elements there are, if they are not all of one size.
 fn num_elements(bytes: &ArrayBytes<'_>) -> usize
-    ensures { result ≡ count_in (raw_of bytes.now) }
+    ensures count { result ≡ count_in (raw_of bytes.now) }
+    ensures few { result + 1 < 2 ^ 64 }
 {
     match bytes {
         ArrayBytes::Fixed(_) => 0,
@@ -117,22 +118,17 @@ fn num_elements(bytes: &ArrayBytes<'_>) -> usize
     }
 }
 
-// Whether array bytes are valid. More elements than memory holds are none.
-fn are_valid(
-    bytes: &ArrayBytes<'_>,
-    data_type: &DataType,
-    elements: usize,
-) -> Result<bool, AllocError>
-    ensures { IfOk result (λ valid.
-        valid ≡ is_some (meaning (kind_seen data_type.now) elements (raw_of bytes.now))) }
+// Whether array bytes are valid. They are not where there are more elements than the data have bytes for.
+#[tactic(auto, using(crate::proofs::CountLaws::too_many))]
+fn are_valid(bytes: &ArrayBytes<'_>, data_type: &DataType, elements: usize) -> bool
+    requires { elements + 1 < 2 ^ 64 }
+    ensures { result ≡ is_some (meaning (kind_seen data_type.now) elements (raw_of bytes.now)) }
 {
-    let Some(_) = elements.checked_add(1) else {
-        return Err(AllocError);
-    };
-    let Some(_) = elements.checked_mul(element_size(data_type)) else {
-        return Err(AllocError);
-    };
-    Ok(bytes.validate(elements as u64, data_type).is_ok())
+    let size = element_size(data_type);
+    if size > 0 && elements > bytes.size() / size {
+        return false;
+    }
+    bytes.validate(elements as u64, data_type).is_ok()
 }
 
 // The bytes of elements of one size; of others none.
@@ -157,7 +153,7 @@ fn push_others(
         text.new.items ≡ text.old.items ++ elements_text list) }
 {
     let elements = num_elements(bytes);
-    if are_valid(bytes, data_type, elements)? {
+    if are_valid(bytes, data_type, elements) {
         push_each(text, bytes, data_type, elements)?;
     }
     Ok(())

@@ -1,11 +1,11 @@
 //! The commands that are made from a number.
 
-ghost use Rattle.std.specs.Prelude.{◌≡◌, ◌^◌, ◌<◌, ◌≤◌, map, IfOk, OnOk, ◌∷◌, []};
+ghost use Rattle.std.specs.Prelude.{◌≡◌, ◌^◌, ◌<◌, ◌≤◌, map, IfOk, ◌∷◌, []};
 ghost use Rattle.zarrs_codec_traits.specs.Prelude.{region, fixed_bytes};
 ghost use Rattle.zarr_array.specs.boxes.Command.{command_of};
 ghost use Rattle.zarr_cli_lines.specs.Parts.{span_of_range};
 ghost use Rattle.zarr_model.specs.Command as Model;
-ghost use Rattle.zarr_cli_runs.specs.Generator.{first_state, next_state};
+ghost use Rattle.zarr_cli_runs.specs.Generator.{next_state};
 ghost use Rattle.zarr_cli_runs.specs.MadeCommands.{draw_below, span_across, span_drawn, after_draws, rows_drawn, columns_drawn, region_drawn, rows_of, command_of_kind, draws_of_kind, command_from, state_behind, commands_from, made_commands};
 
 use crate::elements::{Area, made_elements};

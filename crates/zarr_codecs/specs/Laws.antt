@@ -1,7 +1,7 @@
 -- What the codecs serve and take, by cases.
-use Rattle.std.specs.Prelude.{◌≡◌, ◌<◌, ◌*◌, ◌^◌, nat_le, ℕ, Bool, true, false, List, length, take, drop, Option, Some}
+use Rattle.std.specs.Prelude.{◌≡◌, ◌<◌, ◌*◌, ◌^◌, nat_le, ℕ, Bool, true, false, List, length, take, drop, Some}
 use Rattle.std.specs.Prelude.{None, IsSome, refl}
-use Rattle.std.proofs.Common.{inl, ap, sym, ◌∙◌}
+use Rattle.std.proofs.Common.{inl, ap}
 use Rattle.zarrs_codec_traits.specs.Prelude.{Region, ends_within, DataType, ArrayBytes, fixed_bytes, variable_bytes}
 use Rattle.zarrs_codec_traits.specs.Prelude.{optional_bytes, is_mask, Level, Options, decode_array_to_bytes}
 use Rattle.zarrs_codec_traits.specs.Prelude.{has_long_element, invalid_mask, invalid_variable_sized_array_offsets}

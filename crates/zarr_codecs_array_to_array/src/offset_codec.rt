@@ -1,8 +1,8 @@
 //! The codec `zarr_basics.offset`: an offset added to numbers.
 
-ghost use Rattle.std.specs.Prelude.{◌≡◌, ◌<◌, ◌≤◌, ◌-◌, ◌+◌, ◌*◌, ◌^◌, ◌≤ℤ◌, ℕ, List, Some, None, Ok, true, false, pos, negsuc, refl, int_lt, option_map, IfOk, IfErr, MatchResult};
+ghost use Rattle.std.specs.Prelude.{◌≡◌, ◌<◌, ◌≤◌, ◌-◌, ◌+◌, ◌*◌, ◌^◌, ◌≤ℤ◌, Some, None, Ok, true, false, pos, negsuc, refl, int_lt, option_map, IfOk, IfErr};
 ghost use Rattle.zarrs_codec_traits.specs.Prelude.{meaning, has_long_element, Makes, or_config};
-ghost use Rattle.zarrs_codec_traits.specs.Prelude.{fill_bytes, type_of, has_size, raw_of, validity};
+ghost use Rattle.zarrs_codec_traits.specs.Prelude.{type_of, raw_of, validity};
 ghost use Rattle.zarrs_codec_traits.specs.Prelude.{Answers, RefusesBy};
 ghost use Rattle.zarrs_metadata_values.specs.Configuration.{configuration_seen};
 ghost use Rattle.zarrs_plugin.specs.declared.error.PluginKind.TheVariants as kinds;

@@ -2,7 +2,7 @@
 //!
 //! See <https://zarr-specs.readthedocs.io/en/latest/v3/codecs/transpose/index.html>.
 
-ghost use Rattle.std.specs.Prelude.{◌≡◌, Some, None, true, false, refl, IfOk, option_map};
+ghost use Rattle.std.specs.Prelude.{◌≡◌, Some, true, false, refl, IfOk, option_map};
 ghost use Rattle.zarrs_metadata_values.specs.Configuration.{configuration_seen};
 ghost use Rattle.zarrs_codec_traits.specs.Prelude.{Makes, or_config};
 ghost use Rattle.zarrs_plugin.specs.declared.error.PluginKind.TheVariants as kinds;

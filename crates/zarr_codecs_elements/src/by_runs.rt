@@ -1,7 +1,6 @@
 //! Elements that are moved as the dimensions of their array are ordered anew, those of each run together.
 
-ghost use Rattle.std.specs.Prelude.{◌≡◌, ◌≤◌, ◌<◌, ◌-◌, ◌*◌, ◌^◌, true, None, length, take, drop, IfOk, IfErr};
-ghost use Rattle.std.specs.List.{range_with_len};
+ghost use Rattle.std.specs.Prelude.{◌≡◌, ◌<◌, ◌-◌, ◌*◌, ◌^◌, true, None, length, IfOk, IfErr};
 ghost use Rattle.zarrs_codec_traits.specs.Prelude.{count_of, gathered, raw_of, lengths_refusal};
 ghost use Rattle.zarrs_codec_error.specs.declared.error.CodecError.TheVariants as codec;
 ghost use Rattle.zarr_codecs_elements.specs.Order.{is_order};

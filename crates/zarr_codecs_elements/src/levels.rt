@@ -1,6 +1,6 @@
 //! Elements of a level from those of the level below, whose dimensions are ordered anew, and back.
 
-ghost use Rattle.std.specs.Prelude.{◌≡◌, true, false, length, List, Some, IsSome, option_map, IfOk, IfErr};
+ghost use Rattle.std.specs.Prelude.{◌≡◌, true, false, length, List, Some, IsSome, option_map, IfOk};
 ghost use Rattle.zarrs_codec_traits.specs.Prelude.{count, count_of, sizes, ends_within, Element};
 ghost use Rattle.zarrs_codec_traits.specs.Prelude.{meaning, has_long_element, permuted};
 ghost use Rattle.zarrs_codec_traits.specs.Prelude.{permuted_box, region as box_of, type_of, raw_of};
@@ -13,10 +13,9 @@ use crate::moving::moved;
 use crate::{inverse_of, permuted_numbers};
 use std::alloc::Global;
 use std::num::NonZeroU64;
-use zarrs_array_subset::ArraySubset;
+use zarrs_array_subset::{ArraySubset, shape_numbers};
 use zarrs_codec_array_bytes::ArrayBytes;
 use zarrs_codec_error::CodecError;
-use zarrs_codec_traits::shape_numbers;
 use zarrs_data_type::DataType;
 
 /// The elements of a shape, from those of the ordered shape below.

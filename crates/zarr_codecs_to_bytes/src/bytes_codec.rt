@@ -1,6 +1,6 @@
 //! The codec `bytes`: the elements one after another.
 
-ghost use Rattle.std.specs.Prelude.{◌≡◌, ◌<◌, ◌*◌, ◌^◌, Ok, None, Some, true, refl, IfOk, IfErr, option_map};
+ghost use Rattle.std.specs.Prelude.{◌≡◌, ◌<◌, ◌*◌, Ok, None, Some, true, refl, IfOk, IfErr, option_map};
 ghost use Rattle.std.proofs.Common.{inl};
 ghost use Rattle.zarrs_data_type_bytes.specs.BytesSupport.{component_of};
 ghost use Rattle.zarrs_data_type_bytes.specs.ByteOrder.{in_order};

@@ -2,7 +2,7 @@
 //!
 //! See <https://www.rfc-editor.org/rfc/rfc3720#section-12.1>.
 
-ghost use Rattle.std.specs.Prelude.{◌≡◌, ◌+◌, ◌*◌, ◌%◌, ℕ};
+ghost use Rattle.std.specs.Prelude.{◌≡◌, ◌*◌, ◌%◌, ℕ};
 ghost use Rattle.zarr_codecs_to_bytes.specs.Crc32c.{crc32c, byte_step, bit_steps, register_after};
 ghost use Rattle.zarr_codecs_to_bytes.specs.Crc32cTable.{IsTableOf};
 

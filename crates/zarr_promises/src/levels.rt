@@ -1,6 +1,6 @@
 //! Elements of a level above, by any array-to-array codec.
 
-ghost use Rattle.std.specs.Prelude.{◌≡◌, true, ℕ, List, length, Some, None, IfOk, MatchResult};
+ghost use Rattle.std.specs.Prelude.{◌≡◌, true, List, length, Some, None, IfOk, MatchResult};
 ghost use Rattle.zarr_codec_chain.specs.Prelude.{count_of, ends_within, Element, region as box_of};
 ghost use Rattle.zarr_codec_chain.specs.Prelude.{fill_bytes, type_of, raw_of, unserved_at, lengths};
 ghost use Rattle.zarr_codec_chain.specs.Prelude.{level_of, IsFit, list_at, at_box, select};

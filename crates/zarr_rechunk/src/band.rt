@@ -12,7 +12,7 @@ ghost use Rattle.zarr_rechunk.specs.Fails.{ReadFails, WriteFails, BandFails};
 
 use crate::clear::clear_nulls;
 use crate::error::{RechunkErrorKind, source_kind, target_kind};
-use std::alloc::Global;
+use std::alloc::{AllocError, Global};
 use zarr_array::{CodecOptions, DataType, OpenArray, Reply};
 use zarrs_array_subset::ArraySubset;
 use zarrs_codec_array_bytes::ArrayBytes;
@@ -55,7 +55,7 @@ fn clear_band(
 {
     match clear_nulls(alloc, &bytes, data_type) {
         Ok(cleared) => Ok(cleared),
-        Err(_) => Err(RechunkErrorKind::OutOfMemory),
+        Err(AllocError) => Err(RechunkErrorKind::OutOfMemory),
     }
 }
 

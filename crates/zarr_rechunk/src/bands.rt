@@ -1,10 +1,9 @@
 //! The bands of an array.
 
-ghost use Rattle.std.specs.Prelude.{◌≡◌, ◌==◌, ◌-◌, ◌∷◌, [], min, ℕ, List, false, length, map, replicate, IfOk};
+ghost use Rattle.std.specs.Prelude.{◌≡◌, ◌==◌, ◌-◌, ◌∷◌, [], min, false, length, map, replicate, IfOk};
 ghost use Rattle.std.specs.List.{list_any, range_with_len};
 ghost use Rattle.zarrs_codec_traits.specs.Prelude.{whole, starts, sizes, IsChunk, region};
-ghost use Rattle.zarrs_array_subset.specs.Boxes.{region_of_ranges};
-ghost use Rattle.zarr_rechunk.specs.Bands.{span_inside, first_span, first_length, band, bands};
+ghost use Rattle.zarr_rechunk.specs.Bands.{span_inside, first_length, band, bands};
 ghost use Rattle.zarr_rechunk.specs.Spans.{range_span};
 
 use std::alloc::{AllocError, Global};

@@ -1,6 +1,6 @@
 //! Elements under masks, cleared where they are null.
 
-ghost use Rattle.std.specs.Prelude.{◌≡◌, ◌<◌, ◌+◌, ◌*◌, ◌^◌, ◌++◌, ◌∷◌, [], true, Some, None, ℕ, List, length, flat_map, IfOk, OnOk};
+ghost use Rattle.std.specs.Prelude.{◌≡◌, ◌<◌, ◌+◌, ◌*◌, ◌^◌, ◌++◌, ◌∷◌, [], true, Some, None, List, length, flat_map, IfOk, OnOk};
 ghost use Rattle.zarrs_codec_traits.specs.Prelude.{Element, ends_from, meaning, array_bytes};
 ghost use Rattle.zarrs_codec_traits.specs.Prelude.{raw_of, kind_seen, lengths_refusal};
 ghost use Rattle.zarrs_codec_slices.specs.Picking.{are_within};

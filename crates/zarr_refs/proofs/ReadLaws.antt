@@ -10,7 +10,8 @@ use Rattle.zarrs_storage.specs.declared.store.StorageError.TheVariants.{Failed, 
 use Rattle.zarrs_storage.specs.Store.{GetsParts, IsRangeError, invalid_range, part_bytes}
 use Rattle.zarr_refs.specs.declared.slices.Slice.{Slice}
 use Rattle.zarr_refs.specs.Slices.{bytes_part, lies_in, slice_bytes, is_bounded}
-use Rattle.zarr_refs.specs.RefStore.{shifted, ReadsParts}
+use Rattle.zarrs_storage.specs.ByteRange.{shifted}
+use Rattle.zarr_refs.specs.RefStore.{ReadsParts}
 use Rattle.zarr_refs.proofs.SliceLaws.{long, parts_in, all_valid_in}
 
 first_true : (a b : Bool) → (a && b) ≡ true → a ≡ true

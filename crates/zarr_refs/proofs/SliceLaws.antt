@@ -1,31 +1,13 @@
 -- Ranges of a slice in its base's value.
-use Rattle.std.proofs.Common.{◌≡◌, ◌∙◌, ap, ap₂, sym, refl, ℕ, ◌+◌, ◌-◌, ◌^◌, ◌<◌, ◌≤◌, Bool, true, false}
+use Rattle.std.proofs.Common.{◌≡◌, ◌∙◌, ap, ap₂, sym, refl, ℕ, ◌+◌, ◌-◌, ◌≤◌, Bool, true, false}
 use Rattle.std.proofs.Common.{if◌then◌else◌, List, [], ◌∷◌, take, drop, map, length, Some, None, length-take-le}
 use Rattle.std.proofs.Common.{length-drop, take-take, drop-drop, arith}
-use Rattle.std.proofs.lemmas.Bool.{leb-true, le-leb}
+use Rattle.std.proofs.lemmas.Bool.{le-leb}
 use Rattle.std.proofs.lemmas.List.{drop-take}
 use Rattle.zarrs_storage.specs.declared.byte_range.ByteRange.{ByteRange}
-use Rattle.zarrs_storage.specs.declared.byte_range.ByteRange.TheVariants.{FromStart, Suffix}
-use Rattle.zarrs_storage.specs.ByteRange.{is_valid, start_in, end_in, slice_of, slices_of, first_invalid}
+use Rattle.zarrs_storage.specs.ByteRange.{is_valid, start_in, end_in, slice_of, slices_of, first_invalid, shifted}
+use Rattle.zarrs_storage.proofs.RangeLemmas.{lies}
 use Rattle.zarr_refs.specs.Slices.{bytes_part}
-use Rattle.zarr_refs.specs.RefStore.{shifted}
-
--- where a valid range lies
-record Lies (range : ByteRange) (size : ℕ) : Type 0 where
-  rises : start_in range size ≤ end_in range size
-  within : end_in range size ≤ size
-
-lies : (range : ByteRange) (size : ℕ) → is_valid range size ≡ true → Lies range size
-lies (FromStart offset None) size is = let fits : offset ≤ size = leb-true _ _ is in
-    record { rises = fits; within = omega arith }
-lies (FromStart offset (Some len)) size is = let fits : offset + len ≤ size = leb-true _ _ is in
-    record { rises = omega arith; within = fits }
-lies (Suffix len) size is = record { rises = omega arith; within = omega arith }
-
-pub shift_fits : (range : ByteRange) (offset len : ℕ) → is_valid range len ≡ true → offset + len < 2 ^ 64 →
-    offset + start_in range len < 2 ^ 64
-shift_fits range offset len is fits = let l = lies range len is in let rises : start_in range len ≤ end_in range len =
-    l.rises in let within : end_in range len ≤ len = l.within in omega arith
 
 module _ (offset len : ℕ) (value : List ℕ) (within : offset + len ≤ length value) where
   pub long : length (bytes_part offset len value) ≡ len

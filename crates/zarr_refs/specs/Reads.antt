@@ -13,8 +13,7 @@ use Rattle.zarr_refs.specs.declared.reference.RefError.TheVariants as RefError
 use Rattle.zarr_refs.specs.declared.lines.RefLines.{RefLines}
 use Rattle.zarr_refs.specs.declared.status.RefStatus.{RefStatus}
 use Rattle.zarr_refs.specs.declared.status.RefStatus.TheVariants.{Cli, Reference, ReadOnly}
-use Rattle.zarr_refs.specs.Input.{RefRun, Verdict, runs, stops}
-use Rattle.zarr_refs.specs.Ending.{ref_ending_of}
+use Rattle.zarr_refs.specs.Input.{RefRun}
 use Rattle.zarr_refs.specs.Run.{reference_fault, base_of, AreFitRefs, SeesNone, SeesDamage, IsAllSet, PrintsReads}
 
 -- the cause of an early end of reads over some content; a type says whether the store failed

@@ -1,5 +1,5 @@
 -- What reads of slices answer, and what they ask of the base.
-use Rattle.std.specs.Prelude.{◌≡◌, ◌↔◌, IsSome, ℕ, ◌+◌, ◌-◌, ◌≤◌, List, Option, Some, None, Vec, option_map, Result}
+use Rattle.std.specs.Prelude.{◌≡◌, ◌↔◌, IsSome, ℕ, ◌+◌, ◌≤◌, List, Option, None, Vec, option_map, Result}
 use Rattle.std.specs.Prelude.{IfOk, IfErr, OnErr}
 use Rattle.std.specs.declared.alloc.Global.{Global}
 use Rattle.std.specs.BTreeMap.{BTreeMap}
@@ -9,25 +9,12 @@ use Rattle.std.specs.List.{Contains}
 use Rattle.std.specs.List.Sorted.{IsStrictlySortedBy}
 use Rattle.zarr_model.specs.Prelude.{Shown, counted, HasCause}
 use Rattle.zarrs_storage.specs.declared.byte_range.ByteRange.{ByteRange}
-use Rattle.zarrs_storage.specs.declared.byte_range.ByteRange.TheVariants.{FromStart}
 use Rattle.zarrs_storage.specs.declared.store.StorageError.{StorageError}
-use Rattle.zarrs_storage.specs.declared.store.StorageError.TheVariants.{Failed, InvalidByteRange, OutOfMemory}
-use Rattle.zarrs_storage.specs.ByteRange.{start_in, end_in, slices_of, first_invalid, TellsRange}
+use Rattle.zarrs_storage.specs.ByteRange.{slices_of}
 use Rattle.zarrs_storage.specs.Store.{value_bytes, part_bytes, handed_out, handed_parts, SameContent, IsFault, IsPlain}
 use Rattle.zarrs_storage.specs.Store.{IsRangeError, invalid_range}
 use Rattle.zarr_refs.specs.declared.slices.Slice.{Slice}
 use Rattle.zarr_refs.specs.Slices.{slice_at}
-
--- where a range of so many bytes from an offset on lies in the value
-abbrev pub shifted : ℕ → ℕ → ByteRange → ByteRange
-shifted offset len range =
-    FromStart (offset + start_in range len) (Some (end_in range len - start_in range len))
-
--- an error that tells the first range that is not valid for so many bytes, or of memory
-abbrev pub IsRangeFault : List ByteRange → ℕ → StorageError → Type 0
-IsRangeFault ranges len Failed = ⊥
-IsRangeFault ranges len (InvalidByteRange error) = TellsRange (first_invalid len ranges) len error
-IsRangeFault ranges len OutOfMemory = Unit {0}
 
 -- a read of a slice's bytes
 pub record ReadsSlice (bytes : Option (List ℕ)) (old new : Shown)

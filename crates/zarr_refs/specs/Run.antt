@@ -1,6 +1,6 @@
 -- What a run over references prints, and what it leaves.
 use Rattle.std.specs.Prelude.{◌≡◌, ℕ, List, length, Option, Some, None}
-use Rattle.zarr_model.specs.Prelude.{Element, Array, Content, Command, Shown, replies, counted, with_keys, SeesNoDamage}
+use Rattle.zarr_model.specs.Prelude.{Element, Array, Content, Shown, replies, counted, with_keys, SeesNoDamage}
 use Rattle.zarr_model.specs.Prelude.{IsDamageSeen}
 use Rattle.zarr_cli_lines.specs.Text.{replies_text}
 use Rattle.zarr_cli_runs.specs.Commands.{MeansUndamaged}

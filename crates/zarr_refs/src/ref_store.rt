@@ -1,49 +1,18 @@
 //! A store of slices of the values of another store.
 
-ghost use Rattle.std.specs.Prelude.{◌≡◌, ℕ, ◌+◌, ◌^◌, ◌<◌, true, List, [], ◌∷◌, map, Some, None, IfOk, IfErr};
-ghost use Rattle.zarrs_codec_traits.specs.Prelude.{HasCause, counted, is_valid, first_invalid};
-ghost use Rattle.zarrs_storage.specs.Store.{value_bytes, part_bytes, handed_out, handed_parts, total_of, SameContent, IsFault, IsPlain};
+ghost use Rattle.std.specs.Prelude.{◌≡◌, ℕ, ◌+◌, ◌<◌, true, List, [], ◌∷◌, Some, None, IfOk, IfErr};
+ghost use Rattle.zarrs_codec_traits.specs.Prelude.{counted};
+ghost use Rattle.zarrs_storage.specs.Store.{value_bytes, part_bytes, handed_out, handed_parts, SameContent};
 ghost use Rattle.zarrs_storage.specs.Calls.{capped_count};
 ghost use Rattle.zarrs_storage.specs.declared.store.StorageError.TheVariants.{OutOfMemory};
 ghost use Rattle.zarr_refs.specs.Slices.{slice_at, slice_bytes, lies_in, is_slice_within};
-ghost use Rattle.zarr_refs.specs.RefStore.{shifted, IsRangeFault, ReadsSlice, ReadsParts, ListsSlices};
+ghost use Rattle.zarr_refs.specs.RefStore.{ReadsSlice, ReadsParts, ListsSlices};
 
 use crate::reference::{RefError, Reference};
 use crate::slices::{Slice, Slices, slices_in};
 use std::alloc::Global;
-use zarrs_storage::{ByteRange, InvalidByteRangeError, OffsetBytes, StorageError, Store, StoreKey};
-
-// Where a range of a slice lies in its base's value.
-#[tactic(auto, using(crate::proofs::SliceLaws::shift_fits))]
-fn shift(range: ByteRange, offset: u64, length: u64) -> ByteRange
-    requires fits { offset + length < 2 ^ 64 }
-    requires valid { is_valid range length ≡ true }
-    ensures { result ≡ shifted offset length range }
-{
-    ByteRange::FromStart(offset + range.start(length), Some(range.length(length)))
-}
-
-// Where ranges of a slice lie in its base's value.
-fn shift_all(
-    alloc: Global,
-    ranges: &[ByteRange],
-    offset: u64,
-    length: u64,
-) -> Result<Vec<ByteRange>, StorageError>
-    requires { offset + length < 2 ^ 64 }
-    ensures valid { IfOk result (λ v. first_invalid length ranges.now ≡ None) }
-    ensures value { IfOk result (λ v. v.items ≡ map (shifted offset length) ranges.now) }
-    ensures refused { IfErr result (IsRangeFault ranges.now length) }
-{
-    let mut shifted = Vec::with_capacity(alloc, ranges.len())?;
-    for range in ranges {
-        if !range.is_valid(length) {
-            return Err(StorageError::InvalidByteRange(InvalidByteRangeError::new(*range, length)));
-        }
-        shifted.push(shift(*range, offset, length))?;
-    }
-    Ok(shifted)
-}
+use zarrs_storage::counts::with_lengths;
+use zarrs_storage::{ByteRange, OffsetBytes, StorageError, Store, StoreKey, shift_byte_ranges};
 
 // The bytes of ranges of a slice that lies in its base's value.
 fn read_parts<S: Store>(
@@ -57,7 +26,7 @@ fn read_parts<S: Store>(
         (S.shown base.old) (S.shown base.new) result }
     ensures puts { (S.shown base.new).puts ≡ (S.shown base.old).puts }
 {
-    let ranges = shift_all(alloc, ranges, slice.offset, slice.length)?;
+    let ranges = shift_byte_ranges(alloc, ranges, slice.offset, slice.length)?;
     base.get_partial_many(alloc, &slice.base, &ranges)
 }
 
@@ -100,16 +69,6 @@ pub(crate) fn with_value(count: u64, value: &Option<Vec<u8>>) -> u64
         Some(value) => count.saturating_add(value.len() as u64),
         None => count,
     }
-}
-
-fn with_lengths(count: u64, parts: &[Vec<u8>]) -> u64
-    ensures { result ≡ counted count (total_of parts.now) }
-{
-    let mut sum = count;
-    for part in parts {
-        sum = sum.saturating_add(part.len() as u64);
-    }
-    sum
 }
 
 // A count with the bytes of parts.

@@ -1,6 +1,6 @@
 //! Sessions of commands that read, over a store of slices.
 
-ghost use Rattle.std.specs.Prelude.{◌≡◌, map, ℕ, List, Some, None, Err};
+ghost use Rattle.std.specs.Prelude.{◌≡◌, map, ℕ, Some, None, Err};
 ghost use Rattle.zarr_array.specs.boxes.Command.{command_of};
 ghost use Rattle.zarr_array.specs.Ended.{ended};
 ghost use Rattle.zarr_array.specs.Runs.{Runs};

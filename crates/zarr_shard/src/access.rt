@@ -126,7 +126,7 @@ impl ChunkAccess for ShardArray {
         }
         match self.codec.encode_chunk(alloc, &elements, options) {
             Ok(value) => store.set(alloc, &place.key, &value),
-            Err(_) => Err(StorageError::OutOfMemory),
+            Err(error) => Err(StorageError::from(error.only_memory())),
         }
     }
 }

@@ -1,14 +1,14 @@
 //! The inner chunks of a chunk.
 
 ghost use Rattle.std.specs.Prelude.{◌≡◌, ◌<◌, false, Some, IsSome, IfOk, IfErr, OnOk};
-ghost use Rattle.zarrs_codec_traits.specs.Prelude.{count_of, tuple_at, whole, has_long_element};
-ghost use Rattle.zarrs_codec_traits.specs.Prelude.{region, raw_of, list_at, IsFit, Copied};
+ghost use Rattle.zarrs_codec_traits.specs.Prelude.{count_of, whole, has_long_element};
+ghost use Rattle.zarrs_codec_traits.specs.Prelude.{region, raw_of, list_at, IsBlank, IsFit, Copied};
 ghost use Rattle.zarrs_codec_error.specs.declared.error.CodecError.TheVariants as errors;
 ghost use Rattle.zarr_codec_chain.specs.Chain.{first_level, HasFill};
 ghost use Rattle.zarr_array_boxes.specs.BoxElements.{kind_held, box_held, list_held};
 ghost use Rattle.zarr_array_boxes.specs.Elements.{list_in};
 ghost use Rattle.zarr_shard_codec.specs.Whole.{HoldsOver};
-ghost use Rattle.zarr_shard_codec.specs.Placing.{IsBlank, box_at};
+ghost use Rattle.zarr_shard_codec.specs.Placing.{box_at};
 ghost use Rattle.zarr_shard_codec.specs.ShardCodec.{inner_of, inner_grid, inner_level};
 
 use crate::shard_codec::ShardCodec;

@@ -1,6 +1,6 @@
 //! One inner chunk of a shard, fetched from a store.
 
-ghost use Rattle.std.specs.Prelude.{◌≡◌, IsSome, MatchResult};
+ghost use Rattle.std.specs.Prelude.{IsSome, MatchResult};
 ghost use Rattle.zarrs_codec_traits.specs.Prelude.{held_bytes, raw_of, options_of};
 ghost use Rattle.zarr_shard_codec.specs.Inner.{AreInner, found_at, found_says, inner_at};
 ghost use Rattle.zarr_shard_codec.specs.MetInner.{HasPair, HasInner};

@@ -1,6 +1,6 @@
 //! The inner chunks of a value under a key that a region meets.
 
-ghost use Rattle.std.specs.Prelude.{◌≡◌, ◌<◌, ◌^◌, true, false, IsSome, IfOk, IfErr, OnOk, MatchResult};
+ghost use Rattle.std.specs.Prelude.{◌≡◌, ◌<◌, ◌^◌, true, false, IsSome, IfOk, OnOk, MatchResult};
 ghost use Rattle.zarrs_codec.specs.Prelude.{count, count_of, whole, contains, tuples};
 ghost use Rattle.zarrs_codec.specs.Prelude.{place, IsChunk, ends_within, chunks_meeting};
 ghost use Rattle.zarrs_codec.specs.Prelude.{has_long_element, region as region_of, Copied, raw_of};
@@ -88,7 +88,7 @@ fn box_of(codec: &ShardCodec, alloc: Global, indices: &[u64]) -> Result<ArraySub
 }
 
 impl MetInner<'_> {
-    ghost use Rattle.zarr_shard_codec.specs.MetInner.{met_codec, region_met, met_inner_at, value_under, AreMetInner, ReadsInner, HasReadMet, met_content, met_calls, met_size, MetSays};
+    ghost use Rattle.zarr_shard_codec.specs.MetInner.{met_codec, region_met, AreMetInner, ReadsInner, HasReadMet, met_content, met_calls, met_size, MetSays};
 
     // Puts elements of an inner chunk where it lies.
     fn put(

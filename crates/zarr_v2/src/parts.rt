@@ -1,11 +1,10 @@
 //! The extensions and the fill value of a translated document.
 
-ghost use Rattle.std.specs.Prelude.{◌≡◌, map, option_map, IfOk, IfErr, MatchResult};
+ghost use Rattle.std.specs.Prelude.{◌≡◌, map, option_map, IfOk, IfErr};
 ghost use Rattle.std.specs.Int.NonZero.{non_zero_u64_get};
 ghost use Rattle.zarrs_metadata_values.specs.FillValueMetadata.{fill_view};
 ghost use Rattle.serde_json.specs.View.{view};
 ghost use Rattle.zarrs_metadata_parts.specs.MetadataV3.{extension_seen, extensions_seen};
-ghost use Rattle.zarr_v2.specs.ElementType.{element_type, type_text};
 ghost use Rattle.zarr_v2.specs.Translate.{extension_named, configured_by, reversed_order, endian_text, grid_v2, keys_v2, bytes_v2, transpose_v2, codecs_v2, zero_fill, fill_v2};
 
 use crate::element_type::{ElementType, StoredType};

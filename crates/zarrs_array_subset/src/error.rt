@@ -61,6 +61,20 @@ pub enum ArraySubsetError {
     OutOfMemory,
 }
 
+impl ArraySubsetError {
+    ghost use Rattle.zarrs_array_subset.specs.Errors.{out_of_memory};
+
+    /// Want of memory, where nothing else refuses the call.
+    pub fn only_memory(self) -> AllocError
+        requires { self ≡ out_of_memory }
+    {
+        match self {
+            ArraySubsetError::OutOfMemory => AllocError,
+            _ => unreachable!(),
+        }
+    }
+}
+
 impl From<AllocError> for ArraySubsetError {
     ghost use Rattle.zarrs_array_subset.specs.Errors.{out_of_memory};
 
@@ -99,7 +113,7 @@ pub enum IndexerError {
 }
 
 impl IndexerError {
-    ghost use Rattle.zarrs_array_subset.specs.Errors.{other_dimensionality};
+    ghost use Rattle.zarrs_array_subset.specs.Errors.{no_memory, other_dimensionality};
 
     /// Dimensionality `got` where `expected` is the array's.
     pub fn new_incompatible_dimensionality(got: usize, expected: usize) -> Self
@@ -122,6 +136,16 @@ impl IndexerError {
         ensures { result ≡ IndexerError.IncompatibleLength got expected }
     {
         IndexerError::IncompatibleLength(got, expected)
+    }
+
+    /// Want of memory, where nothing else refuses the call.
+    pub fn only_memory(self) -> AllocError
+        requires { self ≡ no_memory }
+    {
+        match self {
+            IndexerError::OutOfMemory => AllocError,
+            _ => unreachable!(),
+        }
     }
 }
 

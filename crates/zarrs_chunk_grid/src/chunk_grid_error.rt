@@ -1,6 +1,7 @@
 //! Why a chunk grid refuses a call.
 
-ghost use Rattle.std.specs.Prelude.{◌≡◌};
+ghost use Rattle.std.specs.Prelude.{◌≡◌, ◌≢◌};
+ghost use Rattle.zarrs_chunk_grid.specs.ChunkGridErrors.{IsRankRefusal};
 ghost use Rattle.zarrs_chunk_grid.specs.declared.chunk_grid_error.ChunkGridError.TheVariants.{OutOfMemory};
 
 use std::alloc::{AllocError, AllocFailed};
@@ -16,6 +17,18 @@ pub enum ChunkGridError {
     /// Memory ran out.
     #[error("out of memory")]
     OutOfMemory,
+}
+
+impl ChunkGridError {
+    /// The refusal of another number of dimensions.
+    pub fn other_rank(got: usize, expected: usize) -> Self
+        requires { got ≢ expected }
+        ensures { IsRankRefusal got expected result }
+    {
+        ChunkGridError::IncompatibleDimensionality(IncompatibleDimensionalityError::new(
+            got, expected,
+        ))
+    }
 }
 
 impl From<AllocError> for ChunkGridError {

@@ -1,10 +1,9 @@
 //! What can be said of every chunk grid.
 
-ghost use Rattle.std.specs.Prelude.{◌≡◌, ℕ, ◌<◌, ◌≤◌, ◌^◌, Bool, List, Result, Some, true, false, length, map, IfOk, IfErr, IfSome, IsTrue, is_some};
+ghost use Rattle.std.specs.Prelude.{◌≡◌, ℕ, ◌<◌, ◌^◌, Bool, List, Result, Some, true, length, map, IfOk, IfErr, IfSome, IsTrue, is_some};
 ghost use Rattle.std.specs.Int.NonZero.{non_zero_u64_get};
-ghost use Rattle.std.specs.Option.{option_map};
 ghost use Rattle.serde_json.specs.Data.{Members};
-ghost use Rattle.zarr_model.specs.Region.{count, count_of, whole, contains, ends_within, starts, sizes};
+ghost use Rattle.zarr_model.specs.Region.{count_of, whole, contains, ends_within, starts, sizes};
 ghost use Rattle.zarr_model.specs.Grid.{Grid, CoversShape, IsChunk, chunks};
 ghost use Rattle.zarrs_array_subset.specs.ArraySubset.{region};
 ghost use Rattle.zarrs_chunk_grid_iterators.specs.Iterators.{tuples_left};
@@ -21,10 +20,10 @@ mod chunks;
 
 use crate::chunk_grid_error::ChunkGridError;
 pub use bounds::are_below;
-use bounds::{are_inbounds, indices_within, numbers};
+use bounds::{are_inbounds, indices_within};
 use chunks::{box_of, chunks_in_array_subset_of, chunks_subset_of, element_indices_of, subset_of};
 use std::alloc::{AllocError, Global};
-use zarrs_array_subset::{ArrayIndices, ArrayShape, ArraySubset, ChunkShape};
+use zarrs_array_subset::{ArrayIndices, ArrayShape, ArraySubset, ChunkShape, shape_numbers};
 use zarrs_chunk_grid_iterators::IndicesIntoIterator;
 use zarrs_metadata_parts::{Configuration, MetadataV3};
 use zarrs_plugin::{ExtensionName, PluginCreateError};
@@ -181,7 +180,7 @@ pub trait ChunkGridTraits: ExtensionName + Sized {
     {
         match self.chunk_shape(alloc, chunk_indices) {
             Ok(Some(lengths)) => {
-                let lengths = numbers(alloc, &lengths)?;
+                let lengths = shape_numbers(alloc, &lengths)?;
                 Ok(Some(lengths))
             }
             Ok(None) => Ok(None),

@@ -7,7 +7,7 @@ ghost use Rattle.zarr_model.specs.Region.{count_of};
 
 use std::alloc::{AllocError, Global};
 use std::num::{NonZeroU64, NonZeroUsize};
-use zarrs_array_subset::ArrayShape;
+use zarrs_array_subset::{ArrayShape, shape_numbers};
 
 /// The shape of a chunk.
 pub trait ChunkShapeTraits {
@@ -62,7 +62,7 @@ impl ChunkShapeTraits for Vec<NonZeroU64> {
     ghost lengths = { λ s. map non_zero_u64_get s.items };
 
     fn to_array_shape(&self, alloc: Global) -> Result<ArrayShape, AllocError> {
-        self.iter().map(|n| n.get()).collect(alloc)
+        shape_numbers(alloc, self)
     }
 
     fn num_elements(&self) -> NonZeroU64 {

@@ -3,7 +3,8 @@ use Rattle.std.proofs.Common.{ℕ, List, map, Option, Some, None}
 use Rattle.zarrs_storage.specs.declared.byte_range.ByteRange.{ByteRange}
 use Rattle.zarrs_codec_traits.specs.Prelude.{first_invalid, IsNoFault, Held, IsRangeErrorOf}
 use Rattle.zarrs_codec_error.specs.declared.error.CodecError.{CodecError}
-use Rattle.zarrs_codec_traits.specs.Interval.{shifted, range_or, interval_tells}
+use Rattle.zarrs_storage.specs.ByteRange.{shifted}
+use Rattle.zarrs_codec_traits.specs.Interval.{range_or, interval_tells}
 use Rattle.zarrs_codec_traits.specs.Through.{says_through, through_says}
 use Rattle.zarrs_codec.specs.Ranges.{range_no_fault, value_no_fault}
 

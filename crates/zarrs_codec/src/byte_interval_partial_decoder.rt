@@ -1,14 +1,11 @@
 //! An interval of the value that a handle holds.
 
-ghost use Rattle.std.specs.Prelude.{◌≡◌, ◌⊎◌, ◌+◌, ◌<◌, ◌^◌, true, map, None, IfOk, IfErr};
-ghost use Rattle.zarrs_codec_traits.specs.Prelude.{is_valid, first_invalid, IsRangeErrorOf};
-ghost use Rattle.zarrs_codec_error.specs.declared.error.CodecError.TheVariants as codec;
-ghost use Rattle.zarrs_codec_traits.specs.Interval.{shifted};
+ghost use Rattle.std.specs.Prelude.{◌≡◌, ◌+◌, ◌<◌, ◌^◌};
 
 use crate::BytesPartialDecoderTraits;
 use std::alloc::Global;
 use zarrs_codec_error::{CodecError, CodecOptions};
-use zarrs_storage::{ByteRange, InvalidByteRangeError, StorageError};
+use zarrs_storage::{ByteRange, StorageError, shift_byte_ranges};
 
 /// The bytes of an interval of the value that a handle holds, which are a value of their own.
 ///
@@ -20,41 +17,6 @@ pub struct ByteIntervalPartialDecoder<H> {
     byte_offset: u64,
     byte_length: u64,
     ghost fits: { byte_offset + byte_length < 2 ^ 64 },
-}
-
-// Where a range of an interval lies in the value.
-#[tactic(auto, using(zarrs_codec_traits::proofs::IntervalLaws::shift_fits))]
-fn shift(range: ByteRange, offset: u64, length: u64) -> ByteRange
-    requires fits { offset + length < 2 ^ 64 }
-    requires valid { is_valid range length ≡ true }
-    ensures { result ≡ shifted offset length range }
-{
-    ByteRange::FromStart(offset + range.start(length), Some(range.length(length)))
-}
-
-// Where ranges of an interval lie in the value.
-fn shift_all(
-    alloc: Global,
-    ranges: &[ByteRange],
-    offset: u64,
-    length: u64,
-) -> Result<Vec<ByteRange>, CodecError>
-    requires { offset + length < 2 ^ 64 }
-    ensures valid { IfOk result (λ v. first_invalid length ranges.now ≡ None) }
-    ensures value { IfOk result (λ v. v.items ≡ map (shifted offset length) ranges.now) }
-    ensures refused { IfErr result
-        (λ e. (e ≡ codec.OutOfMemory) ⊎ IsRangeErrorOf ranges.now length e) }
-{
-    let mut shifted = Vec::with_capacity(alloc, ranges.len())?;
-    for range in ranges {
-        if !range.is_valid(length) {
-            return Err(CodecError::InvalidByteRangeError(InvalidByteRangeError::new(
-                *range, length,
-            )));
-        }
-        shifted.push(shift(*range, offset, length))?;
-    }
-    Ok(shifted)
 }
 
 impl<H> ByteIntervalPartialDecoder<H> {
@@ -132,16 +94,16 @@ impl<H: BytesPartialDecoderTraits> BytesPartialDecoderTraits for ByteIntervalPar
         self.handle.supports_partial_decode()
     }
 
-    #[tactic(auto, using(zarrs_codec_traits::proofs::IntervalLaws::interval_given, zarrs_codec_traits::proofs::IntervalLaws::interval_told, zarrs_codec_traits::proofs::IntervalLaws::interval_refused, zarrs_codec_traits::proofs::IntervalLaws::first_refused, zarrs_codec_traits::proofs::IntervalLaws::first_passed, zarrs_codec_traits::proofs::IntervalLaws::interval_reads, zarrs_codec_traits::proofs::IntervalLaws::unread, zarrs_codec_traits::proofs::IntervalLaws::told_below))]
+    #[tactic(auto, using(zarrs_codec_traits::proofs::IntervalLaws::interval_given, zarrs_codec_traits::proofs::IntervalLaws::interval_told, zarrs_codec_traits::proofs::IntervalLaws::shift_told, zarrs_codec_traits::proofs::IntervalLaws::first_passed, zarrs_codec_traits::proofs::IntervalLaws::interval_reads, zarrs_codec_traits::proofs::IntervalLaws::unread, zarrs_codec_traits::proofs::IntervalLaws::told_below))]
     fn partial_decode_many(
         &mut self,
         alloc: Global,
         decoded_regions: &[ByteRange],
         options: &CodecOptions,
     ) -> Result<Option<Vec<Vec<u8>>>, CodecError> {
-        match shift_all(alloc, decoded_regions, self.byte_offset, self.byte_length) {
+        match shift_byte_ranges(alloc, decoded_regions, self.byte_offset, self.byte_length) {
             Ok(ranges) => self.handle.partial_decode_many(alloc, &ranges, options),
-            Err(error) => Err(error),
+            Err(fault) => Err(CodecError::from(fault)),
         }
     }
 

@@ -1,10 +1,9 @@
 //! Handles on bytes that are read and written.
 
-ghost use Rattle.std.specs.Prelude.{◌≡◌, ◌∷◌, [], ◌≤◌, ◌+◌, ◌-◌, ◌^◌, Bool, List, length, Option, Some, None, IfErr};
-ghost use Rattle.zarrs_storage.specs.declared.byte_range.ByteRange.{ByteRange};
+ghost use Rattle.std.specs.Prelude.{◌≡◌, ◌∷◌, [], ◌≤◌, ◌+◌, ◌-◌, ◌^◌, Bool, length, Some, None, IfErr};
 ghost use Rattle.zarrs_storage.specs.Parts.{PartsFit, with_parts};
 ghost use Rattle.zarrs_codec_error.specs.declared.error.CodecError.{CodecError};
-ghost use Rattle.zarrs_codec_traits.specs.Prelude.{Options, options_of, IsReadError, IsHandleError};
+ghost use Rattle.zarrs_codec_traits.specs.Prelude.{options_of, IsReadError, IsHandleError};
 ghost use Rattle.zarrs_codec_traits.specs.Prelude.{IsFailedRead};
 ghost use Rattle.zarrs_codec_traits.specs.Writes.{Writes, Edits, Unasked};
 ghost use Rattle.zarrs_codec.specs.Settings.{KeepsOnWrite};

@@ -1,13 +1,12 @@
 //! What a bytes-to-bytes codec makes of the value that a handle holds.
 
 ghost use Rattle.std.specs.Prelude.{◌≡◌, List, Option, Some, None, IfOk, IfErr};
-ghost use Rattle.zarrs_codec_traits.specs.Prelude.{Options, value_bytes, part_bytes, options_of};
+ghost use Rattle.zarrs_codec_traits.specs.Prelude.{Options, value_bytes, options_of};
 ghost use Rattle.zarrs_storage.specs.declared.byte_range.ByteRange.{ByteRange};
 ghost use Rattle.zarrs_storage.specs.Parts.{PartsFit, held_bytes, with_parts};
 ghost use Rattle.zarrs_codec_error.specs.declared.error.CodecError.{CodecError};
 ghost use Rattle.zarrs_codec_error.specs.declared.error.CodecError.TheVariants as codec;
-ghost use Rattle.zarrs_codec_traits.specs.Held.{held_part};
-ghost use Rattle.zarrs_codec_traits.specs.Reads.{ReadsRanges, GivesParts, IsHandleError, IsReadError, IsPartError, RefusesFirst};
+ghost use Rattle.zarrs_codec_traits.specs.Reads.{ReadsRanges, IsHandleError, IsReadError, RefusesFirst};
 ghost use Rattle.zarrs_codec_traits.specs.Writes.{Writes, ToldAfter, Unasked};
 ghost use Rattle.zarrs_codec_traits.specs.Through.{through, through_says, decoded_through};
 

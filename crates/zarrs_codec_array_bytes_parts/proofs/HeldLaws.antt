@@ -22,7 +22,7 @@ use Rattle.zarrs_codec_slices.proofs.LeafLaws.{fixed_long}
 use Rattle.zarrs_codec_array_bytes_parts.specs.declared.array_bytes_fixed_disjoint_view.ArrayBytesFixedDisjointView.{
   ArrayBytesFixedDisjointView,
 }
-use Rattle.zarrs_codec_array_bytes_parts.specs.declared.part.Part.{Part}
+use Rattle.zarrs_codec_array_bytes_parts.specs.declared.part.ViewPart.{ViewPart}
 use Rattle.zarrs_codec_array_bytes_parts.specs.Held.{box_elements, view_box_bytes, held_by, HasViewElements, IsTargetOf}
 use Rattle.zarrs_codec_array_bytes_parts.specs.Held.{HaveBytes}
 use Rattle.zarrs_codec_array_bytes_parts.specs.Laws.{WritesArray, HoldsWritten, HoldsMeaning, TakesMeaning}
@@ -39,14 +39,14 @@ copied_at shape box source old new tuple copied inside =
     (tuple_at-place (whole shape) tuple inside)
 
 -- the array behind bytes
-abbrev array_in : Part → List ℕ → Array Element
+abbrev array_in : ViewPart → List ℕ → Array Element
 array_in part bytes = record {
   shape = sizes (region part.array);
   fill = null;
   element = λ tuple. get_or (fixed_elements part.size bytes) (linear_index (sizes (region part.array)) tuple) null;
 }
 
-same_array : (part : Part) (bytes old new : List ℕ) → Copied (whole (sizes (region part.array))) (region part.subset)
+same_array : (part : ViewPart) (bytes old new : List ℕ) → Copied (whole (sizes (region part.array))) (region part.subset)
     (fixed_elements part.size bytes) (fixed_elements part.size old) (fixed_elements part.size new) →
     SameArray (array_in part new) (written (region part.subset) (fixed_elements part.size bytes) (array_in part old))
 same_array part bytes old new copied = record {

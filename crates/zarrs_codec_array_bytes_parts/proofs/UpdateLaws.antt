@@ -1,26 +1,30 @@
 -- Updates of array bytes: kinds, lengths, picks, and what the updated bytes mean.
-use Rattle.std.proofs.Common.{◌≡◌, ℕ, ◌+◌, ◌<◌, List, length, map, get_or, false, true, Bool, Option, Some, None}
-use Rattle.std.proofs.Common.{Result, Ok, Err, IfOk, sym, ap, ◌∙◌, subst, refl}
+use Rattle.std.proofs.Common.{◌≡◌, ◌⊎◌, ⊎_elim, ℕ, ◌+◌, ◌*◌, ◌<◌, List, length, map, get_or, false, true, Bool, Option, Some, None}
+use Rattle.std.proofs.Common.{Result, Ok, Err, IfOk, sym, ap, ap₂, ◌∙◌, subst, refl}
 use Rattle.std.specs.List.{range_with_len}
 use Rattle.std.proofs.lemmas.List.{length-map}
 use Rattle.zarr_model.specs.Region.{Region, count, count_of, linear_index, whole, place, tuples}
-use Rattle.zarr_model.specs.Element.{Element, Kind, fixed_size}
+use Rattle.zarr_model.specs.Element.{Element, Kind, fixed, variable, optional, fixed_size}
 use Rattle.zarr_model.specs.ArrayBytes.{ArrayBytes, fixed_bytes, variable_bytes, optional_bytes, meaning}
 use Rattle.zarr_model.specs.Command.{Refusal, has_long_element}
 use Rattle.zarrs_codec_error.specs.declared.error.CodecError.{CodecError}
+use Rattle.zarrs_codec_error.specs.declared.error.CodecError.TheVariants as codec
 use Rattle.zarrs_codec_slices.specs.Picking.{AllBelow, gathered, replaced, size_in}
 use Rattle.zarrs_codec_slices.specs.PickedRuns.{run_numbers, AreRunsOf}
 use Rattle.zarrs_codec_slices.proofs.GatherLaws.{update_means}
+use Rattle.zarrs_codec_slices.proofs.MaskLaws.{masked_parts}
 use Rattle.zarrs_codec_slices.proofs.ReplaceLaws.{picks_below}
+use Rattle.zarrs_codec_array_bytes.specs.Levels.{inner_length}
 use Rattle.zarrs_codec_array_bytes.specs.Selection.{linear}
 use Rattle.zarrs_codec_array_bytes.specs.Refusals.{BytesAnswer, fine, refused, wrong_length, unfit, other_fill}
 use Rattle.zarrs_codec_array_bytes.specs.Refusals.{no_memory, odd, told_by, refusal_answer, first_answer, then_answer}
-use Rattle.zarrs_codec_array_bytes.specs.Refusals.{Answers, lengths_refusal, lengths_answer}
+use Rattle.zarrs_codec_array_bytes.specs.Refusals.{Answers, lengths_refusal, lengths_answer, sized_answer}
 use Rattle.zarrs_codec_array_bytes.proofs.CheckLaws.{still_short, sized_fine}
+use Rattle.zarrs_codec_array_bytes.proofs.ExtractLaws.{lengths_kept}
 use Rattle.zarrs_codec_array_bytes.proofs.MeaningLaws.{is_fine}
 use Rattle.zarrs_codec_array_bytes.proofs.RowLaws.{outer_count}
 use Rattle.zarrs_codec_array_bytes.proofs.ToldLaws.{says_some, first_fine}
-use Rattle.zarrs_codec_array_bytes_parts.specs.Pairs.{pair_refusal, are_alike, update_answer}
+use Rattle.zarrs_codec_array_bytes_parts.specs.Pairs.{pair_refusal, are_alike, both_answer, update_answer}
 use Rattle.zarrs_codec_array_bytes_parts.specs.Picks.{update_picks}
 
 pub pair_alike : (size : Option ℕ) (old new : ArrayBytes) → pair_refusal size old new ≡ None → are_alike old new ≡ true
@@ -33,6 +37,43 @@ pair_alike size (variable_bytes old from) (optional_bytes new over) e = cc
 pair_alike size (optional_bytes old mask) (fixed_bytes new) e = cc
 pair_alike size (optional_bytes old mask) (variable_bytes new to) e = cc
 pair_alike size (optional_bytes old mask) (optional_bytes new over) e = pair_alike size old new e
+
+-- an update of elements by others of their kind is refused for want of memory alone
+pair_kept : (kind : Kind) (n m : ℕ) (old new : ArrayBytes) (xs ys : List Element) → meaning kind n old ≡ Some xs →
+    meaning kind m new ≡ Some ys → pair_refusal (fixed_size kind) old new ≡ None
+pair_kept (fixed size) n m (fixed_bytes a) (fixed_bytes b) xs ys e f = refl
+pair_kept (fixed size) n m (fixed_bytes a) (variable_bytes b to) xs ys e f = cc
+pair_kept (fixed size) n m (fixed_bytes a) (optional_bytes b over) xs ys e f = cc
+pair_kept (fixed size) n m (variable_bytes a from) new xs ys e f = cc
+pair_kept (fixed size) n m (optional_bytes a mask) new xs ys e f = cc
+pair_kept variable n m (fixed_bytes a) new xs ys e f = cc
+pair_kept variable n m (variable_bytes a from) (fixed_bytes b) xs ys e f = cc
+pair_kept variable n m (variable_bytes a from) (variable_bytes b to) xs ys e f = refl
+pair_kept variable n m (variable_bytes a from) (optional_bytes b over) xs ys e f = cc
+pair_kept variable n m (optional_bytes a mask) new xs ys e f = cc
+pair_kept (optional kind) n m (fixed_bytes a) new xs ys e f = cc
+pair_kept (optional kind) n m (variable_bytes a from) new xs ys e f = cc
+pair_kept (optional kind) n m (optional_bytes a mask) (fixed_bytes b) xs ys e f = cc
+pair_kept (optional kind) n m (optional_bytes a mask) (variable_bytes b to) xs ys e f = cc
+pair_kept (optional kind) n m (optional_bytes a mask) (optional_bytes b over) xs ys e f =
+    let old = masked_parts kind n mask a xs e in
+    let new = masked_parts kind m over b ys f in
+    pair_kept kind n m a b old.list new.list old.inner new.inner
+
+pub update_memory : (kind : Kind) (size : Option ℕ)
+    (fits : Bool) (n m : ℕ) (old new : ArrayBytes) (xs ys : List Element) (e : CodecError) → size ≡ fixed_size kind →
+    fits ≡ true → meaning kind n old ≡ Some xs → meaning kind m new ≡ Some ys →
+    (e ≡ codec.OutOfMemory) ⊎ (told_by e ≡ update_answer size fits n old m new) → e ≡ codec.OutOfMemory
+update_memory kind size fits n m old new xs ys e sized inside was is answer =
+    let width = size_in (fixed_size kind) in
+    let lengths : both_answer width n old m new ≡ fine =
+    ap₂ (λ (a b : Option Refusal). then_answer (sized_answer (inner_length old) (n * width) a)
+    (sized_answer (inner_length new) (m * width) b)) (lengths_kept kind n old xs was) (lengths_kept kind m new ys is) in
+    let all : update_answer (fixed_size kind) fits n old m new ≡ fine = ap₂ (λ (a : Option Refusal) (f : Bool).
+    first_answer a f (both_answer width n old m new)) (pair_kept kind n m old new xs ys was is) inside ∙ lengths in
+    ⊎_elim (λ (memory : e ≡ codec.OutOfMemory). memory)
+    (λ (tells : told_by e ≡ update_answer size fits n old m new).
+    absurd (says_some e (tells ∙ (ap (λ (s : Option ℕ). update_answer s fits n old m new) sized ∙ all)))) answer
 
 -- the picks of an update are below both counts
 pub picks_in : (number : ℕ) (indices picks : List ℕ) → picks ≡ replaced indices (range_with_len number (length indices))

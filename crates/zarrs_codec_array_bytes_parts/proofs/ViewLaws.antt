@@ -1,6 +1,7 @@
 -- Boxes in a whole shape.
 use Rattle.std.proofs.Common.{◌≡◌, ℕ, zero, suc, Bool, false, if◌then◌else◌, nat_eq, ◌*◌, ◌+◌, ◌≤◌, ◌<◌, ◌^◌, List, []}
-use Rattle.std.proofs.Common.{◌∷◌, length, true, ap, ap₂, sym, ◌∙◌, refl, nat_le, ◌&&◌, arith}
+use Rattle.std.proofs.Common.{◌∷◌, length, true, ap, ap₂, sym, ◌∙◌, refl, nat_le, ◌&&◌, arith, ◌⊎◌, inl, inr}
+use Rattle.std.proofs.Common.{true≢false}
 use Rattle.std.proofs.lemmas.List.{length-map}
 use Rattle.std.proofs.lemmas.Bool.Decides.{nat_tests}
 use Rattle.std.proofs.lemmas.Bool.{and_parts, and_from, leb-true, le-leb}
@@ -8,6 +9,9 @@ use Rattle.std.proofs.Math.Nat.{mul-le-mul_right, mul-le-mul_left}
 use Rattle.zarr_model.specs.Region.{Region, whole, count, count_of, sizes, ends_within}
 use Rattle.zarr_model.proofs.RegionLaws.{rank_within, count_within}
 use Rattle.zarrs_array_subset.specs.Boxes.{is_within}
+use Rattle.zarrs_array_subset.specs.Errors.{RefusesShape, no_memory}
+use Rattle.zarrs_array_subset.specs.declared.error.IndexerError.{IndexerError}
+use Rattle.zarrs_chunk_grid_iterators.proofs.BoxFacts.{box_refusal}
 use Rattle.zarrs_chunk_grid_iterators.specs.Runs.{run_size, run_length, is_whole}
 
 -- its number of elements fits where the shape's bytes do
@@ -20,6 +24,15 @@ part_fits region shape size len some fits h e =
     let b : count region * 1 ≤ count region * size =
     mul-le-mul_left (count region) (let c : 1 ≤ size = omega (arith, some) in c) in
     (omega (arith, a, b, fits, e), omega (arith, a, fits, e))
+
+-- a box inside a shape is refused for want of memory alone
+pub inside_memory : (region : Region) (shape : List ℕ) (e : IndexerError) → ends_within region shape ≡ true →
+    RefusesShape region shape e → e ≡ no_memory
+inside_memory region shape e inside refused = go (box_refusal region shape e refused)
+  where
+    go : (e ≡ no_memory) ⊎ (ends_within region shape ≡ false) → e ≡ no_memory
+    go (inl memory) = memory
+    go (inr outside) = absurd (true≢false (sym inside ∙ outside))
 
 -- a box in a box of the shape is in the shape
 pub within_ends : (region within : Region) (shape : List ℕ) → is_within region within ≡ true →

@@ -10,7 +10,7 @@ ghost use Rattle.zarrs_codec_slices.specs.Filled.{Filled};
 ghost use Rattle.zarrs_codec_slices.specs.Overlap.{Copied};
 ghost use Rattle.zarrs_codec_array_bytes_parts.specs.Answers.{AnswersView, create_answer, view_part_answer, write_answer};
 
-use crate::part::{Part, elements_in, expect_len, fill_into, inner_part, part_of, write_into};
+use crate::part::{ViewPart, elements_in, expect_len, fill_into, inner_part, part_of, write_into};
 use std::alloc::Global;
 use zarrs_array_subset::ArraySubset;
 use zarrs_codec_error::{ArrayBytesFixedDisjointViewCreateError, InvalidBytesLengthError};
@@ -22,12 +22,12 @@ use zarrs_codec_error::{ArrayBytesFixedDisjointViewCreateError, InvalidBytesLeng
 #[derive(Drop)]
 pub struct ArrayBytesFixedDisjointView<'a> {
     bytes: &'a mut [u8],
-    part: Part,
+    part: ViewPart,
 }
 
 impl<'a> ArrayBytesFixedDisjointView<'a> {
     // The view of a box of bytes; they are as many as the box's array has.
-    fn from_parts(bytes: &'a mut [u8], part: Part) -> Self
+    fn from_parts(bytes: &'a mut [u8], part: ViewPart) -> Self
         ensures same_reference { result.bytes.ghost_name ≡ bytes.entry.ghost_name }
         ensures value { result.bytes.now ≡ bytes.old }
         ensures part { result.part ≡ part }
@@ -261,7 +261,7 @@ impl<'a> ArrayBytesFixedDisjointView<'a> {
 // Fills a box of the bytes through a view of its own.
 fn fill_through(
     bytes: &mut [u8],
-    part: Part,
+    part: ViewPart,
     fill_value: &[u8],
 ) -> Result<(), InvalidBytesLengthError>
     ensures exact { length bytes.old ≡ part.array_len →
@@ -289,7 +289,7 @@ fn fill_through(
 // Writes a box of the bytes through a view of its own.
 fn copy_through(
     bytes: &mut [u8],
-    part: Part,
+    part: ViewPart,
     subset_bytes: &[u8],
 ) -> Result<(), InvalidBytesLengthError>
     ensures exact { length bytes.old ≡ part.array_len →

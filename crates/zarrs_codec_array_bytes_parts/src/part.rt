@@ -22,7 +22,7 @@ use zarrs_codec_slices::overlap::copy_elements;
 
 /// A box of an array of elements of one size, with what it needs to be written without memory.
 #[derive(Drop)]
-pub struct Part {
+pub struct ViewPart {
     pub size: usize,
     pub array: ArraySubset,
     pub subset: ArraySubset,
@@ -60,28 +60,22 @@ fn part_bytes(subset: &ArraySubset, shape: &[u64], size: usize, array_len: usize
     subset.num_elements_usize() * size
 }
 
-fn copied(alloc: Global, numbers: &[u64]) -> Result<Vec<u64>, AllocError>
-    ensures { IfOk result (λ v. v.items ≡ numbers.now) }
-{
-    let mut out = Vec::new(alloc);
-    out.extend_from_slice(numbers)?;
-    Ok(out)
-}
-
 // How many neighbouring elements of a box lie one after another in its array.
+#[tactic(auto, using(crate::proofs::ViewLaws::inside_memory))]
 fn contiguous_elements(
     alloc: Global,
     subset: &ArraySubset,
     shape: &[u64],
 ) -> Result<usize, AllocError>
     requires small { count_of shape.now < 2 ^ 64 }
+    requires inside { ends_within (region subset.now) shape.now ≡ true }
     ensures { IfOk result (λ n. n ≡ run_size shape.now (region subset.now)) }
 {
     let subset = subset.try_clone(alloc)?;
-    let shape = copied(alloc, shape)?;
+    let shape = shape.to_vec(alloc)?;
     match ContiguousLinearisedIndices::new(alloc, subset, shape) {
         Ok(runs) => Ok(runs.contiguous_elements_usize()),
-        Err(_) => Err(AllocError),
+        Err(error) => Err(error.only_memory()),
     }
 }
 
@@ -92,7 +86,7 @@ fn part_in(
     size: usize,
     array: ArraySubset,
     subset: ArraySubset,
-) -> Result<Part, AllocError>
+) -> Result<ViewPart, AllocError>
     requires some { 0 < size }
     requires is_whole { region array ≡ whole (sizes (region array)) }
     requires inside { ends_within (region subset) (sizes (region array)) ≡ true }
@@ -104,7 +98,7 @@ fn part_in(
     let len = part_bytes(&subset, shape, size, array_len);
     let num_contiguous = contiguous_elements(alloc, &subset, shape)?;
     let contiguous_len = num_contiguous * size;
-    Ok(Part {
+    Ok(ViewPart {
         size,
         array,
         subset,
@@ -162,13 +156,13 @@ pub fn part_of(
     size: usize,
     shape: &[u64],
     subset: ArraySubset,
-) -> Result<Part, ArrayBytesFixedDisjointViewCreateError>
+) -> Result<ViewPart, ArrayBytesFixedDisjointViewCreateError>
     requires some { 0 < size }
     ensures exact { AnswersView (create_answer (region subset) shape.now size array_len) result }
     ensures part { IfOk result (λ p. (p.size ≡ size) × (region p.array ≡ whole shape.now)
         × (region p.subset ≡ region subset) × (p.array_len ≡ array_len)) }
 {
-    let array = ArraySubset::new_with_shape(alloc, copied(alloc, shape)?)?;
+    let array = ArraySubset::new_with_shape(alloc, shape.to_vec(alloc)?)?;
     let subset = tested(alloc, subset, &array)?;
     test_len(array_len, size, shape)?;
     let part = part_in(alloc, array_len, size, array, subset)?;
@@ -179,9 +173,9 @@ pub fn part_of(
 #[tactic(auto, using(crate::proofs::ViewLaws::within_ends))]
 pub fn inner_part(
     alloc: Global,
-    part: &Part,
+    part: &ViewPart,
     subset: ArraySubset,
-) -> Result<Part, ArrayBytesFixedDisjointViewCreateError>
+) -> Result<ViewPart, ArrayBytesFixedDisjointViewCreateError>
     ensures exact { AnswersView (view_part_answer (region subset) (region part.now.subset)) result }
     ensures part { IfOk result (λ p. (p.size ≡ part.now.size)
         × (region p.array ≡ region part.now.array) × (region p.subset ≡ region subset)
@@ -210,7 +204,7 @@ pub(crate) fn expect_len(len: usize, expected_len: usize) -> Result<(), InvalidB
 #[tactic(auto, using(crate::proofs::ViewLaws::part_rank))]
 pub fn write_into(
     bytes: &mut [u8],
-    part: &Part,
+    part: &ViewPart,
     subset_bytes: &[u8],
 ) -> Result<(), InvalidBytesLengthError>
     ensures exact { length bytes.old ≡ part.now.array_len → is_ok result
@@ -236,7 +230,7 @@ pub fn write_into(
 #[tactic(auto, using(crate::proofs::ViewLaws::part_within))]
 pub fn fill_into(
     bytes: &mut [u8],
-    part: &Part,
+    part: &ViewPart,
     fill_value: &[u8],
 ) -> Result<(), InvalidBytesLengthError>
     ensures exact { length bytes.old ≡ part.now.array_len →
@@ -260,7 +254,7 @@ pub fn fill_into(
 
 /// How many elements the box has.
 #[tactic(auto, using(crate::proofs::ViewLaws::factor_fits))]
-pub fn elements_in(part: &Part) -> u64
+pub fn elements_in(part: &ViewPart) -> u64
     ensures { result ≡ count (region part.now.subset) }
 {
     let _len = part.len;

@@ -1,9 +1,9 @@
 //! Elements put into array bytes.
 
-ghost use Rattle.std.specs.Prelude.{◌≡◌, ◌+◌, ◌*◌, ◌<◌, ◌^◌, ℕ, List, true, false, Some, None, length, map, IfOk, IfErr};
+ghost use Rattle.std.specs.Prelude.{◌≡◌, ◌+◌, ◌*◌, ◌<◌, ◌^◌, List, true, false, Some, None, length, map, IfOk, IfErr};
 ghost use Rattle.std.specs.List.{AllByRecursion};
 ghost use Rattle.zarr_model.specs.Region.{count, count_of, contains, place, whole, tuples};
-ghost use Rattle.zarr_model.specs.Element.{Element, Kind, null, fixed_size};
+ghost use Rattle.zarr_model.specs.Element.{Element, Kind, fixed_size};
 ghost use Rattle.zarr_model.specs.ArrayBytes.{meaning};
 ghost use Rattle.zarr_model.specs.Command.{has_long_element};
 ghost use Rattle.zarrs_codec_slices.specs.Picking.{gathered, replaced, size_in};

@@ -18,6 +18,18 @@ use zarrs_data_type_bytes::{
 };
 use zarrs_storage::{ByteRangeFault, InvalidByteRangeError, StorageError};
 
+impl CodecError {
+    /// Want of memory, where nothing else refuses the call.
+    pub fn only_memory(self) -> AllocError
+        requires { self ≡ codec.OutOfMemory }
+    {
+        match self {
+            CodecError::OutOfMemory => AllocError,
+            _ => unreachable!(),
+        }
+    }
+}
+
 impl From<AllocError> for CodecError {
     ghost from_gives = { λ _ e. e ≡ codec.OutOfMemory };
 

@@ -10,12 +10,11 @@ ghost use Rattle.zarrs_codec_examples.specs.SingleBytes.{is_byte as has_one_byte
 use std::alloc::{AllocError, Global};
 use std::borrow::CowSlice;
 use std::num::NonZeroU64;
-use zarrs_array_subset::ArraySubset;
+use zarrs_array_subset::{ArraySubset, shape_numbers};
 use zarrs_codec_array_bytes::ArrayBytes;
 use zarrs_codec_array_bytes::array_bytes::extract::linear_indices;
 use zarrs_codec_array_bytes::array_bytes::step::{Step, step_of};
 use zarrs_codec_error::{CodecError, InvalidBytesLengthError};
-use zarrs_codec_traits::shape_numbers;
 use zarrs_data_type::DataType;
 use zarrs_data_type_bytes::{CodecName, DataTypeCodecError};
 use zarrs_storage::ByteRange;

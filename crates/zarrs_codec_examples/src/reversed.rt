@@ -68,7 +68,7 @@ impl CodecTraits for ReversedCodec {
 impl BytesToBytesCodecTraits for ReversedCodec {
     ghost use Rattle.std.specs.Prelude.{Some};
     ghost use Rattle.zarrs_codec_error.specs.RecommendedConcurrency.{concurrency_of};
-    ghost use Rattle.std.specs.declared.ops.Bound.TheVariants.{Included, Excluded, Unbounded};
+    ghost use Rattle.std.specs.declared.ops.Bound.TheVariants.{Included};
 
     ghost meaning = { λ _ under value. Some (turned value) };
 

@@ -10,13 +10,13 @@ ghost use Rattle.zarrs_codec_examples.specs.Turned.{mirrored, turned_part};
 
 use std::alloc::{AllocError, Global};
 use std::num::NonZeroU64;
-use zarrs_array_subset::ArraySubset;
+use zarrs_array_subset::{ArraySubset, shape_numbers};
 use zarrs_codec_array_bytes::ArrayBytes;
 use zarrs_codec_array_bytes::array_bytes::extract::linear_indices;
 use zarrs_codec_array_bytes::array_bytes::gather::select;
 use zarrs_codec_array_bytes::array_bytes::step::element_size;
 use zarrs_codec_error::CodecError;
-use zarrs_codec_traits::{num_elements, shape_numbers, whole_box};
+use zarrs_codec_traits::{num_elements, whole_box};
 use zarrs_data_type::DataType;
 
 // Each place, counted from the other end of so many.

@@ -1,11 +1,11 @@
 -- The list that is held, by cases.
-use Rattle.std.proofs.Common.{◌≡◌, ◌⊎◌, ℕ, ◌-◌, Bool, true, false, is_some, if◌then◌else◌, List, [], ◌∷◌}
+use Rattle.std.proofs.Common.{◌≡◌, ◌⊎◌, ℕ, Bool, true, false, is_some, if◌then◌else◌, List, [], ◌∷◌}
 use Rattle.std.proofs.Common.{length, replicate, Option, Some, None, IsSome, option_map, Result, Ok, Err, IfOk}
 use Rattle.std.proofs.Common.{IfErr, OnOk, MatchResult, refl, sym, ap, ap₂, ◌∙◌, subst, arith, inl, inr, ⊎_elim}
 use Rattle.std.proofs.Math.Path.{fun_ext}
 use Rattle.std.proofs.lemmas.Bool.{le-leb}
 use Rattle.zarrs_codec_traits.specs.Prelude.{Region, count, count_of, ends_within, has_size}
-use Rattle.zarrs_codec_traits.specs.Prelude.{filled_with, ArrayBytes, meaning, Level, Options, has_long_element}
+use Rattle.zarrs_codec_traits.specs.Prelude.{filled_with, meaning, Level, Options, has_long_element}
 use Rattle.zarrs_codec_traits.specs.Prelude.{is_valid, slice_of, slices_of, first_invalid, raw_of, BytesAnswer, fine}
 use Rattle.zarrs_codec_traits.specs.Prelude.{told_by, other_fill, Answers, fill_answer, Unserved}
 use Rattle.zarrs_codec_traits.specs.Prelude.{IsDecodeError, RefusesAs, list_at, at_box, select, Gives, Held, Seen}

@@ -6,19 +6,18 @@ use Rattle.std.specs.List.{list_all}
 use Rattle.std.specs.Bool.{IsTrue}
 use Rattle.std.proofs.lemmas.Result.{on_ok_weaker, on_err_weaker}
 use Rattle.std.proofs.lemmas.Bool.{and_parts}
-use Rattle.zarrs_codec.specs.Prelude.{Region, count_of, sizes, tuples, ends_within, ArrayBytes, fixed_bytes}
-use Rattle.zarrs_codec.specs.Prelude.{variable_bytes, optional_bytes, meaning, Level, Options, Refusal, bytes_refusal}
-use Rattle.zarrs_codec.specs.Prelude.{raw_of, lengths, list_at, Gives, Held, Seen, IsSoundSeen, IsFailedRead}
+use Rattle.zarrs_codec.specs.Prelude.{Region, count_of, sizes, tuples, ends_within, ArrayBytes}
+use Rattle.zarrs_codec.specs.Prelude.{meaning, Level, Options, bytes_refusal}
+use Rattle.zarrs_codec.specs.Prelude.{raw_of, list_at, Gives, Held, Seen, IsSoundSeen, IsFailedRead}
 use Rattle.zarrs_codec.specs.Prelude.{IsHandleError, ListSeen, by_codec, fills, Stores}
 use Rattle.zarr_model.proofs.RegionLaws.{length-tuples}
 use Rattle.zarr_model.proofs.BytesLaws.{length-meaning, refusal-meaning}
-use Rattle.zarr_model.specs.Element.{Element, some, Kind, fixed, variable, optional, same_element}
+use Rattle.zarr_model.specs.Element.{Element, Kind, same_element}
 use Rattle.zarr_model.specs.Element.{fill_element, kind_of, fixed_size}
 use Rattle.zarr_model.proofs.ElementLaws.{each_same, all_same}
 use Rattle.zarr_model.proofs.Choices.{some_now, none_some, always_ok}
 use Rattle.zarrs_storage.specs.declared.byte_range.ByteRange.{ByteRange}
 use Rattle.zarrs_codec_slices.specs.Picking.{size_in, replaced}
-use Rattle.zarrs_codec_slices.proofs.MaskLaws.{masked_parts}
 use Rattle.zarrs_codec_error.specs.declared.error.CodecError.{CodecError}
 use Rattle.zarrs_codec_error.specs.declared.error.CodecError.TheVariants as codec
 use Rattle.zarrs_codec_array_bytes.specs.Levels.{inner_length}
@@ -26,7 +25,6 @@ use Rattle.zarrs_codec_array_bytes.specs.Refusals.{BytesAnswer, fine, told_by, l
 use Rattle.zarrs_codec_array_bytes.specs.Refusals.{sized_answer, then_answer, first_answer, validity, Answers}
 use Rattle.zarrs_codec_array_bytes.specs.declared.array_bytes.ArrayBytes as code
 use Rattle.zarrs_codec_array_bytes.proofs.ToldLaws.{says_some}
-use Rattle.zarrs_codec_array_bytes.proofs.ExtractLaws.{lengths_kept}
 use Rattle.zarrs_codec_array_bytes_parts.specs.Pairs.{pair_refusal, both_answer, update_answer}
 use Rattle.zarrs_codec_traits.specs.Errors.{Unserved, IsNoFault, RefusesBy, IsFormRefusal}
 use Rattle.zarrs_codec_traits.proofs.FaultLaws.{answers_no_fault, served_no_fault, known_sized, known_validity}
@@ -313,42 +311,6 @@ update_no_fault size fits n m old new r answers =
     (known_first (pair_refusal size old new) fits (both_answer width n old m new)
     (known_then (lengths_answer width n old) (lengths_answer width m new) (known_sized (inner_length old) (n * width)
     (lengths_refusal width n old)) (known_sized (inner_length new) (m * width) (lengths_refusal width m new)))) answers
-
--- an update of elements by others of their kind is not refused
-pub pair_kept : (kind : Kind) (n m : ℕ) (old new : ArrayBytes) (xs ys : List Element) → meaning kind n old ≡ Some xs →
-    meaning kind m new ≡ Some ys → pair_refusal (fixed_size kind) old new ≡ None
-pair_kept (fixed size) n m (fixed_bytes a) (fixed_bytes b) xs ys e f = refl
-pair_kept (fixed size) n m (fixed_bytes a) (variable_bytes b o) xs ys e f = cc
-pair_kept (fixed size) n m (fixed_bytes a) (optional_bytes b o) xs ys e f = cc
-pair_kept (fixed size) n m (variable_bytes a k) new xs ys e f = cc
-pair_kept (fixed size) n m (optional_bytes a k) new xs ys e f = cc
-pair_kept variable n m (fixed_bytes a) new xs ys e f = cc
-pair_kept variable n m (variable_bytes a k) (fixed_bytes b) xs ys e f = cc
-pair_kept variable n m (variable_bytes a k) (variable_bytes b o) xs ys e f = refl
-pair_kept variable n m (variable_bytes a k) (optional_bytes b o) xs ys e f = cc
-pair_kept variable n m (optional_bytes a k) new xs ys e f = cc
-pair_kept (optional kind) n m (fixed_bytes a) new xs ys e f = cc
-pair_kept (optional kind) n m (variable_bytes a k) new xs ys e f = cc
-pair_kept (optional kind) n m (optional_bytes a k) (fixed_bytes b) xs ys e f = cc
-pair_kept (optional kind) n m (optional_bytes a k) (variable_bytes b o) xs ys e f = cc
-pair_kept (optional kind) n m (optional_bytes a k) (optional_bytes b o) xs ys e f =
-    let old = masked_parts kind n k a xs e in let new = masked_parts kind m o b ys f in
-    pair_kept kind n m a b old.list new.list old.inner new.inner
-
-pub update_memory : (kind : Kind) (size : Option ℕ)
-    (fits : Bool) (n m : ℕ) (old new : ArrayBytes) (xs ys : List Element) (e : CodecError) → size ≡ fixed_size kind →
-    fits ≡ true → meaning kind n old ≡ Some xs → meaning kind m new ≡ Some ys
-    → (e ≡ codec.OutOfMemory) ⊎ (told_by e ≡ update_answer size fits n old m new) → e ≡ codec.OutOfMemory
-update_memory kind size fits n m old new xs ys e sized inside o p answer =
-    let width = size_in (fixed_size kind) in
-    let lengths : both_answer width n old m new ≡ fine =
-    ap₂ (λ (a b : Option Refusal). then_answer (sized_answer (inner_length old) (n * width) a)
-    (sized_answer (inner_length new) (m * width) b)) (lengths_kept kind n old xs o) (lengths_kept kind m new ys p) in
-    let all : update_answer (fixed_size kind) fits n old m new ≡ fine = ap₂ (λ (a : Option Refusal) (f : Bool).
-    first_answer a f (both_answer width n old m new)) (pair_kept kind n m old new xs ys o p) inside ∙ lengths in
-    ⊎_elim (λ (h : e ≡ codec.OutOfMemory). h)
-    (λ (t : told_by e ≡ update_answer size fits n old m new).
-    absurd (says_some e (t ∙ (ap (λ (s : Option ℕ). update_answer s fits n old m new) sized ∙ all)))) answer
 
 -- the old elements with some put in
 pub updated_gives : (level : Level) (indices : List ℕ) (given : List Element) (list : Option (List Element))

@@ -10,13 +10,13 @@ ghost use Rattle.zarrs_codec_partial_elements.specs.Reading.{FillsElements, Read
 use crate::level::BottomLevel;
 use std::alloc::{AllocError, Global};
 use std::num::NonZeroU64;
-use zarrs_array_subset::ArraySubset;
+use zarrs_array_subset::{ArraySubset, shape_numbers};
 use zarrs_chunk_grid_indexer::Indexer;
 use zarrs_codec::BytesPartialDecoderTraits;
 use zarrs_codec_array_bytes::ArrayBytes;
 use zarrs_codec_array_bytes::array_bytes::checks::expect_fit;
 use zarrs_codec_error::{CodecError, CodecOptions};
-use zarrs_codec_traits::{ArrayToBytesCodecTraits, num_elements, shape_numbers};
+use zarrs_codec_traits::{ArrayToBytesCodecTraits, num_elements};
 use zarrs_storage::ByteRange;
 
 // The lengths of a shape that an indexer fits. CodecError::IncompatibleIndexer exactly where it does not fit, or no memory.

@@ -1,6 +1,6 @@
 //! Runs of elements of one size, picked out of two lists.
 
-ghost use Rattle.std.specs.Prelude.{◌≡◌, ◌+◌, ◌*◌, ◌<◌, ◌≤◌, length, take, drop, IfOk};
+ghost use Rattle.std.specs.Prelude.{◌≡◌, ◌+◌, ◌*◌, ◌<◌, ◌≤◌, length, IfOk};
 ghost use Rattle.std.specs.List.{flat_map, range_with_len};
 ghost use Rattle.zarrs_codec_slices.specs.Picking.{piece_of, picked_piece};
 ghost use Rattle.zarrs_codec_slices.specs.PickedRuns.{run_numbers, AreRunsOf};

@@ -1,37 +1,31 @@
 -- Intervals of what a handle holds.
-use Rattle.std.proofs.Common.{◌≡◌, ◌⊎◌, ℕ, ◌+◌, ◌-◌, ◌^◌, ◌<◌, ◌≤◌, Bool, true, false, nat_le, is_some, if◌then◌else◌}
+use Rattle.std.proofs.Common.{◌≡◌, ◌⊎◌, ℕ, ◌+◌, ◌-◌, ◌≤◌, Bool, true, false, nat_le, is_some, if◌then◌else◌}
 use Rattle.std.proofs.Common.{List, [], ◌∷◌, take, drop, map, Option, Some, None, IsSome, Result, Ok, Err, refl, sym}
 use Rattle.std.proofs.Common.{ap, ap₂, ◌∙◌, subst, arith, inl, inr, ⊎_elim}
 use Rattle.std.proofs.lemmas.Bool.{leb-true, le-leb}
+use Rattle.zarrs_storage.specs.declared.byte_range.ByteRangeFault.{ByteRangeFault}
+use Rattle.zarrs_storage.specs.declared.byte_range.ByteRangeFault.TheVariants as fault
 use Rattle.zarrs_storage.specs.declared.byte_range.ByteRange.{ByteRange}
-use Rattle.zarrs_storage.specs.declared.byte_range.ByteRange.TheVariants.{FromStart, Suffix}
+use Rattle.zarrs_storage.specs.declared.byte_range.ByteRange.TheVariants.{FromStart}
 use Rattle.zarrs_storage.specs.declared.byte_range.InvalidByteRangeError.{InvalidByteRangeError}
-use Rattle.zarrs_storage.specs.ByteRange.{is_valid, start_in, end_in, first_invalid}
+use Rattle.zarrs_storage.specs.ByteRange.{is_valid, start_in, end_in, first_invalid, shifted, IsFirstInvalid}
+use Rattle.zarrs_storage.proofs.RangeLemmas.{lies}
 use Rattle.zarr_model.specs.Shown.{Shown}
 use Rattle.zarrs_codec_traits.specs.Held.{Held, HasPart, value_part, Seen, IsSoundSeen}
 use Rattle.zarrs_codec_error.specs.declared.error.CodecError.{CodecError}
+use Rattle.zarrs_codec_error.specs.CodecError.{codec_of_range}
 use Rattle.zarrs_codec_error.specs.declared.error.CodecError.TheVariants as codec
 use Rattle.zarrs_codec_traits.specs.Reads.{Keeps, ReadsRanges, GivesParts, AreParts, AreAbsent, RefusesSome}
 use Rattle.zarrs_codec_traits.specs.Reads.{IsRangeErrorOf, IsHandleError, IsReadError, IsPartError, RefusesFirst}
-use Rattle.zarrs_codec_traits.specs.Interval.{shifted, all_of, asked_within, interval_part, interval, error_or}
+use Rattle.zarrs_codec_traits.specs.Interval.{all_of, asked_within, interval_part, interval, error_or}
 use Rattle.zarrs_codec_traits.specs.Interval.{interval_early, range_or, interval_tells}
 
--- where a valid range lies
-record Lies (range : ByteRange) (size : ℕ) : Type 0 where
-  rises : start_in range size ≤ end_in range size
-  within : end_in range size ≤ size
-
-lies : (range : ByteRange) (size : ℕ) → is_valid range size ≡ true → Lies range size
-lies (FromStart offset None) size is = let fits : offset ≤ size = leb-true _ _ is in
-    record { rises = fits; within = omega arith }
-lies (FromStart offset (Some len)) size is = let fits : offset + len ≤ size = leb-true _ _ is in
-    record { rises = omega arith; within = fits }
-lies (Suffix len) size is = record { rises = omega arith; within = omega arith }
-
-pub shift_fits : (range : ByteRange) (offset len : ℕ) → is_valid range len ≡ true → offset + len < 2 ^ 64 →
-    offset + start_in range len < 2 ^ 64
-shift_fits range offset len is fits = let l = lies range len is in let rises : start_in range len ≤ end_in range len =
-    l.rises in let within : end_in range len ≤ len = l.within in omega arith
+-- the fault of ranges as the error of a handle
+pub shift_told : (ranges : List ByteRange) (len : ℕ) (fault : ByteRangeFault) (e : CodecError) →
+    IsFirstInvalid (first_invalid len ranges) len fault → e ≡ codec_of_range fault →
+    (e ≡ codec.OutOfMemory) ⊎ IsRangeErrorOf ranges len e
+shift_told ranges len (fault.Invalid error) e first is = inr (subst (IsRangeErrorOf ranges len) (sym is) first)
+shift_told ranges len fault.OutOfMemory e first is = inl is
 
 module _ (offset len : ℕ) (below : Seen) (sound : IsSoundSeen below) where
   whole_by : (under : _) (value : List ℕ) (range : ByteRange) → below.part under (all_of offset len) ≡

@@ -1,19 +1,14 @@
 -- An interval of the value that a handle holds.
-use Rattle.std.specs.Prelude.{ℕ, ◌+◌, ◌-◌, if◌then◌else◌, List, [], ◌∷◌, map, Option, Some, None}
+use Rattle.std.specs.Prelude.{ℕ, if◌then◌else◌, List, [], ◌∷◌, map, Option, Some, None}
 use Rattle.zarrs_storage.specs.declared.byte_range.ByteRange.{ByteRange}
 use Rattle.zarrs_storage.specs.declared.byte_range.ByteRange.TheVariants.{FromStart}
 use Rattle.zarrs_storage.specs.declared.byte_range.InvalidByteRangeError.{InvalidByteRangeError}
-use Rattle.zarrs_storage.specs.ByteRange.{is_valid, start_in, end_in, first_invalid}
+use Rattle.zarrs_storage.specs.ByteRange.{is_valid, first_invalid, shifted}
 use Rattle.zarrs_codec_error.specs.declared.error.CodecError.{CodecError}
 use Rattle.zarrs_codec_traits.specs.Held.{Held, Seen}
 use Rattle.zarrs_codec_traits.specs.Reads.{IsRangeErrorOf}
 
--- where a range of so many bytes from an offset on lies in the value
-abbrev pub shifted : ℕ → ℕ → ByteRange → ByteRange
-shifted offset len range =
-    FromStart (offset + start_in range len) (Some (end_in range len - start_in range len))
-
--- where all of it, or some ranges of it, lie
+-- where all of so many bytes from an offset on, or some ranges of them, lie in the value
 abbrev pub all_of : ℕ → ℕ → ByteRange
 all_of offset len = FromStart offset (Some len)
 

@@ -62,5 +62,5 @@ pub use Rattle.zarrs_codec_traits.specs.Reads.{AreParts, GivesParts, IsFailedRea
 pub use Rattle.zarrs_codec_traits.specs.Reads.{IsRangeErrorOf, IsReadError, ReadsRanges, RefusesSome, TellsRangeOf}
 pub use Rattle.zarrs_codec_traits.specs.Through.{through}
 pub use Rattle.zarrs_codec_traits.specs.Views.{lengths, level_of, options_of}
-pub use Rattle.zarrs_codec_traits.specs.Words.{AreBytes, Gives, IsFit, at_box, list_at, select, taken}
+pub use Rattle.zarrs_codec_traits.specs.Words.{AreBytes, Gives, IsBlank, IsFit, at_box, list_at, select, taken}
 pub use Rattle.zarrs_codec_traits.specs.Writes.{UnlessFault}

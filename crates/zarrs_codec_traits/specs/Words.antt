@@ -1,16 +1,23 @@
 -- Levels, lists of elements and regions of them.
 use Rattle.std.specs.Prelude.{◌≡◌, ℕ, ◌+◌, ◌*◌, ◌^◌, ◌<◌, Bool, true, false, List, map, get_or, Option, Some, None}
-use Rattle.std.specs.Prelude.{IsSome}
+use Rattle.std.specs.Prelude.{IsSome, replicate}
 use Rattle.std.specs.List.{AllByRecursion}
 use Rattle.zarr_model.specs.Region.{Region, whole, tuples, place, sizes, count_of}
 use Rattle.zarr_model.specs.Element.{Element, of_bytes, null, some, DataType, kind_of, fixed_size}
 use Rattle.zarr_model.specs.ArrayBytes.{ArrayBytes, meaning}
 use Rattle.zarr_model.specs.Codec.{Level}
 use Rattle.zarrs_codec_slices.specs.Picking.{size_in}
+use Rattle.zarrs_codec_array_bytes.specs.declared.array_bytes.ArrayBytes as code
+use Rattle.zarrs_codec_array_bytes.specs.Raw.{raw_of}
 
 -- the list that array bytes mean at a level, if they are valid
 abbrev pub list_at : Level → ArrayBytes → Option (List Element)
 list_at level bytes = meaning (kind_of level.data_type) (count_of level.shape) bytes
+
+-- array bytes are the fill everywhere in a level
+abbrev pub IsBlank : Level → code.ArrayBytes → Type 0
+IsBlank level bytes =
+    list_at level (raw_of bytes) ≡ Some (replicate (count_of level.shape) level.fill)
 
 -- what was given is what is wanted, and is there
 pub record Gives {A : Type 0} (given wanted : Option A) : Type 0 where

@@ -1,6 +1,6 @@
 //! A value decoded into the views of a target.
 
-ghost use Rattle.std.specs.Prelude.{◌≡◌, ◌==◌, [], true, Some, None, IfOk, IfErr};
+ghost use Rattle.std.specs.Prelude.{◌≡◌, ◌==◌, [], true, None, IfOk, IfErr};
 ghost use Rattle.zarr_model.specs.Region.{count_of};
 ghost use Rattle.zarrs_data_type_bytes.specs.FillValue.{fill_bytes};
 ghost use Rattle.zarrs_data_type.specs.DataType.{type_of};

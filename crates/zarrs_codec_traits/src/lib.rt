@@ -31,4 +31,4 @@ pub use making::{expect_none, unsupported_codec};
 pub use memory_parts::parts_in_memory;
 pub use parts::{extracted, only_part};
 pub use put::{expect_number, put_fixed, put_optional};
-pub use shape::{fixed_value, num_elements, same_shape, shape_numbers, whole_box};
+pub use shape::{fixed_value, num_elements, same_shape, whole_box};

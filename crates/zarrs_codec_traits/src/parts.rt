@@ -14,10 +14,9 @@ ghost use Rattle.zarrs_codec_traits.specs.Errors.{IsNoFault};
 ghost use Rattle.zarrs_codec_traits.specs.Views.{lengths};
 ghost use Rattle.zarrs_codec_traits.specs.Words.{IsFit, select};
 
-use crate::shape::shape_numbers;
 use std::alloc::Global;
 use std::num::NonZeroU64;
-use zarrs_array_subset::ArraySubset;
+use zarrs_array_subset::{ArraySubset, shape_numbers};
 use zarrs_codec_array_bytes::ArrayBytes;
 use zarrs_codec_error::CodecError;
 use zarrs_data_type::DataType;

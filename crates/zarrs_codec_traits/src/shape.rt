@@ -11,7 +11,7 @@ ghost use Rattle.zarrs_codec_traits.specs.Views.{lengths};
 
 use std::alloc::{AllocError, Global};
 use std::num::NonZeroU64;
-use zarrs_array_subset::{ArraySubset, ChunkShape};
+use zarrs_array_subset::{ArraySubset, ChunkShape, shape_numbers};
 use zarrs_codec_array_bytes::ArrayBytes;
 use zarrs_codec_error::CodecError;
 
@@ -25,16 +25,6 @@ pub fn num_elements(shape: &[NonZeroU64]) -> u64
         [] => 1,
         [first, rest @ ..] => first.get() * num_elements(rest),
     }
-}
-
-/// The lengths of a chunk, as numbers.
-///
-/// # Errors
-/// [`AllocError`] where memory runs out.
-pub fn shape_numbers(alloc: Global, shape: &[NonZeroU64]) -> Result<Vec<u64>, AllocError>
-    ensures { IfOk result (λ v. v.items ≡ lengths shape.now) }
-{
-    shape.iter().map(|n| n.get()).collect(alloc)
 }
 
 /// The box of all of a shape.

@@ -5,7 +5,7 @@ use Rattle.serde_json.specs.Find.{get_member, as_object}
 use Rattle.serde_json.specs.View.{members_view}
 use Rattle.zarrs_metadata_values.specs.Reading.{◌>>=◌, object_or_empty}
 use Rattle.zarrs_metadata_values.specs.Writing.{put_object}
-use Rattle.zarrs_metadata_parts.specs.Fields.{is_kind, put_kind}
+use Rattle.zarrs_metadata_parts.specs.Fields.{is_kind, put_node_kind}
 use Rattle.zarrs_metadata_parts.specs.AdditionalField.{AdditionalField}
 use Rattle.zarrs_metadata_parts.specs.AdditionalFields.{additional_fields_seen, additional_fields_of, put_fields}
 use Rattle.zarrs_metadata_parts.specs.AdditionalFields.{normal_fields}
@@ -37,7 +37,7 @@ group_of d = as_object d >>= group_members
 -- key.
 unfoldable pub group_data_members : GroupFields → Members → Members
 group_data_members g ms =
-    put_kind 3 (codes "group") (put_object (codes "attributes") g.attributes ms)
+    put_node_kind 3 (codes "group") (put_object (codes "attributes") g.attributes ms)
 
 abbrev pub group_data : GroupFields → Data
 group_data g = object (group_data_members g (put_fields Group g.additional_fields no_members))

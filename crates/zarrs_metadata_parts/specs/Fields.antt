@@ -11,12 +11,12 @@ is_kind version kind ms = do
   read_under (codes "node_type") (is_text kind) ms
 
 -- they are put
-abbrev pub put_kind : ℕ → List ℕ → Members → Members
-put_kind version kind ms =
+abbrev pub put_node_kind : ℕ → List ℕ → Members → Members
+put_node_kind version kind ms =
     put (codes "zarr_format") (number (unsigned version)) (put (codes "node_type") (string kind) ms)
 
 -- what arrays of both versions have is put
 abbrev pub put_array : ℕ → List ℕ → Data → Members → Members
 put_array version shape fill_value ms =
-    put_kind version (codes "array")
+    put_node_kind version (codes "array")
     (put (codes "shape") (numbers_data shape) (put (codes "fill_value") fill_value ms))

@@ -7,7 +7,7 @@ ghost use Rattle.serde_json.specs.View.{items_of, members_view};
 ghost use Rattle.zarrs_metadata_values.specs.FillValueMetadata.{fill_view};
 ghost use Rattle.zarrs_metadata_values.specs.Reading.{Reads, read_under, optional_by, whole_numbers};
 ghost use Rattle.zarrs_metadata_values.specs.Writing.{put_list};
-ghost use Rattle.zarrs_metadata_parts.specs.Fields.{is_kind, put_kind, put_array};
+ghost use Rattle.zarrs_metadata_parts.specs.Fields.{is_kind, put_node_kind, put_array};
 
 use crate::part::{Part, list_value};
 use serde_json::{Map, Value};
@@ -87,7 +87,7 @@ pub fn required_fill_value(
 /// # Errors
 /// `InvalidMetadata` exactly where they are not.
 #[tactic(auto, unfolding(crate::specs::Fields::is_kind))]
-pub fn expect_kind(
+pub fn expect_node_kind(
     members: &Map<String, Value>,
     version: u64,
     kind: &str,
@@ -131,14 +131,14 @@ pub fn put_parts<T: Part>(
 }
 
 /// Puts the version and the kind of a node.
-pub fn put_kind(
+pub fn put_node_kind(
     alloc: Global,
     members: &mut Map<String, Value>,
     version: u64,
     kind: &str,
 ) -> Result<(), AllocError>
     ensures { OnOk result (members_view members.new.entries
-        ≡ put_kind version kind.now (members_view members.old.entries)) }
+        ≡ put_node_kind version kind.now (members_view members.old.entries)) }
 {
     put_text(alloc, members, "node_type", kind)?;
     serde_json::put(members, alloc, "zarr_format", Value::from(version))
@@ -160,5 +160,5 @@ pub fn put_array(
     serde_json::put(members, alloc, "fill_value", fill_value)?;
     let shape = numbers_value(alloc, shape)?;
     serde_json::put(members, alloc, "shape", shape)?;
-    put_kind(alloc, members, version, "array")
+    put_node_kind(alloc, members, version, "array")
 }

@@ -1,3 +1,3 @@
 //! Values that documents are written with.
 
-pub use zarrs_metadata_values::writing::{numbers_value, put_object, put_text};
+pub use zarrs_metadata_values::writing::{numbers_value, put_object};

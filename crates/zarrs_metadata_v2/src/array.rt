@@ -2,7 +2,7 @@
 //!
 //! See <https://zarr-specs.readthedocs.io/en/latest/v2/v2.0.html#arrays>.
 
-ghost use Rattle.std.specs.Prelude.{◌≡◌, None, IfOk, map, option_map};
+ghost use Rattle.std.specs.Prelude.{◌≡◌, IfOk, map, option_map};
 ghost use Rattle.std.specs.Int.NonZero.{non_zero_u64_get};
 ghost use Rattle.serde_json.specs.Data.{no_members};
 ghost use Rattle.serde_json.specs.Read.{read};

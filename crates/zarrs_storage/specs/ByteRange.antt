@@ -25,6 +25,11 @@ end_in (FromStart offset None) size = size
 end_in (FromStart offset (Some length)) size = offset + length
 end_in (Suffix length) size = size
 
+-- where a range of a value of a size lies in one that has that value from an offset on
+abbrev pub shifted : ℕ → ℕ → ByteRange → ByteRange
+shifted offset size range =
+    FromStart (offset + start_in range size) (Some (end_in range size - start_in range size))
+
 -- the bytes of a value from one place to another
 abbrev pub bytes_between : ℕ → ℕ → List ℕ → List ℕ
 bytes_between start end value = take (end - start) (drop start value)

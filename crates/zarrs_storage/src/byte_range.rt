@@ -1,8 +1,8 @@
 //! Ranges of bytes in a value.
 
-ghost use Rattle.std.specs.Prelude.{◌≡◌, ◌-◌, ◌≤◌, true, length, None, IfOk, IfErr};
+ghost use Rattle.std.specs.Prelude.{◌≡◌, ◌+◌, ◌-◌, ◌≤◌, ◌<◌, ◌^◌, true, length, map, None, IfOk, IfErr};
 ghost use Rattle.std.specs.List.{concat};
-ghost use Rattle.zarrs_storage.specs.ByteRange.{is_valid, start_in, end_in, slice_of, slices_of, first_invalid, parts_of, IsFirstInvalid, IsInvalidRange, room_of};
+ghost use Rattle.zarrs_storage.specs.ByteRange.{is_valid, start_in, end_in, slice_of, slices_of, first_invalid, parts_of, IsFirstInvalid, IsInvalidRange, room_of, shifted};
 
 use std::alloc::{AllocError, AllocFailed, Global};
 use thiserror::Error;
@@ -120,6 +120,16 @@ impl ByteRange {
     {
         self.end(size) - self.start(size)
     }
+
+    /// Where the range of a value of this size lies in one that has that value from `offset` on.
+    #[tactic(auto, using(crate::proofs::RangeLemmas::shift_fits))]
+    pub fn shift(&self, offset: u64, size: u64) -> ByteRange
+        requires fits { offset + size < 2 ^ 64 }
+        requires valid { is_valid self.now size ≡ true }
+        ensures { result ≡ shifted offset size self.now }
+    {
+        ByteRange::FromStart(offset + self.start(size), Some(self.length(size)))
+    }
 }
 
 // The bytes of one range.
@@ -193,4 +203,29 @@ pub fn extract_byte_ranges_concat(
         joined.extend_from_slice(part)?;
     }
     Ok(joined)
+}
+
+/// Where each range of a value of this size lies in one that has that value from `offset` on.
+///
+/// # Errors
+/// [`ByteRangeFault::Invalid`] exactly where a range is not valid; it names the first such one.
+pub fn shift_byte_ranges(
+    alloc: Global,
+    ranges: &[ByteRange],
+    offset: u64,
+    size: u64,
+) -> Result<Vec<ByteRange>, ByteRangeFault>
+    requires { offset + size < 2 ^ 64 }
+    ensures valid { IfOk result (λ moved. first_invalid size ranges.now ≡ None) }
+    ensures value { IfOk result (λ moved. moved.items ≡ map (shifted offset size) ranges.now) }
+    ensures refused { IfErr result (IsFirstInvalid (first_invalid size ranges.now) size) }
+{
+    let mut moved = Vec::with_capacity(alloc, ranges.len())?;
+    for range in ranges {
+        if !range.is_valid(size) {
+            return Err(ByteRangeFault::Invalid(InvalidByteRangeError::new(*range, size)));
+        }
+        moved.push(range.shift(offset, size))?;
+    }
+    Ok(moved)
 }

@@ -3,7 +3,8 @@ ghost use Rattle.std.specs.Prelude.{◌≡◌, true, false, Some, None, IsErrOf}
 ghost use Rattle.zarrs_storage.specs.FailingStore.{fails_call, after_call, after_failed_call};
 
 use crate::byte_range::{ByteRange, OffsetBytes};
-use crate::memory_store::{MemoryStore, with_lengths};
+use crate::counts::with_lengths;
+use crate::memory_store::MemoryStore;
 use crate::store::{StorageError, Store};
 use crate::store_key::StoreKey;
 use std::alloc::Global;

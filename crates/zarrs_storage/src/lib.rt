@@ -4,6 +4,7 @@
 #![tactic(auto)]
 
 mod byte_range;
+pub mod counts;
 mod failing_store;
 mod memory_store;
 mod parts;
@@ -14,7 +15,7 @@ mod store_key;
 
 pub use byte_range::{
     ByteRange, ByteRangeFault, InvalidByteRangeError, OffsetBytes, extract_byte_ranges,
-    extract_byte_ranges_concat,
+    extract_byte_ranges_concat, shift_byte_ranges,
 };
 pub use failing_store::FailingStore;
 pub use memory_store::MemoryStore;

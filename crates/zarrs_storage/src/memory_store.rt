@@ -1,9 +1,10 @@
 //! A store in memory.
-ghost use Rattle.std.specs.Prelude.{◌≡◌, ◌+◌, IfOk};
+ghost use Rattle.std.specs.Prelude.{◌≡◌, IfOk};
 ghost use Rattle.zarrs_storage.specs.Calls.{capped_count};
-ghost use Rattle.zarrs_storage.specs.Store.{ListsKeys, total_of};
+ghost use Rattle.zarrs_storage.specs.Store.{ListsKeys};
 
 use crate::byte_range::{ByteRange, OffsetBytes, extract_byte_ranges};
+use crate::counts::with_lengths;
 use crate::parts::put_parts;
 use crate::store::{StorageError, Store};
 use crate::store_key::StoreKey;
@@ -55,17 +56,6 @@ impl MemoryStore {
         }
         Ok(keys)
     }
-}
-
-// A count with the lengths of parts, which stops at the last value.
-pub(crate) fn with_lengths(count: u64, parts: &[Vec<u8>]) -> u64
-    ensures { result ≡ capped_count (count + total_of parts.now) }
-{
-    let mut sum = count;
-    for part in parts {
-        sum = sum.saturating_add(part.len() as u64);
-    }
-    sum
 }
 
 impl Store for MemoryStore {

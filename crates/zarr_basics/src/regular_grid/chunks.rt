@@ -8,11 +8,10 @@ ghost use Rattle.zarr_basics.specs.RegularGrid.{chunk_region};
 use super::RegularGrid;
 use super::numbers::{lasts, products, quotients};
 use crate::grid_kind::{chunk_shape_configuration, regular_by};
-use crate::lengths::numbers;
-use crate::refusal::{other_rank, unsupported_grid};
+use crate::refusal::unsupported_grid;
 use std::alloc::{AllocError, Global};
 use std::num::NonZeroU64;
-use zarrs_array_subset::{ArrayIndices, ArrayShape, ArraySubset, ChunkShape};
+use zarrs_array_subset::{ArrayIndices, ArrayShape, ArraySubset, ChunkShape, shape_numbers};
 use zarrs_chunk_grid::{ChunkGridError, ChunkGridTraits, are_below};
 use zarrs_metadata_parts::{Configuration, MetadataV3};
 use zarrs_plugin::{ExtensionName, PluginCreateError, ZarrVersion};
@@ -102,7 +101,7 @@ impl ChunkGridTraits for RegularGrid {
     ) -> Result<Option<ChunkShape>, ChunkGridError> {
         let (got, expected) = (chunk_indices.len(), self.array_shape.len());
         if got != expected {
-            return Err(other_rank(got, expected));
+            return Err(ChunkGridError::other_rank(got, expected));
         }
         if !are_below(&self.grid_shape, chunk_indices) {
             return Ok(None);
@@ -119,12 +118,12 @@ impl ChunkGridTraits for RegularGrid {
     ) -> Result<Option<ArrayShape>, ChunkGridError> {
         let (got, expected) = (chunk_indices.len(), self.array_shape.len());
         if got != expected {
-            return Err(other_rank(got, expected));
+            return Err(ChunkGridError::other_rank(got, expected));
         }
         if !are_below(&self.grid_shape, chunk_indices) {
             return Ok(None);
         }
-        let lengths = numbers(alloc, &self.chunk_shape)?;
+        let lengths = shape_numbers(alloc, &self.chunk_shape)?;
         Ok(Some(lengths))
     }
 
@@ -137,7 +136,7 @@ impl ChunkGridTraits for RegularGrid {
         let shape = self.array_shape.as_slice();
         let (got, expected) = (chunk_indices.len(), shape.len());
         if got != expected {
-            return Err(other_rank(got, expected));
+            return Err(ChunkGridError::other_rank(got, expected));
         }
         if !are_below(&self.grid_shape, chunk_indices) {
             return Ok(None);
@@ -154,7 +153,7 @@ impl ChunkGridTraits for RegularGrid {
     ) -> Result<Option<ArrayIndices>, ChunkGridError> {
         let (got, expected) = (array_indices.len(), self.array_shape.len());
         if got != expected {
-            return Err(other_rank(got, expected));
+            return Err(ChunkGridError::other_rank(got, expected));
         }
         if !are_below(&self.array_shape, array_indices) {
             return Ok(None);

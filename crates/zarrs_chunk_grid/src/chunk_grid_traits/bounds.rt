@@ -1,13 +1,11 @@
-//! Indices below a shape, and lengths as numbers.
+//! Indices below a shape.
 
-ghost use Rattle.std.specs.Prelude.{◌≡◌, ◌<◌, ◌^◌, ◌==◌, ◌||◌, map, nat_lt, IfOk};
-ghost use Rattle.std.specs.Int.NonZero.{non_zero_u64_get};
+ghost use Rattle.std.specs.Prelude.{◌≡◌, ◌<◌, ◌^◌, ◌==◌, ◌||◌, nat_lt, IfOk};
 ghost use Rattle.zarr_model.specs.Region.{contains, count_of, is_in, tuples, whole};
 ghost use Rattle.zarrs_chunk_grid_iterators.specs.Iterators.{tuples_left};
 ghost use Rattle.zarrs_chunk_grid.specs.ChunkGrid.{are_inbounds};
 
 use std::alloc::{AllocError, Global};
-use std::num::NonZeroU64;
 use zarrs_array_subset::ArraySubset;
 use zarrs_chunk_grid_iterators::{Indices, IndicesIntoIterator};
 
@@ -69,11 +67,4 @@ pub(crate) fn indices_within(
     let all = ArraySubset::new_with_shape(alloc, shape)?;
     let indices = Indices::new(all).into_iter();
     Ok(indices)
-}
-
-// Lengths as numbers.
-pub(crate) fn numbers(alloc: Global, lengths: &[NonZeroU64]) -> Result<Vec<u64>, AllocError>
-    ensures { IfOk result (λ v. v.items ≡ map non_zero_u64_get lengths.now) }
-{
-    lengths.iter().map(|length| length.get()).collect(alloc)
 }

@@ -1,6 +1,6 @@
 //! What is said of the chunks of every grid, by what each grid has to say.
 
-ghost use Rattle.std.specs.Prelude.{◌≡◌, ◌≢◌, ◌<◌, true, false, length, map, zip, IfOk, IfErr, IfSome, is_some};
+ghost use Rattle.std.specs.Prelude.{◌≡◌, ◌<◌, true, length, map, zip, IfOk, IfErr, IfSome, is_some};
 ghost use Rattle.zarr_model.specs.Region.{contains, count, ends_within, sizes, starts, whole};
 ghost use Rattle.zarr_model.specs.Grid.{IsChunk};
 ghost use Rattle.zarrs_array_subset.specs.ArraySubset.{region};
@@ -12,15 +12,7 @@ use super::ChunkGridTraits;
 use crate::chunk_grid_error::ChunkGridError;
 use std::alloc::{AllocError, Global};
 use std::ops::Range;
-use zarrs_array_subset::{ArrayIndices, ArrayShape, ArraySubset, IncompatibleDimensionalityError};
-
-// The refusal of another number of dimensions.
-fn other_rank(got: usize, expected: usize) -> ChunkGridError
-    requires { got ≢ expected }
-    ensures { IsRankRefusal got expected result }
-{
-    ChunkGridError::IncompatibleDimensionality(IncompatibleDimensionalityError::new(got, expected))
-}
+use zarrs_array_subset::{ArrayIndices, ArrayShape, ArraySubset};
 
 // Where a chunk of the grid begins.
 fn origin_of<G: ChunkGridTraits>(
@@ -86,7 +78,7 @@ pub(crate) fn subset_of<G: ChunkGridTraits>(
 {
     let (got, expected) = (chunk.len(), grid.dimensionality());
     if got != expected {
-        return Err(other_rank(got, expected));
+        return Err(ChunkGridError::other_rank(got, expected));
     }
     if !grid.has_chunk(chunk) {
         return Ok(None);
@@ -200,7 +192,7 @@ pub(crate) fn chunks_subset_of<G: ChunkGridTraits>(
 {
     let (got, expected) = (chunks.dimensionality(), grid.dimensionality());
     if got != expected {
-        return Err(other_rank(got, expected));
+        return Err(ChunkGridError::other_rank(got, expected));
     }
     if chunks.is_empty() {
         let empty = ArraySubset::new_empty(alloc, expected)?;
@@ -227,7 +219,7 @@ pub(crate) fn chunks_in_array_subset_of<G: ChunkGridTraits>(
         return Ok(Some(empty));
     }
     if got != expected {
-        return Err(other_rank(got, expected));
+        return Err(ChunkGridError::other_rank(got, expected));
     }
     if !array_subset.inbounds_shape(grid.array_shape()) {
         return Ok(None);

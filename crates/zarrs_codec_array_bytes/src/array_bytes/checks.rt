@@ -1,6 +1,6 @@
 //! What has to hold of array bytes before elements are taken out of them or put into them.
 
-ghost use Rattle.std.specs.Prelude.{◌≡◌, ◌==◌, ◌*◌, ◌+◌, ◌-◌, ◌^◌, ℕ, Some, None, min, is_ok, true, ◌<◌, IfOk, IfErr};
+ghost use Rattle.std.specs.Prelude.{◌≡◌, ◌==◌, ◌*◌, ◌+◌, ◌-◌, ◌^◌, Some, None, min, is_ok, true, ◌<◌, IfOk, IfErr};
 ghost use Rattle.zarr_model.specs.Region.{count_of};
 ghost use Rattle.zarr_model.specs.Command.{expected_fixed_length_bytes, expected_variable_length_bytes, expected_optional_bytes};
 ghost use Rattle.zarrs_codec_array_bytes.specs.Steps.{kind_seen};

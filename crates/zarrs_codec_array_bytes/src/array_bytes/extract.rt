@@ -1,6 +1,6 @@
 //! Elements taken out of array bytes.
 
-ghost use Rattle.std.specs.Prelude.{◌≡◌, ◌+◌, ◌*◌, ◌<◌, ◌^◌, ℕ, List, true, false, Some, None, length, IfOk, IfErr};
+ghost use Rattle.std.specs.Prelude.{◌≡◌, ◌+◌, ◌*◌, ◌<◌, ◌^◌, List, true, false, Some, None, length, IfOk, IfErr};
 ghost use Rattle.zarr_model.specs.Region.{count_of, whole, tuples};
 ghost use Rattle.zarr_model.specs.Element.{Element, null};
 ghost use Rattle.zarr_model.specs.ArrayBytes.{meaning};

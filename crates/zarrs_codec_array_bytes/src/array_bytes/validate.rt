@@ -1,6 +1,6 @@
 //! Whether array bytes mean elements.
 
-ghost use Rattle.std.specs.Prelude.{◌≡◌, ◌<◌, ◌*◌, ◌^◌, ◌+◌, nat_le, IfErr};
+ghost use Rattle.std.specs.Prelude.{◌≡◌, ◌<◌, ◌*◌, ◌^◌, ◌+◌, nat_le};
 ghost use Rattle.std.specs.List.{list_all};
 ghost use Rattle.zarr_model.specs.ArrayBytes.{are_offsets, offsets_rise_to, is_mask};
 ghost use Rattle.zarrs_codec_array_bytes.specs.Steps.{kind_seen, bytes_seen};

@@ -17,7 +17,7 @@ use std::collections::BTreeMap;
 use zarrs_metadata_parts::additional_fields::{
     NodeKind, copy_additional_fields, put_fields, read_additional_fields,
 };
-use zarrs_metadata_parts::fields::{expect_kind, put_kind};
+use zarrs_metadata_parts::fields::{expect_node_kind, put_node_kind};
 use zarrs_metadata_parts::json::{copy_members, member, read_object, read_object_or_empty};
 use zarrs_metadata_parts::reading::{read_value, refuse_floats};
 use zarrs_metadata_parts::writing::put_object;
@@ -127,7 +127,7 @@ fn read_group_members(
 ) -> Result<GroupMetadataV3, MetadataError>
     ensures { Reads group_seen result (group_members (members_view members.now.entries)) }
 {
-    expect_kind(members, 3, "group")?;
+    expect_node_kind(members, 3, "group")?;
     let attributes = read_object_or_empty(alloc, member(members, "attributes"))?;
     let additional_fields = read_additional_fields(alloc, NodeKind::Group, members)?;
     Ok(GroupMetadataV3 {
@@ -153,7 +153,7 @@ fn put_group(
         ≡ group_data_members (group_seen metadata.now) (members_view members.old.entries)) }
 {
     put_object(alloc, members, "attributes", &metadata.attributes)?;
-    put_kind(alloc, members, 3, "group")
+    put_node_kind(alloc, members, 3, "group")
 }
 
 // The value that is a group's document.

@@ -12,7 +12,7 @@ use std::alloc::Global;
 use std::collections::BTreeMap;
 use zarrs_metadata_parts::MetadataError;
 use zarrs_metadata_parts::fields::{
-    expect_kind, required_fill_value, required_part, required_shape,
+    expect_node_kind, required_fill_value, required_part, required_shape,
 };
 use zarrs_metadata_parts::json::read_object;
 
@@ -48,7 +48,7 @@ fn read_array_members(
 ) -> Result<ArrayMetadataV3, MetadataError>
     ensures { Reads array_seen result (array_members (members_view members.now.entries)) }
 {
-    expect_kind(members, 3, "array")?;
+    expect_node_kind(members, 3, "array")?;
     let metadata = read_required_fields(alloc, members)?;
     let optional = read_optional_parts(alloc, members)?;
     Ok(with_optional_parts(metadata, optional))

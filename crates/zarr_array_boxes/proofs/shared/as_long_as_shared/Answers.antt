@@ -1,4 +1,4 @@
-use Rattle.std.proofs.Common.{◌≡◌, true, true≢false, ap, sym, ◌∙◌}
+use Rattle.std.proofs.Common.{◌≡◌, true≢false, ap, sym, ◌∙◌}
 use Rattle.zarrs_array_subset.specs.ArraySubset.{region}
 use Rattle.zarrs_array_subset.specs.Boxes.{is_box, region_of}
 use Rattle.zarr_array_boxes.specs.Shared.{sizes_shared}

@@ -25,3 +25,6 @@ returns-in-Ok g c =
       asks = search rules;
       taken = search rules;
     }
+
+pub only_memory-requires : goal.only_memory-requires
+only_memory-requires g c = c.in-Err.ensures.memory c.requires.means c.requires.short c.requires.takes

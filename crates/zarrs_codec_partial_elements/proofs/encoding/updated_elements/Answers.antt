@@ -5,8 +5,9 @@ use Rattle.zarr_model.specs.DataTypeSize.{size_seen}
 use Rattle.zarrs_codec.proofs.FaultLaws.{no_faults}
 use Rattle.zarrs_codec.proofs.NamedLaws.{refused_never}
 use Rattle.zarrs_codec.proofs.UpdateLaws.{reads_if_still, reads_if_not, unread_or}
-use Rattle.zarrs_codec_partial_elements.proofs.WriteLaws.{update_no_fault, updated_gives, updated_fails, update_memory}
-use Rattle.zarrs_codec_partial_elements.proofs.WriteLaws.{err_memory, answers_err}
+use Rattle.zarrs_codec_array_bytes_parts.proofs.UpdateLaws.{update_memory}
+use Rattle.zarrs_codec_partial_elements.proofs.WriteLaws.{update_no_fault, updated_gives, updated_fails, err_memory}
+use Rattle.zarrs_codec_partial_elements.proofs.WriteLaws.{answers_err}
 use Rattle.zarrs_codec_partial_elements.proofs.encoding.updated_elements.Goals as goal
 
 pub update_owned_array_bytes-requires-clause-count : goal.update_owned_array_bytes-requires-clause-count

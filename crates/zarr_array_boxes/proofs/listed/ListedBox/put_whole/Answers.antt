@@ -7,10 +7,16 @@ use Rattle.zarr_array_boxes.specs.Elements.{blanks}
 use Rattle.zarr_array_boxes.specs.Given.{given_alike}
 use Rattle.zarr_array_boxes.specs.BoxElements.{listed_kind, listed_box}
 use Rattle.zarrs_codec_array_bytes_parts.proofs.MeansLaws.{some_list}
+use Rattle.zarr_array_boxes.proofs.MemoryLaws.{piece_fits}
 use Rattle.zarr_array_boxes.proofs.PutLaws.{given_alike_means, took, whole_piece, blanks_long}
 use Rattle.zarr_array_boxes.proofs.ShareLaws.{overlap_inside}
 use Rattle.zarr_array_boxes.proofs.ShortLaws.{given_short}
 use Rattle.zarr_array_boxes.proofs.listed.ListedBox.put_whole.Goals as goal
+
+pub with_piece-requires-clause-inside : goal.with_piece-requires-clause-inside
+with_piece-requires-clause-inside c =
+    piece_fits (region c.args.subset.now) (listed_box c.args.self.now) (region c.in_ok-at.at) c.shape.result.now
+    c.requires.inside c.in_ok-at.ensures c.shape.ensures.value
 
 pub with_piece-requires-clause-alike : goal.with_piece-requires-clause-alike
 with_piece-requires-clause-alike c =

@@ -16,8 +16,8 @@ returns-in-Ok c =
     c.in-Ok.levels c.requires.chunk (ap lengths c.deref.ensures.value ∙ c.in_ok-lengths.ensures)
     c.in-Ok.ensures.served c.in-Ok.ensures.first c.in-Ok.ensures.fill
 
-pub no_memory-requires : goal.no_memory-requires
-no_memory-requires c =
+pub only_memory-requires : goal.only_memory-requires
+only_memory-requires c =
     let array = c.args.self.now in
     not_built (chain_form array.chain) c.args.chain.now (level_of c.deref.result.now array.data_type array.fill)
     (fill_bytes array.fill) c.in-Err.error array.served

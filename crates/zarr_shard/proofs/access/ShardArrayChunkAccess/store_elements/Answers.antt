@@ -38,3 +38,14 @@ returns-in-Ok g c =
     (c.in-Ok.ensures list means).1 c.set.result
     (subst (λ v. Puts c.args.place.now.key (Some v) (g.S.Store.shown c.args.store.now) (g.S.Store.shown c.set.new.self)
     c.set.result) c.deref.ensures.value c.set.ensures)
+
+pub only_memory-requires : goal.only_memory-requires
+only_memory-requires g c =
+    let array = c.args.self.now in
+    let chunk = c.args.place.now.indices.items in
+    let raw = raw_of c.args.elements in
+    let list : List Element = chunk_list (shard_access array) chunk raw in
+    let means : list_at (own_level array.codec) raw ≡ Some list = means_as array chunk c.requires.place.is_chunk raw
+    ∙ some_list (meaning (kind (described_shards array)) (count ((described_shards array).grid.chunk_box chunk)) raw)
+    c.requires.mean.means in
+    c.in-Err.ensures list means

@@ -2,6 +2,7 @@ use Rattle.std.proofs.Common.{◌∙◌, refl}
 use Rattle.std.proofs.lemmas.Result.{IfErr-weaker}
 use Rattle.zarrs_codec_traits.specs.Views.{options_of}
 use Rattle.zarrs_codec_traits.proofs.IntervalLaws.{interval_told, interval_refused, first_refused, first_passed}
+use Rattle.zarrs_codec_traits.proofs.IntervalLaws.{shift_told}
 use Rattle.zarrs_codec.proofs.byte_interval_partial_decoder.ByteIntervalPartialDecoderBytesPartialDecoderTraits.partial_decode_many.Goals as goal
 
 pub returns-in-Ok-clause-cause : goal.returns-in-Ok-clause-cause
@@ -18,8 +19,9 @@ returns-in-Err-clause-cause g c =
     let under = options_of c.args.options.now in
     let part = (g.H.BytesPartialDecoderTraits.seen c.args.self.now.handle).part under in
     let tells = g.H.BytesPartialDecoderTraits.tells c.args.self.now.handle under in
-    interval_refused part c.args.self.now.byte_offset c.args.self.now.byte_length tells _ _ c.in-Err.error
-    c.args.decoded_regions.now c.in-Err.ensures.refused
+    interval_refused part c.args.self.now.byte_offset c.args.self.now.byte_length tells _ _ c.from.result
+    c.args.decoded_regions.now (shift_told c.args.decoded_regions.now c.args.self.now.byte_length c.in-Err.fault
+    c.from.result c.in-Err.ensures.refused c.from.ensures)
 
 pub returns-in-Err-clause-kept : goal.returns-in-Err-clause-kept
 returns-in-Err-clause-kept g c = record {
@@ -37,5 +39,6 @@ returns-in-Ok-clause-first g c =
 
 pub returns-in-Err-clause-first : goal.returns-in-Err-clause-first
 returns-in-Err-clause-first g c = first_refused _ c.args.self.now.byte_offset c.args.self.now.byte_length
-    (g.H.BytesPartialDecoderTraits.early c.args.self.now.handle) c.args.decoded_regions.now _ c.in-Err.error
-    c.in-Err.ensures.refused
+    (g.H.BytesPartialDecoderTraits.early c.args.self.now.handle) c.args.decoded_regions.now _ c.from.result
+    (shift_told c.args.decoded_regions.now c.args.self.now.byte_length c.in-Err.fault c.from.result
+    c.in-Err.ensures.refused c.from.ensures)
