@@ -1,5 +1,5 @@
-//! The program `shard`: reads the document of a sharded array, key lines and commands from standard input, and writes the replies
-//! to standard output.
+//! The program `shard`: reads the document of a sharded array, key lines and commands from standard input, and writes
+//! the replies to standard output.
 #![tactic(auto)]
 
 use std::io;

@@ -1,5 +1,5 @@
-//! The program `v2`: reads a version 2 document, key lines and commands from standard input, and writes the replies to standard
-//! output.
+//! The program `v2`: reads a version 2 document, key lines and commands from standard input, and writes the replies to
+//! standard output.
 #![tactic(auto)]
 
 use std::io;

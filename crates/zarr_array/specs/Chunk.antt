@@ -34,13 +34,13 @@ abbrev pub MayPutElements : Description → Options → List ℕ → List Elemen
 MayPutElements array options chunk list old new key =
     MayPutChunk (decode_at array chunk) (is_dropped array options list) list old new key
 
--- an error of the store as one of a session, which reads no ranges
+-- an error of the store as one of a session
 abbrev pub storage_kind : StorageError → SessionErrorKind
 storage_kind Storage.Failed = Store
 storage_kind (Storage.InvalidByteRange error) = Store
 storage_kind Storage.OutOfMemory = OutOfMemory
 
--- an error of fetching the chunk of a key as one of a session
+-- an error of fetching or storing the chunk of a key as one of a session
 abbrev pub chunk_kind : List ℕ → CodecError → SessionErrorKind
 chunk_kind key (codec.StorageError error) = storage_kind error
 chunk_kind key codec.OutOfMemory = OutOfMemory

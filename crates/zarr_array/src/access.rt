@@ -132,8 +132,8 @@ pub trait ChunkAccess {
             (S.shown store.old) (S.shown store.new)) }
         ensures kept { S.kept store.old store.new };
 
-    /// Stores elements as those of the chunk at a place, or erases its key where all are the fill value and such chunks are
-    /// not stored. One writing call.
+    /// Stores elements as those of the chunk at a place, or erases its key where all are the fill value and such chunks
+    /// are not stored. One writing call.
     ///
     /// # Errors
     /// What the store told, or want of memory.

@@ -24,8 +24,8 @@ impl OpenArray {
 
     /// Reads a region of the array: its elements in row-major order, or why it is refused.
     ///
-    /// Each chunk that the region meets is asked for once, in row-major order. For elements of one size the room for all of
-    /// them is taken before the first chunk is asked for; for others it grows with what the chunks hold.
+    /// Each chunk that the region meets is asked for once, in row-major order. For elements of one size the room for
+    /// all of them is taken before the first chunk is asked for; for others it grows with what the chunks hold.
     ///
     /// # Errors
     /// `ChunkDecode` with the key of a chunk that the region meets and whose value does not decode, `Store` where the
@@ -55,17 +55,17 @@ impl OpenArray {
         Ok(run_read(&self.parts, alloc, region, &mut None, store, options)?)
     }
 
-    /// Writes elements to a region of the array, in its row-major order: done, or why it is refused. The bytes are of the
-    /// data type's kind: elements of one size one behind another, the lowest byte of a whole number first; texts and byte
-    /// strings between offsets; optional elements under a mask.
+    /// Writes elements to a region of the array, in its row-major order: done, or why it is refused. The bytes are of
+    /// the data type's kind: elements of one size one behind another, the lowest byte of a whole number first; texts
+    /// and byte strings between offsets; optional elements under a mask.
     ///
     /// Each chunk that the region meets is asked for once, in row-major order, decoded whole, and stored anew; or its
     /// key is erased where all its elements are the fill value and the options do not have such chunks stored.
     ///
     /// # Errors
     /// `ChunkDecode` with the key of a chunk that the region meets and whose old value does not decode, also where the
-    /// region covers all of it, `Store` where the store failed, or `OutOfMemory`. The command is number 0, and the error
-    /// says how many chunks were finished. These stay written, and a damaged value stands.
+    /// region covers all of it, `Store` where the store failed, or `OutOfMemory`. The command is number 0, and the
+    /// error says how many chunks were finished. These stay written, and a damaged value stands.
     #[tactic(auto, using(crate::proofs::ChunkCosts::by_chunks))]
     pub fn write<S: Store>(
         &self,

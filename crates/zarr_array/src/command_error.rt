@@ -20,8 +20,8 @@ pub enum SessionErrorKind {
     ChunkDecode {
         /// The key of the chunk.
         key: StoreKey,
-        /// The error of the first codec, in the order of decoding, that gives nothing; of a part under `bytes` that of its first
-        /// range past the bytes.
+        /// The error of the first codec, in the order of decoding, that gives nothing; of a part under `bytes` that of
+        /// its first range past the bytes.
         error: CodecError,
     },
     /// The store failed.

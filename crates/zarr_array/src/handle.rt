@@ -25,7 +25,7 @@ pub struct ChainHandle<'s, S> {
 impl<'s, S: Store> ChainHandle<'s, S> {
     ghost use Rattle.zarr_array.specs.Handle.{handle_seen, IsHandleOn};
 
-    /// A handle on a chunk of the array's grid, under its key, with copies of the array's codecs. Where memory
+    /// A handle on a chunk of the array's grid, under this key, with copies of the array's codecs. Where memory
     /// runs out, nothing is promised of what the store then holds; [`ChainHandle::from_parts`] takes none.
     ///
     /// # Errors
@@ -48,8 +48,8 @@ impl<'s, S: Store> ChainHandle<'s, S> {
         Ok(ChainHandle::from_parts(chain, levels, store, key))
     }
 
-    /// A handle on the chunk under this key, by a chain with the levels of the chunk, as [`OpenArray::copied_chain`] and
-    /// [`OpenArray::levels`] give them.
+    /// A handle on the chunk under this key, by a chain with the levels of the chunk, as [`OpenArray::copied_chain`]
+    /// and [`OpenArray::levels`] give them.
     pub fn from_parts(
         chain: BasicChain,
         levels: ChunkLevels,
@@ -84,8 +84,8 @@ impl<'s, S: Store> ChainHandle<'s, S> {
         self.held.partial_decode(alloc, region, options)
     }
 
-    /// Replaces the elements of a region of the chunk, which lies inside it, by valid ones, none of which is too long to be
-    /// stored.
+    /// Replaces the elements of a region of the chunk, which lies inside it, by valid ones, none of which is too long
+    /// to be stored.
     ///
     /// # Errors
     /// What the store or the chunk's value told, or want of memory.

@@ -38,9 +38,10 @@ impl OpenArray {
     ///
     /// Served are all data types, at any rank and of any length, under any chain of `transpose`, whose order has the
     /// array's rank, and `zarr_basics.offset`, which serves whole numbers, then the codec of the elements, then
-    /// `zarr_basics.sha256`: `bytes`, which has an order where components have several bytes, for booleans, whole numbers
-    /// and raw bits, `vlen-utf8` for texts, `vlen-bytes` for byte strings, and `zarr_basics.optional` over one of them for
-    /// optional types. Attributes, dimension names and fields that need not be understood are read and left alone.
+    /// `zarr_basics.sha256`: `bytes`, which has an order where components have several bytes, for booleans, whole
+    /// numbers and raw bits, `vlen-utf8` for texts, `vlen-bytes` for byte strings, and `zarr_basics.optional` over one
+    /// of them for optional types. Attributes, dimension names and fields that need not be understood are read and left
+    /// alone.
     ///
     /// # Errors
     /// The first of [`OpenError`] that applies, or `OutOfMemory`.
@@ -51,8 +52,8 @@ impl OpenArray {
         Ok(OpenArray { parts })
     }
 
-    /// Opens the array that the fields of a document describe, as [`open`](OpenArray::open) has it of a text; floats in its
-    /// attributes are not looked for.
+    /// Opens the array that the fields of a document describe, as [`open`](OpenArray::open) has it of a text; floats in
+    /// its attributes are not looked for.
     ///
     /// # Errors
     /// The first of [`OpenError`] from `UnsupportedField` on that applies to the fields, or `OutOfMemory`.
@@ -99,8 +100,8 @@ impl OpenArray {
         self.parts.copied_chain(alloc)
     }
 
-    /// What the elements of a chunk of the grid are above each codec, of the array's or of copies. It is so of each chunk of
-    /// the same shape.
+    /// What the elements of a chunk of the grid are above each codec, of the array's or of copies. It is so of each
+    /// chunk of the same shape.
     ///
     /// # Errors
     /// [`AllocError`] where memory runs out.

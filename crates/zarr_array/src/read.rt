@@ -48,8 +48,8 @@ impl<C: ChunkAccess> RegionChunks<'_, C> {
         Ok(())
     }
 
-    // Takes the elements that the chunk of a number shares with the region. The levels in hand serve where they are of its
-    // shape; those that served are in hand then.
+    // Takes the elements that the chunk of a number shares with the region. The levels in hand serve where they are of
+    // its shape; those that served are in hand then.
     fn read_chunk<S: Store>(
         &self,
         alloc: Global,

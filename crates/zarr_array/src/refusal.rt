@@ -46,7 +46,8 @@ fn is_too_large<C: ChunkAccess>(array: &C, subset: &ArraySubset) -> bool
     }
 }
 
-/// Why a region of an array is refused, if it is: its rank is tested first, then its end, then how many elements it has.
+/// Why a region of an array is refused, if it is: its rank is tested first, then its end, then how many elements it
+/// has.
 pub(crate) fn region_refusal<C: ChunkAccess>(array: &C, subset: &ArraySubset) -> Option<Refusal>
     ensures { option_map refusal_of result
         ≡ region_refusal (described (C.seen array.now)) (region subset.now) }
@@ -64,8 +65,8 @@ pub(crate) fn region_refusal<C: ChunkAccess>(array: &C, subset: &ArraySubset) ->
     None
 }
 
-/// Why a write is refused, if it is: its region is tested first, then its bytes as elements of the region, the outermost
-/// level first, and last how long its elements are.
+/// Why a write is refused, if it is: its region is tested first, then its bytes as elements of the region, the
+/// outermost level first, and last how long its elements are.
 pub(crate) fn write_refusal<C: ChunkAccess>(
     array: &C,
     subset: &ArraySubset,

@@ -30,10 +30,10 @@ impl OpenArray {
     /// The room for the replies is taken first. A refused command is answered, and the next ones run.
     ///
     /// # Errors
-    /// An error says at which command, and after how many of its chunks. [`SessionErrorKind::ChunkDecode`] names a chunk
-    /// that the command met and whose value does not decode, [`SessionErrorKind::Store`] comes where the store failed,
-    /// and `OutOfMemory` for want of memory. What the commands before did stands, and so do these chunks; and a damaged
-    /// value stands until its chunk is erased.
+    /// An error says at which command, and after how many of its chunks. [`SessionErrorKind::ChunkDecode`] names a
+    /// chunk that the command met and whose value does not decode, [`SessionErrorKind::Store`] comes where the store
+    /// failed, and `OutOfMemory` for want of memory. What the commands before did stands, and so do these chunks; and a
+    /// damaged value stands until its chunk is erased.
     #[tactic(auto, using(crate::proofs::ChunkCosts::by_chunks))]
     pub fn run_commands<S: Store>(
         &self,
@@ -81,7 +81,8 @@ pub fn run_session<S: Store>(
         open_document (names_of registries.now) metadata.now ≡ opened document →
         Runs (describe document) (options_of options.now) (map command_of commands.now)
         (S.shown store.old) (S.shown store.new) (ended result) }
-    // Where the codec `bytes` stands alone and presence before each is known, exactly the bytes that are needed are taken.
+    // Where the codec `bytes` stands alone and presence before each is known, exactly the bytes that are needed are
+    // taken.
     ensures taken { (document : ArrayDocument) →
         open_document (names_of registries.now) metadata.now ≡ opened document →
         TakesAlone document (options_of options.now) (map command_of commands.now)

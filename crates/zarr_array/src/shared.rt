@@ -14,7 +14,7 @@ use crate::access::ChunkAccess;
 use crate::chunk_place::ChunkPlace;
 use crate::region_chunks::RegionChunks;
 use std::alloc::{AllocError, Global};
-use zarr_array_boxes::{BoxElements, part_of_box, shared_part};
+use zarr_array_boxes::BoxElements;
 use zarr_chunks::Fetched;
 use zarrs_codec_error::{CodecError, CodecOptions};
 use zarrs_storage::Store;
@@ -48,7 +48,7 @@ impl<C: ChunkAccess> RegionChunks<'_, C> {
             (S.shown store.new)) }
         ensures kept { S.kept store.old store.new }
     {
-        let within = part_of_box(alloc, self.subset, &place.subset)?;
+        let within = self.subset.part_of_box(alloc, &place.subset)?;
         let fetched = self
             .array
             .fetch_part(alloc, place, levels, &within, store, options)?;
@@ -81,7 +81,7 @@ impl<C: ChunkAccess> RegionChunks<'_, C> {
         match fetched {
             Fetched::Chunk(bytes) => elements.put(alloc, bytes, &place.subset),
             Fetched::Region(bytes) => {
-                let part = shared_part(alloc, self.subset, &place.subset)?;
+                let part = self.subset.shared_part(alloc, &place.subset)?;
                 elements.put(alloc, bytes, &part)
             }
         }

@@ -62,8 +62,8 @@ impl<C: ChunkAccess> RegionChunks<'_, C> {
         }
     }
 
-    // Writes to the chunk of a number. The levels in hand serve where they are of its shape; those that served are in hand
-    // then.
+    // Writes to the chunk of a number. The levels in hand serve where they are of its shape; those that served are in
+    // hand then.
     fn write_chunk<S: Store>(
         &self,
         alloc: Global,
@@ -132,8 +132,8 @@ impl<C: ChunkAccess> RegionChunks<'_, C> {
     }
 }
 
-/// Writes array bytes that mean the elements of a region inside an array, in row-major order, to it. Each chunk that the
-/// region meets is fetched once, in row-major order, and then stored or erased by one call. `hand` has levels from
+/// Writes array bytes that mean the elements of a region inside an array, in row-major order, to it. Each chunk that
+/// the region meets is fetched once, in row-major order, and then stored or erased by one call. `hand` has levels from
 /// command to command.
 ///
 /// # Errors

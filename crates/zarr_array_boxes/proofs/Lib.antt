@@ -1,6 +1,5 @@
 pub mod IndexLaws
 pub mod ShareLaws
-pub mod SharedPartLaws
 pub mod PutLaws
 pub mod MemoryLaws
 pub mod ShortLaws

@@ -1,5 +1,5 @@
-//! Commands on regions of an array, and their replies; and elements of any data type over boxes: those of a region, into
-//! which chunks are put, and those of a chunk, into which a region is put.
+//! Commands on regions of an array, and their replies; and elements of any data type over boxes: those of a region,
+//! into which chunks are put, and those of a chunk, into which a region is put.
 #![tactic(auto)]
 
 mod box_elements;
@@ -9,13 +9,12 @@ mod given;
 mod indices;
 mod listed;
 mod overlap;
+mod piece;
 mod place_runs;
 mod refusal;
-mod shared;
 
 pub use box_elements::BoxElements;
 pub use command::{Command, Reply};
 pub use indices::indices_at;
 pub use overlap::put_overlap;
 pub use refusal::Refusal;
-pub use shared::{part_of_box, shared_part};

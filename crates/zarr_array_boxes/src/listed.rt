@@ -18,8 +18,8 @@ ghost use Rattle.zarr_array_boxes.specs.Elements.{list_in, blanks};
 ghost use Rattle.zarr_array_boxes.specs.Given.{given_runs, given_indices, given_meaning, given_list, has_long_given};
 
 use crate::given::{Given, with_piece};
+use crate::piece::{part_in, piece_in};
 use crate::place_runs::picks_over_blank;
-use crate::shared::{part_in, piece_in, shared_part};
 use std::alloc::{AllocError, Global};
 use zarrs_array_subset::ArraySubset;
 use zarrs_codec_array_bytes::ArrayBytes;
@@ -28,8 +28,8 @@ use zarrs_codec_array_bytes::array_bytes::step::element_size;
 use zarrs_data_type::DataType;
 use zarrs_data_type_bytes::FillValue;
 
-/// Elements of any kind over a box: one blank element, which stands at all its places, and those that were given to some
-/// of them since, of which the last one at a place counts.
+/// Elements of any kind over a box: one blank element, which stands at all its places, and those that were given to
+/// some of them since, of which the last one at a place counts.
 #[derive(Drop)]
 pub(crate) struct ListedBox<'a> {
     pub(crate) data_type: &'a DataType,
@@ -191,7 +191,7 @@ impl<'a> ListedBox<'a> {
         ensures short { has_long_element (raw_of bytes.now) ≡ false → IsShortList self.old
             → IsShortList self.new }
     {
-        let part = shared_part(alloc, self.subset, subset)?;
+        let part = self.subset.shared_part(alloc, subset)?;
         if part.is_empty() {
             return Ok(());
         }

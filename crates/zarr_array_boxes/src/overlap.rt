@@ -11,7 +11,7 @@ ghost use Rattle.zarrs_codec_array_bytes.specs.Steps.{kind_seen, bytes_seen};
 ghost use Rattle.zarr_array_boxes.specs.Elements.{list_in, HaveRoom, PutsOverlap};
 
 use crate::fixed::put_fixed;
-use crate::shared::{part_in, piece_in, shared_part};
+use crate::piece::{part_in, piece_in};
 use std::alloc::{AllocError, Global};
 use zarrs_array_subset::ArraySubset;
 use zarrs_codec_array_bytes::ArrayBytes;
@@ -40,7 +40,7 @@ fn put_listed(
         → has_long_element (raw_of chunk.entry) ≡ false
         → IfOk result (λ v. has_long_element (raw_of v) ≡ false) }
 {
-    let part = shared_part(alloc, chunk_subset, subset)?;
+    let part = chunk_subset.shared_part(alloc, subset)?;
     if part.is_empty() {
         return Ok(chunk);
     }

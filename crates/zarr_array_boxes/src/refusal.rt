@@ -24,8 +24,8 @@ pub enum Refusal {
     InvalidMask,
     /// The bytes of elements of one size are not those of as many elements as the region has.
     UnexpectedChunkDecodedSize,
-    /// The offsets are not those of as many elements as the region has: they do not begin at 0, fall, or do not end where
-    /// the bytes end.
+    /// The offsets are not those of as many elements as the region has: they do not begin at 0, fall, or do not end
+    /// where the bytes end.
     InvalidVariableSizedArrayOffsets,
     /// An element, under a null or not, has so many bytes that their number can't be stored: 2^32 or more.
     ElementTooLong,

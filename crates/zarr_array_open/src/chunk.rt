@@ -40,12 +40,12 @@ impl Shard {
         Shard::with_codecs(alloc, data_type, fill, keys, shard)
     }
 
-    /// How chunks of this shape, of elements of a data type, keep inner chunks, by the metadata of their only codec and the
-    /// names of some registries.
+    /// How chunks of this shape, of elements of a data type, keep inner chunks, by the metadata of their only codec and
+    /// the names of some registries.
     ///
     /// # Errors
-    /// The first of [`OpenError`] that applies, from `PluginUnsupportedError` on: to the metadata, then to the fill value,
-    /// then to the codecs of an inner chunk; or `OutOfMemory`.
+    /// The first of [`OpenError`] that applies, from `PluginUnsupportedError` on: to the metadata, then to the fill
+    /// value, then to the codecs of an inner chunk; or `OutOfMemory`.
     #[tactic(auto, unfolding(crate::specs::ShardOpening::shard_of_chunk), using(crate::proofs::OpeningLaws::fails_after))]
     pub fn for_chunk(
         alloc: Global,

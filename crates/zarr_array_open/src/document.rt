@@ -12,7 +12,8 @@ use zarrs_metadata::{ArrayMetadata, ArrayMetadataV3};
 /// The version 3 document that a text is.
 ///
 /// # Errors
-/// The first that applies of `InvalidJson`, `FloatNumber`, `InvalidMetadata` and `UnsupportedVersion`, or `OutOfMemory`.
+/// The first that applies of `InvalidJson`, `FloatNumber`, `InvalidMetadata` and `UnsupportedVersion`, or
+/// `OutOfMemory`.
 #[tactic(auto, using(crate::proofs::FieldLaws::read_3, crate::proofs::FieldLaws::read_2, crate::proofs::FieldLaws::not_read))]
 pub fn read_document(alloc: Global, text: &str) -> Result<ArrayMetadataV3, OpenError>
     ensures { Opens array_seen result (fields_read (read_json text.now)) }

@@ -41,8 +41,8 @@ fn make_regular(
 /// The grid of an array of this shape, which must be `regular`.
 ///
 /// # Errors
-/// `PluginUnsupportedError` where its name is not of this kind, else `PluginCreateError` where its configuration is not;
-/// or `OutOfMemory`.
+/// `PluginUnsupportedError` where its name is not of this kind, else `PluginCreateError` where its configuration is
+/// not; or `OutOfMemory`.
 pub(crate) fn regular_by(
     alloc: Global,
     array_shape: &[u64],

@@ -1,5 +1,5 @@
-//! Documents opened: the parts of the array that a document describes, those of one with the codec `sharding_indexed` too,
-//! and why a document is refused.
+//! Documents opened: the parts of the array that a document describes, those of one with the codec `sharding_indexed`
+//! too, and why a document is refused.
 //!
 //! See <https://zarr-specs.readthedocs.io/en/latest/v3/core/index.html#array-metadata>.
 #![tactic(auto)]

@@ -8,8 +8,8 @@ use zarrs_codec_error::CodecError;
 use zarrs_metadata::MetadataError;
 use zarrs_plugin::PluginCreateError;
 
-/// Why a document is not opened, in the order in which it is tested: the first that applies. Names and configurations are
-/// tested extension by extension: the data type, the chunk grid, the chunk key encoding, and each codec.
+/// Why a document is not opened, in the order in which it is tested: the first that applies. Names and configurations
+/// are tested extension by extension: the data type, the chunk grid, the chunk key encoding, and each codec.
 #[derive(Clone, Copy, Debug, PartialEq, Eq, Error)]
 pub enum OpenError {
     /// The text is not JSON.
@@ -30,8 +30,8 @@ pub enum OpenError {
     /// No entry of a registry goes by the name of an extension.
     #[error("an extension is not supported")]
     PluginUnsupportedError,
-    /// The configuration of an extension is not of its form, or the name of a raw type is not; a codec inside another is no
-    /// array-to-bytes one; an array-to-array codec does not serve the array's rank; or the data type need not be
+    /// The configuration of an extension is not of its form, or the name of a raw type is not; a codec inside another
+    /// is no array-to-bytes one; an array-to-array codec does not serve the array's rank; or the data type need not be
     /// understood.
     #[error("an extension has a configuration that is not supported")]
     PluginCreateError,
@@ -47,9 +47,9 @@ pub enum OpenError {
     /// The codec `bytes` has no byte order, and the data type needs one.
     #[error("the codec bytes has no byte order")]
     EndiannessMissing,
-    /// Some chunk ends past 64 bits, or has more elements or more bytes than can be addressed, of elements one more; or the
-    /// codec stores lengths in 4 bytes, and the number of elements of a chunk, or how many bytes the fill value has below
-    /// all optional types, does not fit in them.
+    /// Some chunk ends past 64 bits, or has more elements or more bytes than can be addressed, of elements one more; or
+    /// the codec stores lengths in 4 bytes, and the number of elements of a chunk, or how many bytes the fill value has
+    /// below all optional types, does not fit in them.
     #[error("a chunk is too large")]
     ChunkTooLarge,
     /// Memory ran out.

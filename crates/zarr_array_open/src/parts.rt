@@ -144,10 +144,10 @@ impl ArrayParts {
     /// Opens the array that a document describes, by the names of some registries.
     ///
     /// Served are all data types, with any chain of `transpose`, whose order has the array's rank, and
-    /// `zarr_basics.offset`, which serves whole numbers, then the codec of the elements, then `zarr_basics.sha256`, at any
-    /// rank and of any length: `bytes` in either byte order for booleans, whole numbers and raw bits, `vlen-utf8` for
-    /// texts, `vlen-bytes` for byte strings, and `zarr_basics.optional` over one of them for optional types. Attributes,
-    /// dimension names and fields that need not be understood are read and left alone.
+    /// `zarr_basics.offset`, which serves whole numbers, then the codec of the elements, then `zarr_basics.sha256`, at
+    /// any rank and of any length: `bytes` in either byte order for booleans, whole numbers and raw bits, `vlen-utf8`
+    /// for texts, `vlen-bytes` for byte strings, and `zarr_basics.optional` over one of them for optional types.
+    /// Attributes, dimension names and fields that need not be understood are read and left alone.
     ///
     /// # Errors
     /// The first of [`OpenError`] that applies, or `OutOfMemory`.

@@ -18,8 +18,8 @@ use zarr_basics::ChunkKeyEncoding;
 use zarrs_data_type::DataType;
 use zarrs_data_type_bytes::FillValue;
 
-/// How a chunk keeps inner chunks: as an array of the chunk's shape, which a regular grid cuts into them without a rest. The
-/// chunk and its index can be addressed.
+/// How a chunk keeps inner chunks: as an array of the chunk's shape, which a regular grid cuts into them without a
+/// rest. The chunk and its index can be addressed.
 #[derive(Drop)]
 pub struct Shard {
     /// The inner chunks as those of an array with the chunk's shape.

@@ -111,8 +111,8 @@ impl ShardParts {
 
     /// Opens the sharded array that a document describes, by the names of some registries.
     ///
-    /// Its grid is `regular`, and its only codec `sharding_indexed`, whose inner chunks have any codecs that a plain array
-    /// may have. What is not so of its shards is so of a plain array too.
+    /// Its grid is `regular`, and its only codec `sharding_indexed`, whose inner chunks have any codecs that a plain
+    /// array may have. What is not so of its shards is so of a plain array too.
     ///
     /// # Errors
     /// The first of [`OpenError`] that applies, or `OutOfMemory`.

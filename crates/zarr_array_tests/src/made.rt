@@ -13,8 +13,8 @@ use zarrs_storage::{MemoryStore, Store, StoreKey};
 pub const SQUARE: &str =
     r#"{"zarr_format":3,"node_type":"array","shape":[4,4],"data_type":"uint8","chunk_grid":{"name":"regular","configuration":{"chunk_shape":[2,2]}},"chunk_key_encoding":"default","fill_value":0,"codecs":["bytes"]}"#;
 
-/// A document of a line of two-byte numbers, stored the greater byte first, in three chunks, the last of which goes past
-/// it.
+/// A document of a line of two-byte numbers, stored the greater byte first, in three chunks, the last of which goes
+/// past it.
 pub const LINE: &str =
     r#"{"zarr_format":3,"node_type":"array","shape":[5],"data_type":"int16","chunk_grid":{"name":"regular","configuration":{"chunk_shape":[2]}},"chunk_key_encoding":"default","fill_value":7,"codecs":[{"name":"bytes","configuration":{"endian":"big"}}]}"#;
 

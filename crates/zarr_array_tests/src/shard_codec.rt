@@ -1,4 +1,5 @@
-//! The codec of sharded chunks, on its way to success: the value that other programs write, and what it tells of itself.
+//! The codec of sharded chunks, on its way to success: the value that other programs write, and what it tells of
+//! itself.
 
 ghost use Rattle.std.specs.Prelude.{◌≡◌, true};
 ghost use Rattle.zarrs_codec_traits.specs.Prelude.{ends_within, uint_type, region as box_of};
@@ -24,7 +25,8 @@ use zarrs_plugin::{ExtensionName, ZarrVersion};
 const HALVES: &str =
     r#"{"name":"sharding_indexed","configuration":{"chunk_shape":[2],"codecs":["bytes"],"index_codecs":[{"name":"bytes","configuration":{"endian":"little"}}]}}"#;
 
-// The value of a chunk of 0, 0, 10 and 11: the second half, the pair of a first one that is not there, and that of the second.
+// The value of a chunk of 0, 0, 10 and 11: the second half, the pair of a first one that is not there, and that of the
+// second.
 const VALUE: [u8; 34] =
     *b"\x0a\x0b\xff\xff\xff\xff\xff\xff\xff\xff\xff\xff\xff\xff\xff\xff\xff\xff\0\0\0\0\0\0\0\0\x02\0\0\0\0\0\0\0";
 

@@ -9,13 +9,13 @@ ghost use Rattle.zarr_basics.specs.Lengths.{nonzeros};
 use crate::axis::BoundaryAxis;
 use crate::boundary_making::{boundaries_by, lengths_configuration};
 use crate::boundary_numbers::{
-    chunks_at, counts_of, ends_fit, largest_of, last_chunks, lengths_at, starts_at,
+    chunks_at, counts_of, ends_fit, largest_of, last_chunks, lengths_at, numbers_at, starts_at,
 };
 use crate::limits::{are_some, is_too_large};
 use crate::refusal::unsupported_grid;
 use std::alloc::{AllocError, Global};
 use std::num::NonZeroU64;
-use zarrs_array_subset::{ArrayIndices, ArraySubset, ChunkShape};
+use zarrs_array_subset::{ArrayIndices, ArrayShape, ArraySubset, ChunkShape};
 use zarrs_chunk_grid::{ChunkGridError, ChunkGridTraits, are_below};
 use zarrs_metadata_parts::{Configuration, MetadataV3};
 use zarrs_plugin::{ExtensionName, PluginCreateError, ZarrVersion};
@@ -42,6 +42,9 @@ impl BoundaryGrid {
     ghost use Rattle.zarr_basics.specs.Limits.{has_large_chunk};
 
     /// The grid of an array's shape and chunks that cut it in each dimension.
+    ///
+    /// # Errors
+    /// [`AllocError`] where memory runs out.
     pub fn new(
         alloc: Global,
         array_shape: Vec<u64>,
@@ -166,14 +169,25 @@ impl ChunkGridTraits for BoundaryGrid {
         alloc: Global,
         chunk_indices: &[u64],
     ) -> Result<Option<ChunkShape>, ChunkGridError> {
-        let (got, expected) = (chunk_indices.len(), self.array_shape.len());
-        if got != expected {
-            return Err(ChunkGridError::other_rank(got, expected));
-        }
+        ChunkGridError::expect_rank(chunk_indices.len(), self.array_shape.len())?;
         if !are_below(&self.grid_shape, chunk_indices) {
             return Ok(None);
         }
         let lengths = lengths_at(alloc, &self.axes, chunk_indices)?;
+        Ok(Some(lengths))
+    }
+
+    #[tactic(auto, using(crate::proofs::AxisFacts::of_boxes))]
+    fn chunk_shape_u64(
+        &self,
+        alloc: Global,
+        chunk_indices: &[u64],
+    ) -> Result<Option<ArrayShape>, ChunkGridError> {
+        ChunkGridError::expect_rank(chunk_indices.len(), self.array_shape.len())?;
+        if !are_below(&self.grid_shape, chunk_indices) {
+            return Ok(None);
+        }
+        let lengths = numbers_at(alloc, &self.axes, chunk_indices)?;
         Ok(Some(lengths))
     }
 
@@ -183,10 +197,7 @@ impl ChunkGridTraits for BoundaryGrid {
         alloc: Global,
         chunk_indices: &[u64],
     ) -> Result<Option<ArrayIndices>, ChunkGridError> {
-        let (got, expected) = (chunk_indices.len(), self.array_shape.len());
-        if got != expected {
-            return Err(ChunkGridError::other_rank(got, expected));
-        }
+        ChunkGridError::expect_rank(chunk_indices.len(), self.array_shape.len())?;
         if !are_below(&self.grid_shape, chunk_indices) {
             return Ok(None);
         }
@@ -200,10 +211,7 @@ impl ChunkGridTraits for BoundaryGrid {
         alloc: Global,
         array_indices: &[u64],
     ) -> Result<Option<ArrayIndices>, ChunkGridError> {
-        let (got, expected) = (array_indices.len(), self.array_shape.len());
-        if got != expected {
-            return Err(ChunkGridError::other_rank(got, expected));
-        }
+        ChunkGridError::expect_rank(array_indices.len(), self.array_shape.len())?;
         if !are_below(&self.array_shape, array_indices) {
             return Ok(None);
         }

@@ -33,8 +33,8 @@ pub fn chunks_are_small()
         × (is_too_large size (count (grid.chunk_box chunk)) ≡ false) }
 {}
 
-/// A test that more elements pass where fewer do holds of some chunk exactly where there is a chunk, and it holds of the
-/// lengths of a largest one.
+/// A test that more elements pass where fewer do holds of some chunk exactly where there is a chunk, and it holds of
+/// the lengths of a largest one.
 pub fn largest_lengths_decide()
     ensures { (grid : Grid) (lengths : List ℕ) → AreLargest grid lengths
         → (test : ℕ → Bool) → Grows test

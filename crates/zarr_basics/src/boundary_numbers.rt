@@ -8,7 +8,7 @@ ghost use Rattle.zarr_basics.specs.Lengths.{nonzeros};
 
 use crate::axis::BoundaryAxis;
 use std::alloc::{AllocError, Global};
-use zarrs_array_subset::ChunkShape;
+use zarrs_array_subset::{ArrayShape, ChunkShape};
 
 // The number of each dimension's lengths.
 fn counts(alloc: Global, axes: &[BoundaryAxis]) -> Result<Vec<u64>, AllocError>
@@ -87,6 +87,20 @@ pub(crate) fn lengths_at(
         lengths.push(axes[k].length_of(chunk[k]))?;
     }
     Ok(lengths)
+}
+
+// The length of each chunk as a number.
+pub(crate) fn numbers_at(
+    alloc: Global,
+    axes: &[BoundaryAxis],
+    chunk: &[u64],
+) -> Result<ArrayShape, AllocError>
+    ensures { IfOk result (λ v. v.items ≡ lengths_at axes.now chunk.now) }
+{
+    axes.iter()
+        .zip(chunk)
+        .map(|(axis, index)| axis.length_of(*index).get())
+        .collect(alloc)
 }
 
 // The largest length of each dimension.

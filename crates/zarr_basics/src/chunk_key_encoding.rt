@@ -24,6 +24,9 @@ impl ChunkKeyEncoding {
     ghost use Rattle.zarr_basics.specs.Keys.{keys_of};
 
     /// The key of the chunk with these indices.
+    ///
+    /// # Errors
+    /// [`AllocError`] where memory runs out.
     pub fn key(&self, alloc: Global, indices: &[u64]) -> Result<StoreKey, AllocError>
         ensures { IfOk result (λ key. key ≡ chunk_key (keys_of self.now) indices.now) }
     {

@@ -1,6 +1,6 @@
-//! What the names in an array document denote here: the chunk grids `regular` and `zarr_basics.boundaries`, the chunk key
-//! encodings `default` and `v2`, the codecs `bytes`, `vlen-utf8`, `vlen-bytes`, `zarr_basics.optional`, `zarr_basics.offset`,
-//! `transpose` and `zarr_basics.sha256`, and the registries that find them.
+//! What the names in an array document denote here: the chunk grids `regular` and `zarr_basics.boundaries`, the chunk
+//! key encodings `default` and `v2`, the codecs `bytes`, `vlen-utf8`, `vlen-bytes`, `zarr_basics.optional`,
+//! `zarr_basics.offset`, `transpose` and `zarr_basics.sha256`, and the registries that find them.
 //!
 //! See <https://zarr-specs.readthedocs.io/en/latest/v3/core/index.html#extension-points>.
 #![tactic(auto)]

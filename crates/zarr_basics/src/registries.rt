@@ -76,6 +76,9 @@ fn data_types(alloc: Global) -> Result<Vec<(NamePattern, DataTypeKind)>, AllocEr
 /// `string`, `bytes`, also `variable_length_bytes`, `zarrs.optional` and `r` before digits, the grids `regular` and
 /// `zarr_basics.boundaries`, the key encodings `default` and `v2`, and the codecs `bytes`, `vlen-utf8`, `vlen-bytes`,
 /// `zarr_basics.optional`, `zarr_basics.offset`, `transpose` and `zarr_basics.sha256`.
+///
+/// # Errors
+/// [`AllocError`] where memory runs out.
 pub fn builtin_registries(alloc: Global) -> Result<Registries, AllocError>
     ensures { IfOk result (λ r. names_of r ≡ builtin_names) }
 {

@@ -35,6 +35,9 @@ impl RegularGrid {
     ghost use Rattle.zarr_basics.specs.GridOf.{grid_of_regular};
 
     /// The grid of an array's shape and a chunk shape of the same rank.
+    ///
+    /// # Errors
+    /// [`AllocError`] where memory runs out.
     #[tactic(auto, using(crate::proofs::RegularLaws::counts_grid))]
     pub fn new(
         alloc: Global,

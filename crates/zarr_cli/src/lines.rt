@@ -52,9 +52,9 @@ impl<T: Drop> From<AllocFailed<T>> for InputFault {
     }
 }
 
-/// The lines of all bytes of a source, of which none is left. Each line ends with a newline, which the last one may lack;
-/// no bytes are one empty line. Of the input one copy is kept at a time, and no byte is taken past the first that makes it
-/// too long.
+/// The lines of all bytes of a source, of which none is left. Each line ends with a newline, which the last one may
+/// lack; no bytes are one empty line. Of the input one copy is kept at a time, and no byte is taken past the first that
+/// makes it too long.
 ///
 /// # Errors
 /// [`InputFault::Read`] where the source failed, [`InputFault::TooLong`] where it had more than 67,108,864 bytes left,

@@ -1,4 +1,5 @@
-//! Running commands over a store: the key lines before them, the text of their replies, and the lines of the final keys.
+//! Running commands over a store: the key lines before them, the text of their replies, and the lines of the final
+//! keys.
 
 ghost use Rattle.std.specs.Prelude.{◌≡◌, false, map, length, List, [], ℕ, IfErr, OnOk, OnErr};
 ghost use Rattle.zarrs_codec_traits.specs.Prelude.{HasCause, counted, with_keys};

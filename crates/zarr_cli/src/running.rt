@@ -55,11 +55,11 @@ fn text_of_lines<A: CommandArray, S: Store>(
 }
 
 /// Runs the lines of a program, whose first one is a document that was opened as an array: sets its key lines, runs its
-/// commands over `store`, and writes their replies to `sink`, with `--dump` also the lines of the final keys. No lines have
-/// none behind a document; a number that a run is to be made from has no effect.
+/// commands over `store`, and writes their replies to `sink`, with `--dump` also the lines of the final keys. No lines
+/// have none behind a document; a number that a run is to be made from has no effect.
 ///
-/// In order: all lines, setting the key lines, the commands, listing the keys, writing. The first that fails decides the
-/// status.
+/// In order: all lines, setting the key lines, the commands, listing the keys, writing. The first that fails decides
+/// the status.
 pub fn run_lines<A: CommandArray, W: Sink, S: Store>(
     alloc: Global,
     array: &A,

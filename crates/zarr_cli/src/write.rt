@@ -37,7 +37,8 @@ pub fn write_text<W: Sink>(text: &str, sink: &mut W) -> Result<(), IoFailed>
     write_bytes(text.as_bytes(), sink)
 }
 
-/// The line of a status, which stands in place of the replies. Where memory was wanting or replies are written there is none.
+/// The line of a status, which stands in place of the replies. Where memory was wanting or replies are written there is
+/// none.
 ///
 /// # Errors
 /// Want of memory alone.
@@ -58,7 +59,8 @@ pub fn status_line(alloc: Global, status: &Status) -> Result<String, AllocError>
     }
 }
 
-/// Writes the line of a status in place of replies, and answers the status, or want of memory where the line found none.
+/// Writes the line of a status in place of replies, and answers the status, or want of memory where the line found
+/// none.
 pub fn end_with<W: Sink>(alloc: Global, status: Status, sink: &mut W) -> Status
     ensures { EndsWith status (W.shown sink.old) (W.shown sink.new) result }
 {

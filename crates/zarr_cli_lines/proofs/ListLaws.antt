@@ -78,5 +78,6 @@ listed_sound (optional kind) list = listed_sound kind (map (held kind) list)
 
 pub grown_sound : (kind : Kind) (o : Option (List Element)) (bytes : ArrayBytes) →
     Some bytes ≡ option_map (array_bytes kind) o → are_sound bytes ≡ true
-grown_sound kind (Some list) bytes is = subst (λ b. are_sound b ≡ true) (sym (ap (λ o. unwrap_or o bytes) is)) (listed_sound kind list)
+grown_sound kind (Some list) bytes is = subst (λ b. are_sound b ≡ true) (sym (ap (λ o. unwrap_or o bytes) is))
+    (listed_sound kind list)
 grown_sound kind None bytes is = cc

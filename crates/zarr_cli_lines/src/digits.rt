@@ -10,7 +10,8 @@ use std::alloc::{AllocError, Global};
 
 /// The bytes that `h` and hexadecimal digits of either case denote.
 ///
-/// An error comes only for want of memory.
+/// # Errors
+/// [`AllocError`] where memory runs out.
 pub fn parse_hex(alloc: Global, text: &str) -> Result<Option<Vec<u8>>, AllocError>
     ensures { IfOk result (λ value. option_map (λ v. v.items) value ≡ hex_of text.now) }
 {
@@ -76,7 +77,8 @@ fn push_bytes(text: &mut Vec<u8>, value: &[u8]) -> Result<(), AllocError>
 
 /// Appends `h` and two lower-case digits for each byte.
 ///
-/// An error comes only for want of memory; the text may then have a part of them.
+/// # Errors
+/// [`AllocError`] where memory runs out; the text may then have a part of them.
 pub fn push_hex(text: &mut Vec<u8>, value: &[u8]) -> Result<(), AllocError>
     ensures { OnOk result (text.new.items ≡ text.old.items ++ hex_text value.now) }
 {

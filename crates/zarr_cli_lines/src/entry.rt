@@ -18,7 +18,10 @@ pub struct Entry {
     pub value: Vec<u8>,
 }
 
-/// The entry of a key line, if the line is one. An error comes only for want of memory.
+/// The entry of a key line, if the line is one.
+///
+/// # Errors
+/// [`AllocError`] where memory runs out.
 pub fn parse_key_line(alloc: Global, line: &str) -> Result<Option<Entry>, AllocError>
     ensures { IfOk result (λ entry. option_map entry_view entry ≡ entry_of_line line.now) }
 {
@@ -39,7 +42,8 @@ pub fn parse_key_line(alloc: Global, line: &str) -> Result<Option<Entry>, AllocE
 
 /// Appends the key line of a key and its value, in lower-case hexadecimal.
 ///
-/// An error comes only for want of memory; the text may then have a part of the line.
+/// # Errors
+/// [`AllocError`] where memory runs out; the text may then have a part of the line.
 pub fn push_entry(text: &mut Vec<u8>, key: &StoreKey, value: &[u8]) -> Result<(), AllocError>
     ensures { OnOk result (text.new.items ≡ text.old.items
         ++ line_of (entry_text (key.now, value.now))) }

@@ -59,7 +59,8 @@ fn parse_others(
 
 /// The array bytes of the elements in a text, if each is one of this data type. No text has no elements.
 ///
-/// An error comes only for want of memory.
+/// # Errors
+/// [`AllocError`] where memory runs out.
 pub fn parse_elements(
     alloc: Global,
     text: Option<&str>,

@@ -81,7 +81,10 @@ fn parse_write(
     Ok(Some(Command::Write(region, value)))
 }
 
-/// The command of a line, if the line is one; elements are of a data type. An error comes only for want of memory.
+/// The command of a line, if the line is one; elements are of a data type.
+///
+/// # Errors
+/// [`AllocError`] where memory runs out.
 #[tactic(auto, using(crate::proofs::LineLemmas::no_longer_line))]
 pub fn parse_command_line(
     alloc: Global,
@@ -109,7 +112,10 @@ pub fn parse_command_line(
     }
 }
 
-/// The entries of the key lines at the front. An error comes only for want of memory.
+/// The entries of the key lines at the front.
+///
+/// # Errors
+/// [`AllocError`] where memory runs out.
 pub fn first_entries(alloc: Global, lines: &[String]) -> Result<Vec<Entry>, AllocError>
     ensures { IfOk result (λ entries. map entry_view entries.items
         ≡ first_entries (map string_bytes lines.now)) }

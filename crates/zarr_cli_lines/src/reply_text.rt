@@ -41,7 +41,8 @@ fn push_answer(text: &mut Vec<u8>, reply: &Reply, data_type: &DataType) -> Resul
 /// Appends the line of a reply: `ok` and the elements as text, `done`, or `refused` and the refusal's name. Elements
 /// are of a data type.
 ///
-/// An error comes only for want of memory; the text may then have a part of the line.
+/// # Errors
+/// [`AllocError`] where memory runs out; the text may then have a part of the line.
 pub fn push_reply(text: &mut Vec<u8>, reply: &Reply, data_type: &DataType) -> Result<(), AllocError>
     requires { (n : ℕ) → kind_seen data_type.now ≡ fixed n → 0 < n }
     ensures { OnOk result (AppendsReply (kind_seen data_type.now) reply.now text.old.items

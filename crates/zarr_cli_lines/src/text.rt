@@ -161,7 +161,8 @@ fn push_others(
 
 /// Appends a space and the text of each element of array bytes that mean a list.
 ///
-/// An error comes only for want of memory; the text may then have a part of them.
+/// # Errors
+/// [`AllocError`] where memory runs out; the text may then have a part of them.
 pub fn push_elements(
     text: &mut Vec<u8>,
     bytes: &ArrayBytes<'_>,

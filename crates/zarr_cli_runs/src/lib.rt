@@ -1,5 +1,5 @@
-//! Commands run over a store: the array of a first line, replies and their text, the lines of the keys, and a run that is
-//! made from a number; with the status that each ends with.
+//! Commands run over a store: the array of a first line, replies and their text, the lines of the keys, and a run that
+//! is made from a number; with the status that each ends with.
 #![tactic(auto)]
 
 pub mod commands;

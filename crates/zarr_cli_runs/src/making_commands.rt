@@ -149,7 +149,10 @@ fn make_all(
     Ok(commands)
 }
 
-/// The commands that are made from a number. An error comes only for want of memory.
+/// The commands that are made from a number.
+///
+/// # Errors
+/// [`AllocError`] where memory runs out.
 #[tactic(auto)]
 pub fn made_commands(alloc: Global, number: u64) -> Result<Vec<Command>, AllocError>
     ensures { IfOk result (λ commands. map command_of commands.items ≡ made_commands number) }

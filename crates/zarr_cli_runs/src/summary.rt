@@ -67,7 +67,8 @@ fn push_lines(
 /// Appends the summary of a run's replies, whose elements have `size` bytes and whose lines are `lines`, and of how
 /// many keys its store has at the end.
 ///
-/// An error comes only for want of memory; the text may then have a part of the summary.
+/// # Errors
+/// [`AllocError`] where memory runs out; the text may then have a part of the summary.
 pub fn push_summary(
     alloc: Global,
     text: &mut Vec<u8>,

@@ -107,8 +107,8 @@ impl ChunkLevels {
     /// element.
     ///
     /// # Errors
-    /// [`CodecError`] exactly where a codec does not serve its level, with the first reason in the order of encoding; or
-    /// where memory runs out.
+    /// [`CodecError`] exactly where a codec does not serve its level, with the first reason in the order of encoding;
+    /// or where memory runs out.
     pub fn of<A: ArrayToArrayCodecTraits, B: ArrayToBytesCodecTraits, C: BytesToBytesCodecTraits>(
         alloc: Global,
         chain: &CodecChain<A, B, C>,

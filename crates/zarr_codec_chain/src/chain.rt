@@ -96,8 +96,8 @@ impl<A: ArrayToArrayCodecTraits, B: ArrayToBytesCodecTraits, C: BytesToBytesCode
     ///
     /// # Errors
     /// [`CodecError`] where the bytes are not valid elements of the chunk, with the first reason; else where the
-    /// array-to-bytes codec refuses what they are encoded to above it, as too many or too long elements, with its error;
-    /// or where memory runs out.
+    /// array-to-bytes codec refuses what they are encoded to above it, as too many or too long elements, with its
+    /// error; or where memory runs out.
     pub fn encode(
         &self,
         alloc: Global,

@@ -17,8 +17,8 @@ use zarrs_codec_traits::{ArrayToArrayCodecTraits, BytesToBytesCodecTraits};
 /// The elements of the bottom that decode to those of the first level, the first codec first.
 ///
 /// # Errors
-/// At levels that are served [`CodecError`] exactly where there is a codec and the bytes are not valid elements of the first
-/// level; or where memory runs out.
+/// At levels that are served [`CodecError`] exactly where there is a codec and the bytes are not valid elements of the
+/// first level; or where memory runs out.
 pub fn encode_down<A: ArrayToArrayCodecTraits>(
     alloc: Global,
     codecs: &[A],

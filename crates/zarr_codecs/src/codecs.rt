@@ -19,8 +19,8 @@ pub enum BasicArrayToBytes {
     Optional(OptionalCodec),
 }
 
-/// The codec `zarr_basics.optional`, which stores optional elements: a mask byte for each, 0 where it is null and else 1,
-/// and then the elements of the inner type by an inner codec, with some element in the place of each null.
+/// The codec `zarr_basics.optional`, which stores optional elements: a mask byte for each, 0 where it is null and else
+/// 1, and then the elements of the inner type by an inner codec, with some element in the place of each null.
 #[cycle(codec)]
 #[derive(Drop)]
 pub struct OptionalCodec {

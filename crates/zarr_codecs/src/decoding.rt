@@ -54,13 +54,13 @@ pub fn decode_by(
     }
 }
 
-/// The optional elements that a value decodes to: its mask, and what the inner codec decodes of the rest. No codec looks
-/// at a fill value, so the inner one is given that of the optional type.
+/// The optional elements that a value decodes to: its mask, and what the inner codec decodes of the rest. No codec
+/// looks at a fill value, so the inner one is given that of the optional type.
 ///
 /// # Errors
 /// [`CodecError`] first where the type is not optional or the inner codec does not serve what it holds; else
-/// `UnexpectedChunkDecodedSize` where the value is shorter than the mask, else `InvalidMask` where a mask byte is neither
-/// 0 nor 1, else as the inner codec answers to the rest. Or where memory runs out.
+/// `UnexpectedChunkDecodedSize` where the value is shorter than the mask, else `InvalidMask` where a mask byte is
+/// neither 0 nor 1, else as the inner codec answers to the rest. Or where memory runs out.
 #[cycle(decode)]
 pub fn decode_optional(
     inner: &BasicArrayToBytes,

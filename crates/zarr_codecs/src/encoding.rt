@@ -53,8 +53,8 @@ pub fn encode_by(
     }
 }
 
-/// The value of optional elements: their mask, and what the inner codec encodes the elements under it to. No codec looks
-/// at a fill value, so the inner one is given that of the optional type.
+/// The value of optional elements: their mask, and what the inner codec encodes the elements under it to. No codec
+/// looks at a fill value, so the inner one is given that of the optional type.
 ///
 /// # Errors
 /// [`CodecError`] first where the type is not optional or the inner codec does not serve what it holds; else

@@ -1,5 +1,5 @@
-//! The codecs of this project as one type for each of the three kinds, with the codec of optional elements, and what makes
-//! them of metadata.
+//! The codecs of this project as one type for each of the three kinds, with the codec of optional elements, and what
+//! makes them of metadata.
 //!
 //! See <https://zarr-specs.readthedocs.io/en/latest/v3/core/index.html#codecs>.
 #![tactic(auto)]

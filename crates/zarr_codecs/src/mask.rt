@@ -36,8 +36,8 @@ fn is_mask(mask: &[u8], number: u64) -> bool
 /// The mask of so many elements, and the value behind it.
 ///
 /// # Errors
-/// `UnexpectedChunkDecodedSize` exactly where the value is shorter than the mask, else `InvalidMask` exactly where a mask
-/// byte is neither 0 nor 1; or `OutOfMemory`.
+/// `UnexpectedChunkDecodedSize` exactly where the value is shorter than the mask, else `InvalidMask` exactly where a
+/// mask byte is neither 0 nor 1; or `OutOfMemory`.
 pub fn split_value(
     alloc: Global,
     value: &[u8],
@@ -65,8 +65,8 @@ pub fn split_value(
 /// What stands under the mask of so many optional elements, and the mask.
 ///
 /// # Errors
-/// `ExpectedOptionalBytes` exactly where they have no mask, else `InvalidMask` exactly where it has another length, or a
-/// byte that is neither 0 nor 1.
+/// `ExpectedOptionalBytes` exactly where they have no mask, else `InvalidMask` exactly where it has another length, or
+/// a byte that is neither 0 nor 1.
 pub fn masked_parts(
     bytes: ArrayBytes<'static>,
     number: u64,

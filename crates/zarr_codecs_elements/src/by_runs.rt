@@ -14,7 +14,8 @@ use zarrs_array_subset::shape_product;
 use zarrs_codec_array_bytes::ArrayBytes;
 use zarrs_codec_error::CodecError;
 
-/// The elements of a shape in two parts, out of those of the shape whose first part is ordered.
+/// The elements of the shape `front` and then `last`, out of those of the shape whose `front` is ordered: each run over
+/// `last` moves as one.
 ///
 /// # Errors
 /// [`CodecError::OutOfMemory`] where memory runs out.

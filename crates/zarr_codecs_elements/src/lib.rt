@@ -1,5 +1,5 @@
-//! What array-to-array codecs do with elements: numbers in bytes, on which an offset is put, and elements whose dimensions
-//! are ordered anew, from one level to the next and back; with the laws of both.
+//! What array-to-array codecs do with elements: numbers in bytes, on which an offset is put, and elements whose
+//! dimensions are ordered anew, from one level to the next and back; with the laws of both.
 #![tactic(auto)]
 
 mod amounts;

@@ -44,8 +44,8 @@ fn picked(
     moved_runs(alloc, bytes, order, shape, size)
 }
 
-/// The elements of a shape, out of those of the ordered shape. All elements are tested first; where each dimension stays
-/// they are the same bytes.
+/// The elements of a shape, out of those of the ordered shape. All elements are tested first; where each dimension
+/// stays they are the same bytes.
 ///
 /// # Errors
 /// [`CodecError`] exactly where the bytes are not valid elements, as many as the shape has, or where memory runs out.

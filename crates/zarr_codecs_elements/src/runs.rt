@@ -33,7 +33,7 @@ fn expanded(alloc: Global, runs: &[u64], count: u64, run: u64) -> Result<Vec<u64
     requires fits { count * run < 2 ^ 64 }
     ensures { IfOk result (λ v. v.items ≡ in_runs run runs.now) }
 {
-    let mut places = Vec::new(alloc);
+    let mut places = Vec::with_capacity(alloc, runs.len().saturating_mul(run as usize))?;
     for place in runs {
         push_run(&mut places, *place * run, run)?;
     }

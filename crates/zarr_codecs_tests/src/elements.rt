@@ -1,5 +1,5 @@
-//! Handles on elements: an offset over bytes, over a value in memory and under a key of a store, a list turned round, and
-//! a codec that asks for the bytes of a part alone.
+//! Handles on elements: an offset over bytes, over a value in memory and under a key of a store, a list turned round,
+//! and a codec that asks for the bytes of a part alone.
 
 ghost use Rattle.std.specs.Prelude.{◌≡◌, ◌∷◌, [], ◌<◌, length, IsTrue};
 ghost use Rattle.zarrs_codec_traits.specs.Prelude.{tuples, kind_of, fixed, region as box_of};

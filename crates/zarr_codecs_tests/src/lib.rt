@@ -1,5 +1,5 @@
-//! Tests of array bytes and views of them, of stores and of handles on bytes and on elements, of each call of a codec and of
-//! making codecs of metadata, of grids and keys; and the texts of errors.
+//! Tests of array bytes and views of them, of stores and of handles on bytes and on elements, of each call of a codec
+//! and of making codecs of metadata, of grids and keys; and the texts of errors.
 #![tactic(auto)]
 
 #[cfg(test)]

@@ -1,4 +1,5 @@
-//! Views of boxes of an array's bytes, and values decoded into them, of optional elements into those of their masks and data.
+//! Views of boxes of an array's bytes, and values decoded into them, of optional elements into those of their masks and
+//! data.
 
 ghost use Rattle.std.specs.Prelude.{◌<◌};
 

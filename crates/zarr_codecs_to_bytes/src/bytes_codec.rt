@@ -31,8 +31,8 @@ use zarrs_metadata_parts::{Configuration, MetadataV3};
 use zarrs_plugin::{ExtensionName, PluginCreateError, ZarrVersion};
 use zarrs_storage::ByteRange;
 
-/// The codec `bytes`, which stores the elements of a chunk in row-major order, one after another, with the bytes of each
-/// component in an order.
+/// The codec `bytes`, which stores the elements of a chunk in row-major order, one after another, with the bytes of
+/// each component in an order.
 ///
 /// See <https://zarr-specs.readthedocs.io/en/latest/v3/codecs/bytes/index.html>.
 #[derive(Clone, Copy, Debug, PartialEq, Eq)]

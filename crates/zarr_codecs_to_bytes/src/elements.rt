@@ -45,7 +45,8 @@ fn encode_variable(
 /// The value of so many elements, which decodes to them.
 ///
 /// # Errors
-/// `InvalidVariableSizedArrayOffsets` exactly where there are 2^32 or more, or one of them is as long; or `OutOfMemory`.
+/// `InvalidVariableSizedArrayOffsets` exactly where there are 2^32 or more, or one of them is as long; or
+/// `OutOfMemory`.
 #[tactic(auto, using(crate::proofs::CodecLaws::valid_variable, crate::proofs::CodecLaws::valid_offsets, crate::proofs::CodecLaws::valid_meaning))]
 pub fn encode_elements(
     alloc: Global,

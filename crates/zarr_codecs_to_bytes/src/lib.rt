@@ -1,5 +1,5 @@
-//! The codecs of this project that give bytes: `bytes`, `vlen-utf8` and `vlen-bytes` of elements, and `zarr_basics.sha256` and
-//! `crc32c` of bytes.
+//! The codecs of this project that give bytes: `bytes`, `vlen-utf8` and `vlen-bytes` of elements, and
+//! `zarr_basics.sha256` and `crc32c` of bytes.
 //!
 //! See <https://zarr-specs.readthedocs.io/en/latest/v3/core/index.html#codecs>.
 #![tactic(auto)]

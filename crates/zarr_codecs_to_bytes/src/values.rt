@@ -125,8 +125,8 @@ fn decode_items(
     Ok(Some((bytes, offsets)))
 }
 
-/// The bytes and the offsets of so many elements, and [`None`] exactly where the value is not theirs: their number, then
-/// each behind its length, and nothing after them.
+/// The bytes and the offsets of so many elements, and [`None`] exactly where the value is not theirs: their number,
+/// then each behind its length, and nothing after them.
 ///
 /// # Errors
 /// [`AllocError`] where memory runs out.

@@ -1,5 +1,5 @@
-//! Calls that do what they pass on, each with some of its promises: an edit of one is a wrong body of it. Beside them stand
-//! callers of codecs, each for every codec. Nothing here is called from elsewhere, so nothing is public.
+//! Calls that do what they pass on, each with some of its promises: an edit of one is a wrong body of it. Beside them
+//! stand callers of codecs, each for every codec. Nothing here is called from elsewhere, so nothing is public.
 #![tactic(auto)]
 
 mod array;

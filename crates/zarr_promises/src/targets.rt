@@ -13,7 +13,8 @@ use zarrs_codec_traits::ArrayToBytesCodecTraits;
 use zarrs_data_type::DataType;
 use zarrs_data_type_bytes::FillValue;
 
-/// Decodes a value into a view's box. The view is still of the same bytes, and those of other elements are as they were.
+/// Decodes a value into a view's box. The view is still of the same bytes, and those of other elements are as they
+/// were.
 ///
 /// # Errors
 /// [`CodecError`] where the codec does not serve the arguments, the view is for other elements, the value does not

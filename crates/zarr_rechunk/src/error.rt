@@ -17,8 +17,8 @@ pub enum RechunkErrorKind {
     /// The shapes are the same, and the data types differ.
     #[error("the data types differ")]
     DataTypeMismatch,
-    /// The shapes and data types are the same, and a band has as many elements as the greatest number, or more, or more bytes
-    /// than it.
+    /// The shapes and data types are the same, and a band has as many elements as the greatest number, or more, or more
+    /// bytes than it.
     #[error("a band is too large")]
     BandTooLarge,
     /// The value of a chunk of the source that the band meets does not decode.

@@ -246,8 +246,9 @@ fn text_of_words<R: Source, S: Store, T: Store>(
 /// Reads the documents of a source and of a target and key lines from `source`, sets the key lines in `from`, moves the
 /// array into `to`, and writes the lines of the keys that `to` then holds to `sink`. No word is known.
 ///
-/// In order: the words, reading, UTF-8, the first line as the document of the source, the second one as that of the target,
-/// all other lines, setting the key lines, moving, listing the keys, writing. The first that fails decides the status.
+/// In order: the words, reading, UTF-8, the first line as the document of the source, the second one as that of the
+/// target, all other lines, setting the key lines, moving, listing the keys, writing. The first that fails decides the
+/// status.
 pub fn run_rechunk<R: Source, W: Sink, S: Store, T: Store>(
     alloc: Global,
     words: &[String],

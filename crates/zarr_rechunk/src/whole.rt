@@ -91,13 +91,14 @@ fn bands_to_move(
 /// Moves all elements of an array from one store into another, where another array of the same shape and data type has
 /// them under its own grid, codecs and fill value.
 ///
-/// A band is what the target's chunks with one first index cover inside the shape. Each band is read once from the source,
-/// what stands under its nulls is cleared, and it is written once to the target, so one band is in memory at a time.
+/// A band is what the target's chunks with one first index cover inside the shape. Each band is read once from the
+/// source, what stands under its nulls is cleared, and it is written once to the target, so one band is in memory at a
+/// time.
 ///
 /// # Errors
 /// `ShapeMismatch`, `DataTypeMismatch` or `BandTooLarge`, the first that applies, before any call on a store. Else
-/// `SourceChunk` or `TargetChunk` with the key of a chunk that the band meets and whose value does not decode, `SourceStore`
-/// or `TargetStore` where a store failed, or `OutOfMemory`. The bands before the error's are moved.
+/// `SourceChunk` or `TargetChunk` with the key of a chunk that the band meets and whose value does not decode,
+/// `SourceStore` or `TargetStore` where a store failed, or `OutOfMemory`. The bands before the error's are moved.
 pub fn rechunk<S: Store, T: Store>(
     alloc: Global,
     source: &OpenArray,
@@ -112,8 +113,8 @@ pub fn rechunk<S: Store, T: Store>(
         (described_array target.now) (options_of options.now) (S.shown from.old) (S.shown from.new)
         (T.shown to.old) (T.shown to.new)) }
 
-    // However it ends, the source is as it was and had no writing call, and the other keys of the target are as they were,
-    // which is honest where it was.
+    // However it ends, the source is as it was and had no writing call, and the other keys of the target are as they
+    // were, which is honest where it was.
     ensures source { IsOnlyRead (S.shown from.old) (S.shown from.new) }
     ensures kept { S.kept from.old from.new }
     ensures left { LeavesBand (described_array target.now) (options_of options.now)

@@ -31,13 +31,13 @@ pub struct RefLines {
 /// Why lines are not parsed.
 #[derive(Clone, Copy, Debug, PartialEq, Eq, Error)]
 pub enum RefLineError {
-    /// A line is neither a key line, nor a reference, nor a command, each before those after it.
+    /// The first line that does not have its form, of key lines, then references, then reads, is no command either.
     #[error("the line after {good_lines} good ones is out of form")]
     OutOfForm {
         /// How many lines come before it.
         good_lines: usize,
     },
-    /// A line is a command that writes or erases, the first line that does not have its form.
+    /// The first line that does not have its form is a command that writes or erases.
     #[error("the line after {good_lines} good ones does not read")]
     ReadOnly {
         /// How many lines come before it.
@@ -86,7 +86,8 @@ fn five_words(line: &str) -> Option<(&str, &str, &str, &str, &str)>
 
 /// The reference of a ref line, if the line is one: `ref`, a key, the key of its base, an offset and a length.
 ///
-/// An error comes only for want of memory.
+/// # Errors
+/// [`AllocError`] where memory runs out.
 pub fn reference_line(alloc: Global, line: &str) -> Result<Option<Reference>, AllocError>
     ensures { IfOk result (λ reference. reference ≡ reference_of_line line.now) }
 {
@@ -173,11 +174,11 @@ fn parse_reads(
     Ok(reads)
 }
 
-/// Parses the lines behind the document, each once; the reads are of an array of this data type.
+/// Parses the lines behind the document; the reads are of an array of this data type.
 ///
 /// # Errors
-/// [`RefLineError::ReadOnly`] or [`RefLineError::OutOfForm`] by the first line that is not of its form, with how many come
-/// before it, or [`RefLineError::OutOfMemory`].
+/// [`RefLineError::ReadOnly`] or [`RefLineError::OutOfForm`] by the first line that is not of its form, with how many
+/// come before it, or [`RefLineError::OutOfMemory`].
 pub fn parse_ref_lines(
     alloc: Global,
     lines: &[String],

@@ -117,8 +117,8 @@ fn text_of_words<R: Source, S: Store>(
     }
 }
 
-/// Reads a document, key lines, references and reads from `source`, sets the key lines in `store`, runs the reads over the
-/// slices that the references are to, and writes their replies to `sink`. The only word is `--no-checksums`.
+/// Reads a document, key lines, references and reads from `source`, sets the key lines in `store`, runs the reads over
+/// the slices that the references are to, and writes their replies to `sink`. The only word is `--no-checksums`.
 ///
 /// In order: the words, reading, UTF-8, the first line as a document, all other lines, setting the key lines, the
 /// references, the reads, writing. The first that fails decides the status. But for its key lines the store is never

@@ -133,12 +133,14 @@ impl<'s, S: Store> RefStore<'s, S> {
         }
     }
 
-    /// The references over their base, which is asked for the size of a value once for each. Its content stays as it was.
+    /// The references over their base, which is asked for the size of a value once for each. Its content stays as it
+    /// was.
     ///
     /// # Errors
-    /// [`RefError::RepeatedKey`] exactly for the first reference whose key an earlier one has, before the base is asked;
-    /// [`RefError::MissingBase`] or [`RefError::SliceOutOfBounds`] exactly for the first one whose base is absent, or
-    /// that ends past its base's value; [`RefError::Store`] where the base fails, or [`RefError::OutOfMemory`].
+    /// [`RefError::RepeatedKey`] exactly for the first reference whose key an earlier one has, before the base is
+    /// asked; [`RefError::MissingBase`] or [`RefError::SliceOutOfBounds`] exactly for the first one whose base is
+    /// absent, or that ends past its base's value; [`RefError::Store`] where the base fails, or
+    /// [`RefError::OutOfMemory`].
     pub fn new(alloc: Global, base: &'s mut S, references: Vec<Reference>) -> Result<Self, RefError>
         ensures same_reference { IfOk result (λ store.
             store.base.ghost_name ≡ base.entry.ghost_name) }

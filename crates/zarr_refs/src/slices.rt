@@ -127,8 +127,8 @@ pub fn test_references<S: Store>(
     Ok(())
 }
 
-/// The slices of references by their keys, once all keys are apart and all slices lie in their bases. The base is asked for
-/// the size of a value once for each reference.
+/// The slices of references by their keys, once all keys are apart and all slices lie in their bases. The base is asked
+/// for the size of a value once for each reference.
 ///
 /// # Errors
 /// As [`keep_slices`], and then as [`test_references`].

@@ -172,9 +172,9 @@ fn told(alloc: Global, codec: &ShardCodec, line: &str) -> Result<String, AllocEr
     region_line(alloc, codec, value, region, check != "unchecked")
 }
 
-/// What is read of regions of chunks of numbers of one byte whose fill value is 0, by a first line of the chunks' box and
-/// the metadata of their codec, and a line of each region: a value, or `-` for none, the region, and `unchecked` where
-/// the number of the index is not tested.
+/// What is read of regions of chunks of numbers of one byte whose fill value is 0, by a first line of the chunks' box
+/// and the metadata of their codec, and a line of each region: a value, or `-` for none, the region, and `unchecked`
+/// where the number of the index is not tested.
 pub fn region_lines(alloc: Global, text: &str) -> Result<String, AllocError> {
     let (first, lines) = text.split_once('\n').unwrap_or((text, ""));
     let (shape, metadata) = cut(first);

@@ -20,8 +20,8 @@ use zarr_basics::BasicGrid;
 use zarr_shard_codec::ShardCodec;
 use zarrs_metadata::ArrayMetadataV3;
 
-/// An array that a document describes, whose chunks keep inner chunks: a read of a region takes of each chunk that it meets
-/// the index, and of its inner chunks those that it meets.
+/// An array that a document describes, whose chunks keep inner chunks: a read of a region takes of each chunk that it
+/// meets the index, and of its inner chunks those that it meets.
 #[derive(Drop)]
 pub struct ShardArray {
     // The grid of chunks, each of which is a shard.
@@ -58,9 +58,9 @@ impl ShardArray {
 
     /// Opens the sharded array that a document describes, by the names of some registries.
     ///
-    /// Its grid is `regular`, and its only codec `sharding_indexed` with an index at the end, whose inner chunks have any codecs
-    /// that the chunks of a plain array may have, and whose index is of numbers in little endian, with a CRC-32C behind it or
-    /// not.
+    /// Its grid is `regular`, and its only codec `sharding_indexed` with an index at the end, whose inner chunks have
+    /// any codecs that the chunks of a plain array may have, and whose index is of numbers in little endian, with a
+    /// CRC-32C behind it or not.
     ///
     /// # Errors
     /// The first of [`OpenError`] that applies, or `OutOfMemory`.
@@ -72,8 +72,8 @@ impl ShardArray {
         Ok(array)
     }
 
-    /// Opens the sharded array that the fields of a document describe, as [`open`](ShardArray::open) has it of a text; floats in
-    /// its attributes are not looked for.
+    /// Opens the sharded array that the fields of a document describe, as [`open`](ShardArray::open) has it of a text;
+    /// floats in its attributes are not looked for.
     ///
     /// # Errors
     /// The first of [`OpenError`] from `UnsupportedField` on that applies to the fields, or `OutOfMemory`.

@@ -22,12 +22,13 @@ impl ShardArray {
 
     /// Reads a region of the array: its elements in row-major order, or why it is refused.
     ///
-    /// Of each chunk that the region meets, in row-major order, the index is read by one call, and each inner chunk that the
-    /// region meets and that is there by one.
+    /// Of each chunk that the region meets, in row-major order, the index is read by one call, and each inner chunk
+    /// that the region meets and that is there by one.
     ///
     /// # Errors
-    /// `ChunkDecode` with the key of a chunk that the region meets and whose index is not found or of whose inner chunks one
-    /// that the region meets does not decode, `Store` where the store failed, or `OutOfMemory`. The command is number 0.
+    /// `ChunkDecode` with the key of a chunk that the region meets and whose index is not found or of whose inner
+    /// chunks one that the region meets does not decode, `Store` where the store failed, or `OutOfMemory`. The command
+    /// is number 0.
     pub fn read<S: Store>(
         &self,
         alloc: Global,
@@ -53,16 +54,17 @@ impl ShardArray {
         Ok(run_read(self, alloc, region, &mut None, store, options)?)
     }
 
-    /// Writes elements to a region of the array, in its row-major order: done, or why it is refused. The bytes are of the
-    /// data type's kind, as those of [`OpenArray::write`](zarr_array::OpenArray::write).
+    /// Writes elements to a region of the array, in its row-major order: done, or why it is refused. The bytes are of
+    /// the data type's kind, as those of [`OpenArray::write`](zarr_array::OpenArray::write).
     ///
-    /// Each chunk that the region meets is read whole, in row-major order, and stored anew whole, without its inner chunks of
-    /// fill value alone; or its key is erased where it has no others. Under options that have such chunks stored all are.
+    /// Each chunk that the region meets is read whole, in row-major order, and stored anew whole, without its inner
+    /// chunks of fill value alone; or its key is erased where it has no others. Under options that have such chunks
+    /// stored all are.
     ///
     /// # Errors
     /// `ChunkDecode` with the key of a chunk that the region meets and whose old value does not decode, also where the
-    /// region covers all of it, `Store` where the store failed, or `OutOfMemory`. The command is number 0, and the error
-    /// says how many chunks were finished. These stay written, and a damaged value stands.
+    /// region covers all of it, `Store` where the store failed, or `OutOfMemory`. The command is number 0, and the
+    /// error says how many chunks were finished. These stay written, and a damaged value stands.
     pub fn write<S: Store>(
         &self,
         alloc: Global,
@@ -118,10 +120,10 @@ impl ShardArray {
     /// The room for the replies is taken first. A refused command is answered, and the next ones run.
     ///
     /// # Errors
-    /// An error says at which command, and after how many of its chunks. `ChunkDecode` names a chunk that the command met and
-    /// whose value does not decode, and of which a read of a part finds not even that part; `Store` comes where the store
-    /// failed, and `OutOfMemory` for want of memory. What the commands before did stands, and so do these chunks; and a damaged
-    /// value stands until its chunk is erased.
+    /// An error says at which command, and after how many of its chunks. `ChunkDecode` names a chunk that the command
+    /// met and whose value does not decode, and of which a read of a part finds not even that part; `Store` comes where
+    /// the store failed, and `OutOfMemory` for want of memory. What the commands before did stands, and so do these
+    /// chunks; and a damaged value stands until its chunk is erased.
     pub fn run_commands<S: Store>(
         &self,
         alloc: Global,

@@ -1,5 +1,5 @@
-//! Sharded arrays: arrays whose chunks keep inner chunks, each of which is read alone; commands over a store on one, and the
-//! program over a document of one.
+//! Sharded arrays: arrays whose chunks keep inner chunks, each of which is read alone; commands over a store on one,
+//! and the program over a document of one.
 //!
 //! See <https://zarr-specs.readthedocs.io/en/latest/v3/codecs/sharding-indexed/index.html>.
 #![tactic(auto)]

@@ -89,8 +89,8 @@ impl InnerChunks<'_> {
     /// The elements of the inner chunk of a number, and [`None`] where it is not there.
     ///
     /// # Errors
-    /// `InvalidByteRangeError` exactly where its pair names bytes past the value; else that of the inner chain, where these
-    /// bytes do not decode; or want of memory.
+    /// `InvalidByteRangeError` exactly where its pair names bytes past the value; else that of the inner chain, where
+    /// these bytes do not decode; or want of memory.
     pub(crate) fn decode_inner(
         &self,
         alloc: Global,

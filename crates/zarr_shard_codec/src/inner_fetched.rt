@@ -49,8 +49,8 @@ impl InnerChunks<'_> {
     /// The same of an inner chunk that may not be there: [`None`] without a call where its pair says so.
     ///
     /// # Errors
-    /// `InvalidByteRangeError` exactly where the pair names bytes past the value; else that of the inner chain, where these
-    /// bytes do not decode; a fault of the store, or want of memory.
+    /// `InvalidByteRangeError` exactly where the pair names bytes past the value; else that of the inner chain, where
+    /// these bytes do not decode; a fault of the store, or want of memory.
     pub(crate) fn fetch_inner<S: Store>(
         &self,
         alloc: Global,

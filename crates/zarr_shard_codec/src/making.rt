@@ -91,12 +91,12 @@ impl ShardCodec {
         Self::with_fill(alloc, shard, fill_value, None)
     }
 
-    /// The codec of chunks of this shape, of elements of a data type, with a fill value, by its metadata and the names of
-    /// some registries. It serves these chunks.
+    /// The codec of chunks of this shape, of elements of a data type, with a fill value, by its metadata and the names
+    /// of some registries. It serves these chunks.
     ///
     /// # Errors
-    /// The first of [`OpenError`] that applies, from `PluginUnsupportedError` on: to the metadata, then to the fill value,
-    /// then to the codecs of an inner chunk; or `OutOfMemory`.
+    /// The first of [`OpenError`] that applies, from `PluginUnsupportedError` on: to the metadata, then to the fill
+    /// value, then to the codecs of an inner chunk; or `OutOfMemory`.
     pub fn for_chunk(
         alloc: Global,
         metadata: &MetadataV3,

@@ -185,14 +185,15 @@ impl ShardCodec {
         }
     }
 
-    /// The elements of a region of the chunk under a key, in row-major order: those of its value, or the fill value where
-    /// the key is absent. The index is read by one call, and each inner chunk that the region meets and that is there by
-    /// one; for a region without elements nothing is read.
+    /// The elements of a region of the chunk under a key, in row-major order: those of its value, or the fill value
+    /// where the key is absent. The index is read by one call, and each inner chunk that the region meets and that is
+    /// there by one; for a region without elements nothing is read.
     ///
     /// # Errors
-    /// `InvalidByteRangeError` where the value is shorter than its index, and else `InvalidChecksum` where the number of the
-    /// index is wrong and tested; that of an inner chunk that the region meets, `InvalidByteRangeError` where its pair names
-    /// bytes past the value, or its chain's where its bytes do not decode; a fault of the store, or want of memory.
+    /// `InvalidByteRangeError` where the value is shorter than its index, and else `InvalidChecksum` where the number
+    /// of the index is wrong and tested; that of an inner chunk that the region meets, `InvalidByteRangeError` where
+    /// its pair names bytes past the value, or its chain's where its bytes do not decode; a fault of the store, or want
+    /// of memory.
     pub fn read_region<S: Store>(
         &self,
         alloc: Global,

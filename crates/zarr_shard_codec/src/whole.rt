@@ -90,8 +90,8 @@ impl InnerChunks<'_> {
     /// The elements that a value decodes to; `whole` is the box of all of the chunk.
     ///
     /// # Errors
-    /// `UnexpectedChunkDecodedSize` where the value is shorter than its index, `InvalidChecksum` where the number of the
-    /// index is wrong and tested; else that of an inner chunk that does not decode; or want of memory.
+    /// `UnexpectedChunkDecodedSize` where the value is shorter than its index, `InvalidChecksum` where the number of
+    /// the index is wrong and tested; else that of an inner chunk that does not decode; or want of memory.
     #[tactic(auto, using(crate::proofs::CodecFacts::index_fits))]
     pub(crate) fn decode_within(
         &self,

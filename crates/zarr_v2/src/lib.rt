@@ -1,5 +1,5 @@
-//! Version 2 arrays: what a store means by a document of version 2, the document of version 3 that it is translated to, which
-//! means the same, the array that is opened by it, and the program over one.
+//! Version 2 arrays: what a store means by a document of version 2, the document of version 3 that it is translated to,
+//! which means the same, the array that is opened by it, and the program over one.
 #![tactic(auto)]
 
 mod element_type;

@@ -29,8 +29,8 @@ fn only_chunks_refuse()
     ensures { OnlyChunksRefuse }
 {}
 
-// Where it is opened, its chunks lie in a store as those of the document of version 2: the same grid and keys, and values that
-// decode alike.
+// Where it is opened, its chunks lie in a store as those of the document of version 2: the same grid and keys, and
+// values that decode alike.
 fn translation_lies_alike()
     ensures { TranslationLiesAlike }
 {}
@@ -40,7 +40,8 @@ fn translation_means_the_same()
     ensures { TranslationMeansTheSame }
 {}
 
-// The document that one read of a text is translated to can be written, and each text of it is opened as its fields are.
+// The document that one read of a text is translated to can be written, and each text of it is opened as its fields
+// are.
 fn translation_opens_as_text()
     ensures { TranslationOpensAsText }
 {}

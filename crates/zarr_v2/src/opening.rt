@@ -97,13 +97,13 @@ fn open_translated(
     open_fields(alloc, &document, registries)
 }
 
-/// Opens the array that a version 2 document describes, by the names of some registries: the document is translated to one
-/// of version 3, which is opened. By the builtin names the array means what a store of version 2 means.
+/// Opens the array that a version 2 document describes, by the names of some registries: the document is translated to
+/// one of version 3, which is opened. By the builtin names the array means what a store of version 2 means.
 ///
 /// # Errors
-/// [`V2OpenError::Refused`] exactly where the text is not JSON, holds a float, is no version 2 array document, or is not
-/// translated, by the first of these reasons; [`V2OpenError::Open`] exactly where the translated document is not opened,
-/// by that reason, which by the builtin names is `ChunkTooLarge` alone; or [`V2OpenError::OutOfMemory`].
+/// [`V2OpenError::Refused`] exactly where the text is not JSON, holds a float, is no version 2 array document, or is
+/// not translated, by the first of these reasons; [`V2OpenError::Open`] exactly where the translated document is not
+/// opened, by that reason, which by the builtin names is `ChunkTooLarge` alone; or [`V2OpenError::OutOfMemory`].
 pub fn open_v2(alloc: Global, text: &str, registries: &Registries) -> Result<OpenArray, V2OpenError>
     ensures opens { OpensV2 result (open_document_v2 (names_of registries.now) text.now) }
     ensures as_text { OpensAsItsText (names_of registries.now) text.now result }

@@ -1,5 +1,5 @@
-//! The program over a version 2 document: words, the document, key lines and commands in, the replies of one array and its
-//! final keys out.
+//! The program over a version 2 document: words, the document, key lines and commands in, the replies of one array and
+//! its final keys out.
 
 ghost use Rattle.std.specs.Prelude.{◌≡◌, ◌≤◌, List, ℕ, [], length, map, string_bytes, IsUtf8, Some};
 ghost use Rattle.zarr_model.specs.Prelude.{Told};
@@ -88,12 +88,13 @@ fn run_input<R: Source, W: Sink, S: Store>(
     }
 }
 
-/// Reads a version 2 array document, key lines and commands from `source`, runs the commands over `store`, and writes their
-/// replies to `sink`, with `--dump` also the lines of the final keys. The store means what it means by that document alone.
-/// The words are those of `run_program` but for `--make`, which is none here.
+/// Reads a version 2 array document, key lines and commands from `source`, runs the commands over `store`, and writes
+/// their replies to `sink`, with `--dump` also the lines of the final keys. The store means what it means by that
+/// document alone. The words are those of `run_program` but for `--make`, which is none here.
 ///
-/// In order: the words, reading, UTF-8, the first line as a version 2 document, its translation as one of version 3, all
-/// other lines, setting the key lines, the commands, listing the keys, writing. The first that fails decides the status.
+/// In order: the words, reading, UTF-8, the first line as a version 2 document, its translation as one of version 3,
+/// all other lines, setting the key lines, the commands, listing the keys, writing. The first that fails decides the
+/// status.
 pub fn run_v2_program<R: Source, W: Sink, S: Store>(
     alloc: Global,
     words: &[String],

@@ -66,7 +66,8 @@ fn end_cli<W: Sink>(alloc: Global, status: Status, sink: &mut W) -> V2Status
     V2Status::Cli(end_with(alloc, status, sink))
 }
 
-/// Writes the line of a status in place of replies, and answers the status, or want of memory where the line found none.
+/// Writes the line of a status in place of replies, and answers the status, or want of memory where the line found
+/// none.
 pub(crate) fn end_with_v2<W: Sink>(alloc: Global, status: V2Status, sink: &mut W) -> V2Status
     ensures { EndsWithV2 status (W.shown sink.old) (W.shown sink.new) result }
 {

@@ -55,11 +55,11 @@ fn array_of(
 /// The document of version 3 that means the same array as one of version 2.
 ///
 /// # Errors
-/// In this order, each exactly there: [`V2Error::RankMismatch`] where the shape and the chunks have different numbers of
-/// dimensions; [`V2Error::UnsupportedDataType`] where the data type is no boolean and no whole number of 1, 2, 4 or 8
-/// bytes; [`V2Error::UnsupportedFillValue`] where the fill value is neither null nor one of the type;
-/// [`V2Error::UnsupportedCodec`] where there is a compressor or a filter. [`V2Error::OutOfMemory`] comes only for want of
-/// memory.
+/// In this order, each exactly there: [`V2Error::RankMismatch`] where the shape and the chunks have different numbers
+/// of dimensions; [`V2Error::UnsupportedDataType`] where the data type is no boolean and no whole number of 1, 2, 4 or
+/// 8 bytes; [`V2Error::UnsupportedFillValue`] where the fill value is neither null nor one of the type;
+/// [`V2Error::UnsupportedCodec`] where there is a compressor or a filter. [`V2Error::OutOfMemory`] comes only for want
+/// of memory.
 pub fn translate(alloc: Global, metadata: &ArrayMetadataV2) -> Result<ArrayMetadataV3, V2Error>
     ensures { MatchResult result
         (λ a. translated (array_v2_seen metadata.now) ≡ Ok (array_seen a))

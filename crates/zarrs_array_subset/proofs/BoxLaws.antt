@@ -1,17 +1,17 @@
 -- Facts on the two lists of a box.
 use Rattle.std.proofs.Common.{◌≡◌, ℕ, ◌+◌, ◌-◌, ◌*◌, ◌<◌, ◌≤◌, ◌^◌, ◌&&◌, suc, get_or, true, false, nat_eq, nat_lt}
-use Rattle.std.proofs.Common.{nat_le, min, max, List, [], ◌∷◌, length, map, replicate, zero, refl, sym, ap, ap₂, ◌∙◌}
+use Rattle.std.proofs.Common.{nat_le, min, List, [], ◌∷◌, length, map, replicate, zero, refl, sym, ap, ap₂, ◌∙◌}
 use Rattle.std.proofs.Common.{arith}
 use Rattle.std.specs.List.{zip, list_all, list_any}
 use Rattle.std.proofs.lemmas.Bool.{and_parts, and_from, ltb-true, lt-ltb}
 use Rattle.std.proofs.Math.Nat.{zero-mul, mul_comm, mul-le-mul_right}
-use Rattle.zarr_model.specs.Region.{Region, count_of, sizes, ends_within, shared_span, whole}
+use Rattle.zarr_model.specs.Region.{Region, count_of, sizes, ends_within, whole}
 use Rattle.std.proofs.lemmas.List.{length-map}
 use Rattle.std.specs.declared.ops.Range.{Range}
 use Rattle.zarrs_array_subset.specs.Boxes.{box_in, is_rising, is_rising_inc, is_within, last_indices, ranges_of}
-use Rattle.zarrs_array_subset.specs.Boxes.{region_of_ranges, region_between, is_box, region_of, ends, overlap_of}
+use Rattle.zarrs_array_subset.specs.Boxes.{region_of_ranges, region_between, is_box, region_of, ends}
 use Rattle.zarrs_array_subset.specs.Boxes.{starts_past, moved_back, contains_front, ends_fit, moved, cut_at, sums_up}
-use Rattle.zarrs_array_subset.specs.Boxes.{differences, maxes, mins, are_in, ends_in_bounds, can_move}
+use Rattle.zarrs_array_subset.specs.Boxes.{differences, mins, are_in, ends_in_bounds, can_move}
 
 pub same_rank : (start shape : List ℕ) → is_box start shape ≡ true → length start ≡ length shape
 same_rank [] [] e = refl
@@ -100,38 +100,6 @@ other_rank (s ∷ start) (n ∷ shape) (b ∷ bounds) e rank =
     let rest : ends_within (region_of start shape) bounds ≡ false =
     other_rank start shape bounds (and_parts _ _ e).1 (λ same. rank (ap suc same)) in
     grind (arith, rest)
-
--- the greater starts and the lesser ends are the shared part
-pub overlap_is : (xs xn ys yn : List ℕ) → is_box xs xn ≡ true → is_box ys yn ≡ true → length xs ≡ length ys →
-    region_of (maxes xs ys) (differences (mins (ends (region_of xs xn)) (ends (region_of ys yn))) (maxes xs ys)) ≡
-    overlap_of (region_of xs xn) (region_of ys yn)
-overlap_is [] [] [] [] ba bb e = refl
-overlap_is (a ∷ xs) [] ys yn ba bb e = cc
-overlap_is [] (n ∷ xn) ys yn ba bb e = cc
-overlap_is xs xn (b ∷ ys) [] ba bb e = cc
-overlap_is xs xn [] (m ∷ yn) ba bb e = cc
-overlap_is [] [] (b ∷ ys) (m ∷ yn) ba bb e = cc
-overlap_is (a ∷ xs) (n ∷ xn) [] [] ba bb e = cc
-overlap_is (a ∷ xs) (n ∷ xn) (b ∷ ys) (m ∷ yn) ba bb e =
-    ap (λ rest. shared_span (record { start = a; size = n }) (record { start = b; size = m })
-    ∷ rest) (overlap_is xs xn ys yn (and_parts _ _ ba).1 (and_parts _ _ bb).1 (omega arith))
-
-pub overlap_fits : (xs xn ys yn : List ℕ) → is_box xs xn ≡ true → is_box ys yn ≡ true → length xs ≡ length ys →
-    is_box (maxes xs ys) (differences (mins (ends (region_of xs xn)) (ends (region_of ys yn))) (maxes xs ys)) ≡ true
-overlap_fits [] [] [] [] ba bb e = refl
-overlap_fits (a ∷ xs) [] ys yn ba bb e = cc
-overlap_fits [] (n ∷ xn) ys yn ba bb e = cc
-overlap_fits xs xn (b ∷ ys) [] ba bb e = cc
-overlap_fits xs xn [] (m ∷ yn) ba bb e = cc
-overlap_fits [] [] (b ∷ ys) (m ∷ yn) ba bb e = cc
-overlap_fits (a ∷ xs) (n ∷ xn) [] [] ba bb e = cc
-overlap_fits (a ∷ xs) (n ∷ xn) (b ∷ ys) (m ∷ yn) ba bb e =
-    let pa = and_parts (nat_lt (a + n) (2 ^ 64)) (is_box xs xn) ba in
-    let pb = and_parts (nat_lt (b + m) (2 ^ 64)) (is_box ys yn) bb in
-    let fa : a + n < 2 ^ 64 = ltb-true _ _ pa.0 in
-    let fb : b + m < 2 ^ 64 = ltb-true _ _ pb.0 in
-    let here : max a b + (min (a + n) (b + m) - max a b) < 2 ^ 64 = omega arith in
-    and_from _ _ (lt-ltb _ _ here) (overlap_fits xs xn ys yn pa.1 pb.1 (omega arith))
 
 -- what is taken off a start
 pub starts_past_by_zip : (start shape offset : List ℕ) → is_box start shape ≡ true → length offset ≡ length start →
@@ -261,8 +229,6 @@ pub ruleset of_cuts = (length_region, cut_is, cut_fits)
 pub ruleset of_boxes = (is_box_by_zip, same_rank, length_region, starts_region, sizes_region, ends_by_zip)
 
 pub ruleset of_tests = (same_rank, length_region, within_by_zip, ends_within_by_zip, other_rank)
-
-pub ruleset of_parts = (length_region, overlap_is, overlap_fits)
 
 pub ruleset of_moves = (length_region, starts_past_by_zip, starts_past_rank, moved_back_is, moved_back_fits)
 

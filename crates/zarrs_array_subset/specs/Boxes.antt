@@ -143,3 +143,10 @@ box_in start shape other_start other_shape =
     list_all (λ p. nat_le p.0.1 p.0.0.0
     && nat_le (min (p.0.0.0 + p.0.0.1) (2 ^ 64 - 1)) (min (p.0.1 + p.1) (2 ^ 64 - 1)))
     (zip (zip (zip start shape) other_start) other_shape)
+
+-- the length from the greater start to the lesser end in each dimension, or 0 where that is none, of
+-- the lists of two boxes
+unfoldable pub lengths_shared : List ℕ → List ℕ → List ℕ → List ℕ → List ℕ
+lengths_shared start shape other_start other_shape =
+    map (λ p. min (min (p.0.0.0 + p.0.0.1) (2 ^ 64 - 1)) (min (p.0.1 + p.1) (2 ^ 64 - 1))
+    - max p.0.0.0 p.0.1) (zip (zip (zip start shape) other_start) other_shape)

@@ -8,12 +8,11 @@ mod algebra;
 mod display;
 mod extents;
 mod numbers;
+mod overlap;
 
 use crate::error::{ArrayIndices, ArraySubsetError};
-pub use numbers::shape_product;
-use numbers::{
-    ends_of, fits, has_zero, no_lengths, rises, rises_inc, starts_of, to_lengths, zeros,
-};
+pub use numbers::{differences, ranges_between, shape_product, starts_of};
+use numbers::{ends_of, fits, has_zero, no_lengths, rises, rises_inc, to_lengths, zeros};
 use std::alloc::{AllocError, Global};
 use std::ops::Range;
 use zarr_model::ArrayShape;
@@ -191,6 +190,9 @@ impl ArraySubset {
     }
 
     /// A copy.
+    ///
+    /// # Errors
+    /// [`AllocError`] where memory runs out.
     pub fn try_clone(&self, alloc: Global) -> Result<Self, AllocError>
         ensures ok { IfOk result (λ s. region s ≡ region self.now) }
     {

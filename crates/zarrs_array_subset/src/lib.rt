@@ -7,7 +7,7 @@ mod error;
 mod laws;
 mod ravel;
 
-pub use array_subset::{ArraySubset, shape_product};
+pub use array_subset::{ArraySubset, differences, ranges_between, shape_product, starts_of};
 pub use chunk_shape::shape_numbers;
 pub use error::{ArrayIndices, ArraySubsetError, IncompatibleDimensionalityError, IndexerError};
 pub use laws::{offset_undoes, overlap_contains, ravel_inverse};

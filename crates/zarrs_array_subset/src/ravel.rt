@@ -1,3 +1,5 @@
+//! Index tuples as linear indices of an array, and back.
+
 ghost use Rattle.std.specs.Prelude.{◌≡◌, ◌<◌, ◌^◌, ◌*◌, ◌/◌, ◌%◌, ◌⊎◌, ◌≤◌, true, false, length, Some, None, IfOk, IfSome, IfNone, IsOk, OnOk, OnErr, ◌++◌};
 ghost use Rattle.zarr_model.specs.Region.{count, count_of, whole, tuple_at};
 ghost use Rattle.zarrs_array_subset.specs.Boxes.{region_of, is_box};
@@ -83,6 +85,9 @@ pub fn push_tuple(
 }
 
 /// The tuple of a linear index.
+///
+/// # Errors
+/// [`AllocError`] where memory runs out.
 #[tactic(auto, using(crate::proofs::Ravels::of_zeros))]
 pub fn unravel_index(
     alloc: Global,

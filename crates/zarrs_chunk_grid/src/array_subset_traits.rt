@@ -28,10 +28,16 @@ pub trait ArraySubsetTraits: Indexer {
     ghost extent: { Self → Region };
 
     /// Where the region begins in each dimension.
+    ///
+    /// # Errors
+    /// [`AllocError`] where memory runs out.
     fn start(&self, alloc: Global) -> Result<Vec<u64>, AllocError>
         ensures { IfOk result (λ v. v.items ≡ starts (extent self.now)) };
 
     /// How long the region is in each dimension.
+    ///
+    /// # Errors
+    /// [`AllocError`] where memory runs out.
     fn shape(&self, alloc: Global) -> Result<Vec<u64>, AllocError>
         ensures { IfOk result (λ v. v.items ≡ sizes (extent self.now)) };
 
@@ -56,6 +62,9 @@ pub trait ArraySubsetTraits: Indexer {
         ensures { IsTrue result ↔ (extent self.now ≡ region other.now) };
 
     /// The region as an array subset.
+    ///
+    /// # Errors
+    /// [`AllocError`] where memory runs out.
     fn to_array_subset(&self, alloc: Global) -> Result<ArraySubset, AllocError>
         ensures { IfOk result (λ s. region s ≡ extent self.now) };
 

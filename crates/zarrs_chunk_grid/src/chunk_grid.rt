@@ -59,6 +59,9 @@ impl<G: ChunkGridTraits> ChunkGrid<G> {
     }
 
     /// The metadata of the grid: its version 3 name, which it must have, and its configuration where that is not empty.
+    ///
+    /// # Errors
+    /// [`AllocError`] where memory runs out.
     pub fn metadata(&self, alloc: Global) -> Result<MetadataV3, AllocError>
         requires { IsSome (G.name_in self.now.grid V3) }
         ensures { IfOk result (λ m. Some (extension_seen m)

@@ -1,6 +1,6 @@
 //! Why a chunk grid refuses a call.
 
-ghost use Rattle.std.specs.Prelude.{◌≡◌, ◌≢◌};
+ghost use Rattle.std.specs.Prelude.{◌≡◌, ◌≢◌, IfOk, IfErr};
 ghost use Rattle.zarrs_chunk_grid.specs.ChunkGridErrors.{IsRankRefusal};
 ghost use Rattle.zarrs_chunk_grid.specs.declared.chunk_grid_error.ChunkGridError.TheVariants.{OutOfMemory};
 
@@ -20,14 +20,21 @@ pub enum ChunkGridError {
 }
 
 impl ChunkGridError {
-    /// The refusal of another number of dimensions.
-    pub fn other_rank(got: usize, expected: usize) -> Self
-        requires { got ≢ expected }
-        ensures { IsRankRefusal got expected result }
+    /// Asks that indices or a region have a grid's number of dimensions.
+    ///
+    /// # Errors
+    /// Returns [`ChunkGridError::IncompatibleDimensionality`] if `got` is not `expected`.
+    pub fn expect_rank(got: usize, expected: usize) -> Result<(), Self>
+        ensures same { IfOk result (λ _. got ≡ expected) }
+        ensures other { IfErr result (λ _. got ≢ expected) }
+        ensures told { IfErr result (IsRankRefusal got expected) }
     {
-        ChunkGridError::IncompatibleDimensionality(IncompatibleDimensionalityError::new(
+        if got == expected {
+            return Ok(());
+        }
+        Err(ChunkGridError::IncompatibleDimensionality(IncompatibleDimensionalityError::new(
             got, expected,
-        ))
+        )))
     }
 }
 

@@ -140,6 +140,9 @@ fn with_box<G: ChunkGridTraits>(
 /// Iterators over the chunks of a grid.
 pub trait ChunkGridTraitsIterators: ChunkGridTraits {
     /// The boxes of the chunks, in row-major order of the chunks.
+    ///
+    /// # Errors
+    /// [`AllocError`] where memory runs out.
     fn iter_chunk_subsets(&self, alloc: Global) -> Result<ChunkSubsets<'_, Self>, AllocError>
         requires few { count_of (Self.grid self.now).grid_shape < 2 ^ 64 }
         requires fit { AllFit (Self.grid self.now) }
@@ -147,6 +150,9 @@ pub trait ChunkGridTraitsIterators: ChunkGridTraits {
             × (tuples_left it.indices ≡ chunks (Self.grid self.now))) };
 
     /// The chunks, each with its box, in row-major order.
+    ///
+    /// # Errors
+    /// [`AllocError`] where memory runs out.
     fn iter_chunk_indices_and_subsets(
         &self,
         alloc: Global,

@@ -67,6 +67,9 @@ pub trait ChunkGridTraits: ExtensionName + Sized {
         ensures over { IfOk result (λ g. shape g ≡ array_shape.now) };
 
     /// The configuration in metadata.
+    ///
+    /// # Errors
+    /// [`AllocError`] where memory runs out.
     fn configuration(&self, alloc: Global) -> Result<Configuration, AllocError>
         ensures { IfOk result (λ c. configuration_seen c ≡ configured self.now) };
 
@@ -122,6 +125,9 @@ pub trait ChunkGridTraits: ExtensionName + Sized {
             is_some o ≡ contains (whole (shape self.now)) array_indices.now) };
 
     /// The chunks that share an element with a region inside the array, which are a box of chunks.
+    ///
+    /// # Errors
+    /// [`AllocError`] where memory runs out.
     fn chunks_meeting(
         &self,
         alloc: Global,

@@ -15,6 +15,9 @@ pub trait ChunkShapeTraits {
     ghost lengths: { Self → List ℕ };
 
     /// The lengths as the shape of an array.
+    ///
+    /// # Errors
+    /// [`AllocError`] where memory runs out.
     fn to_array_shape(&self, alloc: Global) -> Result<ArrayShape, AllocError>
         ensures { IfOk result (λ v. v.items ≡ lengths self.now) };
 

@@ -1,5 +1,5 @@
-//! Regions of an array in any form, shapes of chunks, and chunk grids: their trait and laws, iterators over their chunks,
-//! and what makes them of metadata.
+//! Regions of an array in any form, shapes of chunks, and chunk grids: their trait and laws, iterators over their
+//! chunks, and what makes them of metadata.
 //!
 //! Subsets, lists of indices and indexers come from the crates `zarrs_array_subset`, `zarrs_chunk_grid_iterators` and
 //! `zarrs_chunk_grid_indexer`, and are passed on here.

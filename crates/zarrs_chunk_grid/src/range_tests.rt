@@ -1,6 +1,6 @@
 //! What ranges are as a region, told without making one.
 
-ghost use Rattle.std.specs.Prelude.{◌-◌, map, ◌≡◌, ◌↔◌, IsTrue, IfOk};
+ghost use Rattle.std.specs.Prelude.{◌-◌, ◌≡◌, ◌↔◌, IsTrue, IfOk};
 ghost use Rattle.zarr_model.specs.Region.{ends_within, starts};
 ghost use Rattle.zarrs_array_subset.specs.ArraySubset.{region};
 ghost use Rattle.zarrs_array_subset.specs.Boxes.{contains_front, is_within, region_of_ranges};
@@ -15,14 +15,8 @@ use zarrs_array_subset::ArraySubset;
 pub(crate) fn starts_of(alloc: Global, ranges: &[Range<u64>]) -> Result<Vec<u64>, AllocError>
     ensures { IfOk result (λ v. v.items ≡ starts (region_of_ranges ranges.now)) }
 {
-    let starts = list_starts(alloc, ranges)?;
+    let starts = zarrs_array_subset::starts_of(alloc, ranges)?;
     Ok(starts)
-}
-
-fn list_starts(alloc: Global, ranges: &[Range<u64>]) -> Result<Vec<u64>, AllocError>
-    ensures { IfOk result (λ v. v.items ≡ map (λ range. range.start) ranges.now) }
-{
-    ranges.iter().map(|range| range.start).collect(alloc)
 }
 
 #[tactic(auto, unfolding(zarrs_chunk_grid_indexer::specs::RangeTests::are_in_ranges))]

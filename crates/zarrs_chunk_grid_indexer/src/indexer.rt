@@ -101,6 +101,9 @@ pub trait Indexer {
         ensures { result ≡ nat_eq (length (places self.now)) 0 };
 
     /// The shape of what is selected.
+    ///
+    /// # Errors
+    /// [`AllocError`] where memory runs out.
     fn output_shape(&self, alloc: Global) -> Result<Vec<u64>, AllocError>
         requires { has_output self.now }
         ensures { IfOk result (λ v. v.items ≡ output self.now) };
@@ -181,6 +184,9 @@ pub trait Indexer {
     }
 
     /// The indexer as an array subset, where it is told to be one.
+    ///
+    /// # Errors
+    /// [`AllocError`] where memory runs out.
     fn as_array_subset(&self, alloc: Global) -> Result<Option<ArraySubset>, AllocError>
         ensures { IfOk result (λ o. option_map region o ≡ as_region self.now) };
 

@@ -1,4 +1,5 @@
--- What the lists hold, and what their iterators have left.
+-- What index lists hold (`_of`), and what is left of them in iterators that borrow a list (`_lent`) and in
+-- those that own one (`_left`).
 use Rattle.std.specs.Prelude.{ℕ, ◌-◌, List, map}
 use Rattle.zarr_model.specs.Region.{Region, Span, tuple_at}
 use Rattle.zarrs_array_subset.specs.ArraySubset.{region}
@@ -20,9 +21,15 @@ use Rattle.zarrs_chunk_grid_iterators.specs.declared.contiguous_indices_iterator
 use Rattle.zarrs_chunk_grid_iterators.specs.declared.contiguous_indices_iterator.ContiguousIndicesIntoIterator.{
   ContiguousIndicesIntoIterator,
 }
-use Rattle.zarrs_chunk_grid_iterators.specs.declared.contiguous_linearised_indices_iterator.ContiguousLinearisedIndices.{ContiguousLinearisedIndices}
-use Rattle.zarrs_chunk_grid_iterators.specs.declared.contiguous_linearised_indices_iterator.ContiguousLinearisedIndicesIterator.{ContiguousLinearisedIndicesIterator}
-use Rattle.zarrs_chunk_grid_iterators.specs.declared.contiguous_linearised_indices_iterator.ContiguousLinearisedIndicesIntoIterator.{ContiguousLinearisedIndicesIntoIterator}
+use Rattle.zarrs_chunk_grid_iterators.specs.declared.contiguous_linearised_indices_iterator.ContiguousLinearisedIndices.{
+  ContiguousLinearisedIndices,
+}
+use Rattle.zarrs_chunk_grid_iterators.specs.declared.contiguous_linearised_indices_iterator.ContiguousLinearisedIndicesIterator.{
+  ContiguousLinearisedIndicesIterator,
+}
+use Rattle.zarrs_chunk_grid_iterators.specs.declared.contiguous_linearised_indices_iterator.ContiguousLinearisedIndicesIntoIterator.{
+  ContiguousLinearisedIndicesIntoIterator,
+}
 
 -- the tuples at the places of a region's list from a up to b
 abbrev pub indices_of : Region → ℕ → ℕ → List (List ℕ)

@@ -64,12 +64,12 @@ pub trait ArrayPartialDecoderTraits {
     fn supports_partial_decode(&self) -> bool
         ensures { result ≡ reads_parts self.now };
 
-    /// The elements at the indexer's indices, in their order: those of what the value decodes to, or the fill value where
-    /// it is absent.
+    /// The elements at the indexer's indices, in their order: those of what the value decodes to, or the fill value
+    /// where it is absent.
     ///
     /// # Errors
-    /// [`CodecError::IncompatibleIndexer`] exactly where the indexer does not fit the shape, before anything is read; else
-    /// the error of the reason for which the level is not served, exactly where there is one;
+    /// [`CodecError::IncompatibleIndexer`] exactly where the indexer does not fit the shape, before anything is read;
+    /// else the error of the reason for which the level is not served, exactly where there is one;
     /// [`CodecError::StorageError`] where what is below fails; what tells that the value does not decode; or
     /// [`CodecError::OutOfMemory`].
     fn partial_decode<I: Indexer>(
@@ -85,12 +85,13 @@ pub trait ArrayPartialDecoderTraits {
             (tells self.old) (seen self.old) (seen self.new) result }
         ensures kept { KeepsSettings same tells self.old self.new };
 
-    /// Puts the elements at the indexer's indices into the boxes of a target's views, and nothing else of their bytes is
-    /// changed. On an error it is as it was.
+    /// Puts the elements at the indexer's indices into the boxes of a target's views, and nothing else of their bytes
+    /// is changed. On an error it is as it was.
     ///
     /// # Errors
-    /// [`CodecError::InvalidNumberOfElements`] exactly where the target has another number of elements than the indexer,
-    /// before anything is read; else as `partial_decode`, and then as the target answers to elements of the data type.
+    /// [`CodecError::InvalidNumberOfElements`] exactly where the target has another number of elements than the
+    /// indexer, before anything is read; else as `partial_decode`, and then as the target answers to elements of the
+    /// data type.
     final fn partial_decode_into<I: Indexer>(
         &mut self,
         alloc: Global,

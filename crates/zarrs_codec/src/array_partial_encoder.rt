@@ -50,11 +50,11 @@ pub trait ArrayPartialEncoderTraits: ArrayPartialDecoderTraits {
     /// # Errors
     /// [`CodecError`] where the bytes are not valid elements, so many as the indexer has, else
     /// [`CodecError::IncompatibleIndexer`] where the indexer does not fit the shape, both before anything is read;
-    /// [`CodecError::StorageError`] where what is below fails: the value is then as before, or absent, or, where the new
-    /// elements are stored, one that decodes to them. What tells that the old value does not decode;
-    /// [`CodecError::DataTypeFillValueError`] where it is absent, some elements are given, and the fill value denotes none;
-    /// what refuses to encode the new elements, also where the value would be left absent, what tells that they are not
-    /// served, or [`CodecError::OutOfMemory`]; nothing is changed then.
+    /// [`CodecError::StorageError`] where what is below fails: the value is then as before, or absent, or, where the
+    /// new elements are stored, one that decodes to them. What tells that the old value does not decode;
+    /// [`CodecError::DataTypeFillValueError`] where it is absent, some elements are given, and the fill value denotes
+    /// none; what refuses to encode the new elements, also where the value would be left absent, what tells that they
+    /// are not served, or [`CodecError::OutOfMemory`]; nothing is changed then.
     fn partial_encode<I: Indexer>(
         &mut self,
         alloc: Global,

@@ -23,7 +23,8 @@ pub trait BytesPartialDecoderTraits {
     // Which errors tell why a read is refused of the ranges that are asked for, or of the whole value.
     ghost tells: { Self → Options → Option (List ByteRange) → CodecError → Type 0 };
 
-    // Two states have the same settings, which are what a handle has beside its value: a codec, or where an interval lies.
+    // Two states have the same settings, which are what a handle has beside its value: a codec, or where an interval
+    // lies.
     ghost same: { Self → Self → Type 0 };
 
     // The error of a range that is refused before anything is read, of those asked for, or for the whole value.

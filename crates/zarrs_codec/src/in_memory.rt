@@ -1,11 +1,11 @@
 //! Bytes in memory, as handles.
 
-ghost use Rattle.std.specs.Prelude.{◌≡◌};
 ghost use Rattle.std.specs.Cow.{cow_slice_items};
 
 use crate::bytes_partial_decoder::BytesPartialDecoderTraits;
 use std::alloc::Global;
 use std::borrow::CowSlice;
+use zarrs_codec_array_bytes::array_bytes::bytes_in;
 use zarrs_codec_error::{CodecError, CodecOptions};
 use zarrs_codec_traits::parts_in_memory;
 use zarrs_storage::{ByteRange, StorageError};
@@ -73,15 +73,6 @@ impl BytesPartialDecoderTraits for Vec<u8> {
     }
 }
 
-fn items_of<'b>(bytes: &'b CowSlice<'_, u8>) -> &'b [u8]
-    ensures { result.now ≡ cow_slice_items bytes.now }
-{
-    match bytes {
-        CowSlice::Borrowed(items) => items,
-        CowSlice::Owned(items) => items.as_slice(),
-    }
-}
-
 impl BytesPartialDecoderTraits for CowSlice<'_, u8> {
     ghost use Rattle.std.specs.Prelude.{true, Some, None};
     ghost use Rattle.zarrs_codec_traits.specs.Held.{in_memory};
@@ -117,7 +108,7 @@ impl BytesPartialDecoderTraits for CowSlice<'_, u8> {
     }
 
     fn size_held(&self) -> usize {
-        items_of(self).len()
+        bytes_in(self).len()
     }
 
     fn supports_partial_decode(&self) -> bool {
@@ -130,7 +121,7 @@ impl BytesPartialDecoderTraits for CowSlice<'_, u8> {
         decoded_regions: &[ByteRange],
         _options: &CodecOptions,
     ) -> Result<Option<Vec<Vec<u8>>>, CodecError> {
-        match parts_in_memory(alloc, items_of(self), decoded_regions) {
+        match parts_in_memory(alloc, bytes_in(self), decoded_regions) {
             Ok(parts) => Ok(Some(parts)),
             Err(error) => Err(error),
         }
@@ -141,7 +132,7 @@ impl BytesPartialDecoderTraits for CowSlice<'_, u8> {
         alloc: Global,
         _options: &CodecOptions,
     ) -> Result<Option<Vec<u8>>, CodecError> {
-        let value = Vec::from_slice(alloc, items_of(self))?;
+        let value = Vec::from_slice(alloc, bytes_in(self))?;
         Ok(Some(value))
     }
 }

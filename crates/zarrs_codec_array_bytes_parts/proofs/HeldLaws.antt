@@ -46,7 +46,8 @@ array_in part bytes = record {
   element = λ tuple. get_or (fixed_elements part.size bytes) (linear_index (sizes (region part.array)) tuple) null;
 }
 
-same_array : (part : ViewPart) (bytes old new : List ℕ) → Copied (whole (sizes (region part.array))) (region part.subset)
+same_array : (part : ViewPart) (bytes old new : List ℕ) → Copied (whole (sizes (region part.array)))
+    (region part.subset)
     (fixed_elements part.size bytes) (fixed_elements part.size old) (fixed_elements part.size new) →
     SameArray (array_in part new) (written (region part.subset) (fixed_elements part.size bytes) (array_in part old))
 same_array part bytes old new copied = record {

@@ -1,7 +1,6 @@
 //! Where decoded elements are put.
 
 ghost use Rattle.std.specs.Prelude.{◌≡◌, ◌==◌, ℕ, length, ◌<◌, ◌≤◌, drop, [], slice_index_or, IfErr, IfOk};
-ghost use Rattle.std.specs.Cow.{cow_slice_items};
 ghost use Rattle.zarr_model.specs.Region.{count};
 ghost use Rattle.zarrs_array_subset.specs.ArraySubset.{region};
 ghost use Rattle.zarrs_codec_array_bytes.specs.Raw.{raw_of};
@@ -11,8 +10,8 @@ ghost use Rattle.zarrs_codec_array_bytes.specs.Refusals.{told, fine};
 ghost use Rattle.zarrs_codec_array_bytes_parts.specs.Targets.{LeftBehind, kinds_answer, view_answer, sizes_answer, target_answer, IsViewWritten, ArePut};
 
 use crate::array_bytes_fixed_disjoint_view::ArrayBytesFixedDisjointView;
-use std::borrow::CowSlice;
-use zarrs_codec_array_bytes::{ArrayBytes, ArrayBytesRaw};
+use zarrs_codec_array_bytes::ArrayBytes;
+use zarrs_codec_array_bytes::array_bytes::bytes_in;
 use zarrs_codec_error::{
     CodecError, ExpectedFixedLengthBytesError, ExpectedOptionalBytesError, InvalidBytesLengthError,
 };
@@ -25,15 +24,6 @@ pub enum ArrayBytesDecodeIntoTarget<'v, 'a> {
     /// Optional elements: the view of their innermost data, and that of each level's mask, the outermost
     /// first. The masks' elements have one byte.
     Optional(&'v mut ArrayBytesFixedDisjointView<'a>, &'v mut [ArrayBytesFixedDisjointView<'a>]),
-}
-
-fn slice_of<'b>(bytes: &'b ArrayBytesRaw<'_>) -> &'b [u8]
-    ensures { result.now ≡ cow_slice_items bytes.now }
-{
-    match bytes {
-        CowSlice::Borrowed(items) => items,
-        CowSlice::Owned(items) => items.as_slice(),
-    }
 }
 
 // Tests the kinds of all levels, the outermost first.
@@ -78,12 +68,12 @@ fn expect_sizes(
     ensures { told result ≡ sizes_answer (raw_of bytes.now) masks.now «data».now }
 {
     match bytes {
-        ArrayBytes::Fixed(value) => expect_size(slice_of(value).len(), data),
+        ArrayBytes::Fixed(value) => expect_size(bytes_in(value).len(), data),
         ArrayBytes::Variable(_) => Ok(()),
         ArrayBytes::Optional(optional) => match masks {
             [] => Ok(()),
             [mask, rest @ ..] => {
-                expect_size(slice_of(optional.mask()).len(), mask)?;
+                expect_size(bytes_in(optional.mask()).len(), mask)?;
                 expect_sizes(optional.data(), rest, data)
             }
         },
@@ -133,10 +123,10 @@ fn write_levels(
         «data».old «data».new }
 {
     match bytes {
-        ArrayBytes::Fixed(value) => write(data, slice_of(value)),
+        ArrayBytes::Fixed(value) => write(data, bytes_in(value)),
         ArrayBytes::Variable(_) => unreachable!(),
         ArrayBytes::Optional(optional) => {
-            write_at(masks, level, slice_of(optional.mask()));
+            write_at(masks, level, bytes_in(optional.mask()));
             write_levels(optional.data(), masks, level + 1, data);
         }
     }
@@ -165,7 +155,7 @@ pub(crate) fn decode_into_fixed(
 {
     expect_levels(bytes, &[], data)?;
     match bytes {
-        ArrayBytes::Fixed(value) => write(data, slice_of(value)),
+        ArrayBytes::Fixed(value) => write(data, bytes_in(value)),
         ArrayBytes::Variable(_) => unreachable!(),
         ArrayBytes::Optional(_) => unreachable!(),
     }

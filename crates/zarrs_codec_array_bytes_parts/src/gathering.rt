@@ -69,15 +69,8 @@ pub(crate) fn gather_runs(
         },
         ArrayBytes::Optional(a) => match new {
             ArrayBytes::Optional(b) => {
-                let mask = gather_piece_runs(
-                    alloc,
-                    runs,
-                    count,
-                    a.flags(),
-                    new_count,
-                    b.flags(),
-                    1,
-                )?;
+                let (kept, given) = (a.flags(), b.flags());
+                let mask = gather_piece_runs(alloc, runs, count, kept, new_count, given, 1)?;
                 let inner = gather_runs(alloc, runs, count, a.data(), new_count, b.data(), size)?;
                 optional_of(alloc, inner, mask)
             }

@@ -1,5 +1,5 @@
-//! Array bytes with some of their elements replaced, views of a box of an array's bytes, to be written in their place, and
-//! targets of decoding.
+//! Array bytes with some of their elements replaced, views of a box of an array's bytes, to be written in their place,
+//! and targets of decoding.
 #![tactic(auto)]
 
 mod array_bytes_fixed_disjoint_view;

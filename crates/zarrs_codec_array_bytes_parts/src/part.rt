@@ -149,6 +149,10 @@ fn test_len(
 }
 
 /// A box of an array of this shape, whose elements have `size` bytes each and all together `array_len`.
+///
+/// # Errors
+/// [`ArrayBytesFixedDisjointViewCreateError`] first where the box does not lie in the shape, then where the elements of
+/// the shape have another number of bytes; or memory runs out.
 #[tactic(auto, using(zarr_model::proofs::RegionLaws::sizes_whole, crate::proofs::ViewLaws::within_whole))]
 pub fn part_of(
     alloc: Global,
@@ -170,6 +174,9 @@ pub fn part_of(
 }
 
 /// A box within the box.
+///
+/// # Errors
+/// [`ArrayBytesFixedDisjointViewCreateError`] where it does not lie there, or memory runs out.
 #[tactic(auto, using(crate::proofs::ViewLaws::within_ends))]
 pub fn inner_part(
     alloc: Global,
@@ -200,7 +207,10 @@ pub(crate) fn expect_len(len: usize, expected_len: usize) -> Result<(), InvalidB
     }
 }
 
-/// Writes the elements of the box into the array's bytes, where they are as many; else writes nothing.
+/// Writes the elements of the box into the array's bytes.
+///
+/// # Errors
+/// [`InvalidBytesLengthError`] where they are not as many; nothing is written then.
 #[tactic(auto, using(crate::proofs::ViewLaws::part_rank))]
 pub fn write_into(
     bytes: &mut [u8],
@@ -226,7 +236,10 @@ pub fn write_into(
     Ok(())
 }
 
-/// Fills the box in the array's bytes, where the fill value is an element; else writes nothing.
+/// Fills the box in the array's bytes.
+///
+/// # Errors
+/// [`InvalidBytesLengthError`] where the fill value has not as many bytes as an element; nothing is written then.
 #[tactic(auto, using(crate::proofs::ViewLaws::part_within))]
 pub fn fill_into(
     bytes: &mut [u8],

@@ -292,8 +292,8 @@ pub fn update_array_bytes<I: Indexer>(
     )
 }
 
-/// The same of elements that are given away: where the indexer is a box and elements have one size, they are replaced in the
-/// memory of the old ones, if that is owned.
+/// The same of elements that are given away: where the indexer is a box and elements have one size, they are replaced
+/// in the memory of the old ones, if that is owned.
 ///
 /// # Errors
 /// Those of [`update_array_bytes`]; then the old elements are lost.

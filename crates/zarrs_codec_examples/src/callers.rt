@@ -93,8 +93,8 @@ pub fn part_of_absent<H: ArrayPartialDecoderTraits, I: Indexer>(
     handle.partial_decode(alloc, indexer, options)
 }
 
-/// The elements at the indexer's indices of what a value in memory decodes to by any array-to-bytes codec, with its list
-/// turned round.
+/// The elements at the indexer's indices of what a value in memory decodes to by any array-to-bytes codec, with its
+/// list turned round.
 ///
 /// # Errors
 /// [`CodecError`] as of the handle's own call.

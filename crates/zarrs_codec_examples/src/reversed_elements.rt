@@ -20,8 +20,8 @@ use zarrs_data_type_bytes::FillValue;
 use zarrs_metadata_parts::Configuration;
 use zarrs_plugin::{ExtensionName, ZarrVersion};
 
-/// A codec whose elements below are those above, the last one first; the shape, the data type and the fill value are the
-/// same. It serves every data type.
+/// A codec whose elements below are those above, the last one first; the shape, the data type and the fill value are
+/// the same. It serves every data type.
 ///
 /// The elements of a region may stand anywhere below, so all of them are read for one.
 #[derive(Clone, Copy, Debug)]

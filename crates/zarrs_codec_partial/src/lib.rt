@@ -1,8 +1,8 @@
 //! Handles on values and on the elements that they decode to.
 //!
-//! Handles on elements over handles on the elements of the level below stand here. Those over handles on bytes come from the
-//! crate `zarrs_codec_partial_elements`, handles on bytes from `zarrs_codec`, and the traits of all of them from
-//! `zarrs_codec`; all are passed on here.
+//! Handles on elements over handles on the elements of the level below stand here. Those over handles on bytes come
+//! from the crate `zarrs_codec_partial_elements`, handles on bytes from `zarrs_codec`, and the traits of all of them
+//! from `zarrs_codec`; all are passed on here.
 #![tactic(auto)]
 
 mod array_to_array_codec_partial_default;

@@ -66,8 +66,8 @@ impl<C: ArrayToArrayCodecTraits> ArrayLevel<C> {
         }
     }
 
-    // What is handed on of elements: the fill value below for each where they are not stored, else what they are encoded
-    // to. The fill value is tested first.
+    // What is handed on of elements: the fill value below for each where they are not stored, else what they are
+    // encoded to. The fill value is tested first.
     fn elements_below(
         &self,
         alloc: Global,
@@ -100,8 +100,8 @@ impl<C: ArrayToArrayCodecTraits> ArrayLevel<C> {
         )
     }
 
-    // Makes all elements below those that these are encoded to, or leaves the value absent where they are not stored: the
-    // level below tests and encodes what it is handed in either case, before anything is changed.
+    // Makes all elements below those that these are encoded to, or leaves the value absent where they are not stored:
+    // the level below tests and encodes what it is handed in either case, before anything is changed.
     pub(crate) fn store_elements<H: ArrayPartialEncoderTraits>(
         &self,
         alloc: Global,

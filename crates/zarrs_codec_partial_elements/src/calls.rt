@@ -49,8 +49,8 @@ pub trait LevelReads {
     /// All elements.
     ///
     /// # Errors
-    /// [`CodecError`] where what is below is not served, fails or does not decode, where the value is absent and the fill
-    /// value has another size than an element, or where memory runs out.
+    /// [`CodecError`] where what is below is not served, fails or does not decode, where the value is absent and the
+    /// fill value has another size than an element, or where memory runs out.
     fn decode_whole(
         &mut self,
         alloc: Global,
@@ -100,8 +100,8 @@ pub trait LevelWrites: LevelReads {
     /// All elements, to be changed.
     ///
     /// # Errors
-    /// [`CodecError`] as of `decode_whole`; [`CodecError::DataTypeFillValueError`] where the value is absent and the fill
-    /// value denotes no element.
+    /// [`CodecError`] as of `decode_whole`; [`CodecError::DataTypeFillValueError`] where the value is absent and the
+    /// fill value denotes no element.
     fn old_elements(
         &mut self,
         alloc: Global,
@@ -113,8 +113,8 @@ pub trait LevelWrites: LevelReads {
             (Self.seen self.old) (Self.seen self.new) result }
         ensures same { Self.same self.old self.new };
 
-    /// Makes the value one that decodes to these elements, or leaves it absent where they are not stored: encoded they are
-    /// in either case, before anything is changed.
+    /// Makes the value one that decodes to these elements, or leaves it absent where they are not stored: encoded they
+    /// are in either case, before anything is changed.
     ///
     /// # Errors
     /// [`CodecError`] where they are not encoded, where what is below is not served or fails, or where memory runs out.

@@ -66,9 +66,9 @@ fn decode_fit<L: LevelReads, I: Indexer>(
 /// codec, else out of all elements.
 ///
 /// # Errors
-/// [`CodecError`] exactly where the indexer does not fit the shape, else where the level is not served by its codec or, of a
-/// codec over elements, by its fill value, all before anything is read; else where what is below is not served, fails or
-/// does not decode, or where memory runs out.
+/// [`CodecError`] exactly where the indexer does not fit the shape, else where the level is not served by its codec or,
+/// of a codec over elements, by its fill value, all before anything is read; else where what is below is not served,
+/// fails or does not decode, or where memory runs out.
 pub fn decode_elements<L: LevelReads, I: Indexer>(
     level: &mut L,
     alloc: Global,

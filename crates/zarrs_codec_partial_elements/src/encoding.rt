@@ -107,8 +107,8 @@ fn encode_fit<L: LevelWrites, I: Indexer>(
 }
 
 /// Puts the elements at the indexer's indices, in order, into those of the value, or into the fill value's where it is
-/// absent, and stores them all: it reads the old ones unless the indexer is the box of all elements, and encodes before it
-/// changes anything.
+/// absent, and stores them all: it reads the old ones unless the indexer is the box of all elements, and encodes before
+/// it changes anything.
 ///
 /// # Errors
 /// [`CodecError`] exactly where the bytes are not valid elements, so many as the indexer has, else exactly where the

@@ -19,7 +19,8 @@ use zarrs_codec_error::{CodecError, CodecOptions};
 use zarrs_codec_traits::{ArrayToBytesCodecTraits, num_elements};
 use zarrs_storage::ByteRange;
 
-// The lengths of a shape that an indexer fits. CodecError::IncompatibleIndexer exactly where it does not fit, or no memory.
+// The lengths of a shape that an indexer fits. CodecError::IncompatibleIndexer exactly where it does not fit, or no
+// memory.
 pub(crate) fn fitting_numbers<I: Indexer>(
     alloc: Global,
     indexer: &I,

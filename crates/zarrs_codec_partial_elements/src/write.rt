@@ -20,9 +20,9 @@ use zarrs_codec_traits::ArrayToBytesCodecTraits;
 use zarrs_data_type::DataType;
 use zarrs_data_type_bytes::FillValue;
 
-// Tests elements that are given, and then the indexer that they are for; the lengths of the shape. An error exactly where
-// the bytes are not valid elements, so many as the indexer has, else exactly where the indexer does not fit the shape; or
-// where memory runs out.
+// Tests elements that are given, and then the indexer that they are for; the lengths of the shape. An error exactly
+// where the bytes are not valid elements, so many as the indexer has, else exactly where the indexer does not fit the
+// shape; or where memory runs out.
 pub(crate) fn expect_given<I: Indexer>(
     alloc: Global,
     indexer: &I,
@@ -64,8 +64,8 @@ pub fn is_dropped(
 impl<C: ArrayToBytesCodecTraits> BottomLevel<C> {
     ghost use Rattle.zarrs_codec_partial_elements.specs.Level.{IsFitBottom, level_of_bottom, seen_by};
 
-    // The old elements. Of an absent value there are some only where the fill value denotes an element, so this is tested
-    // then, and of a value that is there it is not.
+    // The old elements. Of an absent value there are some only where the fill value denotes an element, so this is
+    // tested then, and of a value that is there it is not.
     pub(crate) fn old_elements<H: BytesPartialDecoderTraits>(
         &self,
         alloc: Global,
@@ -93,8 +93,8 @@ impl<C: ArrayToBytesCodecTraits> BottomLevel<C> {
         }
     }
 
-    // Makes the handle's value one that decodes to these elements, or leaves it absent where they are not stored: encoded
-    // they are in either case, before anything is changed.
+    // Makes the handle's value one that decodes to these elements, or leaves it absent where they are not stored:
+    // encoded they are in either case, before anything is changed.
     pub(crate) fn store_elements<H: BytesPartialEncoderTraits>(
         &self,
         alloc: Global,

@@ -42,6 +42,9 @@ fn repeated(alloc: Global, fill: &[u8], num_elements: usize) -> Result<Vec<u8>, 
 }
 
 /// The bytes of so many elements that are all the fill value with these bytes.
+///
+/// # Errors
+/// [`AllocError`] where memory runs out.
 #[tactic(auto, using(crate::proofs::FillLaws::repeated_byte))]
 pub fn filled(alloc: Global, fill: &[u8], num_elements: usize) -> Result<Vec<u8>, AllocError>
     requires { num_elements * length fill.now < 2 ^ 64 }

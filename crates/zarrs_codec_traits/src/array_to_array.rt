@@ -74,8 +74,8 @@ pub trait ArrayToArrayCodecTraits: ArrayCodecTraits + Sized {
     /// The fill value below.
     ///
     /// # Errors
-    /// [`CodecError`] exactly where the codec does not serve the arguments, else exactly where the fill value has another
-    /// size than the type's; else only where it denotes no element, or memory runs out.
+    /// [`CodecError`] exactly where the codec does not serve the arguments, else exactly where the fill value has
+    /// another size than the type's; else only where it denotes no element, or memory runs out.
     fn encoded_fill_value(
         &self,
         alloc: Global,
@@ -130,8 +130,8 @@ pub trait ArrayToArrayCodecTraits: ArrayCodecTraits + Sized {
     /// The shape, the data type and the fill value below.
     ///
     /// # Errors
-    /// [`CodecError`] exactly where the codec does not serve the arguments, else exactly where the fill value has another
-    /// size than the type's; else only where it denotes no element, or memory runs out.
+    /// [`CodecError`] exactly where the codec does not serve the arguments, else exactly where the fill value has
+    /// another size than the type's; else only where it denotes no element, or memory runs out.
     fn encoded_representation(
         &self,
         alloc: Global,

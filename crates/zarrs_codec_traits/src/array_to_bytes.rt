@@ -142,8 +142,8 @@ pub trait ArrayToBytesCodecTraits: ArrayCodecTraits + Sized {
             (IsDecodeError wanted (says self.now (options_of options.now) level bytes.items)) }
         ensures short { IfOk result (λ v. has_long_element (raw_of v) ≡ false) };
 
-    /// Decodes the value and puts its elements where they belong: into the boxes of the target's views, and nothing else
-    /// of their bytes is changed. The target's innermost view has as many elements as the shape.
+    /// Decodes the value and puts its elements where they belong: into the boxes of the target's views, and nothing
+    /// else of their bytes is changed. The target's innermost view has as many elements as the shape.
     ///
     /// # Errors
     /// [`CodecError`] where the codec does not serve the arguments; else `InvalidNumberOfElements` exactly where the

@@ -29,8 +29,8 @@ pub trait BytesToBytesCodecTraits: CodecTraits + Sized {
 
     ghost concurrency: { Self → BytesRepresentation → RecommendedConcurrency };
 
-    /// The codec with options of its own, by default the same. It decodes as before, tells the same number of bytes, and
-    /// is written as before.
+    /// The codec with options of its own, by default the same. It decodes as before, tells the same number of bytes,
+    /// and is written as before.
     fn with_codec_specific_options(self, _options: &CodecSpecificOptions) -> Self
         ensures meaning { meaning result ≡ meaning self }
         ensures says { (under : Options) (value : List ℕ) (e : CodecError)

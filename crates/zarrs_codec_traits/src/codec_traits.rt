@@ -99,7 +99,8 @@ pub trait CodecTraitsV3: CodecTraits + Sized {
     // The configuration of the codec that metadata denotes, or why it denotes none.
     ghost created: { Extension → Result (Option Members) Unmade };
 
-    /// The codec that the metadata denotes. Its own name and configuration are those of the metadata, with all defaults set.
+    /// The codec that the metadata denotes. Its own name and configuration are those of the metadata, with all defaults
+    /// set.
     ///
     /// # Errors
     /// `Unsupported` exactly where the name is none that this type knows; else `Config` where the configuration is not
@@ -117,7 +118,8 @@ pub trait CodecTraitsV2: CodecTraits + Sized {
     // The configuration of the codec that metadata denotes, or why it denotes none.
     ghost created_v2: { CodecV2 → Result (Option Members) Unmade };
 
-    /// The codec that the metadata denotes. Its own name and configuration are those of the metadata, with all defaults set.
+    /// The codec that the metadata denotes. Its own name and configuration are those of the metadata, with all defaults
+    /// set.
     ///
     /// # Errors
     /// `Unsupported` exactly where the id is none that this type knows; else `Config` where the configuration is not

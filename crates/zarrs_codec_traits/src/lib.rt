@@ -1,5 +1,5 @@
-//! Codecs: the three traits, what each call of a codec answers, the laws that every codec keeps, and what makes codecs of
-//! metadata; and what a handle on a value holds and shows.
+//! Codecs: the three traits, what each call of a codec answers, the laws that every codec keeps, and what makes codecs
+//! of metadata; and what a handle on a value holds and shows.
 //!
 //! See <https://zarr-specs.readthedocs.io/en/latest/v3/core/index.html#codecs>. An array-to-array codec turns elements
 //! into elements of the level below, an array-to-bytes codec turns those into bytes, and a bytes-to-bytes codec turns

@@ -1,7 +1,8 @@
 //! The data types of arrays: what they are, how documents name them, and the fill values that documents give them.
 //!
-//! See <https://zarr-specs.readthedocs.io/en/latest/v3/core/index.html#data-types>. Fill values, byte order, rounding and what
-//! codecs ask of a data type come from the crate `zarrs_data_type_bytes`; what users name of them is passed on here.
+//! See <https://zarr-specs.readthedocs.io/en/latest/v3/core/index.html#data-types>. Fill values, byte order, rounding
+//! and what codecs ask of a data type come from the crate `zarrs_data_type_bytes`; what users name of them is passed on
+//! here.
 #![tactic(auto)]
 
 mod data_type;

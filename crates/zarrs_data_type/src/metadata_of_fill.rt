@@ -2,9 +2,8 @@
 //!
 //! See <https://zarr-specs.readthedocs.io/en/latest/v3/core/index.html#fill-value>.
 
-ghost use Rattle.std.specs.Prelude.{◌≡◌, ◌<◌, ◌≤◌, ◌-◌, ◌*◌, ◌^◌, length, Some, None, negsuc};
+ghost use Rattle.std.specs.Prelude.{◌≡◌, ◌<◌, ◌≤◌, ◌-◌, ◌*◌, ◌^◌, Some, None, negsuc};
 ghost use Rattle.serde_json.specs.Data.{array, item, no_items};
-ghost use Rattle.zarr_model.specs.Codec.{number_of_bytes};
 ghost use Rattle.zarr_model.specs.Element.{int_type, uint_type, raw_type, bool_type, string_type, bytes_type, optional_type};
 ghost use Rattle.zarrs_metadata_values.specs.FillValueMetadata.{fill_view};
 ghost use Rattle.zarrs_data_type.specs.DataType.{type_of};
@@ -13,7 +12,7 @@ ghost use Rattle.zarrs_data_type.specs.FillMetadata.{signed_number, fill_metadat
 use crate::DataType;
 use std::alloc::{AllocError, AllocFailed, Global};
 use thiserror::Error;
-use zarrs_data_type_bytes::DataTypeFillValueError;
+use zarrs_data_type_bytes::{DataTypeFillValueError, read_number};
 use zarrs_metadata_parts::FillValueMetadata;
 
 /// Why a fill value is not written to a document.
@@ -51,18 +50,6 @@ fn refused() -> FillFault
     ensures { TellsFill (Err result) None }
 {
     FillFault::Value(DataTypeFillValueError)
-}
-
-// The number that bytes are, the lowest first.
-fn read_number(bytes: &[u8]) -> u64
-    requires { length bytes.now ≤ 8 }
-    ensures value { result ≡ number_of_bytes bytes.now }
-    ensures below { result < 256 ^ length bytes.now }
-{
-    match bytes {
-        [] => 0,
-        [low, rest @ ..] => *low as u64 + 256 * read_number(rest),
-    }
 }
 
 // The number below 0 whose complement is this one.

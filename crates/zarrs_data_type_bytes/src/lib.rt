@@ -24,4 +24,6 @@ pub use codec_traits::packbits::{PackBitsDataTypeTraits, PackBitsSupport};
 pub use codec_traits::pcodec::{PcodecDataTypeTraits, PcodecElementType, PcodecSupport};
 pub use codec_traits::zfp::{ZfpDataTypeTraits, ZfpEncoding, ZfpNativeType, ZfpSupport};
 pub use fill_value::{DataTypeFillValueError, FillValue, are_bytes, ends_in_zero, repeats};
-pub use rounding::{round_bytes_int8, round_bytes_int16, round_bytes_int32, round_bytes_int64};
+pub use rounding::{
+    read_number, round_bytes_int8, round_bytes_int16, round_bytes_int32, round_bytes_int64,
+};

@@ -31,8 +31,8 @@ fn round_number(number: u64, size: usize, greatest: u64, keepbits: u32) -> u64
     }
 }
 
-// The number that bytes are, the lowest first.
-fn read_number(bytes: &[u8]) -> u64
+/// The number that bytes are, the lowest first.
+pub fn read_number(bytes: &[u8]) -> u64
     requires { length bytes.now ≤ 8 }
     ensures value { result ≡ number_of_bytes bytes.now }
     ensures below { result < 256 ^ length bytes.now }

@@ -28,8 +28,8 @@ impl ArrayMetadata {
     /// The document that a value is: of version 3, else of version 2.
     ///
     /// # Errors
-    /// `FloatNumber` exactly where the value holds a float, attributes included, else `InvalidMetadata` exactly where it
-    /// is an array document of neither version.
+    /// `FloatNumber` exactly where the value holds a float, attributes included, else `InvalidMetadata` exactly where
+    /// it is an array document of neither version.
     pub fn from_value(alloc: Global, value: &Value) -> Result<Self, MetadataError>
         ensures { GivesRead any_array_seen result (from_data any_array_of (view value.now)) }
     {
@@ -43,6 +43,9 @@ impl ArrayMetadata {
     }
 
     /// The value that is the document.
+    ///
+    /// # Errors
+    /// [`AllocError`] where memory runs out.
     pub fn to_value(&self, alloc: Global) -> Result<Value, AllocError>
         ensures { IfOk result (λ v. view v ≡ any_array_data (any_array_seen self.now)) }
     {
@@ -64,6 +67,9 @@ impl ArrayMetadata {
     }
 
     /// The document as text, a line for each member.
+    ///
+    /// # Errors
+    /// [`AllocError`] where memory runs out.
     pub fn to_string_pretty(&self, alloc: Global) -> Result<String, AllocError>
         ensures { IfOk result (IsTextOf (any_array_data (any_array_seen self.now))) }
     {
@@ -74,6 +80,9 @@ impl ArrayMetadata {
     }
 
     /// A copy.
+    ///
+    /// # Errors
+    /// [`AllocError`] where memory runs out.
     pub fn try_clone(&self, alloc: Global) -> Result<Self, AllocError>
         ensures { IfOk result (λ copy. any_array_seen copy ≡ any_array_seen self.now) }
     {

@@ -28,8 +28,8 @@ impl GroupMetadata {
     /// The document that a value is: of version 3, else of version 2.
     ///
     /// # Errors
-    /// `FloatNumber` exactly where the value holds a float, attributes included, else `InvalidMetadata` exactly where it
-    /// is a group document of neither version.
+    /// `FloatNumber` exactly where the value holds a float, attributes included, else `InvalidMetadata` exactly where
+    /// it is a group document of neither version.
     pub fn from_value(alloc: Global, value: &Value) -> Result<Self, MetadataError>
         ensures { GivesRead any_group_seen result (from_data any_group_of (view value.now)) }
     {
@@ -43,6 +43,9 @@ impl GroupMetadata {
     }
 
     /// The value that is the document.
+    ///
+    /// # Errors
+    /// [`AllocError`] where memory runs out.
     pub fn to_value(&self, alloc: Global) -> Result<Value, AllocError>
         ensures { IfOk result (λ v. view v ≡ any_group_data (any_group_seen self.now)) }
     {
@@ -64,6 +67,9 @@ impl GroupMetadata {
     }
 
     /// The document as text, a line for each member.
+    ///
+    /// # Errors
+    /// [`AllocError`] where memory runs out.
     pub fn to_string_pretty(&self, alloc: Global) -> Result<String, AllocError>
         ensures { IfOk result (IsTextOf (any_group_data (any_group_seen self.now))) }
     {
@@ -74,6 +80,9 @@ impl GroupMetadata {
     }
 
     /// A copy.
+    ///
+    /// # Errors
+    /// [`AllocError`] where memory runs out.
     pub fn try_clone(&self, alloc: Global) -> Result<Self, AllocError>
         ensures { IfOk result (λ copy. any_group_seen copy ≡ any_group_seen self.now) }
     {

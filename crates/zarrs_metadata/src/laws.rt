@@ -34,8 +34,8 @@ pub fn any_node_reads_back()
         → any_node_of (any_node_data n) ≡ Some (normal_any_node n) }
 {}
 
-/// A node that was read of a value with rising keys, as each `Value` has them, is one of its kind and version when it is
-/// written and read again.
+/// A node that was read of a value with rising keys, as each `Value` has them, is one of its kind and version when it
+/// is written and read again.
 #[tactic(auto, using(crate::proofs::StaysKind::read_stays_its_kind))]
 pub fn read_node_stays_its_kind()
     ensures { (d : Data) (n : AnyNode) → Rises d → any_node_of d ≡ Some n → StaysItsKind n }

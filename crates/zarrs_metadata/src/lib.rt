@@ -1,7 +1,7 @@
 //! The metadata documents of Zarr arrays and groups, as JSON.
 //!
-//! See <https://zarr-specs.readthedocs.io/en/latest/specs.html>. The documents of version 3 and of either version stand here.
-//! Those of version 2 come from the crate `zarrs_metadata_v2`, and what documents are made of from
+//! See <https://zarr-specs.readthedocs.io/en/latest/specs.html>. The documents of version 3 and of either version stand
+//! here. Those of version 2 come from the crate `zarrs_metadata_v2`, and what documents are made of from
 //! `zarrs_metadata_values` and `zarrs_metadata_parts`; all of it is passed on here.
 #![tactic(auto)]
 

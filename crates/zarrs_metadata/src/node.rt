@@ -29,8 +29,8 @@ impl NodeMetadata {
     /// attributes.
     ///
     /// # Errors
-    /// `FloatNumber` exactly where the value holds a float, attributes included, else `InvalidMetadata` exactly where it
-    /// is none of the four.
+    /// `FloatNumber` exactly where the value holds a float, attributes included, else `InvalidMetadata` exactly where
+    /// it is none of the four.
     pub fn from_value(alloc: Global, value: &Value) -> Result<Self, MetadataError>
         ensures { GivesRead any_node_seen result (from_data any_node_of (view value.now)) }
     {
@@ -44,6 +44,9 @@ impl NodeMetadata {
     }
 
     /// The value that is the document.
+    ///
+    /// # Errors
+    /// [`AllocError`] where memory runs out.
     pub fn to_value(&self, alloc: Global) -> Result<Value, AllocError>
         ensures { IfOk result (λ v. view v ≡ any_node_data (any_node_seen self.now)) }
     {
@@ -65,6 +68,9 @@ impl NodeMetadata {
     }
 
     /// The document as text, a line for each member.
+    ///
+    /// # Errors
+    /// [`AllocError`] where memory runs out.
     pub fn to_string_pretty(&self, alloc: Global) -> Result<String, AllocError>
         ensures { IfOk result (IsTextOf (any_node_data (any_node_seen self.now))) }
     {
@@ -75,6 +81,9 @@ impl NodeMetadata {
     }
 
     /// A copy.
+    ///
+    /// # Errors
+    /// [`AllocError`] where memory runs out.
     pub fn try_clone(&self, alloc: Global) -> Result<Self, AllocError>
         ensures { IfOk result (λ copy. any_node_seen copy ≡ any_node_seen self.now) }
     {

@@ -15,6 +15,9 @@ pub trait IntoDimensionName {
     ghost named: { Self → Option (List ℕ) };
 
     /// The dimension name.
+    ///
+    /// # Errors
+    /// [`AllocError`] where memory runs out.
     fn into_dimension_name(self, alloc: Global) -> Result<DimensionName, AllocError>
         ensures { IfOk result (λ name. option_map string_bytes name ≡ named self) };
 }

@@ -56,6 +56,9 @@ impl DataTypeMetadataV2 {
     }
 
     /// The text, or the list of the fields; a field has its shape where it is an array.
+    ///
+    /// # Errors
+    /// [`AllocError`] where memory runs out.
     pub fn to_value(&self, alloc: Global) -> Result<Value, AllocError>
         ensures { IfOk result (λ v. view v ≡ data_type_v2_data (data_type_v2_seen self.now)) }
     {
@@ -77,6 +80,9 @@ impl DataTypeMetadataV2 {
     }
 
     /// A copy.
+    ///
+    /// # Errors
+    /// [`AllocError`] where memory runs out.
     pub fn try_clone(&self, alloc: Global) -> Result<Self, AllocError>
         ensures { IfOk result (λ copy. data_type_v2_seen copy ≡ data_type_v2_seen self.now) }
     {

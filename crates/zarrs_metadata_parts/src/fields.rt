@@ -100,6 +100,9 @@ pub fn expect_node_kind(
 }
 
 /// Puts a part under the key.
+///
+/// # Errors
+/// [`AllocError`] where memory runs out.
 pub fn put_part<T: Part>(
     alloc: Global,
     members: &mut Map<String, Value>,
@@ -114,6 +117,9 @@ pub fn put_part<T: Part>(
 }
 
 /// Puts the list of the parts under the key, unless there are none.
+///
+/// # Errors
+/// [`AllocError`] where memory runs out.
 pub fn put_parts<T: Part>(
     alloc: Global,
     members: &mut Map<String, Value>,
@@ -131,6 +137,9 @@ pub fn put_parts<T: Part>(
 }
 
 /// Puts the version and the kind of a node.
+///
+/// # Errors
+/// [`AllocError`] where memory runs out.
 pub fn put_node_kind(
     alloc: Global,
     members: &mut Map<String, Value>,
@@ -145,6 +154,9 @@ pub fn put_node_kind(
 }
 
 /// Puts what arrays of both versions have.
+///
+/// # Errors
+/// [`AllocError`] where memory runs out.
 pub fn put_array(
     alloc: Global,
     members: &mut Map<String, Value>,

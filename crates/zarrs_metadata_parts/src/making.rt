@@ -1,5 +1,5 @@
-//! What makers of extensions begin with: the configuration that an extension must have, and the error of one that is not
-//! of the form.
+//! What makers of extensions begin with: the configuration that an extension must have, and the error of one that is
+//! not of the form.
 
 ghost use Rattle.std.specs.Prelude.{◌≡◌};
 ghost use Rattle.zarrs_metadata_values.specs.Configuration.{configuration_seen};

@@ -89,6 +89,9 @@ impl MetadataV2 {
     }
 
     /// The object with the id and the configuration's other members.
+    ///
+    /// # Errors
+    /// [`AllocError`] where memory runs out.
     pub fn to_value(&self, alloc: Global) -> Result<Value, AllocError>
         ensures { IfOk result (λ v. view v ≡ codec_v2_data (codec_v2_seen self.now)) }
     {
@@ -113,6 +116,9 @@ impl MetadataV2 {
     }
 
     /// A copy.
+    ///
+    /// # Errors
+    /// [`AllocError`] where memory runs out.
     pub fn try_clone(&self, alloc: Global) -> Result<Self, AllocError>
         ensures { IfOk result (λ copy. codec_v2_seen copy ≡ codec_v2_seen self.now) }
     {

@@ -34,10 +34,16 @@ pub trait Part: Sized + Drop {
         ensures { Reads seen result (form (view value.now)) };
 
     /// The value that says the part.
+    ///
+    /// # Errors
+    /// [`AllocError`] where memory runs out.
     fn write(&self, alloc: Global) -> Result<Value, AllocError>
         ensures { IfOk result (λ v. view v ≡ written (seen self.now)) };
 
     /// A copy.
+    ///
+    /// # Errors
+    /// [`AllocError`] where memory runs out.
     fn copy(&self, alloc: Global) -> Result<Self, AllocError>
         ensures { IfOk result (λ copy. seen copy ≡ seen self.now) };
 }
@@ -61,6 +67,9 @@ pub fn read_each<T: Part>(alloc: Global, items: &[Value]) -> Result<Vec<T>, Meta
 }
 
 /// The list that says these parts.
+///
+/// # Errors
+/// [`AllocError`] where memory runs out.
 pub fn list_value<T: Part>(alloc: Global, parts: &[T]) -> Result<Value, AllocError>
     ensures { IfOk result (λ v. view v ≡ list_data T.written (map T.seen parts.now)) }
 {
@@ -72,6 +81,9 @@ pub fn list_value<T: Part>(alloc: Global, parts: &[T]) -> Result<Value, AllocErr
 }
 
 /// A copy of a list of parts.
+///
+/// # Errors
+/// [`AllocError`] where memory runs out.
 pub fn copy_each<T: Part>(alloc: Global, parts: &[T]) -> Result<Vec<T>, AllocError>
     ensures { IfOk result (λ copies. map T.seen copies.items ≡ map T.seen parts.now) }
 {

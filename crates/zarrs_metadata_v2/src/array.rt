@@ -128,8 +128,8 @@ impl ArrayMetadataV2 {
     /// The document that a value is. It is the same when it is written and read again.
     ///
     /// # Errors
-    /// `FloatNumber` exactly where the value holds a float, attributes included, else `InvalidMetadata` exactly where it
-    /// is no version 2 array document.
+    /// `FloatNumber` exactly where the value holds a float, attributes included, else `InvalidMetadata` exactly where
+    /// it is no version 2 array document.
     #[tactic(auto, using(crate::proofs::Stays::read_array_stays))]
     pub fn from_value(alloc: Global, value: &Value) -> Result<Self, MetadataError>
         ensures gives { GivesRead array_v2_seen result (from_data array_v2_of (view value.now)) }
@@ -142,6 +142,9 @@ impl ArrayMetadataV2 {
 
     /// The value that is the document: with `attributes` only where they are not empty, and with null for no compressor
     /// and for no filters.
+    ///
+    /// # Errors
+    /// [`AllocError`] where memory runs out.
     pub fn to_value(&self, alloc: Global) -> Result<Value, AllocError>
         ensures { IfOk result (λ v. view v ≡ array_v2_data (array_v2_seen self.now)) }
     {
@@ -163,6 +166,9 @@ impl ArrayMetadataV2 {
     }
 
     /// The document as text, a line for each member.
+    ///
+    /// # Errors
+    /// [`AllocError`] where memory runs out.
     pub fn to_string_pretty(&self, alloc: Global) -> Result<String, AllocError>
         ensures { IfOk result (IsTextOf (array_v2_data (array_v2_seen self.now))) }
     {
@@ -172,6 +178,9 @@ impl ArrayMetadataV2 {
     }
 
     /// A copy.
+    ///
+    /// # Errors
+    /// [`AllocError`] where memory runs out.
     pub fn try_clone(&self, alloc: Global) -> Result<Self, AllocError>
         ensures { IfOk result (λ copy. array_v2_seen copy ≡ array_v2_seen self.now) }
     {

@@ -58,6 +58,9 @@ impl GroupMetadataV2 {
     }
 
     /// The value that is the document: `zarr_format`, and beside it the attributes of other names.
+    ///
+    /// # Errors
+    /// [`AllocError`] where memory runs out.
     pub fn to_value(&self, alloc: Global) -> Result<Value, AllocError>
         ensures { IfOk result (λ v. view v ≡ group_v2_data (group_v2_seen self.now)) }
     {
@@ -81,6 +84,9 @@ impl GroupMetadataV2 {
     }
 
     /// The document as text, a line for each member.
+    ///
+    /// # Errors
+    /// [`AllocError`] where memory runs out.
     pub fn to_string_pretty(&self, alloc: Global) -> Result<String, AllocError>
         ensures { IfOk result (IsTextOf (group_v2_data (group_v2_seen self.now))) }
     {
@@ -90,6 +96,9 @@ impl GroupMetadataV2 {
     }
 
     /// A copy.
+    ///
+    /// # Errors
+    /// [`AllocError`] where memory runs out.
     pub fn try_clone(&self, _alloc: Global) -> Result<Self, AllocError>
         ensures { IfOk result (λ copy. group_v2_seen copy ≡ group_v2_seen self.now) }
     {

@@ -13,8 +13,8 @@ use crate::group::GroupMetadataV2;
 use std::alloc::Global;
 use zarrs_metadata_values::MetadataError;
 
-/// What is written for an array with chunks reads back in its normal form: as it was, but for an `id` in the configuration
-/// of a codec, and for an empty list of filters.
+/// What is written for an array with chunks reads back in its normal form: as it was, but for an `id` in the
+/// configuration of a codec, and for an empty list of filters.
 #[tactic(auto, using(crate::proofs::ArrayBack::array_v2_reads_back))]
 pub fn array_v2_reads_back()
     ensures { (f : ArrayV2) → HasChunks f
@@ -28,16 +28,16 @@ pub fn group_v2_reads_back()
         → group_v2_of (group_v2_data attributes) ≡ Some (normal_group_v2 attributes) }
 {}
 
-/// What is written for an array reads back as an array, and for a group as a group, unless its attributes are the fields of
-/// an array.
+/// What is written for an array reads back as an array, and for a group as a group, unless its attributes are the
+/// fields of an array.
 #[tactic(auto, using(crate::proofs::GroupBack::node_v2_reads_back))]
 pub fn node_v2_reads_back()
     ensures { (n : NodeV2) → StaysItsKindV2 n
         → node_v2_of (node_v2_data n) ≡ Some (normal_node_v2 n) }
 {}
 
-/// A document that was read of a value with rising keys, as each `Value` has them, is the same when it is written and read
-/// again.
+/// A document that was read of a value with rising keys, as each `Value` has them, is the same when it is written and
+/// read again.
 #[tactic(auto, using(crate::proofs::Stays::array_v2_stays, crate::proofs::Stays::group_v2_stays))]
 pub fn read_document_v2_stays()
     ensures array { (d : Data) (f : ArrayV2) → Rises d → array_v2_of d ≡ Some f

@@ -1,7 +1,8 @@
 //! The metadata documents of version 2 arrays and groups, as JSON.
 //!
-//! See <https://zarr-specs.readthedocs.io/en/latest/v2/v2.0.html#metadata>. Their codecs and data types come from the crate
-//! `zarrs_metadata_parts`. A value that holds a number which is neither a `u64` nor an `i64` is refused throughout.
+//! See <https://zarr-specs.readthedocs.io/en/latest/v2/v2.0.html#metadata>. Their codecs and data types come from the
+//! crate `zarrs_metadata_parts`. A value that holds a number which is neither a `u64` nor an `i64` is refused
+//! throughout.
 #![tactic(auto)]
 
 mod array;

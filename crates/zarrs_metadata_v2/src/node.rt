@@ -29,8 +29,8 @@ impl NodeMetadataV2 {
     /// its other members as attributes.
     ///
     /// # Errors
-    /// `FloatNumber` exactly where the value holds a float, attributes included, else `InvalidMetadata` exactly where it
-    /// is neither.
+    /// `FloatNumber` exactly where the value holds a float, attributes included, else `InvalidMetadata` exactly where
+    /// it is neither.
     pub fn from_value(alloc: Global, value: &Value) -> Result<Self, MetadataError>
         ensures { GivesRead node_v2_seen result (from_data node_v2_of (view value.now)) }
     {
@@ -39,6 +39,9 @@ impl NodeMetadataV2 {
     }
 
     /// The value that is the document.
+    ///
+    /// # Errors
+    /// [`AllocError`] where memory runs out.
     pub fn to_value(&self, alloc: Global) -> Result<Value, AllocError>
         ensures { IfOk result (λ v. view v ≡ node_v2_data (node_v2_seen self.now)) }
     {
@@ -60,6 +63,9 @@ impl NodeMetadataV2 {
     }
 
     /// The document as text, a line for each member.
+    ///
+    /// # Errors
+    /// [`AllocError`] where memory runs out.
     pub fn to_string_pretty(&self, alloc: Global) -> Result<String, AllocError>
         ensures { IfOk result (IsTextOf (node_v2_data (node_v2_seen self.now))) }
     {
@@ -70,6 +76,9 @@ impl NodeMetadataV2 {
     }
 
     /// A copy.
+    ///
+    /// # Errors
+    /// [`AllocError`] where memory runs out.
     pub fn try_clone(&self, alloc: Global) -> Result<Self, AllocError>
         ensures { IfOk result (λ copy. node_v2_seen copy ≡ node_v2_seen self.now) }
     {

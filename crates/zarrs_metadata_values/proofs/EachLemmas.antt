@@ -35,7 +35,8 @@ module _ {V Y : Type 0} (shown : V → Data) (g : Data → Option Y) where
   each_more (w ∷ vs) zero v [] y lt is front here = let it : g (shown w) ≡ Some y = rw (← is) here in rw it refl
   each_more (w ∷ vs) zero v (z ∷ ys) y lt is front here = absurd cc
   each_more (w ∷ vs) (suc i) v ys y lt is front here =
-      let a = bind_some (g (shown w)) (λ z. each g (items_of (map shown (take i vs))) >>= λ zs. Some (z ∷ zs)) ys front in
+      let a = bind_some (g (shown w)) (λ z. each g (items_of (map shown (take i vs))) >>= λ zs. Some (z ∷ zs)) ys front
+      in
       let b = bind_some (each g (items_of (map shown (take i vs)))) (λ zs. Some (a.0 ∷ zs)) ys a.2 in
       let e : Some (a.0 ∷ b.0) ≡ Some ys = b.2 in
       let whole : a.0 ∷ b.0 ≡ ys = cc in

@@ -1,3 +1,4 @@
+-- Fields of a fill value that is an object, put in the order of their keys.
 use Rattle.std.proofs.Common.{◌≡◌, List, [], ◌∷◌, ◌++◌, Ordering, Less, Equal, Greater, String, Global, string_bytes}
 use Rattle.std.proofs.Common.{string_cmp, nat_cmp, refl, ap, ◌∙◌}
 use Rattle.std.proofs.lemmas.Cmp.{nat_list_cmp_total}

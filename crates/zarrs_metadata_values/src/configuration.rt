@@ -56,6 +56,9 @@ impl Configuration {
     }
 
     /// A copy.
+    ///
+    /// # Errors
+    /// [`AllocError`] where memory runs out.
     pub fn try_clone(&self, _alloc: Global) -> Result<Self, AllocError>
         ensures { IfOk result (λ copy. configuration_seen copy ≡ configuration_seen self.now) }
     {
@@ -95,6 +98,9 @@ pub trait ToConfiguration {
     ghost configured: { Self → Members };
 
     /// The configuration of the value.
+    ///
+    /// # Errors
+    /// [`AllocError`] where memory runs out.
     fn to_configuration(&self, alloc: Global) -> Result<Configuration, AllocError>
         ensures { IfOk result (λ c. configuration_seen c ≡ configured self.now) };
 }
@@ -200,6 +206,9 @@ impl ConfigurationError {
     }
 
     /// A copy.
+    ///
+    /// # Errors
+    /// [`AllocError`] where memory runs out.
     pub fn try_clone(&self, alloc: Global) -> Result<Self, AllocError>
         ensures { IfOk result (λ copy. configuration_error_seen copy
             ≡ configuration_error_seen self.now) }
@@ -212,6 +221,9 @@ impl ConfigurationError {
 }
 
 /// A copy of a configuration that may be there.
+///
+/// # Errors
+/// [`AllocError`] where memory runs out.
 pub fn copy_optional(
     alloc: Global,
     configuration: Option<&Configuration>,

@@ -121,6 +121,9 @@ impl FillValueMetadataV3 {
     }
 
     /// The bytes that it lists: [`Some`] exactly for a list of whole numbers from 0 to 255.
+    ///
+    /// # Errors
+    /// [`AllocError`] where memory runs out.
     pub fn as_bytes(&self, alloc: Global) -> Result<Option<Vec<u8>>, AllocError>
         ensures { IfOk result (λ bytes. option_map (λ v. v.items) bytes
             ≡ bytes_in_items (as_array (fill_view self.now))) }
@@ -132,6 +135,9 @@ impl FillValueMetadataV3 {
     }
 
     /// The value of a type that stands for some configurations: [`Some`] exactly for an object that the type accepts.
+    ///
+    /// # Errors
+    /// [`AllocError`] where memory runs out.
     pub fn as_custom<T: FromConfiguration>(&self, alloc: Global) -> Result<Option<T>, AllocError>
         ensures { TypedIf result (as_object (fill_view self.now)) T.accepts T.Denotes }
     {
@@ -142,6 +148,9 @@ impl FillValueMetadataV3 {
     }
 
     /// The fill value that is this text.
+    ///
+    /// # Errors
+    /// [`AllocError`] where memory runs out.
     pub fn from_text(alloc: Global, text: &str) -> Result<Self, AllocError>
         ensures { IfOk result (λ fill. fill_view fill ≡ string text.now) }
     {
@@ -149,6 +158,9 @@ impl FillValueMetadataV3 {
     }
 
     /// The fill value that lists these bytes.
+    ///
+    /// # Errors
+    /// [`AllocError`] where memory runs out.
     pub fn from_bytes(alloc: Global, bytes: &[u8]) -> Result<Self, AllocError>
         ensures { IfOk result (λ fill. fill_view fill ≡ numbers_data bytes.now) }
     {
@@ -171,6 +183,9 @@ impl FillValueMetadataV3 {
     }
 
     /// The value that it is.
+    ///
+    /// # Errors
+    /// [`AllocError`] where memory runs out.
     pub fn to_value(&self, alloc: Global) -> Result<Value, AllocError>
         ensures { IfOk result (λ v. view v ≡ fill_view self.now) }
     {
@@ -189,6 +204,9 @@ impl FillValueMetadataV3 {
     }
 
     /// A copy.
+    ///
+    /// # Errors
+    /// [`AllocError`] where memory runs out.
     pub fn try_clone(&self, alloc: Global) -> Result<Self, AllocError>
         ensures { IfOk result (λ copy. fill_view copy ≡ fill_view self.now) }
     {

@@ -1,4 +1,4 @@
-//! Numbers that are no integers of 64 bits, and the order of keys.
+//! Whether a JSON value holds a float; the keys of the objects of one that holds none rise.
 
 ghost use Rattle.std.specs.Prelude.{◌≡◌, false};
 ghost use Rattle.serde_json.specs.View.{view, items_view, members_view};
@@ -7,8 +7,8 @@ ghost use Rattle.zarrs_metadata_values.specs.Rising.{Rises, ItemsRise, MembersRi
 
 use serde_json::{Map, Value};
 
-// Whether a float stands anywhere in the value. Where none does, all of it was seen, and so the keys of each object in it
-// rise, as those of a map do.
+// Whether a float stands anywhere in the value. Where none does, all of it was seen, and so the keys of each object in
+// it rise, as those of a map do.
 #[cycle(floats)]
 pub(crate) fn holds_float(value: &Value) -> bool
     ensures found { result ≡ has_float (view value.now) }

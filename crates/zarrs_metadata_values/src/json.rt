@@ -34,6 +34,9 @@ pub fn required<'a>(members: &'a Map<String, Value>, name: &str) -> Result<&'a V
 }
 
 /// A copy of a map is the same tree.
+///
+/// # Errors
+/// [`AllocError`] where memory runs out.
 pub fn copy_members(members: &Map<String, Value>) -> Result<Map<String, Value>, AllocError>
     ensures { IfOk result (λ m. members_view m.entries ≡ members_view members.now.entries) }
 {
@@ -42,6 +45,9 @@ pub fn copy_members(members: &Map<String, Value>) -> Result<Map<String, Value>, 
 }
 
 /// A copy of a value is the same tree.
+///
+/// # Errors
+/// [`AllocError`] where memory runs out.
 pub fn copy_value(value: &Value) -> Result<Value, AllocError>
     ensures { IfOk result (λ v. view v ≡ view value.now) }
 {

@@ -11,7 +11,8 @@ use crate::floats::holds_float;
 use serde_json::Value;
 use std::alloc::Global;
 
-/// Refuses a value that holds a float. In one that it lets pass the keys of each object rise, as those of each [`Value`].
+/// Refuses a value that holds a float. In one that it lets pass the keys of each object rise, as those of each
+/// [`Value`].
 ///
 /// # Errors
 /// `FloatNumber` exactly where the value holds a float.

@@ -10,6 +10,9 @@ use serde_json::{Map, Value};
 use std::alloc::{AllocError, Global};
 
 /// The list of these numbers.
+///
+/// # Errors
+/// [`AllocError`] where memory runs out.
 pub fn numbers_value(alloc: Global, numbers: &[u64]) -> Result<Value, AllocError>
     ensures { IfOk result (λ v. view v ≡ numbers_data numbers.now) }
 {
@@ -21,6 +24,9 @@ pub fn numbers_value(alloc: Global, numbers: &[u64]) -> Result<Value, AllocError
 }
 
 /// Puts a text under the key.
+///
+/// # Errors
+/// [`AllocError`] where memory runs out.
 pub fn put_text(
     alloc: Global,
     members: &mut Map<String, Value>,
@@ -35,6 +41,9 @@ pub fn put_text(
 }
 
 /// Puts a copy of the members under the key, unless there are none.
+///
+/// # Errors
+/// [`AllocError`] where memory runs out.
 pub fn put_object(
     alloc: Global,
     members: &mut Map<String, Value>,

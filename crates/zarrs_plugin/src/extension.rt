@@ -12,6 +12,9 @@ pub trait ExtensionName {
     ghost name_in: { Self → ZarrVersion → Option (List ℕ) };
 
     /// The name of the extension in the metadata of `version`, and [`None`] where it has none there.
+    ///
+    /// # Errors
+    /// [`AllocError`] where memory runs out.
     fn name(&self, alloc: Global, version: ZarrVersion) -> Result<Option<String>, AllocError>
         ensures { IfOk result (λ name. option_map string_bytes name ≡ name_in self.now version) };
 }

@@ -53,6 +53,9 @@ impl<K: Drop> Registry<K> {
     }
 
     /// Adds an entry behind those that were registered before, and answers its handle.
+    ///
+    /// # Errors
+    /// [`AllocError`] where memory runs out.
     pub fn register(
         &mut self,
         names: Vec<NamePattern>,

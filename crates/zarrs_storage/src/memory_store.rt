@@ -46,7 +46,10 @@ impl MemoryStore {
         }
     }
 
-    /// All keys, in the order of their bytes. No reading call; an error comes only for want of memory.
+    /// All keys, in the order of their bytes. No reading call.
+    ///
+    /// # Errors
+    /// [`AllocError`] where memory runs out.
     pub fn keys(&self, alloc: Global) -> Result<Vec<StoreKey>, AllocError>
         ensures { IfOk result (λ keys. ListsKeys (content_of self.now) keys.items) }
     {

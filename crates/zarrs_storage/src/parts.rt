@@ -47,7 +47,10 @@ fn fill_up(value: &mut Vec<u8>, end: usize) -> Result<(), AllocError>
 }
 
 /// Puts each part into a value, in order: the value is filled up with zero bytes to the part's end, and the part
-/// replaces the bytes at its place. The bytes are as before where memory runs out.
+/// replaces the bytes at its place.
+///
+/// # Errors
+/// [`AllocError`] where memory runs out: the bytes are as before.
 pub fn put_parts(value: &mut Vec<u8>, parts: &[OffsetBytes]) -> Result<(), AllocError>
     requires fit { PartsFit parts.now }
     ensures ok { OnOk result (value.new.items ≡ with_parts parts.now value.old.items) }

@@ -60,8 +60,8 @@ impl From<ByteRangeFault> for StorageError {
 
 /// A finite map from keys to values that are bytes.
 ///
-/// The counts of faults, of reading and of writing calls, and of bytes handed out never fall, and stay at `u64::MAX` once
-/// there.
+/// The counts of faults, of reading and of writing calls, and of bytes handed out never fall, and stay at `u64::MAX`
+/// once there.
 pub trait Store {
     /// Its content and its counts.
     ghost shown: { Self → Shown };
@@ -79,7 +79,8 @@ pub trait Store {
     /// The value under `key`, or None where the key is absent. A reading call.
     ///
     /// # Errors
-    /// [`StorageError::Failed`] where the store fails, which its count of faults tells, or [`StorageError::OutOfMemory`].
+    /// [`StorageError::Failed`] where the store fails, which its count of faults tells, or
+    /// [`StorageError::OutOfMemory`].
     fn get(&mut self, alloc: Global, key: &StoreKey) -> Result<Option<Vec<u8>>, StorageError>
         ensures reads { Gets key.now (shown self.old) (shown self.new) result }
         ensures kept { kept self.old self.new };
@@ -88,8 +89,9 @@ pub trait Store {
     /// reading call.
     ///
     /// # Errors
-    /// [`StorageError::InvalidByteRange`] names the first range that is not valid for the value. It comes of no other call.
-    /// [`StorageError::Failed`] where the store fails, which its count of faults tells, or [`StorageError::OutOfMemory`].
+    /// [`StorageError::InvalidByteRange`] names the first range that is not valid for the value. It comes of no other
+    /// call. [`StorageError::Failed`] where the store fails, which its count of faults tells, or
+    /// [`StorageError::OutOfMemory`].
     fn get_partial_many(
         &mut self,
         alloc: Global,
@@ -99,8 +101,8 @@ pub trait Store {
         ensures reads { GetsParts key.now ranges.now (shown self.old) (shown self.new) result }
         ensures kept { kept self.old self.new };
 
-    /// How many bytes the value under `key` has, or None where the key is absent. A reading call that hands out no value
-    /// and takes no memory.
+    /// How many bytes the value under `key` has, or None where the key is absent. A reading call that hands out no
+    /// value and takes no memory.
     ///
     /// # Errors
     /// [`StorageError::Failed`] where the store fails, which its count of faults tells.
@@ -111,7 +113,8 @@ pub trait Store {
     /// All keys, in the order of their bytes. A reading call that hands out no value.
     ///
     /// # Errors
-    /// [`StorageError::Failed`] where the store fails, which its count of faults tells, or [`StorageError::OutOfMemory`].
+    /// [`StorageError::Failed`] where the store fails, which its count of faults tells, or
+    /// [`StorageError::OutOfMemory`].
     fn list(&mut self, alloc: Global) -> Result<Vec<StoreKey>, StorageError>
         ensures reads { Lists (shown self.old) (shown self.new) result }
         ensures kept { kept self.old self.new };
@@ -119,17 +122,17 @@ pub trait Store {
     /// Makes the value under `key` exactly `value`. A writing call.
     ///
     /// # Errors
-    /// [`StorageError::Failed`] where the store fails, which its count of faults tells: the value is then as before, or the
-    /// new one, or absent. [`StorageError::OutOfMemory`], after which nothing has changed.
+    /// [`StorageError::Failed`] where the store fails, which its count of faults tells: the value is then as before, or
+    /// the new one, or absent. [`StorageError::OutOfMemory`], after which nothing has changed.
     fn set(&mut self, alloc: Global, key: &StoreKey, value: &[u8]) -> Result<(), StorageError>
         ensures { Puts key.now (Some value.now) (shown self.old) (shown self.new) result };
 
-    /// Puts each part into the value under `key`, in order, an absent one counting as empty: the value is filled up with
-    /// zero bytes to the part's end, and the part replaces the bytes at its place. A writing call.
+    /// Puts each part into the value under `key`, in order, an absent one counting as empty: the value is filled up
+    /// with zero bytes to the part's end, and the part replaces the bytes at its place. A writing call.
     ///
     /// # Errors
-    /// [`StorageError::Failed`] where the store fails, which its count of faults tells: the value is then as before, or the
-    /// new one, or absent. [`StorageError::OutOfMemory`], after which nothing has changed.
+    /// [`StorageError::Failed`] where the store fails, which its count of faults tells: the value is then as before, or
+    /// the new one, or absent. [`StorageError::OutOfMemory`], after which nothing has changed.
     fn set_partial_many(
         &mut self,
         alloc: Global,

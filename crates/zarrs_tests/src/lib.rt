@@ -1,5 +1,5 @@
-//! Calls on documents, registries, data types, subsets, lists and indexers that no row shows, each once, and the callers that
-//! the pages of these crates show.
+//! Calls on documents, registries, data types, subsets, lists and indexers that no row shows, each once, and the
+//! callers that the pages of these crates show.
 #![tactic(auto)]
 
 #[cfg(test)]

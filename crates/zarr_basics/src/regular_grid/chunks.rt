@@ -99,10 +99,7 @@ impl ChunkGridTraits for RegularGrid {
         alloc: Global,
         chunk_indices: &[u64],
     ) -> Result<Option<ChunkShape>, ChunkGridError> {
-        let (got, expected) = (chunk_indices.len(), self.array_shape.len());
-        if got != expected {
-            return Err(ChunkGridError::other_rank(got, expected));
-        }
+        ChunkGridError::expect_rank(chunk_indices.len(), self.array_shape.len())?;
         if !are_below(&self.grid_shape, chunk_indices) {
             return Ok(None);
         }
@@ -116,10 +113,7 @@ impl ChunkGridTraits for RegularGrid {
         alloc: Global,
         chunk_indices: &[u64],
     ) -> Result<Option<ArrayShape>, ChunkGridError> {
-        let (got, expected) = (chunk_indices.len(), self.array_shape.len());
-        if got != expected {
-            return Err(ChunkGridError::other_rank(got, expected));
-        }
+        ChunkGridError::expect_rank(chunk_indices.len(), self.array_shape.len())?;
         if !are_below(&self.grid_shape, chunk_indices) {
             return Ok(None);
         }
@@ -134,10 +128,7 @@ impl ChunkGridTraits for RegularGrid {
         chunk_indices: &[u64],
     ) -> Result<Option<ArrayIndices>, ChunkGridError> {
         let shape = self.array_shape.as_slice();
-        let (got, expected) = (chunk_indices.len(), shape.len());
-        if got != expected {
-            return Err(ChunkGridError::other_rank(got, expected));
-        }
+        ChunkGridError::expect_rank(chunk_indices.len(), shape.len())?;
         if !are_below(&self.grid_shape, chunk_indices) {
             return Ok(None);
         }
@@ -151,10 +142,7 @@ impl ChunkGridTraits for RegularGrid {
         alloc: Global,
         array_indices: &[u64],
     ) -> Result<Option<ArrayIndices>, ChunkGridError> {
-        let (got, expected) = (array_indices.len(), self.array_shape.len());
-        if got != expected {
-            return Err(ChunkGridError::other_rank(got, expected));
-        }
+        ChunkGridError::expect_rank(array_indices.len(), self.array_shape.len())?;
         if !are_below(&self.array_shape, array_indices) {
             return Ok(None);
         }

@@ -1,13 +1,12 @@
-//! What array subsets contain, share, and are when moved or cut.
+//! What array subsets contain, and are when moved or cut.
 
-ghost use Rattle.std.specs.Prelude.{IsTrue, ◌↔◌, true, false, ◌≡◌, ◌≢◌, ◌⊎◌, IfOk, IfErr, length};
+ghost use Rattle.std.specs.Prelude.{IsTrue, ◌↔◌, true, false, ◌≡◌, ◌≢◌, IfOk, IfErr, length};
 ghost use Rattle.zarr_model.specs.Region.{ends_within};
-ghost use Rattle.zarrs_array_subset.specs.Boxes.{contains_front, overlap_of, is_within, cut_at, moved, moved_back, starts_past, ends_fit};
+ghost use Rattle.zarrs_array_subset.specs.Boxes.{contains_front, is_within, cut_at, moved, moved_back, starts_past, ends_fit};
 
 use super::ArraySubset;
 use super::numbers::{
-    are_boxes_within, are_ends_within, are_within, greater, is_below, lengths_between, lesser,
-    may_move, sums,
+    are_boxes_within, are_ends_within, are_within, differences, is_below, lesser, may_move, sums,
 };
 use crate::error::ArraySubsetError;
 use std::alloc::Global;
@@ -31,33 +30,6 @@ impl ArraySubset {
         ensures { result ≡ contains_front (region self.now) indices.now }
     {
         are_within(&self.start, &self.shape, indices)
-    }
-
-    /// The part that both subsets share, which may be empty.
-    ///
-    /// # Errors
-    /// [`ArraySubsetError`] where they have another dimensionality, or there is not enough memory.
-    #[tactic(auto, using(crate::proofs::BoxLaws::of_parts))]
-    pub fn overlap(
-        &self,
-        alloc: Global,
-        other: &ArraySubset,
-    ) -> Result<ArraySubset, ArraySubsetError>
-        ensures ok { IfOk result (λ s. (length (region self.now) ≡ length (region other.now))
-            × (region s ≡ overlap_of (region self.now) (region other.now))) }
-        ensures refused { IfErr result (λ e. (e ≡ ArraySubsetError.OutOfMemory)
-            ⊎ ((e ≡ ArraySubsetError.IncompatibleDimensionality (length (region other.now))
-            (length (region self.now)))
-            × (length (region self.now) ≢ length (region other.now)))) }
-    {
-        let (got, expected) = (other.dimensionality(), self.dimensionality());
-        if got != expected {
-            return Err(ArraySubsetError::IncompatibleDimensionality { got, expected });
-        }
-        let start = greater(alloc, &self.start, &other.start)?;
-        let end = lesser(alloc, &self.end_exc(alloc)?, &other.end_exc(alloc)?)?;
-        let shape = lengths_between(alloc, &end, &start)?;
-        Ok(ArraySubset { start, shape })
     }
 
     /// Whether both are one subset.
@@ -96,7 +68,7 @@ impl ArraySubset {
         if offset.len() != self.start.len() || !is_below(offset, &self.start) {
             return Err(self.refused_offset(alloc, offset));
         }
-        let start = lengths_between(alloc, &self.start, offset)?;
+        let start = differences(alloc, &self.start, offset)?;
         let shape = self.shape.as_slice().to_vec(alloc)?;
         Ok(ArraySubset { start, shape })
     }
@@ -150,7 +122,7 @@ impl ArraySubset {
         }
         let start = lesser(alloc, &self.start, end)?;
         let end = lesser(alloc, &self.end_exc(alloc)?, end)?;
-        let shape = lengths_between(alloc, &end, &start)?;
+        let shape = differences(alloc, &end, &start)?;
         Ok(ArraySubset { start, shape })
     }
 

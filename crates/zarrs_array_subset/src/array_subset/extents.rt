@@ -36,6 +36,9 @@ impl ArraySubset {
     }
 
     /// The first index past the subset in each dimension.
+    ///
+    /// # Errors
+    /// [`AllocError`] where memory runs out.
     pub fn end_exc(&self, alloc: Global) -> Result<ArrayIndices, AllocError>
         ensures ok { IfOk result (λ v. v.items ≡ ends (region self.now)) }
     {
@@ -43,6 +46,9 @@ impl ArraySubset {
     }
 
     /// The last index in each dimension; none exactly where the subset has no element in one.
+    ///
+    /// # Errors
+    /// [`AllocError`] where memory runs out.
     #[tactic(auto, using(crate::proofs::BoxLaws::of_ends))]
     pub fn end_inc(&self, alloc: Global) -> Result<Option<ArrayIndices>, AllocError>
         ensures some { IfOk result (λ o. IfSome o (λ v. (count (region self.now) ≢ 0)
@@ -57,6 +63,9 @@ impl ArraySubset {
     }
 
     /// The range of indices in each dimension.
+    ///
+    /// # Errors
+    /// [`AllocError`] where memory runs out.
     #[tactic(auto, using(crate::proofs::BoxLaws::of_ends))]
     pub fn to_ranges(&self, alloc: Global) -> Result<Vec<Range<u64>>, AllocError>
         ensures ok { IfOk result (λ v. v.items ≡ ranges_of (region self.now)) }
@@ -73,6 +82,9 @@ impl ArraySubset {
     }
 
     /// The shape as one of a chunk; none exactly where a length is 0.
+    ///
+    /// # Errors
+    /// [`AllocError`] where memory runs out.
     pub fn chunk_shape(&self, alloc: Global) -> Result<Option<ChunkShape>, AllocError>
         ensures some { IfOk result
             (λ o. IfSome o (λ v. map non_zero_u64_get v.items ≡ sizes (region self.now))) }
@@ -85,6 +97,9 @@ impl ArraySubset {
     }
 
     /// The shape, each length as a `usize`.
+    ///
+    /// # Errors
+    /// [`AllocError`] where memory runs out.
     pub fn shape_usize(&self, alloc: Global) -> Result<Vec<usize>, AllocError>
         ensures ok { IfOk result (λ v. v.items ≡ sizes (region self.now)) }
     {

@@ -5,7 +5,7 @@ ghost use Rattle.std.specs.List.{list_all, list_any};
 ghost use Rattle.std.specs.Option.{SomeIff};
 ghost use Rattle.std.specs.Int.NonZero.{non_zero_u64_get};
 ghost use Rattle.zarr_model.specs.Region.{count_of};
-ghost use Rattle.zarrs_array_subset.specs.Boxes.{is_box, sums_up, differences, maxes, mins, are_in, box_in, can_move, ends_in_bounds, is_rising, is_rising_inc, lengths_to};
+ghost use Rattle.zarrs_array_subset.specs.Boxes.{is_box, sums_up, differences, maxes, mins, are_in, box_in, can_move, ends_in_bounds, is_rising, is_rising_inc, lengths_shared, lengths_to};
 
 use std::alloc::{AllocError, Global};
 use std::num::NonZeroU64;
@@ -28,8 +28,11 @@ pub(crate) fn is_below(low: &[u64], high: &[u64]) -> bool
     low.iter().zip(high).all(|(a, b)| *a <= *b)
 }
 
-// The starts of ranges.
-pub(crate) fn starts_of(alloc: Global, ranges: &[Range<u64>]) -> Result<Vec<u64>, AllocError>
+/// The starts of ranges.
+///
+/// # Errors
+/// [`AllocError`] where memory runs out.
+pub fn starts_of(alloc: Global, ranges: &[Range<u64>]) -> Result<Vec<u64>, AllocError>
     ensures { IfOk result (λ v. v.items ≡ map (λ r. r.start) ranges.now) }
 {
     ranges.iter().map(|range| range.start).collect(alloc)
@@ -52,8 +55,11 @@ pub(crate) fn sums(alloc: Global, a: &[u64], b: &[u64]) -> Result<Vec<u64>, Allo
         .collect(alloc)
 }
 
-// The differences, which stop at 0.
-pub(crate) fn lengths_between(alloc: Global, a: &[u64], b: &[u64]) -> Result<Vec<u64>, AllocError>
+/// The differences, place by place as far as both lists go, which stop at 0.
+///
+/// # Errors
+/// [`AllocError`] where memory runs out.
+pub fn differences(alloc: Global, a: &[u64], b: &[u64]) -> Result<Vec<u64>, AllocError>
     ensures { IfOk result (λ v. v.items ≡ differences a.now b.now) }
 {
     a.iter()
@@ -74,6 +80,30 @@ pub(crate) fn lesser(alloc: Global, a: &[u64], b: &[u64]) -> Result<Vec<u64>, Al
     ensures { IfOk result (λ v. v.items ≡ mins a.now b.now) }
 {
     a.iter().zip(b).map(|(x, y)| *x.min(y)).collect(alloc)
+}
+
+// The length from the greater start to the lesser end in each dimension, or 0 where that is none.
+#[tactic(auto, unfolding(crate::specs::Boxes::lengths_shared))]
+pub(crate) fn shared_lengths(
+    alloc: Global,
+    start: &[u64],
+    shape: &[u64],
+    other_start: &[u64],
+    other_shape: &[u64],
+) -> Result<Vec<u64>, AllocError>
+    ensures { IfOk result (λ v. v.items
+        ≡ lengths_shared start.now shape.now other_start.now other_shape.now) }
+{
+    start
+        .iter()
+        .zip(shape)
+        .zip(other_start)
+        .zip(other_shape)
+        .map(|(((s, n), o), m)| {
+            let end = s.saturating_add(*n).min(o.saturating_add(*m));
+            end.saturating_sub(*s.max(o))
+        })
+        .collect(alloc)
 }
 
 // Whether each index is in its span.
@@ -163,8 +193,11 @@ pub(crate) fn numbers_before(alloc: Global, end: &[u64]) -> Result<Vec<u64>, All
     end.iter().map(|e| e.saturating_sub(1)).collect(alloc)
 }
 
-// Each start to the end there.
-pub(crate) fn ranges_between(
+/// Each start to the end there, as far as both lists go.
+///
+/// # Errors
+/// [`AllocError`] where memory runs out.
+pub fn ranges_between(
     alloc: Global,
     start: &[u64],
     end: &[u64],

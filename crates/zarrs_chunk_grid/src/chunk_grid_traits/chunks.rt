@@ -1,18 +1,17 @@
 //! What is said of the chunks of every grid, by what each grid has to say.
 
-ghost use Rattle.std.specs.Prelude.{◌≡◌, ◌<◌, true, length, map, zip, IfOk, IfErr, IfSome, is_some};
+ghost use Rattle.std.specs.Prelude.{◌≡◌, ◌<◌, true, length, IfOk, IfErr, IfSome, is_some};
 ghost use Rattle.zarr_model.specs.Region.{contains, count, ends_within, sizes, starts, whole};
 ghost use Rattle.zarr_model.specs.Grid.{IsChunk};
 ghost use Rattle.zarrs_array_subset.specs.ArraySubset.{region};
-ghost use Rattle.zarrs_array_subset.specs.Boxes.{differences, last_indices};
+ghost use Rattle.zarrs_array_subset.specs.Boxes.{last_indices};
 ghost use Rattle.zarrs_chunk_grid.specs.ChunkGrid.{BoxFits, HasElement, IsPlaceInChunk, LastFits, between_chunks, in_chunk, region_of_chunks};
 ghost use Rattle.zarrs_chunk_grid.specs.ChunkGridErrors.{AnswersGrid, IsRankRefusal, MeetsChunks};
 
 use super::ChunkGridTraits;
 use crate::chunk_grid_error::ChunkGridError;
 use std::alloc::{AllocError, Global};
-use std::ops::Range;
-use zarrs_array_subset::{ArrayIndices, ArrayShape, ArraySubset};
+use zarrs_array_subset::{ArrayIndices, ArrayShape, ArraySubset, differences, ranges_between};
 
 // Where a chunk of the grid begins.
 fn origin_of<G: ChunkGridTraits>(
@@ -76,26 +75,12 @@ pub(crate) fn subset_of<G: ChunkGridTraits>(
     ensures { AnswersGrid region result (length chunk.now) (length (G.shape grid.now))
         (in_chunk (λ box. box) (G.grid grid.now) chunk.now) }
 {
-    let (got, expected) = (chunk.len(), grid.dimensionality());
-    if got != expected {
-        return Err(ChunkGridError::other_rank(got, expected));
-    }
+    ChunkGridError::expect_rank(chunk.len(), grid.dimensionality())?;
     if !grid.has_chunk(chunk) {
         return Ok(None);
     }
     let subset = box_of(grid, alloc, chunk)?;
     Ok(Some(subset))
-}
-
-// How far each index is past another.
-fn differences(alloc: Global, indices: &[u64], origin: &[u64]) -> Result<ArrayIndices, AllocError>
-    ensures { IfOk result (λ v. v.items ≡ differences indices.now origin.now) }
-{
-    indices
-        .iter()
-        .zip(origin)
-        .map(|(index, start)| index.saturating_sub(*start))
-        .collect(alloc)
 }
 
 // Where an element is in the chunk that has it.
@@ -137,18 +122,6 @@ pub(crate) fn element_indices_of<G: ChunkGridTraits>(
     }
 }
 
-// From each start to the end there.
-fn ranges(alloc: Global, starts: &[u64], ends: &[u64]) -> Result<Vec<Range<u64>>, AllocError>
-    ensures { IfOk result (λ v. v.items
-        ≡ map (λ p. record { start = p.0; end = p.1 }) (zip starts.now ends.now)) }
-{
-    starts
-        .iter()
-        .zip(ends)
-        .map(|(start, end)| *start..*end)
-        .collect(alloc)
-}
-
 // The indices of the last of some chunks.
 fn last_of(alloc: Global, chunks: &ArraySubset) -> Result<ArrayIndices, AllocError>
     requires { 0 < count (region chunks.now) }
@@ -175,7 +148,7 @@ fn between_chunks<G: ChunkGridTraits>(
     let start = origin_of(grid, alloc, chunks.start())?;
     let last = last_of(alloc, chunks)?;
     let end = box_of(grid, alloc, &last)?.end_exc(alloc)?;
-    let ranges = ranges(alloc, &start, &end)?;
+    let ranges = ranges_between(alloc, &start, &end)?;
     let subset = ArraySubset::new_with_ranges(alloc, &ranges)?;
     Ok(subset)
 }
@@ -190,12 +163,10 @@ pub(crate) fn chunks_subset_of<G: ChunkGridTraits>(
     ensures { AnswersGrid region result (length (region chunks.now)) (length (G.shape grid.now))
         (region_of_chunks (G.grid grid.now) (region chunks.now)) }
 {
-    let (got, expected) = (chunks.dimensionality(), grid.dimensionality());
-    if got != expected {
-        return Err(ChunkGridError::other_rank(got, expected));
-    }
+    let rank = grid.dimensionality();
+    ChunkGridError::expect_rank(chunks.dimensionality(), rank)?;
     if chunks.is_empty() {
-        let empty = ArraySubset::new_empty(alloc, expected)?;
+        let empty = ArraySubset::new_empty(alloc, rank)?;
         return Ok(Some(empty));
     }
     if !chunks.inbounds_shape(grid.grid_shape()) {
@@ -213,14 +184,12 @@ pub(crate) fn chunks_in_array_subset_of<G: ChunkGridTraits>(
 ) -> Result<Option<ArraySubset>, ChunkGridError>
     ensures { MeetsChunks (G.grid grid.now) (G.shape grid.now) (region array_subset.now) result }
 {
-    let (got, expected) = (array_subset.dimensionality(), grid.dimensionality());
+    let rank = grid.dimensionality();
     if array_subset.is_empty() {
-        let empty = ArraySubset::new_empty(alloc, expected)?;
+        let empty = ArraySubset::new_empty(alloc, rank)?;
         return Ok(Some(empty));
     }
-    if got != expected {
-        return Err(ChunkGridError::other_rank(got, expected));
-    }
+    ChunkGridError::expect_rank(array_subset.dimensionality(), rank)?;
     if !array_subset.inbounds_shape(grid.array_shape()) {
         return Ok(None);
     }

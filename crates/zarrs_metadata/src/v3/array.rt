@@ -54,6 +54,9 @@ pub struct ArrayMetadataV3 {
 impl ArrayMetadataV3 {
     /// The document with these parts, and `default` chunk keys with the separator `/`. It has no attributes, no storage
     /// transformers, no dimension names and no additional fields.
+    ///
+    /// # Errors
+    /// [`AllocError`] where memory runs out.
     pub fn new(
         alloc: Global,
         shape: ArrayShape,
@@ -150,8 +153,8 @@ impl ArrayMetadataV3 {
     /// The document that a value is. Its additional fields stay as they are when it is written and read again.
     ///
     /// # Errors
-    /// `FloatNumber` exactly where the value holds a float, attributes included, else `InvalidMetadata` exactly where it
-    /// is no version 3 array document.
+    /// `FloatNumber` exactly where the value holds a float, attributes included, else `InvalidMetadata` exactly where
+    /// it is no version 3 array document.
     #[tactic(auto, using(crate::proofs::ReadFields::read_array_kept))]
     pub fn from_value(alloc: Global, value: &Value) -> Result<Self, MetadataError>
         ensures gives { GivesRead array_seen result (from_data array_fields_of (view value.now)) }
@@ -163,6 +166,9 @@ impl ArrayMetadataV3 {
 
     /// The value that is the document: with `attributes` and `storage_transformers` only where they are not empty, with
     /// `dimension_names` only where there are some, and with each additional field under its key.
+    ///
+    /// # Errors
+    /// [`AllocError`] where memory runs out.
     pub fn to_value(&self, alloc: Global) -> Result<Value, AllocError>
         ensures { IfOk result (λ v. view v ≡ array_data (array_seen self.now)) }
     {
@@ -183,6 +189,9 @@ impl ArrayMetadataV3 {
     }
 
     /// The document as text, a line for each member.
+    ///
+    /// # Errors
+    /// [`AllocError`] where memory runs out.
     pub fn to_string_pretty(&self, alloc: Global) -> Result<String, AllocError>
         ensures { IfOk result (IsTextOf (array_data (array_seen self.now))) }
     {
@@ -192,6 +201,9 @@ impl ArrayMetadataV3 {
     }
 
     /// A copy.
+    ///
+    /// # Errors
+    /// [`AllocError`] where memory runs out.
     pub fn try_clone(&self, alloc: Global) -> Result<Self, AllocError>
         ensures { IfOk result (λ copy. array_seen copy ≡ array_seen self.now) }
     {

@@ -68,8 +68,8 @@ impl GroupMetadataV3 {
     /// written and read again.
     ///
     /// # Errors
-    /// `FloatNumber` exactly where the value holds a float, attributes included, else `InvalidMetadata` exactly where it
-    /// is no version 3 group document.
+    /// `FloatNumber` exactly where the value holds a float, attributes included, else `InvalidMetadata` exactly where
+    /// it is no version 3 group document.
     #[tactic(auto, using(crate::proofs::GroupFields::read_group_stays))]
     pub fn from_value(alloc: Global, value: &Value) -> Result<Self, MetadataError>
         ensures gives { GivesRead group_seen result (from_data group_of (view value.now)) }
@@ -81,6 +81,9 @@ impl GroupMetadataV3 {
 
     /// The value that is the document: with `attributes` only where they are not empty, and with each additional field
     /// under its key.
+    ///
+    /// # Errors
+    /// [`AllocError`] where memory runs out.
     pub fn to_value(&self, alloc: Global) -> Result<Value, AllocError>
         ensures { IfOk result (λ v. view v ≡ group_data (group_seen self.now)) }
     {
@@ -101,6 +104,9 @@ impl GroupMetadataV3 {
     }
 
     /// The document as text, a line for each member.
+    ///
+    /// # Errors
+    /// [`AllocError`] where memory runs out.
     pub fn to_string_pretty(&self, alloc: Global) -> Result<String, AllocError>
         ensures { IfOk result (IsTextOf (group_data (group_seen self.now))) }
     {
@@ -110,6 +116,9 @@ impl GroupMetadataV3 {
     }
 
     /// A copy.
+    ///
+    /// # Errors
+    /// [`AllocError`] where memory runs out.
     pub fn try_clone(&self, alloc: Global) -> Result<Self, AllocError>
         ensures { IfOk result (λ copy. group_seen copy ≡ group_seen self.now) }
     {

@@ -22,7 +22,8 @@ pub fn group_reads_back()
     ensures { (g : GroupFields) → group_of (group_data g) ≡ Some (normal_group g) }
 {}
 
-/// A group document that was read of a value with rising keys, as each `Value` has them, is the same when it is written and read again.
+/// A group document that was read of a value with rising keys, as each `Value` has them, is the same when it is written
+/// and read again.
 #[tactic(auto, using(crate::proofs::GroupFields::group_again))]
 pub fn read_group_stays()
     ensures { (d : Data) (g : GroupFields) → Rises d → group_of d ≡ Some g → normal_group g ≡ g }
@@ -55,8 +56,8 @@ pub fn read_group_again(
     GroupMetadataV3::from_value(alloc, &value)
 }
 
-/// What is written for an array reads back with each extension in its normal form, and else as it was; of the additional
-/// fields as `orderly_fields_read_back` says.
+/// What is written for an array reads back with each extension in its normal form, and else as it was; of the
+/// additional fields as `orderly_fields_read_back` says.
 #[tactic(auto, using(crate::proofs::ArrayBack::array_reads_back))]
 pub fn array_reads_back()
     ensures { (f : ArrayFields) → array_fields_of (array_data f) ≡ Some (normal_array f) }

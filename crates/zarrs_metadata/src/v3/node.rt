@@ -29,8 +29,8 @@ impl NodeMetadataV3 {
     /// written and read again.
     ///
     /// # Errors
-    /// `FloatNumber` exactly where the value holds a float, attributes included, else `InvalidMetadata` exactly where it
-    /// is neither.
+    /// `FloatNumber` exactly where the value holds a float, attributes included, else `InvalidMetadata` exactly where
+    /// it is neither.
     #[tactic(auto, using(crate::proofs::ReadFields::read_node_kept))]
     pub fn from_value(alloc: Global, value: &Value) -> Result<Self, MetadataError>
         ensures gives { GivesRead node_seen result (from_data node_of (view value.now)) }
@@ -41,6 +41,9 @@ impl NodeMetadataV3 {
     }
 
     /// The value that is the document.
+    ///
+    /// # Errors
+    /// [`AllocError`] where memory runs out.
     pub fn to_value(&self, alloc: Global) -> Result<Value, AllocError>
         ensures { IfOk result (λ v. view v ≡ node_data (node_seen self.now)) }
     {
@@ -64,6 +67,9 @@ impl NodeMetadataV3 {
     }
 
     /// The document as text, a line for each member.
+    ///
+    /// # Errors
+    /// [`AllocError`] where memory runs out.
     pub fn to_string_pretty(&self, alloc: Global) -> Result<String, AllocError>
         ensures { IfOk result (IsTextOf (node_data (node_seen self.now))) }
     {
@@ -74,6 +80,9 @@ impl NodeMetadataV3 {
     }
 
     /// A copy.
+    ///
+    /// # Errors
+    /// [`AllocError`] where memory runs out.
     pub fn try_clone(&self, alloc: Global) -> Result<Self, AllocError>
         ensures { IfOk result (λ copy. node_seen copy ≡ node_seen self.now) }
     {

@@ -70,6 +70,9 @@ impl AdditionalFieldV3 {
     }
 
     /// The value that says the field: an object with its `must_understand`, or the value as it is.
+    ///
+    /// # Errors
+    /// [`AllocError`] where memory runs out.
     pub fn to_value(&self, alloc: Global) -> Result<Value, AllocError>
         ensures { IfOk result (λ v. view v
             ≡ additional_field_data (additional_field_seen self.now)) }
@@ -91,6 +94,9 @@ impl AdditionalFieldV3 {
     }
 
     /// A copy.
+    ///
+    /// # Errors
+    /// [`AllocError`] where memory runs out.
     pub fn try_clone(&self, _alloc: Global) -> Result<Self, AllocError>
         ensures { IfOk result (λ copy. additional_field_seen copy
             ≡ additional_field_seen self.now) }
@@ -170,6 +176,9 @@ fn object_with_must_understand(
 }
 
 /// The additional field that a value says.
+///
+/// # Errors
+/// [`AllocError`] where memory runs out.
 pub fn read_additional_field(value: &Value) -> Result<AdditionalFieldV3, AllocError>
     ensures { IfOk result (λ a. additional_field_seen a ≡ additional_field_of (view value.now)) }
 {

@@ -86,6 +86,9 @@ fn is_no_field(kind: NodeKind, key: &str, value: &Value) -> bool
 }
 
 /// The additional fields that members say: those under every other key.
+///
+/// # Errors
+/// [`AllocError`] where memory runs out.
 pub fn read_additional_fields(
     alloc: Global,
     kind: NodeKind,
@@ -105,6 +108,9 @@ pub fn read_additional_fields(
 }
 
 /// Puts each field under its key, but for those under a key that the document names.
+///
+/// # Errors
+/// [`AllocError`] where memory runs out.
 pub fn put_fields(
     alloc: Global,
     kind: NodeKind,
@@ -124,6 +130,9 @@ pub fn put_fields(
 }
 
 /// A copy of additional fields.
+///
+/// # Errors
+/// [`AllocError`] where memory runs out.
 pub fn copy_additional_fields(
     alloc: Global,
     fields: &BTreeMap<String, AdditionalFieldV3>,

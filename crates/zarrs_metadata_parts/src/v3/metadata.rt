@@ -67,6 +67,9 @@ impl MetadataV3 {
     }
 
     /// The extension of that name with the configuration of a value, which must be understood.
+    ///
+    /// # Errors
+    /// [`AllocError`] where memory runs out.
     pub fn new_with_serializable_configuration<T: ToConfiguration>(
         alloc: Global,
         name: String,
@@ -188,6 +191,9 @@ impl MetadataV3 {
     }
 
     /// The name, and behind a space the configuration as JSON where there is one.
+    ///
+    /// # Errors
+    /// [`AllocError`] where memory runs out.
     pub fn to_display(&self, alloc: Global) -> Result<String, AllocError>
         ensures { IfOk result (λ text. members_have_float
             (members_or_none (extension_seen self.now).configuration) ≡ false
@@ -218,6 +224,9 @@ impl MetadataV3 {
     /// The value that says the extension: its bare name where it has no configuration, an object with the name alone
     /// where the configuration is empty, else with the configuration, and then with `must_understand` where it is
     /// false.
+    ///
+    /// # Errors
+    /// [`AllocError`] where memory runs out.
     pub fn to_value(&self, alloc: Global) -> Result<Value, AllocError>
         ensures { IfOk result (λ v. view v ≡ extension_data (extension_seen self.now)) }
     {
@@ -244,6 +253,9 @@ impl MetadataV3 {
     }
 
     /// A copy.
+    ///
+    /// # Errors
+    /// [`AllocError`] where memory runs out.
     pub fn try_clone(&self, alloc: Global) -> Result<Self, AllocError>
         ensures { IfOk result (λ copy. extension_seen copy ≡ extension_seen self.now) }
     {

@@ -10,6 +10,9 @@ use std::alloc::{AllocError, Global};
 use std::collections::BTreeMap;
 
 /// The fill value that a value is.
+///
+/// # Errors
+/// [`AllocError`] where memory runs out.
 #[cycle(fill)]
 pub fn fill_from_value(alloc: Global, value: &Value) -> Result<FillValueMetadataV3, AllocError>
     ensures { IfOk result (λ f. fill_view f ≡ view value.now) }

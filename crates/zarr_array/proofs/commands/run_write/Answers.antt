@@ -32,7 +32,8 @@ returns-in_err-write_elements-clause-runs g c =
     (options_of c.args.options.now) (region c.args.subset.now) (raw_of c.args.bytes.now) (search rules)
     (g.S.Store.shown c.args.store.now) (g.S.Store.shown c.write_elements.new.store)
     _ c.in_err-write_elements.ensures.written)
-    (le_trans c.in_err-write_elements.ensures.written.failed.changed.later c.in_err-write_elements.ensures.written.failed.later))
+    (le_trans c.in_err-write_elements.ensures.written.failed.changed.later
+    c.in_err-write_elements.ensures.written.failed.later))
 
 pub returns-in_err-write_elements-clause-first : goal.returns-in_err-write_elements-clause-first
 returns-in_err-write_elements-clause-first g c =

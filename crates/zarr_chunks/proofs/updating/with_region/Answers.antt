@@ -21,6 +21,7 @@ returns-clause-value c = λ old new was is.
     ap (λ m. meaning kind m bytes) (length-tuples box) ∙ is in
     update_gives kind (size_seen c.type_size.result) (ends_within box shape) (count_of shape) (length (tuples box))
     before bytes old new
-    (λ v. meaning kind (count_of shape) (raw_of v) ≡ Some (with_box shape box new old)) c.update_owned_array_bytes.result
+    (λ v. meaning kind (count_of shape) (raw_of v) ≡ Some (with_box shape box new old))
+    c.update_owned_array_bytes.result
     (sym c.type_size.ensures) c.requires.inside was given answer
     (updated kind old new (sym c.type_size.ensures) was given)

@@ -10,7 +10,8 @@ returns-clause-made g c = λ source.
     made_answers c.args.number (options_of c.args.words.now.options)
     (seen source (g.W.Sink.shown c.args.sink.now) (g.S.Store.shown c.args.store.now))
     (seen source (g.W.Sink.shown c.write_output.new.sink) (g.S.Store.shown c.run_made-output.new.store))
-    c.run_made-output.result c.write_output.result (g.met.S.Store.counts_fit c.args.store.now).3 c.run_made-output.ensures refl
+    c.run_made-output.result c.write_output.result (g.met.S.Store.counts_fit c.args.store.now).3
+    c.run_made-output.ensures refl
     c.write_output.ensures
 
 pub returns-clause-ends : goal.returns-clause-ends
@@ -18,7 +19,8 @@ returns-clause-ends g c = λ known is source.
     let own = of_made c.args.number (options_of c.args.words.now.options) (g.S.Store.shown c.args.store.now)
     (g.S.Store.shown c.run_made-output.new.store) (g.W.Sink.shown c.args.sink.now)
     (g.W.Sink.shown c.write_output.new.sink)
-    c.run_made-output.result c.write_output.result (g.met.S.Store.counts_fit c.args.store.now).3 c.run_made-output.ensures c.write_output.ensures in
+    c.run_made-output.result c.write_output.result (g.met.S.Store.counts_fit c.args.store.now).3
+    c.run_made-output.ensures c.write_output.ensures in
     made_ends known (settings_view c.args.words.now)
     (seen source (g.W.Sink.shown c.args.sink.now) (g.S.Store.shown c.args.store.now))
     (seen source (g.W.Sink.shown c.write_output.new.sink) (g.S.Store.shown c.run_made-output.new.store))
@@ -29,5 +31,6 @@ returns-clause-named g c =
     let own = of_made c.args.number (options_of c.args.words.now.options) (g.S.Store.shown c.args.store.now)
     (g.S.Store.shown c.run_made-output.new.store) (g.W.Sink.shown c.args.sink.now)
     (g.W.Sink.shown c.write_output.new.sink)
-    c.run_made-output.result c.write_output.result (g.met.S.Store.counts_fit c.args.store.now).3 c.run_made-output.ensures c.write_output.ensures in
+    c.run_made-output.result c.write_output.result (g.met.S.Store.counts_fit c.args.store.now).3
+    c.run_made-output.ensures c.write_output.ensures in
     made_named _ _ c.write_output.result own.0

@@ -16,8 +16,10 @@ returns-in_ok-text_of_replies-in-Ok-clause-did g c =
     text_did (g.A.CommandArray.costs c.args.array.now) array (options_of c.args.options.now)
     (map command_of c.args.commands.now) (g.S.Store.shown c.args.store.now) (g.S.Store.shown c.replies.new.store)
     c.in-Ok.replies c.in_ok-text_of_replies-in-Ok.field-0 c.in-Ok.ensures.did
-    (subst (λ replies. IsTextOfReplies (kind array) replies c.in_ok-text_of_replies-in-Ok.field-0.items) c.deref.ensures.value
-    (subst (λ k. IsTextOfReplies k c.deref.result.now c.in_ok-text_of_replies-in-Ok.field-0.items) c.data_type.ensures.kind
+    (subst (λ replies. IsTextOfReplies (kind array) replies c.in_ok-text_of_replies-in-Ok.field-0.items)
+    c.deref.ensures.value
+    (subst (λ k. IsTextOfReplies k c.deref.result.now c.in_ok-text_of_replies-in-Ok.field-0.items)
+    c.data_type.ensures.kind
     c.in_ok-text_of_replies-in-Ok.ensures))
 
 pub returns-in_err-text_of_replies-in-Ok-clause-did : goal.returns-in_err-text_of_replies-in-Ok-clause-did

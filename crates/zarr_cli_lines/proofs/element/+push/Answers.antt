@@ -16,7 +16,8 @@ push_optional-returns-in_default t c =
 pub push_optional-returns : goal.push_optional-returns
 push_optional-returns t c =
     let first = strip_prefix_char 43 c.args.text.now (Some c.in-Some.held) c.in-Some.ensures.cases (lit< tt) in
-    let puts : PutsElement (kind_seen c.args.inner.now) (element_of (kind_seen c.args.inner.now) c.in-Some.held.now) true
+    let puts : PutsElement (kind_seen c.args.inner.now) (element_of (kind_seen c.args.inner.now) c.in-Some.held.now)
+    true
     (owned_raw c.args.under.now) (owned_raw c.push_element.new.into) =
     subst (λ (put : Bool). PutsElement (kind_seen c.args.inner.now) (element_of (kind_seen c.args.inner.now)
     c.in-Some.held.now) put (owned_raw c.args.under.now) (owned_raw c.push_element.new.into)) c.if-not-branch.false

@@ -43,7 +43,8 @@ returns-in-Err-clause-did g c =
     did_alone once (described seen) options commands before now fits _
     (λ held. RepliedBy (described seen) options commands before now held.items) tt
     runs.refused (same_unless_changed (described seen) options commands _ _ runs.keys) runs.later
-    (subst (λ status. IsRunFault once (described seen) options commands before now status) (sym c.session_status.ensures)
+    (subst (λ status. IsRunFault once (described seen) options commands before now status)
+    (sym c.session_status.ensures)
     (run_fault once (described seen) options commands before now error.at error.kind fails))
     (subst (λ status. LeavesBetween once (described seen) options [] commands before now (ending_of status))
     (sym c.session_status.ensures)

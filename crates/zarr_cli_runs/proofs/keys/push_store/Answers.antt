@@ -11,7 +11,8 @@ returns-in-Ok-clause-dumped g c =
     store_dumped (g.S.Store.shown c.args.store.now) (g.S.Store.shown c.list.new.self)
     (g.S.Store.shown c.push_keys.new.store) c.in-Ok.keys.items
     c.args.text.now.items c.push_keys.new.text.items c.push_keys.result
-    c.in-Ok.ensures.reads.keys (fun_ext c.list.ensures.reads.same) c.push_keys.ensures.reads.same (c.push_keys.ensures.reads.puts
+    c.in-Ok.ensures.reads.keys (fun_ext c.list.ensures.reads.same) c.push_keys.ensures.reads.same
+    (c.push_keys.ensures.reads.puts
     ∙ g.met.S.Store.kept_puts c.args.store.now c.list.new.self c.list.ensures.kept) c.list.ensures.reads.asks
     (subst (λ keys. OnOk c.push_keys.result ((g.S.Store.shown c.push_keys.new.store).asks ≡
     counted (g.S.Store.shown c.list.new.self).asks (length keys))) c.deref.ensures.value c.push_keys.ensures.asks)

@@ -38,11 +38,13 @@ returns-in-Ok-count_keys g c =
     let count = c.in-Ok-count_keys.keys in
     let text = c.in_ok-summary_of-in-Ok-count_keys.field-0 in
     did_behind true array options commands ⊥ before mid now held
-    (λ h. RepliedBy array options commands before mid h.items) did c.count_keys.ensures.reads.same (λ never. absurd never)
+    (λ h. RepliedBy array options commands before mid h.items) did c.count_keys.ensures.reads.same
+    (λ never. absurd never)
     c.count_keys.ensures.reads.later (Ok text) (λ t. SumsAll array options commands before now t.items) did.done.left
     did.done.mended
     (summed_up array n count options commands before mid now held.items text.items c.requires.sized did.done asks
-    c.in-Ok-count_keys.ensures.keys c.count_keys.ensures.reads.same c.in-Ok-count_keys.ensures.asks c.count_keys.ensures.reads.puts
+    c.in-Ok-count_keys.ensures.keys c.count_keys.ensures.reads.same c.in-Ok-count_keys.ensures.asks
+    c.count_keys.ensures.reads.puts
     (subst (λ held. (answers : List Model.Reply) → AllZip (Matches (fixed n)) (map answer_of held) answers →
     text.items ≡ summary_text answers count) c.deref.ensures.value c.in_ok-summary_of-in-Ok-count_keys.ensures.replies)
     (subst (λ held. (lines : List ℕ) × (text.items ≡ summary_held n held count lines)) c.deref.ensures.value
@@ -62,8 +64,10 @@ returns-in_err-summary_of-in-Ok-count_keys g c =
     c.parts.ensures c.in-Ok.ensures.did in
     let p = err_from_is_err_and c.from_residual.result c.from_residual.ensures.1 in
     rw (p.1, p.2) (did_behind true array options commands ⊥ before mid now held
-    (λ h. RepliedBy array options commands before mid h.items) did c.count_keys.ensures.reads.same (λ never. absurd never)
-    c.count_keys.ensures.reads.later (Err OutOfMemory) (λ t. SumsAll array options commands before now t.items) did.done.left
+    (λ h. RepliedBy array options commands before mid h.items) did c.count_keys.ensures.reads.same
+    (λ never. absurd never)
+    c.count_keys.ensures.reads.later (Err OutOfMemory) (λ t. SumsAll array options commands before now t.items)
+    did.done.left
     did.done.mended tt tt)
 
 pub returns-in-Ok : goal.returns-in-Ok
@@ -79,8 +83,10 @@ returns-in-Ok g c =
     mid (Ok held) (λ h. RepliedBy (describe (documented_parts parts)) options commands before mid h.items))
     c.parts.ensures c.in-Ok.ensures.did in
     did_behind true array options commands ⊥ before mid now held
-    (λ h. RepliedBy array options commands before mid h.items) did c.count_keys.ensures.reads.same (λ never. absurd never)
-    c.count_keys.ensures.reads.later (Err c.in-Err-count_keys.status) (λ t. SumsAll array options commands before now t.items) did.done.left
+    (λ h. RepliedBy array options commands before mid h.items) did c.count_keys.ensures.reads.same
+    (λ never. absurd never)
+    c.count_keys.ensures.reads.later (Err c.in-Err-count_keys.status)
+    (λ t. SumsAll array options commands before now t.items) did.done.left
     did.done.mended tt c.in-Err-count_keys.ensures.reads.fault
 
 pub returns : goal.returns

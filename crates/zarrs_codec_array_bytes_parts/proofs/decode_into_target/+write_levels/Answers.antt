@@ -41,7 +41,7 @@ returns-in-Optional-clause-put t c =
     subst (λ v. IsViewWritten (cow_slice_items c.mask.result.now) (get_or c.args.masks.now c.args.level c.args.data.now)
     v) (sym (c.write_levels.ensures.before c.args.level c.args.data.now (omega arith)))
     (subst (λ m. IsViewWritten m (get_or c.args.masks.now c.args.level c.args.data.now) (get_or c.write_at.new.masks
-    c.args.level c.args.data.now)) c.slice_of-in-Optional.ensures (c.write_at.ensures.written c.args.data.now)) in
+    c.args.level c.args.data.now)) c.bytes_in-in-Optional.ensures (c.write_at.ensures.written c.args.data.now)) in
     subst (λ b. ArePut b (drop c.args.level c.args.masks.now) (drop c.args.level c.write_levels.new.masks)
     c.args.data.now c.write_levels.new.data) (sym level)
     (optional_put (raw_of c.data.result.now) (cow_slice_items c.mask.result.now) c.args.masks.now

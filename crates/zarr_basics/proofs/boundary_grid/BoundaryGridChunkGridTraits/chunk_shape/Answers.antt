@@ -9,6 +9,6 @@ lengths_at-requires c =
       arith,
       ap length c.deref-2.ensures.value,
       same_rank grid.array_shape.items grid.axes.items grid.cut,
-      c.if-got-expected.false,
-      c.len-expected.ensures,
+      c.in_ok-expect_rank.ensures.same,
+      c.len.ensures,
     )

@@ -1,4 +1,4 @@
-use Rattle.std.proofs.Common.{◌≡◌, true, true≢false, ap, ap₂, sym, ◌∙◌}
+use Rattle.std.proofs.Common.{◌≡◌, true≢false, ap, ap₂, sym, ◌∙◌}
 use Rattle.zarr_model.specs.Prelude.{starts, sizes}
 use Rattle.zarrs_array_subset.specs.ArraySubset.{region}
 use Rattle.zarrs_array_subset.specs.Boxes.{region_through, is_rising_inc}

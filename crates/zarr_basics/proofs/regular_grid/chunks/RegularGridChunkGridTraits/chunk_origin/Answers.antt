@@ -14,7 +14,7 @@ returns c =
     ∙ ap (λ s. contains (whole s) chunk) (c.deref.ensures.value ∙ grid.counts)) ∙ c.if-not-are_below.false in
     let origin =
     origin_is grid.array_shape.items grid.chunk_shape.items chunk grid.rank (λ k h. search rules) inside in (
-      omega (arith, c.if-got-expected.false, c.as_slice-shape.ensures.len),
+      omega (arith, c.in_ok-expect_rank.ensures.same, c.as_slice-shape.ensures.len),
       ap Some (c.in_ok-origin.ensures ∙ (ap (products chunk) c.deref-2.ensures.value ∙ origin))
           ∙ sym (cond-true (contains (whole (grid_of_regular grid).grid_shape) chunk)
           (Some (starts ((grid_of_regular grid).chunk_box chunk))) None inside),

@@ -2,7 +2,7 @@ use Rattle.zarrs_array_subset.specs.ArraySubset.{region}
 use Rattle.zarrs_codec_array_bytes.specs.Raw.{raw_of}
 use Rattle.zarrs_codec_array_bytes.specs.Steps.{kind_seen}
 use Rattle.zarr_array_boxes.proofs.MemoryLaws.{piece_memory}
-use Rattle.zarr_array_boxes.proofs.shared.piece_in.Goals as goal
+use Rattle.zarr_array_boxes.proofs.piece.piece_in.Goals as goal
 
 pub only_memory-requires : goal.only_memory-requires
 only_memory-requires c =
