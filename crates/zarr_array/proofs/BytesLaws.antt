@@ -6,6 +6,7 @@ use Rattle.zarr_model.specs.Prelude.{has_long_element, ends_within, Options, Sho
 use Rattle.zarr_model.specs.Prelude.{region_refusal, refused_if, or_then, element_too_long, answered, answered_done}
 use Rattle.zarr_model.specs.Prelude.{LeavesKeys}
 use Rattle.zarr_model.proofs.BytesLaws.{refusal-meaning}
+use Rattle.zarr_model.proofs.MendedLaws.{content-same}
 use Rattle.zarr_array.specs.Access.{Access, IsServed, described}
 use Rattle.zarr_array.proofs.AcceptedLaws.{accepted}
 use Rattle.zarr_array.specs.declared.command_error.CommandError.{CommandError}
@@ -15,7 +16,6 @@ use Rattle.zarr_array.specs.PartWay.{StopsBefore, HasWrittenRegion, NotWrittenRe
 use Rattle.zarr_array.specs.declared.command_error.SessionErrorKind.{SessionErrorKind}
 use Rattle.zarr_array.specs.declared.command_error.SessionErrorKind.TheVariants.{NotOpened, ChunkDecode, Store}
 use Rattle.zarr_array.specs.declared.command_error.SessionErrorKind.TheVariants.{OutOfMemory}
-use Rattle.zarr_array.proofs.PartWayLaws.{content-same}
 use Rattle.zarr_array.specs.WritesUpTo.{ChangedUpTo, WritesUpTo}
 use Rattle.zarr_array.proofs.ChunkLaws.{some_list}
 use Rattle.zarr_array.specs.Session.{FailsAt}

@@ -137,7 +137,7 @@ module _ (array : ArrayParts) (chain : BasicChain) (levels : ChunkLevels) (optio
   }
 
 -- what is there
-pub some_list : (o : Option (List Element)) → IsSome o → o ≡ Some (unwrap_or o [])
+pub some_list : {A : Type 0} (o : Option (List A)) → IsSome o → o ≡ Some (unwrap_or o [])
 some_list (Some list) h = refl
 some_list None h = cc
 

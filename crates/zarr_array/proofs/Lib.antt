@@ -22,6 +22,7 @@ pub mod RegionTakenLaws
 pub mod FetchSteps
 pub mod SharedLaws
 pub mod SharedSteps
+pub mod CoverLaws
 pub mod PartSteps
 pub mod ShortLaws
 pub mod ReadSteps

@@ -1,10 +1,11 @@
 -- The chunks that a region meets, by their numbers.
-use Rattle.std.proofs.Common.{◌≡◌, ℕ, zero, suc, ◌<◌, true, List, [], ◌∷◌, length, get_or, slice_get, Some, Result, Ok}
-use Rattle.std.proofs.Common.{Err, IfOk, sym, ap, ◌∙◌, subst, arith}
+use Rattle.std.proofs.Common.{◌≡◌, ℕ, ◌<◌, true, List, [], length, slice_get, Some, Result, Ok}
+use Rattle.std.proofs.Common.{Err, IfOk, sym, ap, ◌∙◌}
 use Rattle.std.proofs.lemmas.List.{nil_from_length}
-use Rattle.zarr_model.specs.Prelude.{Region, count, tuples, tuple_at, ends_within, Grid, IsChunk, chunks_meeting}
+use Rattle.zarr_array_boxes.proofs.MetLaws.{met_at, count_met}
+use Rattle.zarr_model.specs.Prelude.{Region, count, tuples, ends_within, Grid, IsChunk, chunks_meeting}
 use Rattle.zarr_model.specs.Prelude.{CoversShape}
-use Rattle.zarr_model.proofs.RegionLaws.{length-tuples, get_or-tuples, rank_within}
+use Rattle.zarr_model.proofs.RegionLaws.{rank_within}
 use Rattle.zarr_model.proofs.FailureLaws.{meeting_is}
 use Rattle.zarrs_array_subset.specs.ArraySubset.{region as region_of_subset}
 use Rattle.zarr_array.specs.Access.{Access, IsServed, described}
@@ -12,34 +13,11 @@ use Rattle.zarr_array.specs.declared.region_chunks.RegionChunks.{RegionChunks}
 use Rattle.zarr_array.specs.declared.chunk_place.ChunkPlace.{ChunkPlace}
 use Rattle.zarr_array.specs.RegionChunks.{met_chunk_at, AreMetChunks, IsChunkPlace, IsMet}
 
--- a place of a list
-slice_get-at : {A : Type 0} (xs : List A) (k : ℕ) (x : A) → k < length xs → get_or xs k x ≡ x → slice_get xs k ≡ Some x
-slice_get-at [] k x h e = absurd (omega arith)
-slice_get-at (y ∷ ys) zero x h e = ap Some e
-slice_get-at (y ∷ ys) (suc k) x h e = slice_get-at ys k x (omega arith) e
-
--- the chunk at a place of a box of chunks that lists those that a region meets
-pub met_at : (grid : Grid) (region chunks : Region) (number : ℕ) → tuples chunks ≡ chunks_meeting grid region →
-    number < count chunks →
-    (slice_get (chunks_meeting grid region) number ≡ Some (tuple_at chunks number)) ×
-    IsChunk grid (tuple_at chunks number)
-met_at grid region chunks number listed below =
-    let here : slice_get (tuples chunks) number ≡ Some (tuple_at chunks number) =
-    slice_get-at (tuples chunks) number (tuple_at chunks number) (subst (λ n. number < n) (sym (length-tuples chunks))
-    below) (get_or-tuples chunks number (tuple_at chunks number) below) in
-    let met : slice_get (chunks_meeting grid region) number ≡ Some (tuple_at chunks number) =
-    ap (λ l. slice_get l number) (sym listed) ∙ here in
-    (met, (meeting_is grid region number (tuple_at chunks number) met).0)
-
 pub met_rank : (shape : List ℕ) (grid : Grid) (region : Region) (chunk : List ℕ) → CoversShape shape grid →
     ends_within region shape ≡ true → IsChunk grid chunk →
     length region ≡ length (grid.chunk_box chunk)
 met_rank shape grid region chunk covers inside is_chunk =
     rank_within region shape inside ∙ sym (covers.box_rank chunk is_chunk)
-
-pub count_met : (grid : Grid) (region chunks : Region) → tuples chunks ≡ chunks_meeting grid region →
-    count chunks ≡ length (chunks_meeting grid region)
-count_met grid region chunks listed = sym (length-tuples chunks) ∙ ap length listed
 
 -- no chunk is met, or there is one
 module _ (grid : Grid) (region chunks : Region) (listed : tuples chunks ≡ chunks_meeting grid region) where
@@ -56,10 +34,10 @@ module _ {C : Type 0} (array : Access) (met : RegionChunks C) (are : AreMetChunk
 
   module _ (number : ℕ) (below : number < count (region_of_subset met.chunks)) where
     pub met_here : slice_get (chunks_meeting (described array).grid over) number ≡ Some (met_chunk_at met number)
-    met_here = (met_at (described array).grid over (region_of_subset met.chunks) number are.listed below).0
+    met_here = (met_at (described array).grid over (region_of_subset met.chunks) are.listed number below).0
 
     pub met_chunk : IsChunk (described array).grid (met_chunk_at met number)
-    met_chunk = (met_at (described array).grid over (region_of_subset met.chunks) number are.listed below).1
+    met_chunk = (met_at (described array).grid over (region_of_subset met.chunks) are.listed number below).1
 
     -- its place
     pub met_place : IsServed (described array) → (place : ChunkPlace) → place.indices.items ≡ met_chunk_at met number →

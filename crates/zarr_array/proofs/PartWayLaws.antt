@@ -3,20 +3,15 @@ use Rattle.std.proofs.Common.{◌≡◌, ℕ, ◌+◌, ◌^◌, ◌-◌, ◌<◌
 use Rattle.std.proofs.Common.{refl, sym, ap, ◌∙◌, subst, arith, ◌⊎◌, inl, inr, ⊎_elim, le_trans}
 use Rattle.std.proofs.lemmas.Bool.{cases_eq}
 use Rattle.std.proofs.lemmas.Option.{same_Some, slice_get_within}
-use Rattle.zarr_model.specs.Prelude.{Region, Element, Array, Grid, IsChunk, chunks_meeting, Options, Content, Layout}
-use Rattle.zarr_model.specs.Prelude.{IsSound, box_content, chunk_content, Shown, read, Description, layout, counted}
+use Rattle.zarr_model.specs.Prelude.{Region, Element, Array, Grid, IsChunk, chunks_meeting, Options, Content}
+use Rattle.zarr_model.specs.Prelude.{IsSound, chunk_content, Shown, read, Description, layout, counted}
 use Rattle.zarr_model.specs.Prelude.{ChunkHas}
 use Rattle.zarr_model.proofs.FailureLaws.{meeting_is, chunks_under-once}
+use Rattle.zarr_model.proofs.MendedLaws.{content-same}
 use Rattle.zarr_array.specs.declared.command_error.SessionErrorKind.{SessionErrorKind}
 use Rattle.zarr_array.specs.declared.command_error.SessionErrorKind.TheVariants.{OutOfMemory}
 use Rattle.zarr_array.specs.Write.{HoldsChunk, ChangesChunk, FailsToChange}
 use Rattle.zarr_array.specs.PartWay.{ChangedSome, FailsPartWay}
-
--- a chunk whose key holds the same has the same content
-pub content-same : {E : Type 0} (place : Layout E) (old new : Content) (chunk : List ℕ) →
-    new (place.key chunk) ≡ old (place.key chunk) →
-    chunk_content place new chunk ≡ chunk_content place old chunk
-content-same place old new chunk same = ap (box_content place (place.grid.chunk_box chunk)) same
 
 holds-same : (description : Description) (options : Options) (array : Array Element) (chunk : List ℕ)
     (old new : Content) → new (description.key chunk) ≡ old (description.key chunk) →

@@ -13,7 +13,7 @@ use Rattle.zarr_model.specs.Prelude.{IsUntouched, refusal_in, Shown, RanOver}
 use Rattle.zarr_model.proofs.StoreLaws.{stored_array-meant, Means-from_whole}
 use Rattle.zarr_model.proofs.SessionLaws.{serves_from_whole, ServesWhole-append, LeavesKeys-append}
 use Rattle.zarr_model.proofs.SessionLaws.{LeavesKeys-more}
-use Rattle.zarr_model.proofs.StepLaws.{KeepsDamage-append, place-lifts, calls-lift, undecoded-lifts}
+use Rattle.zarr_model.proofs.StepLaws.{KeepsDamage-append, place-lifts, calls-lift, undecoded-lifts, take_one}
 use Rattle.zarr_model.proofs.StepLaws.{stopped-lifts, starved-lifts}
 use Rattle.zarr_model.proofs.NeededLaws.{one_more_erased}
 use Rattle.zarr_model.proofs.SeenLaws.{SeesNoDamage-append}
@@ -31,7 +31,7 @@ use Rattle.zarr_array.proofs.SessionSteps.{only_memory, refused_at, noticed-lift
 use Rattle.zarr_array.proofs.DecodedLaws.{decoded-lifts}
 use Rattle.zarr_array.specs.Runs.{RunsOn}
 
-untouched_then : (before mid now : Shown) → IsUntouched before mid → IsUntouched mid now → IsUntouched before now
+pub untouched_then : (before mid now : Shown) → IsUntouched before mid → IsUntouched mid now → IsUntouched before now
 untouched_then before mid now first second = record {
   content = λ key. second.content key ∙ first.content key;
   asks = second.asks ∙ first.asks;
@@ -56,13 +56,6 @@ refused_front array [] (suc i) all = refl
 refused_front array (first ∷ commands) (suc i) all =
     let parts = and_parts (is_some (refusal array first)) (list_all (λ c. is_some (refusal array c)) commands) all in
     ap₂ (λ a b. a && b) parts.0 (refused_front array commands i parts.1)
-
-pub take_one : {A : Type 0} (xs : List A) (i : ℕ) (x : A) → slice_get xs i ≡ Some x →
-    take (suc i) xs ≡ take i xs ++ x ∷ []
-take_one [] zero x e = cc
-take_one [] (suc i) x e = cc
-take_one (y ∷ ys) zero x e = let same : y ≡ x = cc in ap (λ z. z ∷ []) same
-take_one (y ∷ ys) (suc i) x e = ap (λ zs. y ∷ zs) (take_one ys i x e)
 
 pub take_next : {A : Type 0} (xs : List A) (i : ℕ) (x : A) → slice_get xs i ≡ Some x →
     take (i + 1) xs ≡ take i xs ++ x ∷ []

@@ -7,7 +7,7 @@ use Rattle.zarr_model.specs.Prelude.{Element, Array, Options, Content, WhollyMea
 use Rattle.zarr_model.specs.Prelude.{array_after, changes_chunk, ChunkHas, LeavesKeys}
 use Rattle.zarr_model.proofs.RunLaws.{array_after-append}
 use Rattle.zarr_model.proofs.StepLaws.{both_none}
-use Rattle.zarr_array.proofs.PartWayLaws.{content-same}
+use Rattle.zarr_model.proofs.MendedLaws.{content-same}
 use Rattle.zarr_array.specs.Stored.{DecodesForAll, IsChanged, StoresForAll, StaysOrDecodes, DamageStands}
 
 -- commands of which none changes a chunk

@@ -16,6 +16,7 @@ use Rattle.zarr_model.proofs.FailureLaws.{part_way-fails}
 use Rattle.zarr_model.proofs.LeftLaws.{left_at}
 use Rattle.zarr_model.proofs.RanLaws.{changes-stay, RanOver-write}
 use Rattle.zarr_model.proofs.Choices.{alone}
+use Rattle.zarr_model.proofs.MendedLaws.{content-same}
 use Rattle.zarr_array.specs.declared.command_error.SessionErrorKind.{SessionErrorKind}
 use Rattle.zarr_array.specs.declared.command_error.SessionErrorKind.TheVariants.{NotOpened, ChunkDecode, Store}
 use Rattle.zarr_array.specs.declared.command_error.SessionErrorKind.TheVariants.{OutOfMemory}
@@ -26,7 +27,7 @@ use Rattle.zarr_array.proofs.StoredLaws.{stays-append}
 use Rattle.zarr_array.specs.Stored.{DecodesForAll, IsChanged, StoresForAll, StaysOrDecodes, DamageStands}
 use Rattle.zarr_array.specs.Session.{HasSessionCause, FailsAt, is_store}
 use Rattle.zarr_array.proofs.DecodedLaws.{decoded-one}
-use Rattle.zarr_array.proofs.PartWayLaws.{content-same, changed-kept, changed-outside, met-chunks, met-once}
+use Rattle.zarr_array.proofs.PartWayLaws.{changed-kept, changed-outside, met-chunks, met-once}
 
 -- what a write does to an array
 abbrev pub write_change : Description → Region → ArrayBytes → Array Element → Array Element

@@ -7,6 +7,8 @@ use Rattle.zarrs_codec_traits.specs.Prelude.{SameContent, Copied}
 use Rattle.zarr_array_boxes.specs.Elements.{list_in}
 use Rattle.zarr_array_boxes.specs.BoxElements.{kind_held, box_held, list_held, HoldsShort}
 use Rattle.zarr_array_boxes.specs.declared.box_elements.BoxElements.{BoxElements}
+use Rattle.zarrs_codec_error.specs.declared.error.CodecError.{CodecError}
+use Rattle.zarr_chunks.specs.declared.fetched.Fetched.{Fetched}
 use Rattle.zarr_array.specs.declared.command_error.CommandError.{CommandError}
 use Rattle.zarr_array.specs.declared.command_error.SessionErrorKind.{SessionErrorKind}
 use Rattle.zarr_array.specs.declared.command_error.SessionErrorKind.TheVariants.{NotOpened, ChunkDecode, Store}
@@ -15,7 +17,7 @@ use Rattle.zarr_array.specs.Access.{Access, described}
 use Rattle.zarr_array.specs.RegionChunks.{asked_of}
 use Rattle.zarr_array.specs.Fetch.{HasRead, NotFetched}
 use Rattle.zarr_array.specs.Pays.{PaysShared, PaysRead, PaysPart}
-use Rattle.zarr_array.specs.Shared.{IsReadable}
+use Rattle.zarr_array.specs.Shared.{IsReadable, IsHeldShared}
 use Rattle.zarr_array.specs.Tells.{TellsOfSome}
 
 -- the cause at the next chunk after k of the region's: its value does not decode and may not be
@@ -56,6 +58,14 @@ pub record HasReadChunk (array : Access) (options : Options) (region : Region)
       (elements_in ((described array).grid.chunk_box chunk) plain) old new
   pub as_long : length new ≡ length old
   pub paid : PaysShared array.costs (described array) options region chunk before now
+
+-- a chunk was fetched for what it shares with a region, or was not, and the error is of this kind
+abbrev pub FetchesShared : Access → Options → Region → List ℕ → Shown → Shown
+    → (CodecError → SessionErrorKind) → Result Fetched CodecError → Type 0
+FetchesShared array options region chunk before now kind_of result = MatchResult result
+    (λ fetched. HasRead before now × IsHeldShared array options region chunk before fetched)
+    (λ error. NotFetched (asked_of array region chunk) array options chunk before now
+    (kind_of error))
 
 -- a chunk was read so into the region's elements, or it was not fetched, and the error is of this
 -- kind

@@ -28,15 +28,15 @@ impl ChunkAccess for ArrayParts {
     ghost served = { plain_served };
 
     fn grid(&self) -> &BasicGrid {
-        self.grid()
+        ArrayParts::grid(self)
     }
 
     fn data_type(&self) -> &DataType {
-        self.data_type()
+        ArrayParts::data_type(self)
     }
 
     fn fill_value(&self) -> &FillValue {
-        self.fill_value()
+        ArrayParts::fill_value(self)
     }
 
     fn chunk_key(&self, alloc: Global, chunk_indices: &[u64]) -> Result<StoreKey, AllocError> {

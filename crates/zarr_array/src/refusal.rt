@@ -2,13 +2,13 @@
 
 ghost use Rattle.std.specs.Prelude.{◌≡◌, ℕ, Option, Some, option_map};
 ghost use Rattle.zarr_model.specs.Command as Model;
-ghost use Rattle.zarr_model.specs.Prelude.{write, erase, region_refusal, refusal, is_too_large, fixed_size, kind, count};
+ghost use Rattle.zarr_model.specs.Prelude.{write, erase, region_refusal, refusal};
 ghost use Rattle.zarrs_codec_traits.specs.Prelude.{region, raw_of, told_by, sized_answer};
 ghost use Rattle.zarr_array.specs.Access.{described};
 ghost use Rattle.zarr_array_boxes.specs.Command.{refusal_of};
 
 use crate::ChunkAccess;
-use zarr_array_boxes::Refusal;
+use zarr_array_boxes::{Refusal, is_too_large};
 use zarrs_array_subset::ArraySubset;
 use zarrs_chunk_grid::ChunkGridTraits;
 use zarrs_codec_array_bytes::ArrayBytes;
@@ -32,20 +32,6 @@ fn refusal_by(error: CodecError) -> Refusal
     }
 }
 
-// Whether a region has too many elements, or too many bytes of them.
-fn is_too_large<C: ChunkAccess>(array: &C, subset: &ArraySubset) -> bool
-    ensures { result ≡ is_too_large (fixed_size (kind (described (C.seen array.now))))
-        (count (region subset.now)) }
-{
-    match subset.checked_num_elements() {
-        None | Some(u64::MAX) => true,
-        Some(number) => match array.data_type().fixed_size() {
-            Some(size) => number.checked_mul(size as u64).is_none(),
-            None => false,
-        },
-    }
-}
-
 /// Why a region of an array is refused, if it is: its rank is tested first, then its end, then how many elements it
 /// has.
 pub(crate) fn region_refusal<C: ChunkAccess>(array: &C, subset: &ArraySubset) -> Option<Refusal>
@@ -59,7 +45,7 @@ pub(crate) fn region_refusal<C: ChunkAccess>(array: &C, subset: &ArraySubset) ->
     if !subset.inbounds_shape(shape) {
         return Some(Refusal::SubsetOutOfBounds);
     }
-    if is_too_large(array, subset) {
+    if is_too_large(subset, array.data_type()) {
         return Some(Refusal::RegionTooLarge);
     }
     None

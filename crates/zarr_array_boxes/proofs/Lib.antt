@@ -1,4 +1,5 @@
 pub mod IndexLaws
+pub mod MetLaws
 pub mod ShareLaws
 pub mod PutLaws
 pub mod MemoryLaws

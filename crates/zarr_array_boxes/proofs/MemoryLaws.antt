@@ -1,5 +1,5 @@
 -- Calls that are given what fits are refused for want of memory alone; and boxes that share nothing.
-use Rattle.std.proofs.Common.{◌≡◌, ◌⊎◌, ℕ, zero, suc, ◌+◌, ◌-◌, ◌*◌, ◌<◌, ◌≤◌, min, max, ◌&&◌, true, false}
+use Rattle.std.proofs.Common.{◌≡◌, ◌⊎◌, ℕ, ◌+◌, ◌-◌, ◌<◌, ◌≤◌, min, max, ◌&&◌, true, false}
 use Rattle.std.proofs.Common.{nat_eq, List, [], ◌∷◌, length, Option, Some, IsSome, refl, sym, ap, ap₂, ◌∙◌, subst, arith}
 use Rattle.std.proofs.Common.{nat_le, true≢false}
 use Rattle.std.proofs.lemmas.Bool.{and_parts, and_from, leb-true, le-leb}
@@ -17,6 +17,7 @@ use Rattle.zarrs_array_subset.specs.declared.error.ArraySubsetError.TheVariants.
 use Rattle.zarrs_array_subset.specs.declared.error.ArraySubsetError.TheVariants.{IncompatibleStartShape}
 use Rattle.zarrs_array_subset.specs.declared.error.ArraySubsetError.TheVariants.{IncompatibleStartEnd}
 use Rattle.zarrs_array_subset.specs.declared.error.ArraySubsetError.TheVariants.{IncompatibleOffset, OutOfMemory}
+use Rattle.zarrs_array_subset.proofs.Ravels.{factors}
 use Rattle.zarrs_codec_error.specs.declared.error.CodecError.{CodecError}
 use Rattle.zarrs_codec_error.specs.declared.error.CodecError.TheVariants as codec
 use Rattle.zarrs_codec_slices.specs.Filling.{has_size}
@@ -87,15 +88,6 @@ pub filled_memory : (kind : Kind) (fill : List ℕ) (e : CodecError) → IsSome 
 filled_memory kind fill e there answer =
     fill_memory (has_size kind fill) e (element_fits kind fill _ (denoted (fill_element kind fill) there)) answer
 
--- the part that two boxes share lies within both where it has a place
-positive_left : (n m : ℕ) → 0 < n * m → 0 < n
-positive_left zero m some = absurd (omega (arith, some, (let e : 0 * m ≡ 0 = omega arith in e)))
-positive_left (suc n) m some = omega arith
-
-positive_right : (n m : ℕ) → 0 < n * m → 0 < m
-positive_right n zero some = absurd (omega (arith, some, (let e : n * 0 ≡ 0 = omega arith in e)))
-positive_right n (suc m) some = omega arith
-
 -- what two spans share, the one from a on of length m and the other from b on of length n, lies in both
 in_first : (a b m n : ℕ) → 0 < min (a + m) (b + n) - max a b →
     (nat_le a (max a b) && nat_le (max a b + (min (a + m) (b + n) - max a b)) (a + m)) ≡ true
@@ -113,14 +105,15 @@ in_second a b m n some =
     and_from (nat_le b (max a b)) (nat_le (max a b + (min (a + m) (b + n) - max a b)) (b + n)) (le-leb _ _ low)
     (le-leb _ _ high)
 
+-- the part that two boxes share lies within both where it has a place
 overlap_first : (a b : Region) → length a ≡ length b → 0 < count (overlap_of a b) → is_within (overlap_of a b) a ≡ true
 overlap_first [] [] rank some = refl
 overlap_first [] (y ∷ b) rank some = absurd (omega (arith, rank))
 overlap_first (x ∷ a) [] rank some = absurd (omega (arith, rank))
 overlap_first (x ∷ a) (y ∷ b) rank some =
     and_from _ (is_within (overlap_of a b) a)
-    (in_first x.start y.start x.size y.size (positive_left _ (count (overlap_of a b)) some))
-    (overlap_first a b (omega (arith, rank)) (positive_right _ (count (overlap_of a b)) some))
+    (in_first x.start y.start x.size y.size (factors _ (count (overlap_of a b)) some).0)
+    (overlap_first a b (omega (arith, rank)) (factors _ (count (overlap_of a b)) some).1)
 
 overlap_second : (a b : Region) → length a ≡ length b → 0 < count (overlap_of a b) → is_within (overlap_of a b) b ≡ true
 overlap_second [] [] rank some = refl
@@ -128,8 +121,8 @@ overlap_second [] (y ∷ b) rank some = absurd (omega (arith, rank))
 overlap_second (x ∷ a) [] rank some = absurd (omega (arith, rank))
 overlap_second (x ∷ a) (y ∷ b) rank some =
     and_from _ (is_within (overlap_of a b) b)
-    (in_second x.start y.start x.size y.size (positive_left _ (count (overlap_of a b)) some))
-    (overlap_second a b (omega (arith, rank)) (positive_right _ (count (overlap_of a b)) some))
+    (in_second x.start y.start x.size y.size (factors _ (count (overlap_of a b)) some).0)
+    (overlap_second a b (omega (arith, rank)) (factors _ (count (overlap_of a b)) some).1)
 
 has_some : (part shared : Region) → part ≡ shared → nat_eq (count part) 0 ≡ false → 0 < count shared
 has_some part shared is some = subst (λ p. 0 < count p) is (grind (arith, nat_tests))

@@ -17,4 +17,4 @@ pub use box_elements::BoxElements;
 pub use command::{Command, Reply};
 pub use indices::indices_at;
 pub use overlap::put_overlap;
-pub use refusal::Refusal;
+pub use refusal::{Refusal, is_too_large};

@@ -1,8 +1,14 @@
 //! Why a command is refused.
 
 ghost use Rattle.std.specs.Prelude.{◌≡◌};
+ghost use Rattle.zarr_model.specs.Prelude.{count, fixed_size, kind_of, is_too_large};
 ghost use Rattle.zarr_model.specs.Command.{refusal_name};
+ghost use Rattle.zarrs_data_type.specs.DataType.{type_of};
+ghost use Rattle.zarrs_array_subset.specs.ArraySubset.{region};
 ghost use Rattle.zarr_array_boxes.specs.Command.{refusal_of};
+
+use zarrs_array_subset::ArraySubset;
+use zarrs_data_type::DataType;
 
 /// Why a command is refused, in the order in which it is tested. A refused command changes nothing and asks the store
 /// for nothing.
@@ -48,5 +54,20 @@ impl Refusal {
             Refusal::InvalidVariableSizedArrayOffsets => "InvalidVariableSizedArrayOffsets",
             Refusal::ElementTooLong => "ElementTooLong",
         }
+    }
+}
+
+/// Whether a region has too many elements of a data type, or too many bytes of them, as
+/// [`Refusal::RegionTooLarge`] says.
+pub fn is_too_large(subset: &ArraySubset, data_type: &DataType) -> bool
+    ensures { result
+        ≡ is_too_large (fixed_size (kind_of (type_of data_type.now))) (count (region subset.now)) }
+{
+    match subset.checked_num_elements() {
+        None | Some(u64::MAX) => true,
+        Some(number) => match data_type.fixed_size() {
+            Some(size) => number.checked_mul(size as u64).is_none(),
+            None => false,
+        },
     }
 }

@@ -1,10 +1,11 @@
 -- The chain of an array's codecs is the one that its document describes, and its levels serve each chunk.
 use Rattle.std.proofs.Common.{◌≡◌, ℕ, ◌+◌, ◌*◌, ◌^◌, ◌<◌, ◌≤◌, Bool, true, false, List, [], ◌∷◌, length, map, Option}
-use Rattle.std.proofs.Common.{Some, None, is_some, unwrap_or, refl, sym, ap, ◌∙◌, subst, arith}
+use Rattle.std.proofs.Common.{Some, None, refl, sym, ap, ◌∙◌, subst, arith}
 use Rattle.std.proofs.lemmas.List.{length-map}
-use Rattle.zarr_model.specs.Prelude.{count, count_of, Element, null, kind, kind_of, fixed_size, fill_element}
+use Rattle.zarr_model.specs.Prelude.{count, count_of, Element, kind, kind_of, fixed_size, fill_element}
 use Rattle.zarr_model.specs.Prelude.{has_long_element, Options, Level, Chain, ArrayCodec, decode_chain}
 use Rattle.zarr_model.specs.Prelude.{decode_array_to_bytes, IsChunk}
+use Rattle.zarr_model.proofs.ElementLaws.{denoted}
 use Rattle.zarrs_codec_traits.specs.Prelude.{fill_bytes, type_of, innermost_fill, filled_with, size_in, IsFit}
 use Rattle.zarr_codec_chain.specs.Chain.{IsServedChain, HasFill, blank_chunk, first_level, first_fill, bottom_level}
 use Rattle.zarr_codec_chain.specs.Chain.{steps, chain_of}
@@ -66,10 +67,6 @@ pub chain_means : (array : ArrayParts) (chain : BasicChain) → chain_form chain
 chain_means array chain forms options = own_means options chain ∙ ap (means_of options) forms
 
 -- the fill value denotes an element, which is that of the document
-denoted : (o : Option Element) → is_some o ≡ true → o ≡ Some (unwrap_or o null)
-denoted (Some x) e = refl
-denoted None e = cc
-
 pub fill_denotes : (array : ArrayParts) →
     fill_element (kind_of (type_of array.data_type)) (fill_bytes array.fill) ≡ Some (described_parts array).fill
 fill_denotes array = denoted (fill_element (kind_of (type_of array.data_type)) (fill_bytes array.fill)) array.filled

@@ -1,9 +1,10 @@
 -- What the chunks of one shape are, once the codec of their metadata was made.
-use Rattle.std.proofs.Common.{◌≡◌, ℕ, Bool, true, false, if◌then◌else◌, List, [], ◌∷◌, is_some, Option, Some, None}
+use Rattle.std.proofs.Common.{◌≡◌, ℕ, Bool, true, false, if◌then◌else◌, List, [], ◌∷◌, is_some, Some}
 use Rattle.std.proofs.Common.{Result, Ok, Err, unwrap_or, refl, sym, ap, ◌∙◌}
 use Rattle.std.proofs.lemmas.Bool.{and_parts}
 use Rattle.std.specs.Bool.{⊤}
-use Rattle.zarr_model.specs.Prelude.{Element, null, DataType, kind_of, fill_element, default_keys}
+use Rattle.zarr_model.specs.Prelude.{null, DataType, kind_of, fill_element, default_keys}
+use Rattle.zarr_model.proofs.ElementLaws.{denoted}
 use Rattle.zarrs_codec_traits.specs.Prelude.{Names, Extension, is_type}
 use Rattle.zarr_codecs.specs.declared.codec_kind.CodecKind.{CodecKind}
 use Rattle.zarr_array_open.specs.Document.{ArrayDocument}
@@ -17,10 +18,6 @@ use Rattle.zarr_array_open.proofs.CodecLaws.{codecs_are, only_for, alone, config
 use Rattle.zarr_array_open.proofs.ShardLaws.{inner_is}
 
 -- a fill value that is an element denotes it
-denoted : (o : Option Element) → is_some o ≡ true → o ≡ Some (unwrap_or o null)
-denoted None e = cc
-denoted (Some element) e = refl
-
 abbrev expected : Bool → Result ⊤ OpenRefusal
 expected b = if b then Ok tt else Err invalid_fill
 

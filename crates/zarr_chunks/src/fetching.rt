@@ -40,7 +40,7 @@ fn filled_chunk(
     ArrayBytes::new_fill_value(alloc, data_type, num_elements(shape), fill_value)
 }
 
-// The same of a chain's chunks.
+// A chunk under a chain whose elements are all the fill value.
 pub(crate) fn blank(levels: &ChunkLevels, alloc: Global) -> Result<ArrayBytes<'static>, CodecError>
     requires fits { IsFit (first_level levels.now).shape (first_level levels.now).data_type }
     requires fill { HasFill levels.now }

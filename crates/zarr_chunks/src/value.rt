@@ -91,7 +91,7 @@ fn fetched_of_value<
     }
 }
 
-// The same by what stands under its key: the region's, where that is nothing.
+// The same by what stands under its key; where nothing does, the region's elements are the fill value.
 fn fetched_of<A: ArrayToArrayCodecTraits, B: ArrayToBytesCodecTraits, C: BytesToBytesCodecTraits>(
     chain: &CodecChain<A, B, C>,
     levels: &ChunkLevels,

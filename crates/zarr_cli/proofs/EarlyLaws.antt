@@ -142,7 +142,7 @@ tells words input rose (Chunk key) fault = absurd fault
 tells words input rose Store fault = absurd fault
 tells words input rose Write fault = absurd fault
 
-or_memory : (status last : Status) (called_for : Ending) → (last ≡ status) ⊎ (last ≡ OutOfMemory) →
+pub or_memory : (status last : Status) (called_for : Ending) → (last ≡ status) ⊎ (last ≡ OutOfMemory) →
     IsOrMemory (ending_of status) called_for → IsOrMemory (ending_of last) called_for
 or_memory status last called_for (inl same) h = subst (λ s. IsOrMemory (ending_of s) called_for) (sym same) h
 or_memory status last called_for (inr memory) h = inr (ap ending_of memory)

@@ -28,6 +28,7 @@ use Rattle.zarr_cli_runs.specs.Job.{job, Did}
 use Rattle.zarr_cli.specs.Answers.{Outside, AnswersLines, IsOfLines}
 use Rattle.zarr_cli.specs.Steps.{SaysLines, IsFormFault, PrintsAll, PrintsLines, IsLinesFault, RanLines}
 use Rattle.zarr_cli.proofs.EndingLemmas.{begun}
+use Rattle.zarr_cli.proofs.EarlyLaws.{or_memory}
 
 module _ (description : Description) (lines : List (List ℕ)) where
   -- lines in form have one meaning, and no line out of form
@@ -242,11 +243,6 @@ module _ (costs : RunCosts) (description : Description) (settings : Settings) (l
   own_ending end.read_fault told = told
   own_ending end.write_fault told = tt
   own_ending end.too_long told = told
-
-  or_memory : (status last : Status) (called_for : Ending) → (last ≡ status) ⊎ (last ≡ OutOfMemory) →
-      IsOrMemory (ending_of status) called_for → IsOrMemory (ending_of last) called_for
-  or_memory status last called_for (inl same) h = subst (λ s. IsOrMemory (ending_of s) called_for) (sym same) h
-  or_memory status last called_for (inr memory) h = inr (ap ending_of memory)
 
   is_bad : (status : Status) (line : ℕ) → Fails status → IsOutOfForm description lines line →
       IsOrMemory (ending_of status) (end.bad_input line)

@@ -1,5 +1,5 @@
 -- What was read so far, with more behind it.
-use Rattle.std.proofs.Common.{◌≡◌, ℕ, ◌+◌, ◌<◌, ◌≤◌, Some, Result, Ok, Err, OnOk, IfErr, Bool, true, false, ◌==◌, List}
+use Rattle.std.proofs.Common.{◌≡◌, ℕ, ◌+◌, ◌<◌, ◌≤◌, Some, Result, Ok, Err, IfErr, Bool, true, false, ◌==◌, List}
 use Rattle.std.proofs.Common.{[], ◌∷◌, ◌++◌, length, map, IsUtf8, String, string_bytes, refl, sym, ap, ◌∙◌}
 use Rattle.std.proofs.Common.{subst, arith, ◌⊎◌, ⊎_elim, append_assoc, append-nil}
 use Rattle.std.specs.declared.alloc.Global.{Global}
@@ -173,11 +173,6 @@ all_behind input so_far line all good which is pushed read =
         input_lines (with_newlines (map string_bytes lines) ++ line) ≡ map string_bytes lines ++ line ∷ []
     only [] none line whole = no_lines line whole
     only (first ∷ lines) none line whole = absurd (omega (arith, none))
-
--- what is known of a result
-pub on_ok : {T E : Type 0} (P : Type 0) (result : Result T E) → P → OnOk result P
-on_ok P (Ok value) p = p
-on_ok P (Err error) p = tt
 
 -- a fault of the text is one of the input
 pub told_fault : {T : Type 0} (before now : Told) (so_far : LinesSoFar) (result : Result T InputFault) →

@@ -53,7 +53,7 @@ impl CommandArray for OpenArray {
     ghost costs = { λ array. open_costs (opened.documented array) };
 
     fn data_type(&self) -> &DataType {
-        self.data_type()
+        OpenArray::data_type(self)
     }
 
     fn replies<S: Store>(

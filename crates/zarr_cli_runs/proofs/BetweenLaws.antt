@@ -38,7 +38,7 @@ none_listed zero entry e = cc
 none_listed (suc n) entry e = cc
 
 -- the chunks that a read or a write meets are chunks
-asked_chunk : (description : Description) (why : Option Refusal) (command : Command) (place : ℕ) (chunk : List ℕ) →
+pub asked_chunk : (description : Description) (why : Option Refusal) (command : Command) (place : ℕ) (chunk : List ℕ) →
     slice_get (chunks_under description why command) place ≡ Some chunk → asks_store command ≡ true →
     IsChunk description.grid chunk
 asked_chunk description (Some why) command place chunk e asks = cc

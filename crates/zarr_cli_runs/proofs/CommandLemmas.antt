@@ -1,6 +1,6 @@
 -- Commands that ran.
-use Rattle.std.proofs.Common.{◌≡◌, ℕ, Bool, List, map, Option, Some, None, IsSome, Ok, Err, refl, sym, subst}
-use Rattle.zarr_model.specs.Prelude.{Element, Array, Content, Rose, IsHonest, WhollyMeans, Command, Description, Answer}
+use Rattle.std.proofs.Common.{◌≡◌, ℕ, Bool, List, map, Option, Some, None, Ok, Err, refl}
+use Rattle.zarr_model.specs.Prelude.{Rose, IsHonest, Command, Description, Answer}
 use Rattle.zarr_model.specs.Prelude.{layout, all_puts, counted, LeavesKeys, ServesArray, RefusesRight, SeesNoDamage}
 use Rattle.zarr_model.specs.Prelude.{AnswersUndamaged, RanOver, Shown, Options}
 use Rattle.zarr_array.specs.boxes.Command.{answer_of}
@@ -18,11 +18,7 @@ use Rattle.zarr_cli_runs.specs.declared.status.Status.TheVariants.{Done, BadWord
 use Rattle.zarr_cli_runs.specs.declared.status.Status.TheVariants.{Read, Write, TooLong, OutOfMemory}
 use Rattle.zarr_cli_runs.proofs.BetweenLaws.{noticed_seen}
 use Rattle.zarr_array.specs.declared.command_error.SessionErrorKind.TheVariants as Kind
-
-wholly_honest : (description : Description) (options : Options) (store : Content) (array : Array Element) →
-    WhollyMeans (layout description options) store array → IsHonest (layout description options) store
-wholly_honest description options store array meant chunk is_chunk =
-    subst IsSome (sym (meant.each_chunk chunk is_chunk)) refl
+use Rattle.zarr_array.proofs.RunsLaws.{wholly_honest}
 
 pub replied_by :
     (array : Description) (options : Options) (commands : List Command) (before now : Shown) (held : List Reply) →

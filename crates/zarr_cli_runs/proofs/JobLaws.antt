@@ -1,6 +1,7 @@
 -- Jobs: what is known of one from what was run, and of one behind which a store was read.
 use Rattle.std.proofs.Common.{◌≡◌, ℕ, ◌-◌, ◌^◌, ◌<◌, ◌≤◌, Bool, List, [], Result, Ok, Err, IfOk, IfErr, OnOk, refl, sym}
 use Rattle.std.proofs.Common.{ap, ◌∙◌, subst, arith, le_trans}
+use Rattle.zarr_array.proofs.RunsLaws.{untouched_then}
 use Rattle.zarr_model.specs.Prelude.{Command, Content, Description, counted, LeavesArray, IsDamageSeen, SeesNoDamage}
 use Rattle.zarr_model.specs.Prelude.{AreRefused, IsUntouched, Rose, Shown, Options}
 use Rattle.zarr_cli_runs.specs.Keys.{IsDumpFault}
@@ -62,20 +63,12 @@ untouched_earlier before mid now same asks taken puts (Ok value) is = record {
 }
 untouched_earlier before mid now same asks taken puts (Err status) is = tt
 
-untouched_then : (before mid now : Shown) → IsUntouched before mid → IsUntouched mid now → IsUntouched before now
-untouched_then before mid now first second = record {
-  content = λ key. second.content key ∙ first.content key;
-  asks = second.asks ∙ first.asks;
-  taken = second.taken ∙ first.taken;
-  puts = second.puts ∙ first.puts;
-}
-
 none_set : (before : Shown) → before.puts ≤ 2 ^ 64 - 1 → before.puts ≡ counted before.puts 0
 none_set before few = omega (arith, few)
 
-on_ok : {T : Type 0} (P : Type 0) (result : Result T Status) → P → OnOk result P
+pub on_ok : {T E : Type 0} (P : Type 0) (result : Result T E) → P → OnOk result P
 on_ok P (Ok value) p = p
-on_ok P (Err status) p = tt
+on_ok P (Err error) p = tt
 
 -- commands alone
 pub did_alone : {T : Type 0} (once : Bool) (description : Description) (options : Options) (commands : List Command)

@@ -1,11 +1,12 @@
 -- The lines of the final keys.
 use Rattle.std.proofs.Common.{◌≡◌, ℕ, suc, ◌+◌, ◌-◌, ◌<◌, true, List, [], ◌∷◌, ◌++◌, length, map}
-use Rattle.std.proofs.Common.{Contains, Option, Some, None, IsSome, unwrap_or, Result, Ok, Err, OnOk, refl, sym}
+use Rattle.std.proofs.Common.{Contains, IsSome, unwrap_or, Result, Ok, Err, OnOk, refl, sym}
 use Rattle.std.proofs.Common.{ap, ◌∙◌, subst, arith}
 use Rattle.std.specs.Ordering.{nat_cmp}
 use Rattle.std.specs.Cmp.Lexicographic.{slice_cmp}
 use Rattle.std.specs.List.Sorted.{IsStrictlySortedBy}
 use Rattle.std.proofs.lemmas.List.{length-map}
+use Rattle.zarr_array.proofs.ChunkLaws.{some_list}
 use Rattle.zarrs_codec_traits.specs.Prelude.{Content, Shown, counted, ListsKeys}
 use Rattle.zarrs_storage.proofs.ListLemmas.{AreEntriesOf, is_sorted-entries, find-listed}
 use Rattle.zarr_cli_lines.specs.Text.{entries_text}
@@ -17,16 +18,12 @@ keys_at : (store : Content) (keys : List (List ℕ)) → map (λ entry. entry.0)
 keys_at store [] = refl
 keys_at store (key ∷ keys) = ap (λ rest. key ∷ rest) (keys_at store keys)
 
--- a value that is there
-pub some_value : (value : Option (List ℕ)) → IsSome value → value ≡ Some (unwrap_or value [])
-some_value None is = absurd (cc)
-some_value (Some bytes) is = refl
-
+-- keys that a store holds are entries of it, with their values
 are_entries : (store : Content) (keys : List (List ℕ)) → ((key : List ℕ) → Contains keys key → IsSome (store key)) →
     AreEntriesOf store (entries_at store keys)
 are_entries store [] held = tt
 are_entries store (key ∷ keys) held = (
-  some_value (store key) (held key (0, omega arith, refl)),
+  some_list (store key) (held key (0, omega arith, refl)),
   are_entries store keys
       (λ other here. held other (suc here.0, (let below : here.0 < length keys = here.1 in omega arith), here.2)),
 )

@@ -1,8 +1,9 @@
 -- Why a band is not moved.
-use Rattle.std.proofs.Common.{◌≡◌, ℕ, zero, suc, ◌≤◌, List, [], ◌∷◌, slice_get, Option, Some, None, IsSome, Result, Ok}
-use Rattle.std.proofs.Common.{Err, IfErr, refl, sym, ap, ◌∙◌, subst, arith, le_trans, inl, inr, ◌⊎◌}
+use Rattle.std.proofs.Common.{◌≡◌, ℕ, zero, suc, List, [], ◌∷◌, slice_get, Option, Some, None, IsSome, Result, Ok}
+use Rattle.std.proofs.Common.{Err, IfErr, refl, sym, ap, ◌∙◌, subst, le_trans, inl, inr, ◌⊎◌}
 use Rattle.std.proofs.Math.Path.{fun_ext}
 use Rattle.std.proofs.lemmas.Bool.{true≢false}
+use Rattle.zarrs_codec_traits.proofs.EditLaws.{rose_later}
 use Rattle.zarr_model.specs.Prelude.{Region, ArrayBytes, chunks_meeting, chunk_content, box_content, Options, Content}
 use Rattle.zarr_model.specs.Prelude.{Description, layout, IsHonest, Command, read, write, refusal, region_refusal}
 use Rattle.zarr_model.specs.Prelude.{chunks_under, command_chunks, Shown, Rose, IsUndecoded}
@@ -100,9 +101,6 @@ module _ (source target : ArrayDocument) (options : Options) (b : Region) (from_
 module _ (source target : ArrayDocument) (options : Options) (list : List Region)
     (n : ℕ) (b : Region) (from_before from_mid from_now to_before to_mid to_now : Shown)
     (moved : AreMoved (describe source) (describe target) options list n from_before from_mid to_before to_mid) where
-  rose_later : (before mid now : ℕ) → before ≤ mid → Rose mid now → Rose before now
-  rose_later before mid now later rose = omega (arith, later, rose)
-
   stood : (key : List ℕ) (d : IsDamagedIn (describe target) options b to_mid.content key) →
       IsSome (chunk_content (layout (describe target) options) to_mid.content d.chunk) ⊎
       (to_mid.content ((describe target).key d.chunk) ≡ to_before.content ((describe target).key d.chunk)) →

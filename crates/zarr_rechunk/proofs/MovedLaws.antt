@@ -7,6 +7,8 @@ use Rattle.std.proofs.lemmas.Bool.{cases_Bool, cond-true, cond-false}
 use Rattle.std.proofs.lemmas.List.{length-map, get_or-map}
 use Rattle.std.proofs.lemmas.List.Sums.{sum_by-cons, sum_by-append}
 use Rattle.std.proofs.lemmas.Map.Views.{Contains-from_any}
+use Rattle.zarr_array.proofs.RunsLaws.{take_next}
+use Rattle.zarr_array.proofs.PaysLaws.{counted_more}
 use Rattle.zarr_model.specs.Prelude.{Region, count, contains, tuples, place, Element, Array, kind, kind_of, array_bytes}
 use Rattle.zarr_model.specs.Prelude.{meaning, Grid, IsChunk, chunks_meeting, is_among, chunk_content, box_content}
 use Rattle.zarr_model.specs.Prelude.{SeesNoDamage, Options, Description, Content, layout, Means, read, write, reply_of}
@@ -21,14 +23,6 @@ use Rattle.zarr_rechunk.proofs.BandLaws.{BandsCut}
 use Rattle.zarr_rechunk.specs.Moved.{with_regions, chunks_of_each, in_description, DecodesOrStays, DecodedOrStays}
 use Rattle.zarr_rechunk.specs.Moved.{MeetsNone, AreMoved}
 use Rattle.zarr_rechunk.specs.Band.{AreAlike, HasMovedBand}
-
-take_one : {X : Type 0} (xs : List X) (k : ℕ) (x : X) → slice_get xs k ≡ Some x → take (k + 1) xs ≡ take k xs ++ x ∷ []
-take_one xs k x e = ap (λ n. take n xs) (let same : k + 1 ≡ suc k = omega arith in same) ∙ go xs k e
-  where
-    go : (ys : List _) (i : ℕ) → slice_get ys i ≡ Some x → take (suc i) ys ≡ take i ys ++ x ∷ []
-    go [] i h = cc
-    go (y ∷ ys) zero h = let same : y ≡ x = cc in ap (λ z. z ∷ []) same
-    go (y ∷ ys) (suc i) h = ap (λ l. y ∷ l) (go ys i h)
 
 -- the region of a number
 pub region_here : {A : Type 0} (f : A → Region) (xs : List A) (i : ℕ) (x : A) → i < length xs → x ≡ get_or xs i x →
@@ -124,14 +118,10 @@ none_moved source target options list from to from_fits to_fits puts_fit = recor
   means = λ array onto source_means target_means. target_means;
 }
 
--- counts that stop at the greatest number
-counted_on : (before mid now a b : ℕ) → mid ≡ counted before a → now ≡ counted mid b → now ≡ counted before (a + b)
-counted_on before mid now a b first second = omega (arith, first, second)
-
 more_chunks : (grid : Grid) (list : List Region) (k : ℕ) (b : Region) → slice_get list k ≡ Some b →
     chunks_of_each grid (take (k + 1) list) ≡ chunks_of_each grid (take k list) + length (chunks_meeting grid b)
 more_chunks grid list k b e =
-    ap (chunks_of_each grid) (take_one list k b e)
+    ap (chunks_of_each grid) (take_next list k b e)
     ∙ (sum_by-append (λ r. length (chunks_meeting grid r)) (take k list) (b ∷ [])
     ∙ ap (λ n. chunks_of_each grid (take k list) + n) (sum_by-cons (λ r. length (chunks_meeting grid r)) b []
     ∙ (let same : length (chunks_meeting grid b) + 0 ≡ length (chunks_meeting grid b) = omega arith in same)))
@@ -140,7 +130,7 @@ more_calls : (grid : Grid) (list : List Region) (k : ℕ) (b : Region) (before m
     mid ≡ counted before (chunks_of_each grid (take k list)) →
     now ≡ counted mid (length (chunks_meeting grid b)) → now ≡ counted before (chunks_of_each grid (take (k + 1) list))
 more_calls grid list k b before mid now here so_far more =
-    counted_on before mid now (chunks_of_each grid (take k list)) (length (chunks_meeting grid b)) so_far more
+    counted_more before mid now (chunks_of_each grid (take k list)) (length (chunks_meeting grid b)) so_far more
     ∙ ap (counted before) (sym (more_chunks grid list k b here))
 
 -- a chunk that decodes or stands twice does so from the start
@@ -223,7 +213,7 @@ more_met source target options list done b from to here met sees decodes = recor
     which : (number : ℕ) (band : Region) → slice_get (take (done + 1) list) number ≡ Some band →
         (slice_get (take done list) number ≡ Some band) ⊎ (b ≡ band)
     which number band e =
-        in_more (take done list) b number band (ap (λ l. slice_get l number) (sym (take_one list done b here)) ∙ e)
+        in_more (take done list) b number band (ap (λ l. slice_get l number) (sym (take_next list done b here)) ∙ e)
 
 -- a band that was read, cleared and written is moved
 pub one_more_moved : (source target : Description) (options : Options) (list : List Region)
@@ -274,7 +264,7 @@ one_more_moved source target options list done b from_before from_mid from_now t
           ap (λ o. unwrap_or o []) (same_mean (kind source) (length elements_are) moved.bytes elements_are matches)) in
           subst (Means (layout target options) to_now.content)
           (ap (λ xs. written b xs (with_regions array (take done list) onto)) given
-          ∙ sym (ap (λ l. with_regions array l onto) (take_one list done b here)
+          ∙ sym (ap (λ l. with_regions array l onto) (take_next list done b here)
           ∙ with_more array (take done list) (b ∷ []) onto))
           left;
     }

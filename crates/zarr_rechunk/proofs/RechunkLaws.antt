@@ -1,10 +1,10 @@
 -- All bands of the target are moved.
-use Rattle.std.proofs.Common.{◌≡◌, ℕ, zero, suc, ◌+◌, ◌==◌, true, false, Bool, not, nat_le, List, [], ◌∷◌, length, take}
+use Rattle.std.proofs.Common.{◌≡◌, ℕ, zero, suc, ◌==◌, true, false, Bool, not, List, [], ◌∷◌, length, take}
 use Rattle.std.proofs.Common.{slice_get, Option, Some, None, IsSome, is_some, Result, Ok, Err, OnOk, IfErr, inr}
 use Rattle.std.proofs.Common.{refl, sym, ap, ap₂, ◌∙◌, subst, take_all, arith, eq-eqb}
 use Rattle.std.specs.List.{list_any}
 use Rattle.std.proofs.Math.Path.{fun_ext}
-use Rattle.std.proofs.lemmas.Bool.{and_parts, or_parts}
+use Rattle.std.proofs.lemmas.Bool.{or_parts}
 use Rattle.zarr_model.specs.Prelude.{Region, count, ends_within, Element, Array, Kind, kind, kind_of, DataType}
 use Rattle.zarr_model.specs.Prelude.{fixed_size, ArrayBytes, array_bytes, meaning, has_long_element, Options}
 use Rattle.zarr_model.specs.Prelude.{Description, layout, IsHonest, IsSound, CoversShape, Means, Shown, counted}
@@ -15,6 +15,7 @@ use Rattle.zarr_model.proofs.StoreLaws.{stored_array-meant, meant-same, Means-fr
 use Rattle.zarr_model.proofs.RunLaws.{reply-same}
 use Rattle.zarr_model.proofs.RefusalLaws.{kept}
 use Rattle.zarr_model.proofs.BytesLaws.{length-meaning, refusal-meaning}
+use Rattle.zarr_model.proofs.RegionLaws.{rank_within}
 use Rattle.zarr_array.specs.parts.Document.{ArrayDocument, describe}
 use Rattle.zarr_rechunk.specs.Cleared.{AreElements}
 use Rattle.zarr_rechunk.specs.Bands.{bands}
@@ -30,14 +31,6 @@ use Rattle.zarr_rechunk.proofs.MovedLaws.{all_moved}
 use Rattle.zarr_rechunk.proofs.FailLaws.{only_memory}
 
 -- a band is accepted: it has the rank, ends inside and is not too large
-same_rank : (region : Region) (shape : List ℕ) → ends_within region shape ≡ true → length region ≡ length shape
-same_rank [] [] inside = refl
-same_rank (span ∷ region) (n ∷ shape) inside =
-    let rest : length region ≡ length shape = same_rank region shape
-    (and_parts (nat_le (span.start + span.size) n) (ends_within region shape) inside).1 in ap suc rest
-same_rank [] (n ∷ shape) inside = cc
-same_rank (span ∷ region) [] inside = cc
-
 not_large : (list : List Region) (large : Region → Bool) (k : ℕ) (region : Region) → list_any large list ≡ false →
     slice_get list k ≡ Some region → large region ≡ false
 not_large [] large k region none e = cc
@@ -57,7 +50,7 @@ pub band_accepted : (target : Description) → BandsCut target.shape target.grid
 band_accepted target cut none list are k band here =
     let at : slice_get (bands target.shape target.grid) k ≡ Some band = ap (λ l. slice_get l k) (sym are) ∙ here in
     let inside = cut.inside k band at in
-    ap₂ or_then (kept _ _ (eq-eqb (length band) (length target.shape) (same_rank band target.shape inside)))
+    ap₂ or_then (kept _ _ (eq-eqb (length band) (length target.shape) (rank_within band target.shape inside)))
     (ap₂ or_then (kept _ _ inside) (unrefused (is_large_band target band) region_too_large
     (not_large (bands target.shape target.grid) (is_large_band target) k band none at)))
 

@@ -1,6 +1,6 @@
 -- From what words and an input say to what a move comes to.
 use Rattle.std.proofs.Common.{◌≡◌, ◌⊎◌, ℕ, ◌+◌, ◌≤◌, nat_lt, Bool, true, false, List, [], ◌∷◌, length, drop, Vec}
-use Rattle.std.proofs.Common.{Option, Some, None, IsUtf8, Result, Ok, Err, OnOk, inl, inr, refl, sym, ap, ◌∙◌}
+use Rattle.std.proofs.Common.{Option, Some, None, IsUtf8, Result, Err, inl, inr, refl, sym, ap, ◌∙◌}
 use Rattle.std.proofs.Common.{subst, cond}
 use Rattle.std.proofs.lemmas.Bool.{lt-ltb}
 use Rattle.std.specs.declared.alloc.Global.{Global}
@@ -135,10 +135,6 @@ pub input_ran : {Z : Type 0} (input : List ℕ) (lines : List (List ℕ)) (befor
     RanMoveBy (text_says stops move_lines_say input) before now result
 input_ran input lines before now result within utf8 same ran = subst (λ (v : MoveVerdict).
     RanMoveBy v before now result) (sym (lines_said stops move_lines_say input lines within utf8 same)) ran
-
-pub always_whole : {T E : Type 0} (P : Type 0) (result : Result T E) → P → OnOk result P
-always_whole P (Ok value) p = p
-always_whole P (Err error) p = tt
 
 -- an input that was not read, unless its bytes are known
 pub input_unread : (before now : Told) (stores : Both) (fault : InputFault) → IsInputFault before now fault →

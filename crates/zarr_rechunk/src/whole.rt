@@ -15,6 +15,7 @@ use crate::error::{RechunkError, RechunkErrorKind};
 use crate::moving::move_bands;
 use std::alloc::Global;
 use zarr_array::{CodecOptions, DataType, OpenArray};
+use zarr_array_boxes::is_too_large;
 use zarrs_array_subset::ArraySubset;
 use zarrs_storage::Store;
 
@@ -33,28 +34,14 @@ fn is_same_type(data_type: &DataType, other: &DataType) -> bool
     data_type == other
 }
 
-// Whether a band has too many elements, or too many bytes of them.
-fn is_large(band: &ArraySubset, data_type: &DataType) -> bool
-    ensures { result
-        ≡ is_too_large (fixed_size (kind_of (type_of data_type.now))) (count (region_of band.now)) }
-{
-    match band.checked_num_elements() {
-        None | Some(u64::MAX) => true,
-        Some(number) => match data_type.fixed_size() {
-            Some(size) => number.checked_mul(size as u64).is_none(),
-            None => false,
-        },
-    }
-}
-
-// Whether one of some bands has.
+// Whether one of some bands has too many elements, or too many bytes of them.
 fn has_large(bands: &[ArraySubset], data_type: &DataType) -> bool
     ensures { result ≡ list_any (λ band.
         is_too_large (fixed_size (kind_of (type_of data_type.now))) (count band))
         (map region_of bands.now) }
 {
     for band in bands {
-        if is_large(band, data_type) {
+        if is_too_large(band, data_type) {
             return true;
         }
     }

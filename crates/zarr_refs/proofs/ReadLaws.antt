@@ -1,8 +1,8 @@
 -- Reads of slices that lie in their bases' values.
-use Rattle.std.proofs.Common.{◌≡◌, ◌∙◌, ap, refl, subst, ℕ, ◌+◌, ◌≤◌, Bool, true, false, ◌&&◌, nat_le, List, map}
+use Rattle.std.proofs.Common.{◌≡◌, ◌∙◌, ap, refl, subst, ℕ, ◌+◌, ◌≤◌, true, nat_le, List, map}
 use Rattle.std.proofs.Common.{length, Option, Some, None, option_map, Result, Ok, Err, IfOk, IfErr, Vec, arith}
 use Rattle.std.specs.declared.alloc.Global.{Global}
-use Rattle.std.proofs.lemmas.Bool.{leb-true}
+use Rattle.std.proofs.lemmas.Bool.{leb-true, and_parts}
 use Rattle.zarrs_codec_traits.specs.Prelude.{Shown, counted, slices_of, first_invalid}
 use Rattle.zarrs_storage.specs.declared.byte_range.ByteRange.{ByteRange}
 use Rattle.zarrs_storage.specs.declared.store.StorageError.{StorageError}
@@ -14,12 +14,8 @@ use Rattle.zarrs_storage.specs.ByteRange.{shifted}
 use Rattle.zarr_refs.specs.RefStore.{ReadsParts}
 use Rattle.zarr_refs.proofs.SliceLaws.{long, parts_in, all_valid_in}
 
-first_true : (a b : Bool) → (a && b) ≡ true → a ≡ true
-first_true true b e = refl
-first_true false b e = cc
-
 inside : (value : List ℕ) (s : Slice) → lies_in (Some value) s ≡ true → s.offset + s.length ≤ length value
-inside value s h = leb-true _ _ (first_true (nat_le (s.offset + s.length) (length value)) (is_bounded s) h)
+inside value s h = leb-true _ _ (and_parts (nat_le (s.offset + s.length) (length value)) (is_bounded s) h).0
 
 asks_once : (before now : ℕ) → now ≡ counted before 1 → now ≤ before + 1
 asks_once before now is = omega (arith, is)

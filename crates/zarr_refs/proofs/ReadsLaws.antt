@@ -1,9 +1,10 @@
 -- Reads over the slices of a store's values, and key lines and references before them.
-use Rattle.std.proofs.Common.{◌≡◌, ℕ, ◌-◌, ◌^◌, ◌≤◌, ◌<◌, List, [], length, Vec, Option, Some, None}
+use Rattle.std.proofs.Common.{◌≡◌, ℕ, ◌-◌, ◌^◌, ◌≤◌, List, [], length, Vec, Option, Some, None}
 use Rattle.std.proofs.Common.{Result, Ok, Err, inl, inr, refl, sym, ap, ◌∙◌, subst, arith, le_trans}
 use Rattle.std.proofs.Common.{Bool}
 use Rattle.std.proofs.Math.Path.{fun_ext}
 use Rattle.std.specs.declared.alloc.Global.{Global}
+use Rattle.zarrs_codec_traits.proofs.EditLaws.{rose_later}
 use Rattle.zarr_model.specs.Prelude.{Options, Content, Command, Description, Shown, Rose, counted, with_keys, SetsSome}
 use Rattle.zarr_model.proofs.KeyLineLaws.{key-lines}
 use Rattle.zarrs_storage.specs.Store.{SameContent}
@@ -14,6 +15,7 @@ use Rattle.zarr_cli_runs.specs.declared.status.Status.TheVariants.{Read, Write, 
 use Rattle.zarr_cli.specs.Lines.{IsKeyOf, with_entries}
 use Rattle.zarr_cli.specs.Run.{RunCosts, SetsPart}
 use Rattle.zarr_cli_runs.specs.Job.{job, Did}
+use Rattle.zarr_cli_runs.proofs.JobLaws.{no_key}
 use Rattle.zarr_cli.specs.Steps.{RepliesTo}
 use Rattle.zarr_refs.specs.declared.reference.Reference.{Reference as Ref}
 use Rattle.zarr_refs.specs.declared.reference.RefError.{RefError}
@@ -104,9 +106,6 @@ module _ (description : Description) (options : Options) (lines : RefLines) (bef
   abbrev bare : RefRun
   bare = run_of description options [] lines
 
-  no_key : (key : List ℕ) → IsKeyOf [] key → ⊥
-  no_key key (value, (number, within, is)) = let below : number < 0 = within in absurd (omega (arith, below))
-
   nothing_set : (now : Shown) → SameContent before now → (n : ℕ) × SetsSome bare.entries n before.content now.content
   nothing_set now same = (
     0,
@@ -185,13 +184,10 @@ module _ (description : Description) (options : Options) (lines : RefLines) (bef
     bare_set : IsAllSet bare before now
     bare_set = record { content = fun_ext same_all; puts = omega (arith, small, puts, more) }
 
-    rose_all : Rose mid.faults now.faults → Rose before.faults now.faults
-    rose_all rose = omega (arith, rose, early)
-
     its_fault : (status : Status) → IsReadsFault description options bare.reads (sliced lines.references.items
         before.content) (Rose mid.faults now.faults) status → IsRefsFault bare before now (Cli status)
     its_fault (Chunk key) fault = (fit, bare_set, fault)
-    its_fault Store fault = rose_all fault
+    its_fault Store fault = rose_later before.faults mid.faults now.faults early fault
     its_fault OutOfMemory fault = tt
     its_fault Done fault = fault
     its_fault BadWords fault = fault
@@ -234,7 +230,8 @@ module _ (description : Description) (options : Options) (lines : RefLines) (bef
           prints = tt;
           fault = its_fault status back.fault;
           refused = λ why found calm. absurd (let both : None ≡ Some why = sym fit ∙ found in cc);
-          complete = λ fit sees calm. ap Cli (back.complete sees (λ rose. calm (rose_all rose)));
+          complete = λ fit sees calm. ap Cli
+              (back.complete sees (λ rose. calm (rose_later before.faults mid.faults now.faults early rose)));
           set = nothing_set now same_all;
           all_set = tt;
           elsewhere = λ key free. same_all key;
@@ -283,7 +280,7 @@ module _ (description : Description) (options : Options) (entries : List (List �
 
     kept_all : {Z : Type 0} (result : Result (Vec ℕ Z) RefStatus) → RanRefs (run_of description options [] lines) mid
         now result → (key : List ℕ) → now.content key ≡ mid.content key
-    kept_all result ran key = ran.elsewhere key (no_key description options lines before key)
+    kept_all result ran key = ran.elsewhere key (no_key key)
 
     sets_all : {Z : Type 0} (result : Result (Vec ℕ Z) RefStatus) → RanRefs (run_of description options [] lines) mid
         now result → (n : ℕ) × SetsSome entries n before.content now.content
@@ -292,9 +289,6 @@ module _ (description : Description) (options : Options) (entries : List (List �
       (key-lines entries).done before.content now.content
           (λ key. kept_all result ran key ∙ ap (λ (c : Content). c key) set),
     )
-
-    rose_on : Rose mid.faults now.faults → Rose before.faults now.faults
-    rose_on rose = omega (arith, rose, early)
 
     pub behind_ok : (text : Vec ℕ Global) → RanRefs (run_of description options [] lines) mid now (Ok text) →
         RanRefs whole before now (Ok text)
@@ -316,11 +310,12 @@ module _ (description : Description) (options : Options) (entries : List (List �
       prints = tt;
       fault = behind_fault status ran.fault;
       refused = λ why found calm. ran.refused why (subst (λ (c : Content).
-          reference_fault lines.references.items c ≡ Some why) (sym set) found) (λ rose. calm (rose_on rose));
+          reference_fault lines.references.items c ≡ Some why) (sym set) found)
+          (λ rose. calm (rose_later before.faults mid.faults now.faults early rose));
       complete = λ fit sees calm.
           ran.complete (subst (λ (c : Content). reference_fault lines.references.items c ≡ None) (sym set) fit)
           (subst (λ (c : Content). SeesNone (run_of description options [] lines) c) (sym set) sees)
-          (λ rose. calm (rose_on rose));
+          (λ rose. calm (rose_later before.faults mid.faults now.faults early rose));
       set = sets_all (Err status) ran;
       all_set = tt;
       elsewhere = λ key free. kept_all (Err status) ran key ∙ elsewhere key free;

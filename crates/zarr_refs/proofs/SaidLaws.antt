@@ -1,6 +1,6 @@
 -- From what words and an input say to what a run over references owes.
 use Rattle.std.proofs.Common.{◌≡◌, ◌⊎◌, ℕ, ◌+◌, ◌≤◌, Bool, true, false, nat_lt, List, length}
-use Rattle.std.proofs.Common.{drop, map, Vec, Option, Some, None, IsUtf8, Result, Ok, Err, IfErr, OnOk}
+use Rattle.std.proofs.Common.{drop, map, Vec, Option, Some, None, IsUtf8, Result, Ok, Err, IfErr}
 use Rattle.std.proofs.Common.{inl, inr, refl, sym, ap, ◌∙◌, subst, cond, le_refl}
 use Rattle.std.specs.declared.alloc.Global.{Global}
 use Rattle.std.specs.Str.Lossy.{utf8_valid_len}
@@ -149,10 +149,6 @@ pub input_ran : {Z : Type 0} (options : Options) (input : List ℕ) (lines : Lis
 input_ran options input lines before now result within utf8 same ran =
     subst (λ (v : Verdict). RanBy v before now result)
     (sym (lines_said (λ ending. stops (cli ending)) (all_lines_say options) input lines within utf8 same)) ran
-
-pub always_whole : {T E : Type 0} (P : Type 0) (result : Result T E) → P → OnOk result P
-always_whole P (Ok value) p = p
-always_whole P (Err error) p = tt
 
 -- an input that was not read, unless its bytes are known
 pub input_unread : (options : Options) (before now : Told) (store : Shown) (fault : InputFault) → IsInputFault before

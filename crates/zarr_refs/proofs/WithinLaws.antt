@@ -4,6 +4,7 @@ use Rattle.std.proofs.Common.{Option, Some, None, option_map}
 use Rattle.std.specs.Prelude.{bytes_eq}
 use Rattle.std.specs.List.{list_all}
 use Rattle.std.specs.BTreeMap.{BTreeMap}
+use Rattle.std.proofs.lemmas.Bool.{and_parts}
 use Rattle.zarrs_codec_traits.specs.Prelude.{Content, Shown, SameContent}
 use Rattle.zarr_refs.specs.declared.reference.Reference.{Reference}
 use Rattle.zarr_refs.specs.declared.reference.RefError.{RefError}
@@ -15,10 +16,6 @@ use Rattle.zarr_refs.specs.Slices.{is_slice_within}
 both : (first second : Option RefError) → or_error first second ≡ None → (first ≡ None) × (second ≡ None)
 both None second e = (refl, e)
 both (Some error) second e = cc
-
-parts : (a b : Bool) → (a && b) ≡ true → (a ≡ true) × (b ≡ true)
-parts true b e = (refl, e)
-parts false b e = cc
 
 value_lies : (found : Option (List ℕ)) (r : Reference) → value_unfit found r ≡ None → is_bounded (slice_by r) ≡ true →
     lies_in found (slice_by r) ≡ true
@@ -36,7 +33,7 @@ within_named : (content : Content) (references : List Reference) → unfit conte
 within_named content [] fit bounded key = refl
 within_named content (r ∷ rs) fit bounded key =
     let f = both (reference_unfit content r) (unfit content rs) fit in
-    let b = parts (is_bounded (slice_by r)) (list_all (λ r. is_bounded (slice_by r)) rs) bounded in
+    let b = and_parts (is_bounded (slice_by r)) (list_all (λ r. is_bounded (slice_by r)) rs) bounded in
     go (bytes_eq r.key key) refl (value_lies (content r.base) r f.0 b.0) (within_named content rs f.1 b.1 key)
   where
     go : (t : Bool) → bytes_eq r.key key ≡ t → lies_in (content r.base) (slice_by r) ≡ true →

@@ -1,9 +1,10 @@
 -- A shape that is cut into equal parts.
-use Rattle.std.proofs.Common.{◌≡◌, ℕ, zero, suc, ◌+◌, ◌-◌, ◌*◌, ◌/◌, ◌%◌, ◌<◌, ◌≤◌, true, ◌==◌, ◌&&◌, nat_le, List, []}
+use Rattle.std.proofs.Common.{◌≡◌, ℕ, suc, ◌+◌, ◌-◌, ◌*◌, ◌/◌, ◌%◌, ◌<◌, ◌≤◌, true, ◌==◌, ◌&&◌, nat_le, List, []}
 use Rattle.std.proofs.Common.{◌∷◌, refl, arith, eqb-true}
 use Rattle.std.proofs.lemmas.Bool.{and_parts, and_from, le-leb, leb-true}
 use Rattle.std.proofs.lemmas.Nat.{le-div}
 use Rattle.std.proofs.Math.Nat.{mul-le-mul_right, div-add-mod', suc-mul, lt_of_mul-lt-mul_right, mul-pos}
+use Rattle.zarrs_array_subset.proofs.Ravels.{factors}
 use Rattle.zarrs_codec_traits.specs.Prelude.{whole, contains, ends_within, regular_grid, count_of, is_in}
 use Rattle.zarr_model.specs.Grid.{box_of_axes, regular_axes}
 use Rattle.zarr_model.proofs.RegionLaws.{first_is}
@@ -40,11 +41,6 @@ cut_within (n ∷ shape) (p ∷ dims) (c ∷ chunk) cut h =
     (first_is c ((n + (p - 1)) / p) parts.0))) (cut_within shape dims chunk cuts.1 parts.1)
 
 -- a shape with an element has a part
-factors : (n m : ℕ) → 0 < n * m → (0 < n) × (0 < m)
-factors zero m some = absurd (omega (arith, some))
-factors (suc n) zero some = absurd (omega (arith, some))
-factors (suc n) (suc m) some = (omega arith, omega arith)
-
 pub cut_some : (shape dims : List ℕ) → are_inner_lengths shape dims ≡ true → 0 < count_of shape →
     0 < count_of (regular_grid shape dims).grid_shape
 cut_some [] [] cut some = omega arith

@@ -1,12 +1,12 @@
 -- The inner chunks that a region meets, by their numbers.
-use Rattle.std.proofs.Common.{◌≡◌, ℕ, zero, suc, ◌+◌, ◌-◌, ◌*◌, ◌<◌, nat_le, nat_lt, true, List, [], ◌∷◌, length}
-use Rattle.std.proofs.Common.{get_or, slice_get, Some, refl, sym, ap, ap₂, ◌∙◌, subst, arith}
+use Rattle.std.proofs.Common.{◌≡◌, ℕ, ◌+◌, ◌-◌, ◌*◌, ◌<◌, nat_le, nat_lt, true, List, [], ◌∷◌, length}
+use Rattle.std.proofs.Common.{slice_get, Some, refl, sym, ap, ap₂, ◌∙◌, subst, arith}
 use Rattle.std.proofs.lemmas.Bool.{and_parts, and_from, cond-true}
-use Rattle.zarrs_codec_traits.specs.Prelude.{Region, count, count_of, whole, contains, tuples, tuple_at}
+use Rattle.zarr_array_boxes.proofs.MetLaws.{met_at, count_met}
+use Rattle.zarrs_codec_traits.specs.Prelude.{count, count_of, whole, contains}
 use Rattle.zarrs_codec_traits.specs.Prelude.{place, Grid, IsChunk, chunks_meeting, is_in}
 use Rattle.zarrs_codec_traits.specs.Prelude.{region as region_of_subset}
-use Rattle.zarr_model.proofs.RegionLaws.{length-tuples, get_or-tuples, place_below, count_whole, rank_within}
-use Rattle.zarr_model.proofs.FailureLaws.{meeting_is}
+use Rattle.zarr_model.proofs.RegionLaws.{place_below, count_whole, rank_within}
 use Rattle.zarrs_array_subset.specs.Ravel.{count_front, place_front, is_below, raveled}
 use Rattle.zarr_shard_codec.specs.MetInner.{met_codec, region_met, met_inner_at, AreMetInner}
 use Rattle.zarr_shard_codec.specs.Placing.{inner_number}
@@ -48,25 +48,6 @@ pub below_pairs : (codec : ShardCodec) (chunk : List ℕ) → IsChunk (inner_gri
 below_pairs codec chunk is_chunk = subst (λ n. inner_number codec chunk < n) (count_whole (inner_grid codec).grid_shape)
     (place_below (whole (inner_grid codec).grid_shape) chunk is_chunk)
 
--- a place of a list
-listed_at : {A : Type 0} (xs : List A) (k : ℕ) (x : A) → k < length xs → get_or xs k x ≡ x → slice_get xs k ≡ Some x
-listed_at [] k x h e = absurd (omega arith)
-listed_at (y ∷ ys) zero x h e = ap Some e
-listed_at (y ∷ ys) (suc k) x h e = listed_at ys k x (omega arith) e
-
--- the chunk at a place of a box of chunks that lists those that a region meets
-met_at : (grid : Grid) (region chunks : Region) (number : ℕ) → tuples chunks ≡ chunks_meeting grid region →
-    number < count chunks →
-    (slice_get (chunks_meeting grid region) number ≡ Some (tuple_at chunks number)) ×
-    IsChunk grid (tuple_at chunks number)
-met_at grid region chunks number listed below =
-    let here : slice_get (tuples chunks) number ≡ Some (tuple_at chunks number) =
-    listed_at (tuples chunks) number (tuple_at chunks number) (subst (λ n. number < n) (sym (length-tuples chunks))
-    below) (get_or-tuples chunks number (tuple_at chunks number) below) in
-    let met : slice_get (chunks_meeting grid region) number ≡ Some (tuple_at chunks number) =
-    ap (λ l. slice_get l number) (sym listed) ∙ here in
-    (met, (meeting_is grid region number (tuple_at chunks number) met).0)
-
 module _ (met : MetInner) (are : AreMetInner met) where
   abbrev own : Grid
   own = inner_grid (met_codec met)
@@ -74,15 +55,15 @@ module _ (met : MetInner) (are : AreMetInner met) where
   -- the number of the last one
   pub num_met : count (region_of_subset met.chunks) ≡
       length (chunks_meeting (inner_grid (met_codec met)) (region_met met))
-  num_met = sym (length-tuples (region_of_subset met.chunks)) ∙ ap length are.listed
+  num_met = count_met own (region_met met) (region_of_subset met.chunks) are.listed
 
   module _ (number : ℕ) (below : number < count (region_of_subset met.chunks)) where
     pub met_here : slice_get (chunks_meeting (inner_grid (met_codec met)) (region_met met)) number ≡
         Some (met_inner_at met number)
-    met_here = (met_at own (region_met met) (region_of_subset met.chunks) number are.listed below).0
+    met_here = (met_at own (region_met met) (region_of_subset met.chunks) are.listed number below).0
 
     pub met_chunk : IsChunk (inner_grid (met_codec met)) (met_inner_at met number)
-    met_chunk = (met_at own (region_met met) (region_of_subset met.chunks) number are.listed below).1
+    met_chunk = (met_at own (region_met met) (region_of_subset met.chunks) are.listed number below).1
 
   pub its_rank : (chunk : List ℕ) → IsChunk (inner_grid (met_codec met)) chunk →
       length (region_met met) ≡ length ((inner_grid (met_codec met)).chunk_box chunk)

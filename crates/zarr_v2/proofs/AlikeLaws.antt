@@ -1,9 +1,9 @@
 -- The chunks of a version 2 document decode as those of the document that it is translated to.
-use Rattle.std.proofs.Common.{◌≡◌, ◌∙◌, ap, sym, refl, ℕ, ◌<◌, ◌≤◌, Bool, true, false, ◌&&◌, nat_le, List, [], ◌∷◌, map}
+use Rattle.std.proofs.Common.{◌≡◌, ◌∙◌, ap, sym, refl, ℕ, ◌<◌, ◌≤◌, true, nat_le, List, [], ◌∷◌, map}
 use Rattle.std.proofs.Common.{length, Option, arith}
 use Rattle.std.specs.Prelude.{◌==◌}
 use Rattle.std.specs.List.{list_all}
-use Rattle.std.proofs.lemmas.Bool.{eqb-true, leb-true}
+use Rattle.std.proofs.lemmas.Bool.{eqb-true, leb-true, and_parts}
 use Rattle.std.proofs.lemmas.List.{length-map}
 use Rattle.zarr_model.specs.Prelude.{v2_keys, Element, Options, layout, Span, sizes, kind_of, decode_fixed}
 use Rattle.zarr_model.specs.Prelude.{decode_levels, ByteOrder, regular_grid, IsChunk}
@@ -27,10 +27,6 @@ use Rattle.zarr_v2.specs.Alike.{DecodeAlike}
 use Rattle.zarr_v2.specs.Documents.{element_size, chunks_with, turning, chain_v2}
 use Rattle.zarr_v2.proofs.DecodeLaws.{rows, columns}
 
-both : (a b : Bool) → (a && b) ≡ true → (a ≡ true) × (b ≡ true)
-both true b e = (refl, e)
-both false b e = cc
-
 -- positive lengths, one for each dimension
 positive : (shape chunks : List ℕ) → length chunks ≡ length shape → list_all (λ p. nat_le 1 p) chunks ≡ true →
     IsChunkShape shape chunks
@@ -38,14 +34,15 @@ positive [] [] l h = tt
 positive [] (p ∷ ps) l h = let f : ⊥ = omega (arith, l) in absurd f
 positive (n ∷ ns) [] l h = let f : ⊥ = omega (arith, l) in absurd f
 positive (n ∷ ns) (p ∷ ps) l h =
-    let parts = both (nat_le 1 p) (list_all (λ p. nat_le 1 p) ps) h in
+    let parts = and_parts (nat_le 1 p) (list_all (λ p. nat_le 1 p) ps) h in
     let one : 1 ≤ p = leb-true 1 p parts.0 in
     let some : 0 < p = omega (arith, one) in
     let rest : length ps ≡ length ns = omega (arith, l) in
     (some, positive ns ps rest parts.1)
 
 chunk_shape : (shape chunks : List ℕ) → are_chunk_lengths shape chunks ≡ true → IsChunkShape shape chunks
-chunk_shape shape chunks h = let parts = both (length chunks == length shape) (list_all (λ p. nat_le 1 p) chunks) h in
+chunk_shape shape chunks h =
+    let parts = and_parts (length chunks == length shape) (list_all (λ p. nat_le 1 p) chunks) h in
     positive shape chunks (eqb-true _ _ parts.0) parts.1
 
 -- the box of a chunk has the array's rank

@@ -1,5 +1,5 @@
 -- The fill value of a translated document.
-use Rattle.std.proofs.Common.{◌≡◌, ◌∙◌, subst, refl, ℕ, List, replicate, Option, Some, None}
+use Rattle.std.proofs.Common.{◌≡◌, ◌∙◌, refl, ℕ, List, replicate, Option, Some, None}
 use Rattle.serde_json.specs.Data.{Data, null, boolean, number, string, array, object}
 use Rattle.zarrs_data_type.specs.FillMetadata.{fill_of}
 use Rattle.zarr_v2.specs.declared.element_type.ElementType.{ElementType}
@@ -8,6 +8,7 @@ use Rattle.zarr_v2.specs.declared.element_type.ElementType.TheVariants.{UInt8, U
 use Rattle.zarr_v2.specs.ElementType.{element_type}
 use Rattle.zarr_v2.specs.Translate.{zero_fill, if_denotes, fill_v2}
 use Rattle.zarr_v2.specs.Documents.{element_size, fill_bytes_v2}
+use Rattle.zarr_v2.proofs.ServedLaws.{some_is}
 
 -- it has the bytes of the document's own
 pub record HasFill (e : ElementType) (d fill : Data) : Type 0 where
@@ -25,9 +26,6 @@ zero_denotes UInt8 = refl
 zero_denotes UInt16 = refl
 zero_denotes UInt32 = refl
 zero_denotes UInt64 = refl
-
-some_is : {A : Type 0} (P : A → Type 0) (x y : A) → Some x ≡ Some y → P x → P y
-some_is P x y e p = let is : x ≡ y = cc in subst P is p
 
 -- a value of the type stays as it is
 kept : (e : ElementType) (d fill : Data) → fill_bytes_v2 e d ≡ fill_of (element_type e) d →

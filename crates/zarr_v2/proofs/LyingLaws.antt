@@ -1,12 +1,11 @@
 -- How the chunks of an opened version 2 document lie, and what a run prints where a store means an array by
 -- that document alone.
-use Rattle.std.proofs.Common.{◌≡◌, ◌∙◌, ap, sym, subst, refl, ℕ, true, List, Option, Some, None, slice_get}
-use Rattle.zarr_model.specs.Prelude.{Grid, IsChunk, Content, Options, Command, read, write, erase, Description, layout}
-use Rattle.zarr_model.specs.Prelude.{Refusal, refusal, chunks_under, command_chunks, asks_store, IsDamageSeen}
-use Rattle.zarr_model.proofs.FailureLaws.{meeting_is}
+use Rattle.std.proofs.Common.{◌≡◌, ◌∙◌, ap, sym, subst, refl, ℕ, List, Option, Some, None}
+use Rattle.zarr_model.specs.Prelude.{Grid, IsChunk, Content, Options, Command, Description, layout}
+use Rattle.zarr_model.specs.Prelude.{refusal, command_chunks, IsDamageSeen}
 use Rattle.zarr_model.proofs.DamageLaws.{listed_at}
 use Rattle.zarr_array_open.specs.Document.{ArrayDocument, describe}
-use Rattle.zarr_cli_runs.proofs.BetweenLaws.{means_undamaged}
+use Rattle.zarr_cli_runs.proofs.BetweenLaws.{means_undamaged, asked_chunk}
 use Rattle.zarr_cli.specs.Words.{Settings}
 use Rattle.zarr_cli.specs.Run.{Prints}
 use Rattle.zarr_v2.specs.ChunksV2.{ChunksV2, layout_v2}
@@ -25,15 +24,6 @@ pub has_chunks : (found : Option ChunksV2) (document : ArrayDocument) → LieAli
     HasChunksV2 found document
 has_chunks None document lie = absurd lie
 has_chunks (Some chunks) document lie = record { chunks = chunks; are_chunks = refl; lie = lie }
-
-asked_chunk : (description : Description) (why : Option Refusal) (command : Command) (place : ℕ) (chunk : List ℕ) →
-    slice_get (chunks_under description why command) place ≡ Some chunk → asks_store command ≡ true →
-    IsChunk description.grid chunk
-asked_chunk description (Some why) command place chunk e asks = cc
-asked_chunk description None (read region) place chunk e asks = (meeting_is description.grid region place chunk e).0
-asked_chunk description None (write region value) place chunk e asks =
-    (meeting_is description.grid region place chunk e).0
-asked_chunk description None (erase own) place chunk e asks = cc
 
 -- damage that was seen is met by the version 2 document too
 pub met_v2 : (chunks : ChunksV2) (description : Description) (options : Options) →

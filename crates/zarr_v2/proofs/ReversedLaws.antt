@@ -1,10 +1,11 @@
 -- Tuples and shapes turned round.
-use Rattle.std.proofs.Common.{◌≡◌, ◌∙◌, ap, ap₂, sym, refl, ℕ, zero, suc, ◌+◌, ◌-◌, ◌*◌, ◌<◌, ◌≤◌, Bool, true, false}
-use Rattle.std.proofs.Common.{◌&&◌, List, [], ◌∷◌, ◌++◌, length, take, reverse, get_or, arith}
+use Rattle.std.proofs.Common.{◌≡◌, ◌∙◌, ap, ap₂, sym, refl, ℕ, zero, suc, ◌+◌, ◌-◌, ◌*◌, ◌<◌, ◌≤◌, true}
+use Rattle.std.proofs.Common.{List, [], ◌∷◌, ◌++◌, length, take, reverse, get_or, arith}
 use Rattle.std.specs.Prelude.{slice_index}
 use Rattle.std.proofs.Math.Nat.{mul_comm, mul_assoc, add-mul}
 use Rattle.std.proofs.lemmas.Nat.{mul-add-lt}
 use Rattle.std.proofs.lemmas.List.{reverse-append, length-reverse, take_more, take_all}
+use Rattle.std.proofs.lemmas.Bool.{and_parts}
 use Rattle.zarr_model.specs.Prelude.{whole, count, count_of, place, contains, is_in, permuted}
 use Rattle.zarr_model.proofs.RegionLaws.{count_whole, in_span}
 use Rattle.zarr_v2.specs.ChunksV2.{column_place}
@@ -74,17 +75,13 @@ place_reversed (n ∷ shape) (i ∷ tuple) h =
     ∙ (place_behind (reverse shape) (reverse tuple) n i turned
     ∙ (ap (λ (p : ℕ). p * n + i) rest ∙ (omega (arith, swap))))
 
-both : (a b : Bool) → (a && b) ≡ true → (a ≡ true) × (b ≡ true)
-both true b e = (refl, e)
-both false b e = cc
-
 -- and lies below the count
 pub column_below : (shape tuple : List ℕ) → contains (whole shape) tuple ≡ true →
     column_place shape tuple < count_of shape
 column_below [] tuple h = omega arith
 column_below (n ∷ shape) [] h = cc
 column_below (n ∷ shape) (i ∷ tuple) h =
-    let parts = both (is_in i (record { start = 0; size = n })) (contains (whole shape) tuple) h in
+    let parts = and_parts (is_in i (record { start = 0; size = n })) (contains (whole shape) tuple) h in
     let near = in_span i (record { start = 0; size = n }) parts.0 in
     let less : i < n = omega (arith, near.1) in
     let below = column_below shape tuple parts.1 in
@@ -99,4 +96,5 @@ rank_of [] [] h = refl
 rank_of [] (i ∷ tuple) h = cc
 rank_of (n ∷ shape) [] h = cc
 rank_of (n ∷ shape) (i ∷ tuple) h =
-    ap suc (rank_of shape tuple (both (is_in i (record { start = 0; size = n })) (contains (whole shape) tuple) h).1)
+    ap suc
+    (rank_of shape tuple (and_parts (is_in i (record { start = 0; size = n })) (contains (whole shape) tuple) h).1)

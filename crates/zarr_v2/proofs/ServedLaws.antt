@@ -22,7 +22,7 @@ use Rattle.zarr_v2.specs.Documents.{turning, chain_v2}
 abbrev IsServed : StoredType → Type 0
 IsServed s = expect_bytes (plain_bytes s.order) (element_type s.element) ≡ Ok tt
 
-some_is : {A : Type 0} (P : A → Type 0) (x y : A) → Some x ≡ Some y → P x → P y
+pub some_is : {A : Type 0} (P : A → Type 0) (x y : A) → Some x ≡ Some y → P x → P y
 some_is P x y e p = let is : x ≡ y = cc in subst P is p
 
 ordered_served : (e : ElementType) (mark : Option Endianness) (s : StoredType) → ordered_type e mark ≡ Some s →

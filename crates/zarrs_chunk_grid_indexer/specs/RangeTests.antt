@@ -1,4 +1,4 @@
--- Tests of ranges, place by place, as chains make them. They are closed, so that a lemma applies to
+-- Tests of ranges, place by place, as iterators make them. They are closed, so that a lemma applies to
 -- them by its name.
 use Rattle.std.specs.Prelude.{ℕ, ◌+◌, ◌-◌, ◌^◌, ◌&&◌, Bool, nat_eq, nat_le, nat_lt, min, max, List, zip}
 use Rattle.std.specs.List.{list_all, list_any}

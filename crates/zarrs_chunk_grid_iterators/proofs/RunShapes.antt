@@ -1,30 +1,21 @@
 -- How the shape of the runs is made.
 use Rattle.std.proofs.Common.{◌≡◌, ℕ, ◌+◌, ◌-◌, ◌*◌, ◌<◌, ◌^◌, ◌&&◌, true, false, cond, nat_eq, nat_lt, List, [], ◌∷◌}
 use Rattle.std.proofs.Common.{◌++◌, Bool, length, map, replicate, take, drop, get_or, refl, sym, ap, ap₂, ◌∙◌, arith}
-use Rattle.std.proofs.Common.{append_assoc}
+use Rattle.std.proofs.Common.{suc, ◌≤◌, subst}
+use Rattle.std.proofs.lemmas.Bool.Decides.{nat_tests}
+use Rattle.std.proofs.Math.Nat.{mul-le-mul_right}
 use Rattle.std.proofs.lemmas.Bool.{and_parts, and_from, lt-ltb, ltb-true, ne_eqb, eq-eqb, eqb-true}
 use Rattle.std.proofs.lemmas.List.{length-map}
 use Rattle.zarr_model.specs.Region.{Region, count, count_of, sizes}
 use Rattle.zarrs_array_subset.specs.Boxes.{region_of, is_box}
 use Rattle.zarrs_array_subset.proofs.BoxLaws.{region_parts, length_region, same_rank}
-use Rattle.zarrs_chunk_grid_iterators.specs.Runs.{is_whole, first_region_of, run_box, run_length, runs, tuple_runs}
-use Rattle.zarrs_chunk_grid_iterators.specs.RunTests.{whole_in}
+use Rattle.zarrs_chunk_grid_iterators.specs.Runs.{is_whole, first_region_of, run_box, run_front, run_length, run_size}
+use Rattle.zarrs_chunk_grid_iterators.specs.Runs.{runs, tuple_runs}
 use Rattle.zarrs_chunk_grid_iterators.proofs.RunCover.{run_box_within}
 use Rattle.zarr_model.specs.Region.{linear_index, tuples}
 use Rattle.zarr_model.specs.Cover.{linear_indices}
 use Rattle.zarr_model.proofs.RegionLaws.{count_within, tuples-empty}
 use Rattle.zarrs_array_subset.proofs.Ravels.{tail_is, count_region, factors}
-
-pub whole_by_zip : (start shape bounds : List ℕ) → is_box start shape ≡ true → length shape ≡ length bounds →
-    whole_in start shape bounds ≡ is_whole bounds (region_of start shape)
-unfolding whole_in
-whole_by_zip [] [] [] box rank = refl
-whole_by_zip [] [] (m ∷ bounds) box rank = cc
-whole_by_zip (s ∷ start) [] bounds box rank = cc
-whole_by_zip [] (n ∷ shape) bounds box rank = cc
-whole_by_zip (s ∷ start) (n ∷ shape) [] box rank = cc
-whole_by_zip (s ∷ start) (n ∷ shape) (m ∷ bounds) box rank =
-    ap (λ b. (nat_eq s 0 && nat_eq n m) && b) (whole_by_zip start shape bounds (and_parts _ _ box).1 (omega arith))
 
 ones : (start shape : List ℕ) → is_box start shape ≡ true →
     sizes (first_region_of (region_of start shape)) ≡ replicate (length shape) 1
@@ -33,53 +24,109 @@ ones [] (n ∷ shape) box = cc
 ones (s ∷ start) [] box = cc
 ones (s ∷ start) (n ∷ shape) box = ap (λ xs. 1 ∷ xs) (ones start shape (and_parts _ _ box).1)
 
-pub whole_step : (start shape arr : List ℕ) → is_box start shape ≡ true → 0 < length start → 0 < length shape →
-    0 < length arr →
-    whole_in (take (length start - 1) (drop 1 start)) (take (length shape - 1) (drop 1 shape))
-    (take (length arr - 1) (drop 1 arr)) ≡ true → length shape ≡ length arr →
-    (sizes (run_box arr (region_of start shape)) ≡ replicate (length shape) 1) ×
-    (run_length arr (region_of start shape) ≡ count_of shape)
-whole_step [] shape arr box a b c w rank = absurd (omega arith)
-whole_step (s ∷ start) [] arr box a b c w rank = absurd (omega arith)
-whole_step (s ∷ start) (n ∷ shape) [] box a b c w rank = absurd (omega arith)
-whole_step (s ∷ start) (n ∷ shape) (m ∷ arr) box a b c w rank =
-    let p = and_parts (nat_lt (s + n) (2 ^ 64)) (is_box start shape) box in
-    let all : is_whole arr (region_of start shape) ≡ true = sym (whole_by_zip start shape arr p.1 (omega arith))
-    ∙ sym (ap₂ (λ x y. whole_in x y arr) (tail_is s start) (tail_is n shape)) ∙ sym (ap (whole_in (take (length (s
-    ∷ start) - 1) (drop 1 (s ∷ start))) (take (length (n ∷ shape) - 1) (drop 1 (n ∷ shape)))) (tail_is m arr)) ∙ w in (
-      ap (λ b. sizes (cond b (first_region_of (region_of (s ∷ start) (n ∷ shape))) (record { start = s; size = n }
-          ∷ run_box arr (region_of start shape)))) all ∙ ones (s ∷ start) (n ∷ shape) box,
-      ap (λ b. cond b (n * count (region_of start shape)) (run_length arr (region_of start shape))) all
-          ∙ count_region (s ∷ start) (n ∷ shape) box,
+-- the dimensions before a run, and those that it passes through, in their lengths
+pub front_shape : (start shape arr : List ℕ) → is_box start shape ≡ true → length shape ≡ length arr →
+    take (run_front arr (region_of start shape)) shape
+    ++ replicate (length (drop (run_front arr (region_of start shape)) shape)) 1 ≡
+    sizes (run_box arr (region_of start shape))
+front_shape [] [] [] box rank = refl
+front_shape [] [] (m ∷ arr) box rank = cc
+front_shape [] (n ∷ shape) arr box rank = cc
+front_shape (s ∷ start) [] arr box rank = cc
+front_shape (s ∷ start) (n ∷ shape) [] box rank = cc
+front_shape (s ∷ start) (n ∷ shape) (m ∷ arr) box rank =
+    go (is_whole arr (region_of start shape)) (front_shape start shape arr (and_parts _ _ box).1 (omega arith))
+  where
+    go : (b : Bool) → take (run_front arr (region_of start shape)) shape
+        ++ replicate (length (drop (run_front arr (region_of start shape)) shape)) 1 ≡
+        sizes (run_box arr (region_of start shape)) →
+        take (cond b 0 (suc (run_front arr (region_of start shape)))) (n ∷ shape)
+        ++ replicate (length (drop (cond b 0 (suc (run_front arr (region_of start shape)))) (n ∷ shape))) 1 ≡
+        sizes (cond b (first_region_of (region_of (s ∷ start) (n ∷ shape))) (record { start = s; size = n }
+        ∷ run_box arr (region_of start shape)))
+    go true ih = sym (ones (s ∷ start) (n ∷ shape) box)
+    go false ih = ap (λ xs. n ∷ xs) ih
+
+pub front_run : (start shape arr : List ℕ) → is_box start shape ≡ true → length shape ≡ length arr →
+    count_of (drop (run_front arr (region_of start shape)) shape) ≡ run_length arr (region_of start shape)
+front_run [] [] [] box rank = refl
+front_run [] [] (m ∷ arr) box rank = cc
+front_run [] (n ∷ shape) arr box rank = cc
+front_run (s ∷ start) [] arr box rank = cc
+front_run (s ∷ start) (n ∷ shape) [] box rank = cc
+front_run (s ∷ start) (n ∷ shape) (m ∷ arr) box rank =
+    go (is_whole arr (region_of start shape)) (front_run start shape arr (and_parts _ _ box).1 (omega arith))
+  where
+    go : (b : Bool) →
+        count_of (drop (run_front arr (region_of start shape)) shape) ≡ run_length arr (region_of start shape) →
+        count_of (drop (cond b 0 (suc (run_front arr (region_of start shape)))) (n ∷ shape)) ≡
+        cond b (n * count (region_of start shape)) (run_length arr (region_of start shape))
+    go true ih = sym (count_region (s ∷ start) (n ∷ shape) box)
+    go false ih = ih
+
+-- at rank 0 a box is the whole of the shape
+pub front_none : (start shape arr : List ℕ) → length shape ≡ 0 → length shape ≡ length arr →
+    is_whole arr (region_of start shape) ≡ true
+front_none [] [] [] none rank = refl
+front_none (s ∷ start) [] [] none rank = refl
+front_none start [] (m ∷ arr) none rank = cc
+front_none start (n ∷ shape) arr none rank = cc
+
+run_step : (b : Bool) (n m run : ℕ) → 0 < n * m → (0 < m → run ≤ m) → cond b (n * m) run ≤ n * m
+run_step true n m run some below = omega arith
+run_step false n m run some below =
+    let parts = factors n m some in
+    let low : run ≤ m = below parts.1 in
+    let up : 1 * m ≤ n * m = mul-le-mul_right m (let one : 1 ≤ n = omega (arith, parts.0) in one) in
+    omega (arith, low, up)
+
+-- a run has at most a region's elements
+run_below : (shape : List ℕ) (region : Region) → 0 < count region → run_length shape region ≤ count region
+run_below [] region some = omega (arith, some)
+run_below (n ∷ shape) [] some = omega (arith, some)
+run_below (n ∷ shape) (span ∷ region) some =
+    run_step (is_whole shape region) span.size (count region) (run_length shape region) some
+    (λ low. run_below shape region low)
+
+pub run_low : (shape : List ℕ) (region : Region) → run_size shape region ≤ count region
+run_low shape region = go (nat_eq (count region) 0) refl
+  where
+    go : (b : Bool) → nat_eq (count region) 0 ≡ b → cond b 0 (run_length shape region) ≤ count region
+    go true is = omega arith
+    go false is = run_below shape region (some_left (count region) is)
+      where
+        some_left : (m : ℕ) → nat_eq m 0 ≡ false → 0 < m
+        some_left m is = grind (arith, nat_tests)
+
+pub front_small : (start shape arr : List ℕ) → is_box start shape ≡ true → length shape ≡ length arr →
+    0 < count_of shape → count_of (drop (run_front arr (region_of start shape)) shape) ≤ count_of shape
+front_small start shape arr box rank some =
+    let all : count (region_of start shape) ≡ count_of shape = count_region start shape box in
+    omega (
+      arith,
+      front_run start shape arr box rank,
+      run_below arr (region_of start shape) (subst (λ n. 0 < n) (sym all) some),
+      all,
     )
 
-pub part_step : (start shape arr : List ℕ) → is_box start shape ≡ true → 0 < length start → 0 < length shape →
-    0 < length arr →
-    whole_in (take (length start - 1) (drop 1 start)) (take (length shape - 1) (drop 1 shape))
-    (take (length arr - 1) (drop 1 arr)) ≡ false → length shape ≡ length arr →
-    (sizes (run_box arr (region_of start shape)) ≡ get_or shape 0 0 ∷ sizes (run_box (take (length arr - 1) (drop 1
-    arr)) (region_of (take (length start - 1) (drop 1 start)) (take (length shape - 1) (drop 1 shape)))))
-    × (run_length arr (region_of start shape) ≡ run_length (take (length arr - 1) (drop 1 arr))
-    (region_of (take (length start - 1) (drop 1 start)) (take (length shape - 1) (drop 1 shape))))
-part_step [] shape arr box a b c w rank = absurd (omega arith)
-part_step (s ∷ start) [] arr box a b c w rank = absurd (omega arith)
-part_step (s ∷ start) (n ∷ shape) [] box a b c w rank = absurd (omega arith)
-part_step (s ∷ start) (n ∷ shape) (m ∷ arr) box a b c w rank =
-    let p = and_parts (nat_lt (s + n) (2 ^ 64)) (is_box start shape) box in
-    let part : is_whole arr (region_of start shape) ≡ false = sym (whole_by_zip start shape arr p.1 (omega arith))
-    ∙ sym (ap₂ (λ x y. whole_in x y arr) (tail_is s start) (tail_is n shape)) ∙ sym (ap (whole_in (take (length (s
-    ∷ start) - 1) (drop 1 (s ∷ start))) (take (length (n ∷ shape) - 1) (drop 1 (n ∷ shape)))) (tail_is m arr)) ∙ w in
-    let tr = ap₂ region_of (sym (tail_is s start)) (sym (tail_is n shape)) in (
-      ap (λ b. sizes (cond b (first_region_of (region_of (s ∷ start) (n ∷ shape))) (record { start = s; size = n }
-          ∷ run_box arr (region_of start shape)))) part ∙ ap₂ (λ x y. n ∷ sizes (run_box x y)) (sym (tail_is m arr)) tr,
-      ap (λ b. cond b (n * count (region_of start shape)) (run_length arr (region_of start shape))) part
-          ∙ ap₂ run_length (sym (tail_is m arr)) tr,
-    )
-
-pub push_then : (xs ys out rest all : List ℕ) (n : ℕ) → ys ≡ xs ++ n ∷ [] → out ≡ ys ++ rest → all ≡ n ∷ rest →
-    out ≡ xs ++ all
-push_then xs ys out rest all n first more e =
-    more ∙ ap (λ zs. zs ++ rest) first ∙ append_assoc xs (n ∷ []) rest ∙ ap (λ zs. xs ++ zs) (sym e)
+-- one dimension more, by what is so of the rest
+pub front_step : (start shape arr : List ℕ) (front : ℕ) (rest : Bool) → is_box start shape ≡ true → 0 < length start →
+    0 < length shape → 0 < length arr →
+    front ≡ run_front (take (length arr - 1) (drop 1 arr))
+    (region_of (take (length start - 1) (drop 1 start)) (take (length shape - 1) (drop 1 shape))) →
+    rest ≡ is_whole (take (length arr - 1) (drop 1 arr))
+    (region_of (take (length start - 1) (drop 1 start)) (take (length shape - 1) (drop 1 shape))) →
+    (cond rest 0 (suc front) ≡ run_front arr (region_of start shape))
+    × (((nat_eq (get_or start 0 0) 0 && nat_eq (get_or shape 0 0) (get_or arr 0 0)) && rest) ≡
+    is_whole arr (region_of start shape))
+front_step [] shape arr front rest box a b c f w = absurd (omega arith)
+front_step (s ∷ start) [] arr front rest box a b c f w = absurd (omega arith)
+front_step (s ∷ start) (n ∷ shape) [] front rest box a b c f w = absurd (omega arith)
+front_step (s ∷ start) (n ∷ shape) (m ∷ arr) front rest box a b c f w =
+    let tr = ap₂ region_of (tail_is s start) (tail_is n shape) in
+    let f2 : front ≡ run_front arr (region_of start shape) = f ∙ ap₂ run_front (tail_is m arr) tr in
+    let w2 : rest ≡ is_whole arr (region_of start shape) = w ∙ ap₂ is_whole (tail_is m arr) tr in
+    (ap₂ (λ w k. cond w 0 (suc k)) w2 f2, ap (λ w. (nat_eq s 0 && nat_eq n m) && w) w2)
 
 -- the box of a run's starts has the region's starts
 first_region : (start shape : List ℕ) → is_box start shape ≡ true →
@@ -152,11 +199,11 @@ runs_none arr region none = (
   ap (map (linear_index arr)) (tuples-empty region none),
 )
 
-pub ruleset of_starts = (run_region, run_fits, region_parts, length-map)
+pub ruleset of_starts = (run_region, run_fits, region_parts, length-map, front_shape, front_run, front_small, count_region)
 
 pub ruleset of_new = (runs_some, runs_none, run_box_within, count_within, count_region, length_region, same_rank)
 
-pub ruleset of_runs = (whole_by_zip)
+pub ruleset of_runs = (front_none, front_step)
 
 -- a region without tuples has no run
 pub empty_runs : (arr : List ℕ) (region : Region) (listed : List ℕ) (n : ℕ) → nat_eq (count region) 0 ≡ true →

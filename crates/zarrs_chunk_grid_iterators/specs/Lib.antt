@@ -2,7 +2,6 @@ pub mod Places
 pub mod Yields
 pub mod Ends
 pub mod Runs
-pub mod RunTests
 pub mod Iterators
 pub mod ListIterators
 pub mod Lists

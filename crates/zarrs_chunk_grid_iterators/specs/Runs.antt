@@ -1,5 +1,5 @@
 -- The runs of a region inside a shape: as few intervals of linear indices as cover it.
-use Rattle.std.specs.Prelude.{◌≡◌, ℕ, ◌*◌, Bool, true, false, nat_eq, ◌&&◌, if◌then◌else◌, List, [], ◌∷◌, map, flat_map}
+use Rattle.std.specs.Prelude.{◌≡◌, ℕ, suc, ◌*◌, Bool, true, false, nat_eq, ◌&&◌, if◌then◌else◌, List, [], ◌∷◌, map, flat_map}
 use Rattle.std.specs.List.{range_with_len, list_any}
 use Rattle.std.specs.List.Sorted.{IsStrictlyIncreasing}
 use Rattle.zarr_model.specs.Region.{Span, Region, count, linear_index, tuples}
@@ -16,6 +16,12 @@ is_whole (n ∷ shape) [] = false
 -- the first index of each span
 abbrev pub first_region_of : Region → Region
 first_region_of region = map (λ span. record { start = span.start; size = 1 }) region
+
+-- how many dimensions come before those that a run passes through
+abbrev pub run_front : List ℕ → Region → ℕ
+run_front (n ∷ shape) (span ∷ region) =
+    if is_whole shape region then 0 else suc (run_front shape region)
+run_front _ _ = 0
 
 -- where runs begin: the dimensions that a run passes through have one index
 abbrev pub run_box : List ℕ → Region → Region

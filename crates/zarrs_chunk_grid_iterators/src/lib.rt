@@ -25,3 +25,4 @@ pub use laws::{iterators_end, runs_begin, runs_cover};
 pub use linearised_indices_iterator::{
     LinearisedIndices, LinearisedIndicesIntoIterator, LinearisedIndicesIterator,
 };
+pub use runs::run_size;

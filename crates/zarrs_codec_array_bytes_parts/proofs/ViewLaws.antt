@@ -1,18 +1,14 @@
 -- Boxes in a whole shape.
-use Rattle.std.proofs.Common.{◌≡◌, ℕ, zero, suc, Bool, false, if◌then◌else◌, nat_eq, ◌*◌, ◌+◌, ◌≤◌, ◌<◌, ◌^◌, List, []}
-use Rattle.std.proofs.Common.{◌∷◌, length, true, ap, ap₂, sym, ◌∙◌, refl, nat_le, ◌&&◌, arith, ◌⊎◌, inl, inr}
-use Rattle.std.proofs.Common.{true≢false}
+use Rattle.std.proofs.Common.{◌≡◌, ℕ, ◌*◌, ◌+◌, ◌≤◌, ◌<◌, ◌^◌, List, []}
+use Rattle.std.proofs.Common.{◌∷◌, length, true, ap, ap₂, sym, ◌∙◌, refl, nat_le, ◌&&◌, arith}
 use Rattle.std.proofs.lemmas.List.{length-map}
-use Rattle.std.proofs.lemmas.Bool.Decides.{nat_tests}
 use Rattle.std.proofs.lemmas.Bool.{and_parts, and_from, leb-true, le-leb}
 use Rattle.std.proofs.Math.Nat.{mul-le-mul_right, mul-le-mul_left}
 use Rattle.zarr_model.specs.Region.{Region, whole, count, count_of, sizes, ends_within}
 use Rattle.zarr_model.proofs.RegionLaws.{rank_within, count_within}
 use Rattle.zarrs_array_subset.specs.Boxes.{is_within}
-use Rattle.zarrs_array_subset.specs.Errors.{RefusesShape, no_memory}
-use Rattle.zarrs_array_subset.specs.declared.error.IndexerError.{IndexerError}
-use Rattle.zarrs_chunk_grid_iterators.proofs.BoxFacts.{box_refusal}
-use Rattle.zarrs_chunk_grid_iterators.specs.Runs.{run_size, run_length, is_whole}
+use Rattle.zarrs_chunk_grid_iterators.proofs.RunShapes.{run_low}
+use Rattle.zarrs_chunk_grid_iterators.specs.Runs.{run_size}
 
 -- its number of elements fits where the shape's bytes do
 pub part_fits : (region : Region) (shape : List ℕ) (size len : ℕ) → 0 < size → len < 2 ^ 64 →
@@ -24,15 +20,6 @@ part_fits region shape size len some fits h e =
     let b : count region * 1 ≤ count region * size =
     mul-le-mul_left (count region) (let c : 1 ≤ size = omega (arith, some) in c) in
     (omega (arith, a, b, fits, e), omega (arith, a, fits, e))
-
--- a box inside a shape is refused for want of memory alone
-pub inside_memory : (region : Region) (shape : List ℕ) (e : IndexerError) → ends_within region shape ≡ true →
-    RefusesShape region shape e → e ≡ no_memory
-inside_memory region shape e inside refused = go (box_refusal region shape e refused)
-  where
-    go : (e ≡ no_memory) ⊎ (ends_within region shape ≡ false) → e ≡ no_memory
-    go (inl memory) = memory
-    go (inr outside) = absurd (true≢false (sym inside ∙ outside))
 
 -- a box in a box of the shape is in the shape
 pub within_ends : (region within : Region) (shape : List ℕ) → is_within region within ≡ true →
@@ -75,39 +62,6 @@ pub factor_fits : (n size len : ℕ) → 0 < size → len < 2 ^ 64 → len ≡ n
 factor_fits n size len some fits e =
     let a : n * 1 ≤ n * size = mul-le-mul_left n (let c : 1 ≤ size = omega (arith, some) in c) in
     omega (arith, a, fits, e)
-
-run_step : (b : Bool) (n m run : ℕ) → 0 < n * m → (0 < m → run ≤ m) → (if b then n * m else run) ≤ n * m
-run_step true n m run some below = omega arith
-run_step false n m run some below =
-    let low : run ≤ m = below (positive_right n m some) in
-    let up : 1 * m ≤ n * m = mul-le-mul_right m (positive_left n m some) in
-    omega (arith, low, up)
-  where
-    positive_left : (a b : ℕ) → 0 < a * b → 1 ≤ a
-    positive_left zero b h = absurd (omega (arith, h, (let e : 0 * b ≡ 0 = omega arith in e)))
-    positive_left (suc a) b h = omega arith
-
-    positive_right : (a b : ℕ) → 0 < a * b → 0 < b
-    positive_right a zero h = absurd (omega (arith, h, (let e : a * 0 ≡ 0 = omega arith in e)))
-    positive_right a (suc b) h = omega arith
-
--- a run has at most a region's elements
-run_below : (shape : List ℕ) (region : Region) → 0 < count region → run_length shape region ≤ count region
-run_below [] region some = omega (arith, some)
-run_below (n ∷ shape) [] some = omega (arith, some)
-run_below (n ∷ shape) (span ∷ region) some =
-    run_step (is_whole shape region) span.size (count region) (run_length shape region) some
-    (λ low. run_below shape region low)
-
-run_low : (shape : List ℕ) (region : Region) → run_size shape region ≤ count region
-run_low shape region = go (nat_eq (count region) 0) refl
-  where
-    go : (b : Bool) → nat_eq (count region) 0 ≡ b → (if b then 0 else run_length shape region) ≤ count region
-    go true is = omega arith
-    go false is = run_below shape region (some_left (count region) is)
-      where
-        some_left : (m : ℕ) → nat_eq m 0 ≡ false → 0 < m
-        some_left m is = grind (arith, nat_tests)
 
 pub run_fits : (shape : List ℕ) (region : Region) (size len run : ℕ) → len < 2 ^ 64 → len ≡ count region * size →
     run ≡ run_size shape region → run * size < 2 ^ 64

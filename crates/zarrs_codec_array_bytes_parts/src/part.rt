@@ -11,9 +11,9 @@ ghost use Rattle.zarrs_codec_slices.specs.Filled.{Filled};
 ghost use Rattle.zarrs_codec_slices.specs.Overlap.{Copied};
 ghost use Rattle.zarrs_codec_array_bytes_parts.specs.Answers.{AnswersView, create_answer, view_length_answer, view_part_answer};
 
-use std::alloc::{AllocError, Global};
+use std::alloc::Global;
 use zarrs_array_subset::{ArraySubset, shape_product};
-use zarrs_chunk_grid_iterators::ContiguousLinearisedIndices;
+use zarrs_chunk_grid_iterators::run_size;
 use zarrs_codec_error::{
     ArrayBytesFixedDisjointViewCreateError, InvalidBytesLengthError, SubsetOutOfBoundsError,
 };
@@ -61,44 +61,29 @@ fn part_bytes(subset: &ArraySubset, shape: &[u64], size: usize, array_len: usize
 }
 
 // How many neighbouring elements of a box lie one after another in its array.
-#[tactic(auto, using(crate::proofs::ViewLaws::inside_memory))]
-fn contiguous_elements(
-    alloc: Global,
-    subset: &ArraySubset,
-    shape: &[u64],
-) -> Result<usize, AllocError>
+#[tactic(auto, using(zarr_model::proofs::RegionLaws::rank_within, zarr_model::proofs::RegionLaws::count_within))]
+fn contiguous_elements(subset: &ArraySubset, shape: &[u64]) -> usize
     requires small { count_of shape.now < 2 ^ 64 }
     requires inside { ends_within (region subset.now) shape.now ≡ true }
-    ensures { IfOk result (λ n. n ≡ run_size shape.now (region subset.now)) }
+    ensures { result ≡ run_size shape.now (region subset.now) }
 {
-    let subset = subset.try_clone(alloc)?;
-    let shape = shape.to_vec(alloc)?;
-    match ContiguousLinearisedIndices::new(alloc, subset, shape) {
-        Ok(runs) => Ok(runs.contiguous_elements_usize()),
-        Err(error) => Err(error.only_memory()),
-    }
+    run_size(subset, shape) as usize
 }
 
 // A box in an array of so many bytes.
-fn part_in(
-    alloc: Global,
-    array_len: usize,
-    size: usize,
-    array: ArraySubset,
-    subset: ArraySubset,
-) -> Result<ViewPart, AllocError>
+fn part_in(array_len: usize, size: usize, array: ArraySubset, subset: ArraySubset) -> ViewPart
     requires some { 0 < size }
     requires is_whole { region array ≡ whole (sizes (region array)) }
     requires inside { ends_within (region subset) (sizes (region array)) ≡ true }
     requires long { array_len ≡ count (region array) * size }
-    ensures { IfOk result (λ p. (p.size ≡ size) × (region p.array ≡ region array)
-        × (region p.subset ≡ region subset) × (p.array_len ≡ array_len)) }
+    ensures { (result.size ≡ size) × (region result.array ≡ region array)
+        × (region result.subset ≡ region subset) × (result.array_len ≡ array_len) }
 {
     let shape = array.shape();
     let len = part_bytes(&subset, shape, size, array_len);
-    let num_contiguous = contiguous_elements(alloc, &subset, shape)?;
+    let num_contiguous = contiguous_elements(&subset, shape);
     let contiguous_len = num_contiguous * size;
-    Ok(ViewPart {
+    ViewPart {
         size,
         array,
         subset,
@@ -106,7 +91,7 @@ fn part_in(
         contiguous_len,
         array_len,
         len,
-    })
+    }
 }
 
 // The box if it is within the other one.
@@ -169,8 +154,7 @@ pub fn part_of(
     let array = ArraySubset::new_with_shape(alloc, shape.to_vec(alloc)?)?;
     let subset = tested(alloc, subset, &array)?;
     test_len(array_len, size, shape)?;
-    let part = part_in(alloc, array_len, size, array, subset)?;
-    Ok(part)
+    Ok(part_in(array_len, size, array, subset))
 }
 
 /// A box within the box.
@@ -190,8 +174,7 @@ pub fn inner_part(
 {
     let subset = tested(alloc, subset, &part.subset)?;
     let array = part.array.try_clone(alloc)?;
-    let inner = part_in(alloc, part.array_len, part.size, array, subset)?;
-    Ok(inner)
+    Ok(part_in(part.array_len, part.size, array, subset))
 }
 
 // Tells another length than the expected one.

@@ -6,10 +6,12 @@ use Rattle.zarrs_metadata_parts.specs.MetadataV2.{CodecV2, codec_v2_seen}
 use Rattle.zarrs_codec_traits.specs.declared.codec_metadata.CodecMetadata.{CodecMetadata}
 use Rattle.zarrs_codec_traits.specs.declared.codec_metadata.CodecMetadata.TheVariants as code
 
+-- what either version says of a codec
 pub data MetadataSeen : Type 0 where
   version_3 : Extension → MetadataSeen
   version_2 : CodecV2 → MetadataSeen
 
+-- metadata in memory as that
 abbrev pub metadata_seen : CodecMetadata → MetadataSeen
 metadata_seen (code.V3 metadata) = version_3 (extension_seen metadata.now)
 metadata_seen (code.V2 metadata) = version_2 (codec_v2_seen metadata.now)
@@ -24,6 +26,7 @@ abbrev pub configuration_of : MetadataSeen → Option Members
 configuration_of (version_3 extension) = extension.configuration
 configuration_of (version_2 metadata) = Some metadata.configuration
 
+-- the same of metadata in memory
 abbrev pub name_seen : CodecMetadata → List ℕ
 name_seen metadata = name_of (metadata_seen metadata)
 

@@ -1,5 +1,6 @@
 use Rattle.std.proofs.Common.{◌≡◌, [], Some}
-use Rattle.zarr_cli.proofs.ReadLaws.{on_ok, told_fault}
+use Rattle.zarr_cli_runs.proofs.JobLaws.{on_ok}
+use Rattle.zarr_cli.proofs.ReadLaws.{told_fault}
 use Rattle.zarr_cli.proofs.lines.read_lines.Goals as goal
 
 pub returns-clause-whole : goal.returns-clause-whole

@@ -1,10 +1,11 @@
 use Rattle.std.proofs.Common.{◌≡◌, [], map, string_bytes, Some, Err, inl, sym, subst}
 use Rattle.std.specs.declared.alloc.Global.{Global}
 use Rattle.zarr_cli.specs.Input.{text_says}
+use Rattle.zarr_cli_runs.proofs.JobLaws.{on_ok}
 use Rattle.zarr_rechunk.specs.declared.status.RechunkStatus.TheVariants.{Cli}
 use Rattle.zarr_rechunk.specs.Input.{stops, move_lines_say}
 use Rattle.zarr_rechunk.specs.Said.{both, RanMoveInput}
-use Rattle.zarr_rechunk.proofs.SaidLaws.{input_ran, input_unread, always_whole}
+use Rattle.zarr_rechunk.proofs.SaidLaws.{input_ran, input_unread}
 use Rattle.zarr_rechunk.proofs.program.text_of_input.Goals as goal
 
 pub returns-in-Ok-clause-ran : goal.returns-in-Ok-clause-ran
@@ -16,7 +17,7 @@ returns-in-Ok-clause-ran g c = record {
       (both (g.S.Store.shown c.text_of_source.new.from) (g.T.Store.shown c.text_of_source.new.to))
       c.text_of_source.result
       read.0 read.1 read.2 c.text_of_source.ensures.ran);
-  whole = λ input left. always_whole ((g.R.Source.shown c.read_lines.new.source).left ≡ Some []) c.text_of_source.result
+  whole = λ input left. on_ok ((g.R.Source.shown c.read_lines.new.source).left ≡ Some []) c.text_of_source.result
       (c.in-Ok.ensures.whole input left);
 }
 

@@ -1,10 +1,11 @@
 use Rattle.std.proofs.Common.{◌≡◌, [], map, string_bytes, Some, Err, inl, sym, ap, ◌∙◌, subst}
 use Rattle.std.specs.declared.alloc.Global.{Global}
+use Rattle.zarr_cli_runs.proofs.JobLaws.{on_ok}
 use Rattle.zarrs_codec_traits.specs.Prelude.{Rose, options_of}
 use Rattle.zarr_refs.specs.declared.status.RefStatus.TheVariants.{Cli}
 use Rattle.zarr_refs.specs.Input.{input_says_refs}
 use Rattle.zarr_refs.specs.Said.{RanInput, IsPlainRef, outcome}
-use Rattle.zarr_refs.proofs.SaidLaws.{input_ran, input_unread, always_whole, not_read_plain, wider_plain}
+use Rattle.zarr_refs.proofs.SaidLaws.{input_ran, input_unread, not_read_plain, wider_plain}
 use Rattle.zarr_refs.proofs.program.text_of_input.Goals as goal
 
 pub returns-in-Ok-clause-ran : goal.returns-in-Ok-clause-ran
@@ -14,7 +15,7 @@ returns-in-Ok-clause-ran g c = record {
       inl (input_ran (options_of c.args.options.now) input (map string_bytes c.deref.result.now)
       (g.S.Store.shown c.args.store.now) (g.S.Store.shown c.text_of_document.new.store) c.text_of_document.result
       read.0 read.1 (ap (map string_bytes) c.deref.ensures.value ∙ read.2) c.text_of_document.ensures.ran);
-  whole = λ input left. always_whole ((g.R.Source.shown c.read_lines.new.source).left ≡
+  whole = λ input left. on_ok ((g.R.Source.shown c.read_lines.new.source).left ≡
       Some []) c.text_of_document.result (c.in-Ok.ensures.whole input left);
 }
 

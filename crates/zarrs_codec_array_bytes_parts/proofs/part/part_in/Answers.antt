@@ -8,6 +8,6 @@ overflow_mul-contiguous_len c =
     omega (
       arith,
       run_fits c.shape-shape.result.now (region c.args.subset) c.args.size c.part_bytes-len.result
-          c.in_ok-num_contiguous.num_contiguous
-          c.part_bytes-len.type_inv c.part_bytes-len.ensures c.in_ok-num_contiguous.ensures,
+          c.contiguous_elements-num_contiguous.result
+          c.part_bytes-len.type_inv c.part_bytes-len.ensures c.contiguous_elements-num_contiguous.ensures,
     )
